@@ -1,0 +1,9 @@
+pub mod PathLaws
+pub mod LabelLaws
+pub mod FirstLaws
+pub mod JointLaws
+pub mod TableLaws
+pub mod FaultLaws
+pub mod ProblemLaws
+pub mod UniqueLaws
+pub mod KnowledgeLaws

@@ -1,0 +1,10 @@
+pub mod Table
+pub mod Problem
+pub mod Faults
+pub mod Graph
+pub mod Labels
+pub mod Whole
+pub mod NumberWord
+pub mod Knowledge
+pub mod Totals
+pub mod Made

@@ -1,0 +1,20 @@
+//! What an assignment costs.
+
+ghost use Rattle.std.specs.Prelude.{◌≡◌, ℕ, ◌≤◌};
+ghost use Rattle.dcop_base.specs.Problem.{IsAssignment, cost};
+
+use crate::number::{CAP, Val};
+use crate::problem::Problem;
+
+/// The cost of an assignment: the sum of the cells that it names, one of each table.
+pub fn cost_of(problem: &Problem, values: &[Val]) -> u64
+    requires { IsAssignment problem.now values.now }
+    ensures cost { result ≡ cost problem.now values.now }
+    ensures within { result ≤ CAP }
+{
+    let mut sum: u64 = 0;
+    for table in problem.tables.as_slice() {
+        sum += table.eval(values);
+    }
+    sum
+}

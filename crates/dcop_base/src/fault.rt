@@ -1,0 +1,176 @@
+//! The first thing that is wrong with the sizes and tables of a problem.
+
+ghost use Rattle.std.specs.Prelude.{◌≡◌, ℕ, ◌+◌, ◌<◌, ◌≤◌, ◌^◌, List, [], map, length, None, ◌==◌, nat_eq, nat_lt, nat_le, slice_index};
+ghost use Rattle.std.specs.List.{All, list_any, position};
+ghost use Rattle.std.specs.Cmp.Lexicographic.{pointwise};
+ghost use Rattle.dcop_base.specs.Table.{CostTable, IsTable, greatest};
+ghost use Rattle.dcop_base.specs.Faults.{cell_count, greatest_sum, is_bad_size, cells_fault, next_fault, tables_fault, problem_fault};
+ghost use Rattle.dcop_base.specs.Totals.{AreTotals};
+
+use crate::number::{CAP, VarId};
+use crate::problem::{MAX_CELLS, MAX_COST, MAX_SCOPE, MAX_SIZE, MAX_VARIABLES, ProblemFault};
+use crate::table::{Table, repeats};
+
+/// What the tables that stand before a table hold together.
+#[derive(Clone, Copy)]
+struct Totals {
+    /// How many they are.
+    tables: u64,
+    /// How many cells they have.
+    cells: u64,
+    /// The sum of their greatest cells.
+    sum: u64,
+}
+
+/// The first thing that is wrong with sizes and tables, in the order in which a problem is
+/// refused. It is never want of memory.
+pub(crate) fn fault_of(sizes: &[u16], tables: &[Table]) -> Option<ProblemFault>
+    ensures fault { result ≡ problem_fault sizes.now tables.now }
+    ensures whole { result ≡ None → All IsTable tables.now }
+{
+    if sizes.is_empty() {
+        return Some(ProblemFault::NoVariables);
+    }
+    if sizes.len() > MAX_VARIABLES {
+        return Some(ProblemFault::TooManyVariables);
+    }
+    if let Some(var) = bad_size(sizes) {
+        return Some(ProblemFault::DomainSize {
+            var: VarId(var as u32),
+        });
+    }
+    tables_fault_of(sizes, tables)
+}
+
+/// The first variable whose size is no domain's.
+fn bad_size(sizes: &[u16]) -> Option<usize>
+    ensures { result ≡ position is_bad_size sizes.now }
+{
+    sizes.iter().position(|size| *size == 0 || *size > MAX_SIZE)
+}
+
+/// The first fault of the tables.
+fn tables_fault_of(sizes: &[u16], tables: &[Table]) -> Option<ProblemFault>
+    ensures fault { result ≡ tables_fault sizes.now [] tables.now }
+    ensures whole { result ≡ None → All IsTable tables.now }
+{
+    let mut before = Totals {
+        tables: 0,
+        cells: 0,
+        sum: 0,
+    };
+    for table in tables {
+        if let Some(fault) = next_fault_of(sizes, before, table) {
+            return Some(fault);
+        }
+        before = totals_with(before, table.cells.as_slice());
+    }
+    None
+}
+
+/// The totals with one more table of these cells.
+fn totals_with(before: Totals, cells: &[u64]) -> Totals
+    requires tables { before.tables < 2 ^ 63 }
+    requires cells { before.cells + length cells.now ≤ MAX_CELLS }
+    requires sum { before.sum + greatest cells.now ≤ CAP }
+    ensures tables { result.tables ≡ before.tables + 1 }
+    ensures cells { result.cells ≡ before.cells + length cells.now }
+    ensures sum { result.sum ≡ before.sum + greatest cells.now }
+{
+    Totals {
+        tables: before.tables + 1,
+        cells: before.cells + cells.len() as u64,
+        sum: before.sum + greatest_of(cells),
+    }
+}
+
+/// What is wrong with a table behind those of the totals.
+fn next_fault_of(sizes: &[u16], before: Totals, table: &Table) -> Option<ProblemFault>
+    requires cells { before.cells ≤ MAX_CELLS }
+    requires sum { before.sum ≤ CAP }
+    ensures { (earlier : List CostTable) → AreTotals earlier before →
+        result ≡ next_fault sizes.now earlier table.now }
+{
+    let scope = table.scope.as_slice();
+    if scope.is_empty() || scope.len() > MAX_SCOPE {
+        return Some(ProblemFault::ScopeLength {
+            table: before.tables,
+        });
+    }
+    if exceed(scope, sizes.len()) {
+        return Some(ProblemFault::ScopeRange {
+            table: before.tables,
+        });
+    }
+    if repeats(scope) {
+        return Some(ProblemFault::ScopeRepeat {
+            table: before.tables,
+        });
+    }
+    if !are_sizes_of(table.sizes.as_slice(), sizes, scope) {
+        return Some(ProblemFault::CellCount {
+            table: before.tables,
+        });
+    }
+    cells_fault_of(before, table.cells.as_slice())
+}
+
+/// Whether a variable is not below `variables`.
+fn exceed(scope: &[VarId], variables: usize) -> bool
+    ensures { result ≡ list_any (λ v. nat_le variables v) scope.now }
+{
+    scope.iter().any(|var| var.0 as usize >= variables)
+}
+
+/// Whether a table's own sizes are the sizes of its variables.
+fn are_sizes_of(own: &[u16], sizes: &[u16], scope: &[VarId]) -> bool
+    requires { All (λ v. v < length sizes.now) scope.now }
+    ensures { result ≡ pointwise nat_eq own.now (map (λ v. slice_index sizes.now v) scope.now) }
+{
+    if own.len() != scope.len() {
+        return false;
+    }
+    for (k, var) in scope.iter().enumerate() {
+        if own[k] != sizes[var.0 as usize] {
+            return false;
+        }
+    }
+    true
+}
+
+/// What is wrong with the cells of a table behind those of the totals.
+fn cells_fault_of(before: Totals, cells: &[u64]) -> Option<ProblemFault>
+    requires cells { before.cells ≤ MAX_CELLS }
+    requires sum { before.sum ≤ CAP }
+    ensures { (earlier : List CostTable) → AreTotals earlier before →
+        result ≡ cells_fault earlier cells.now (position (λ c. nat_lt MAX_COST c) cells.now) }
+{
+    let table = before.tables;
+    if let Some(cell) = too_large(cells) {
+        return Some(ProblemFault::CostTooLarge {
+            table,
+            cell: cell as u64,
+        });
+    }
+    if before.cells + cells.len() as u64 > MAX_CELLS {
+        return Some(ProblemFault::TooManyCells { table });
+    }
+    if before.sum + greatest_of(cells) > CAP {
+        return Some(ProblemFault::SumTooLarge { table });
+    }
+    None
+}
+
+/// The place of the first cell above [`MAX_COST`].
+fn too_large(cells: &[u64]) -> Option<usize>
+    ensures { result ≡ position (λ c. nat_lt MAX_COST c) cells.now }
+{
+    cells.iter().position(|cell| *cell > MAX_COST)
+}
+
+/// The greatest cell, 0 of none.
+fn greatest_of(cells: &[u64]) -> u64
+    ensures { result ≡ greatest cells.now }
+{
+    cells.iter().fold(0, |most, cell| most.max(*cell))
+}

@@ -1,0 +1,156 @@
+//! Joints: what joins the components of the graph of tables.
+
+ghost use Rattle.std.specs.Prelude.{◌≡◌, ℕ, ◌-◌, ◌<◌, ◌≤◌, ◌∷◌, [], ◌==◌, false, map, length, IfOk, if◌then◌else◌};
+ghost use Rattle.std.specs.List.{All, range_with_len};
+ghost use Rattle.dcop_base.specs.Graph.{AreJoints};
+ghost use Rattle.dcop_base.specs.Labels.{AreLabels, IsJoined, own_joints};
+
+use crate::memory::NoMemory;
+use crate::number::VarId;
+use crate::problem::MAX_VARIABLES;
+use crate::sequence::PairList;
+use crate::table::Table;
+use std::alloc::Global;
+
+/// The joints of a problem of so many variables with these tables: one from variable 0 to the
+/// first variable of each other component of the graph of tables, in ascending order.
+///
+/// Each variable has a label, at first itself, and each table gives its variables the lowest of
+/// their labels. A label is replaced everywhere at once, and never comes back, so the time is that
+/// for the scopes of all tables and for the square of the variables.
+///
+/// # Errors
+///
+/// [`NoMemory`] where memory was wanted and not had.
+pub(crate) fn joints_of(
+    alloc: Global,
+    variables: usize,
+    tables: &[Table],
+) -> Result<PairList, NoMemory>
+    requires some { 1 ≤ variables }
+    requires few { variables ≤ MAX_VARIABLES }
+    requires within { All (λ t. All (λ v. v < variables) t.scope) tables.now }
+    ensures { IfOk result (λ joints. AreJoints variables tables.now joints) }
+{
+    let mut labels = own_labels(alloc, variables)?;
+    join_tables(labels.as_mut_slice(), tables);
+    let joints = joints_to_firsts(alloc, labels.as_slice())?;
+    Ok(PairList::from_vec(joints))
+}
+
+/// Each variable as its own label.
+fn own_labels(alloc: Global, variables: usize) -> Result<Vec<VarId>, NoMemory>
+    requires { variables ≤ MAX_VARIABLES }
+    ensures { IfOk result (λ labels. labels.items ≡ range_with_len 0 variables) }
+{
+    let mut labels = Vec::with_capacity(alloc, variables)?;
+    for variable in 0..variables {
+        labels.push(VarId(variable as u32))?;
+    }
+    Ok(labels)
+}
+
+/// Labels each variable with the first variable of its component in the graph of these tables.
+fn join_tables(labels: &mut [VarId], tables: &[Table])
+    requires own { labels.old ≡ range_with_len 0 (length labels.old) }
+    requires within { All (λ t. All (λ v. v < length labels.old) t.scope) tables.now }
+    ensures { AreLabels tables.now labels.new }
+{
+    for table in tables {
+        join_scope(labels, table.scope.as_slice());
+    }
+}
+
+/// Gives the variables of a scope one label.
+fn join_scope(labels: &mut [VarId], scope: &[VarId])
+    requires { All (λ v. v < length labels.old) scope.now }
+    ensures { IsJoined scope.now labels.old labels.new }
+{
+    if let Some((first, others)) = scope.split_first() {
+        for other in others {
+            join(labels, *first, *other);
+        }
+    }
+}
+
+/// Gives two variables, and all that have the label of one of them, the lower of their labels.
+fn join(labels: &mut [VarId], one: VarId, other: VarId)
+    requires one { one < length labels.old }
+    requires other { other < length labels.old }
+    ensures { IsJoined (one ∷ other ∷ []) labels.old labels.new }
+{
+    let label = labels[one.0 as usize];
+    let other_label = labels[other.0 as usize];
+    if label < other_label {
+        relabel(labels, other_label, label);
+    } else if other_label < label {
+        relabel(labels, label, other_label);
+    }
+}
+
+/// Writes the one label in place of the other.
+fn relabel(labels: &mut [VarId], from: VarId, to: VarId)
+    ensures { labels.new ≡ map (λ label. if label == from then to else label) labels.old }
+{
+    for label in labels.iter_mut() {
+        if *label == from {
+            *label = to;
+        }
+    }
+}
+
+/// A joint from variable 0 to each other variable that is its own label, ascending.
+fn joints_to_firsts(alloc: Global, labels: &[VarId]) -> Result<Vec<(VarId, VarId)>, NoMemory>
+    requires some { 1 ≤ length labels.now }
+    requires few { length labels.now ≤ MAX_VARIABLES }
+    ensures { IfOk result (λ joints. joints.items ≡ own_joints labels.now (length labels.now - 1)) }
+{
+    let mut joints = Vec::new(alloc);
+    for variable in 1..labels.len() {
+        let first = VarId(variable as u32);
+        if labels[variable] == first {
+            joints.push((VarId(0), first))?;
+        }
+    }
+    Ok(joints)
+}
+
+#[cfg(test)]
+mod tests {
+    use super::joints_of;
+    use crate::memory::NoMemory;
+    use crate::number::VarId;
+    use crate::sequence::{CellList, SizeList, VarList};
+    use crate::table::Table;
+    use std::alloc::Global;
+    use std::test::Fail;
+
+    // A table of two of five variables, each with one value.
+    fn pair_table(alloc: Global, one: VarId, other: VarId) -> Result<Table, NoMemory>
+        requires one { one < 5 }
+        requires other { other < 5 }
+        requires distinct { (other == one) ≡ false }
+        ensures { IfOk result (λ t. All (λ v. v < 5) t.scope) }
+    {
+        let scope = VarList::from_vec(vec![in alloc; one, other]?);
+        let sizes = SizeList::from_vec(vec![in alloc; 1, 1]?);
+        let cells = CellList::from_vec(vec![in alloc; 0]?);
+        Ok(Table {
+            scope,
+            sizes,
+            cells,
+        })
+    }
+
+    #[test]
+    fn joins_each_component_but_the_first(rt: HostRuntime) -> Result<(), Fail> {
+        let alloc = rt.alloc();
+        let low = pair_table(alloc, VarId(1), VarId(0))?;
+        let high = pair_table(alloc, VarId(4), VarId(2))?;
+        let tables = vec![in alloc; high, low]?;
+        let joints = joints_of(alloc, 5, tables.as_slice())?;
+        let expected = [(VarId(0), VarId(2)), (VarId(0), VarId(3))];
+        assert_eq!(rt; joints.as_slice(), expected.as_slice());
+        Ok(())
+    }
+}

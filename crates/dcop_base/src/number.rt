@@ -1,0 +1,80 @@
+//! Variables, values and amounts: the numbers of a problem, each a type of its own.
+
+ghost use Rattle.std.specs.Prelude.{◌≡◌, ℕ, ◌+◌, ◌<◌, ◌≤◌, ◌↔◌, min, IsSome, IfSome};
+ghost use Rattle.dcop_base.specs.declared.number.TheConstants.{CAP};
+
+use std::marker::Model;
+
+/// The greatest amount, 2^62. No cost, bound or UTIL cell is ever above it.
+pub const CAP: u64 = 4_611_686_018_427_387_904;
+
+/// A variable's number, counted from 0 in order of declaration. Agent `i` owns variable `i`.
+#[derive(Clone, Copy, Debug, PartialEq, Eq, PartialOrd, Ord, Hash)]
+pub struct VarId(pub u32);
+
+impl Model for VarId {
+    ghost Value = { ℕ };
+
+    ghost view = { λ v. v.0 };
+
+    ghost inverse = { λ n. record { 0 = n } };
+}
+
+/// A value of a variable, counted from 0.
+#[derive(Clone, Copy, Debug, PartialEq, Eq, PartialOrd, Ord, Hash)]
+pub struct Val(pub u16);
+
+impl Model for Val {
+    ghost Value = { ℕ };
+
+    ghost view = { λ v. v.0 };
+
+    ghost inverse = { λ n. record { 0 = n } };
+}
+
+/// A cost, a bound, a threshold or a UTIL cell: a number of at most [`CAP`].
+#[derive(Clone, Copy, Debug, PartialEq, Eq, PartialOrd, Ord, Hash)]
+pub struct Amount {
+    value: u64,
+}
+
+impl Model for Amount {
+    ghost Value = { ℕ };
+
+    ghost view = { λ a. a.value };
+
+    ghost invariant = { λ a. a.value ≤ CAP };
+
+    ghost inverse = { λ n. record { value = n } };
+}
+
+impl Amount {
+    /// The amount of this number; `None` exactly above [`CAP`].
+    pub fn new(value: u64) -> Option<Amount>
+        ensures within { IsSome result ↔ (value ≤ CAP) }
+        ensures same { IfSome result (λ amount. amount ≡ value) }
+    {
+        if value <= CAP {
+            Some(Amount { value })
+        } else {
+            None
+        }
+    }
+
+    /// The number.
+    pub fn get(self) -> u64
+        ensures same { result ≡ self }
+        ensures within { result ≤ CAP }
+    {
+        self.value
+    }
+
+    /// The sum, or [`CAP`] where the sum is above it.
+    pub fn plus(self, other: Amount) -> Amount
+        ensures { result ≡ min (self + other) CAP }
+    {
+        Amount {
+            value: (self.value + other.value).min(CAP),
+        }
+    }
+}

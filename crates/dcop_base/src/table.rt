@@ -1,0 +1,170 @@
+//! Cost tables.
+
+ghost use Rattle.std.specs.Prelude.{◌≡◌, ℕ, ◌<◌, ◌≤◌, List, length, None, MatchResult, nat_lt, ◌==◌, min};
+ghost use Rattle.std.specs.List.{list_any, All};
+ghost use Rattle.dcop_base.specs.Table.{CostTable, product, has, has_repeat, table_fault, IsTableOfParts, AreWithin, values_at, cell_at, cell_place};
+
+use crate::number::{CAP, Val, VarId};
+use crate::sequence::{CellList, SizeList, VarList};
+use std::alloc::AllocError;
+use std::marker::Model;
+
+/// Why a table is refused.
+#[derive(Clone, Copy, Debug, PartialEq, Eq)]
+pub enum TableFault {
+    /// A variable stands twice in the scope.
+    Repeat,
+    /// There are not as many sizes as variables, or a size is 0.
+    Sizes,
+    /// The number of cells is not the product of the sizes.
+    CellCount,
+    /// A cell is above [`CAP`].
+    CellTooLarge,
+}
+
+/// A cost table: a cell for each choice of values of its variables, the last one moving fastest.
+///
+/// The variables are distinct, each has a size of at least 1, there are as many cells as the
+/// product of the sizes (1 for an empty scope), and each cell is at most [`CAP`].
+#[derive(Debug, Drop)]
+pub struct Table {
+    pub scope: VarList,
+    pub sizes: SizeList,
+    pub cells: CellList,
+}
+
+impl Model for Table {
+    ghost Value = { CostTable };
+
+    ghost view = { λ t. record { scope = t.scope; sizes = t.sizes; cells = t.cells } };
+
+    ghost invariant = { λ t. table_fault t.scope t.sizes t.cells ≡ None };
+}
+
+impl Table {
+    /// The table of this scope with these sizes and cells. It keeps their memory and takes none.
+    ///
+    /// # Errors
+    ///
+    /// The first of the faults of [`TableFault`], in their order. The lists are gone then too.
+    pub fn new(scope: VarList, sizes: SizeList, cells: CellList) -> Result<Table, TableFault>
+        ensures { MatchResult result
+            (λ t. (table_fault scope sizes cells ≡ None) × IsTableOfParts scope sizes cells t)
+            (λ fault. table_fault scope sizes cells ≡ Some fault) }
+    {
+        match fault_of(scope.as_slice(), sizes.as_slice(), cells.as_slice()) {
+            Some(fault) => Err(fault),
+            None => Ok(Table {
+                scope,
+                sizes,
+                cells,
+            }),
+        }
+    }
+
+    /// The cell at the values that an assignment gives to the scope's variables. `values` stands
+    /// in order of the variables' numbers, and may end behind the last variable of the scope.
+    pub fn eval(&self, values: &[Val]) -> u64
+        requires entries { All (λ v. v < length values.now) self.now.scope }
+        requires sizes { AreWithin self.now.sizes (values_at self.now.scope values.now) }
+        ensures cell { result ≡ cell_at self.now values.now }
+        ensures within { result ≤ CAP }
+    {
+        let scope = self.scope.as_slice();
+        let sizes = self.sizes.as_slice();
+        let cells = self.cells.as_slice();
+        cells[place_of(scope, sizes, values)]
+    }
+}
+
+impl Clone for Table {
+    ghost is_clone = { λ table copy. copy ≡ table };
+
+    fn clone(&self) -> Result<Self, AllocError> {
+        Ok(Table {
+            scope: self.scope.clone()?,
+            sizes: self.sizes.clone()?,
+            cells: self.cells.clone()?,
+        })
+    }
+}
+
+/// The first thing that is wrong with a table.
+fn fault_of(scope: &[VarId], sizes: &[u16], cells: &[u64]) -> Option<TableFault>
+    ensures { result ≡ table_fault scope.now sizes.now cells.now }
+{
+    if repeats(scope) {
+        return Some(TableFault::Repeat);
+    }
+    if sizes.len() != scope.len() || have_zero(sizes) {
+        return Some(TableFault::Sizes);
+    }
+    if cells.len() != product_of(sizes) {
+        return Some(TableFault::CellCount);
+    }
+    if exceed_cap(cells) {
+        return Some(TableFault::CellTooLarge);
+    }
+    None
+}
+
+/// Whether a variable stands twice.
+pub(crate) fn repeats(scope: &[VarId]) -> bool
+    ensures { result ≡ has_repeat scope.now }
+{
+    let mut rest = scope;
+    while let Some((first, later)) = rest.split_first() {
+        if stands_in(later, *first) {
+            return true;
+        }
+        rest = later;
+    }
+    false
+}
+
+/// Whether the variable is among these.
+pub(crate) fn stands_in(vars: &[VarId], sought: VarId) -> bool
+    ensures { result ≡ has vars.now sought }
+{
+    vars.iter().any(|var| *var == sought)
+}
+
+/// Whether a size is 0.
+fn have_zero(sizes: &[u16]) -> bool
+    ensures { result ≡ list_any (λ s. s == 0) sizes.now }
+{
+    sizes.iter().any(|size| *size == 0)
+}
+
+/// The product of the sizes, or `usize::MAX` where it is more, which is no list's length.
+fn product_of(sizes: &[u16]) -> usize
+    ensures { result ≡ min (product sizes.now) usize.MAX }
+{
+    let mut product: usize = 1;
+    for size in sizes {
+        product = product.saturating_mul(usize::from(*size));
+    }
+    product
+}
+
+/// Whether a cell is above [`CAP`].
+fn exceed_cap(cells: &[u64]) -> bool
+    ensures { result ≡ list_any (λ c. nat_lt CAP c) cells.now }
+{
+    cells.iter().any(|cell| *cell > CAP)
+}
+
+/// The place of the cell at the values of the scope's variables.
+fn place_of(scope: &[VarId], sizes: &[u16], values: &[Val]) -> usize
+    requires entries { All (λ v. v < length values.now) scope.now }
+    requires sizes { AreWithin sizes.now (values_at scope.now values.now) }
+    requires few { product sizes.now ≤ usize.MAX }
+    ensures { result ≡ cell_place sizes.now (values_at scope.now values.now) }
+{
+    let mut place: usize = 0;
+    for (k, var) in scope.iter().enumerate() {
+        let value = values[var.0 as usize];
+        place = place * usize::from(sizes[k]) + usize::from(value.0);
+    }
+    place
+}
