@@ -1,0 +1,10 @@
+-- What a source gives, where it tells the bytes that it has left.
+use Rattle.std.specs.Prelude.{◌≡◌, ◌<◌, ◌≤◌, ℕ, List, length, take, drop, Option}
+use Rattle.std.specs.Io.KnownBytes.{prepend_known, IsAtEnd}
+
+-- One read gave `count` bytes: they were the next ones, and stand in front in the buffer.
+pub record Gives (before after : Option (List ℕ)) (buffer filled : List ℕ) (count : ℕ) : Type 0 where
+  pub within : count ≤ length buffer
+  pub front : before ≡ prepend_known (take count filled) after
+  pub behind : drop count filled ≡ drop count buffer
+  pub end : count ≡ 0 → 0 < length buffer → IsAtEnd after

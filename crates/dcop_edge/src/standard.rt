@@ -1,0 +1,198 @@
+//! The real source and sink, over std's readers and writers.
+
+ghost use Rattle.std.specs.Prelude.{◌<◌, ◌≤◌, None, length, IfSome};
+
+use crate::fault::Failed;
+use crate::sink::Sink;
+use crate::source::Source;
+use std::io::{Error, ErrorKind, Read, Write};
+
+/// How often a call that a signal interrupts is tried before it counts as a fault.
+const MAX_TRIES: u32 = 1_000_000;
+
+/// The most bytes of one read.
+const BLOCK: usize = 4_096;
+
+/// A reader of std as a source: a file, a socket, standard input. Nothing is told of its bytes; a
+/// read that the reader refuses is a fault.
+#[derive(Drop)]
+pub struct StdSource<R> {
+    reader: R,
+    faults: u64,
+}
+
+impl<R: Read> StdSource<R> {
+    /// A source that reads from here.
+    pub fn new(reader: R) -> Self {
+        StdSource { reader, faults: 0 }
+    }
+}
+
+impl<R: Read> Source for StdSource<R> {
+    ghost left = { λ _. None };
+
+    ghost faults = { λ s. s.faults };
+
+    // std does not say what a reader leaves in the rest of a buffer, so it gets one of its own.
+    fn read(&mut self, into: &mut [u8]) -> Result<usize, Failed> {
+        let mut block = [0; BLOCK];
+        let room = into.len().min(BLOCK);
+        match read_again(&mut self.reader, &mut block[..room]) {
+            Some(count) => {
+                into[..count].copy_from_slice(&block[..count]);
+                Ok(count)
+            }
+            None => {
+                self.faults = self.faults.saturating_add(1);
+                Err(Failed)
+            }
+        }
+    }
+}
+
+/// A writer of std as a sink: a file, a socket, standard output. Nothing is told of its bytes; a
+/// write or flush that the writer refuses is a fault, and so is one that takes nothing.
+#[derive(Drop)]
+pub struct StdSink<W> {
+    writer: W,
+    finished: bool,
+    faults: u64,
+}
+
+impl<W: Write> StdSink<W> {
+    /// A sink that writes to here.
+    pub fn new(writer: W) -> Self {
+        StdSink {
+            writer,
+            finished: false,
+            faults: 0,
+        }
+    }
+}
+
+impl<W: Write> Sink for StdSink<W> {
+    ghost held = { λ _. None };
+
+    ghost finished = { λ s. s.finished };
+
+    ghost faults = { λ s. s.faults };
+
+    fn write(&mut self, bytes: &[u8]) -> Result<usize, Failed> {
+        self.finished = false;
+        match write_again(&mut self.writer, bytes) {
+            Some(count) => Ok(count),
+            None => {
+                self.faults = self.faults.saturating_add(1);
+                Err(Failed)
+            }
+        }
+    }
+
+    fn finish(&mut self) -> Result<(), Failed> {
+        if flush_again(&mut self.writer) {
+            self.finished = true;
+            return Ok(());
+        }
+        self.faults = self.faults.saturating_add(1);
+        Err(Failed)
+    }
+}
+
+// One read, tried again where a signal interrupts it; `None` where it is refused.
+fn read_again<R: Read>(reader: &mut R, into: &mut [u8]) -> Option<usize>
+    ensures { IfSome result (λ count. count ≤ length into.old) }
+{
+    for _ in 0..MAX_TRIES {
+        match reader.read(into) {
+            Ok(count) => return Some(count),
+            Err(error) => {
+                if !is_interrupted(&error) {
+                    return None;
+                }
+            }
+        }
+    }
+    None
+}
+
+// One write, tried again where a signal interrupts it; `None` where it is refused or takes nothing.
+fn write_again<W: Write>(writer: &mut W, bytes: &[u8]) -> Option<usize>
+    ensures within { IfSome result (λ count. count ≤ length bytes.now) }
+    ensures some { IfSome result (λ count. 0 < length bytes.now → 0 < count) }
+{
+    if bytes.is_empty() {
+        return Some(0);
+    }
+    for _ in 0..MAX_TRIES {
+        match writer.write(bytes) {
+            Ok(0) => return None,
+            Ok(count) => return Some(count),
+            Err(error) => {
+                if !is_interrupted(&error) {
+                    return None;
+                }
+            }
+        }
+    }
+    None
+}
+
+// One flush, tried again where a signal interrupts it; whether it was done.
+fn flush_again<W: Write>(writer: &mut W) -> bool {
+    for _ in 0..MAX_TRIES {
+        match writer.flush() {
+            Ok(()) => return true,
+            Err(error) => {
+                if !is_interrupted(&error) {
+                    return false;
+                }
+            }
+        }
+    }
+    false
+}
+
+fn is_interrupted(error: &Error) -> bool {
+    error.kind() == ErrorKind::Interrupted
+}
+
+#[cfg(test)]
+mod tests {
+    use super::*;
+    use std::test::Fail;
+
+    // Moves all bytes from a source to a sink, as a caller that knows only the traits.
+    fn pass<S: Source, K: Sink>(source: &mut S, sink: &mut K) -> Result<(), Failed> {
+        let mut block = [0; 3];
+        for _ in 0..9 {
+            let count = source.read(&mut block)?;
+            let mut at = 0;
+            for _ in 0..count {
+                if at < count {
+                    at += sink.write(&block[at..count])?;
+                }
+            }
+        }
+        sink.finish()
+    }
+
+    #[test]
+    fn passes_bytes_on(rt: HostRuntime) -> Result<(), Fail> {
+        let mut written = Vec::new(rt.alloc());
+        {
+            let mut source = StdSource::new(b"an answer\n".as_slice());
+            let mut sink = StdSink::new(&mut written);
+            assert_eq!(rt; pass(&mut source, &mut sink), Ok(()));
+        }
+        assert_eq!(rt; written.as_slice(), b"an answer\n".as_slice());
+        Ok(())
+    }
+
+    #[test]
+    fn refused_write_is_a_fault(rt: HostRuntime) {
+        let mut room = [0; 2];
+        let mut sink = StdSink::new(room.as_mut_slice());
+        assert_eq!(rt; sink.write(b"no"), Ok(2));
+        assert_eq!(rt; sink.write(b"more"), Err(Failed));
+    }
+}

@@ -1,0 +1,164 @@
+//! A source and a sink in memory that never fail.
+
+ghost use Rattle.std.specs.Prelude.{◌≡◌, ◌≤◌, ℕ, true, false, List, [], Some, IfOk, IfSome, length, take, drop, min, vec_len, vec_capacity, Ok, IsOk};
+ghost use Rattle.dcop_edge.specs.Memory.{RoomState, kept_whole, held_within};
+ghost use Rattle.dcop_edge.specs.Sink.{Adds};
+
+use crate::fault::Failed;
+use crate::kept::Kept;
+use crate::sink::Sink;
+use crate::source::Source;
+use dcop_base::NoMemory;
+use std::alloc::Global;
+use std::marker::Model;
+
+/// A source over bytes in memory that never fails.
+#[derive(Drop)]
+pub struct SteadySource {
+    bytes: Vec<u8>,
+    given: usize,
+}
+
+impl Model for SteadySource {
+    ghost Value = { List ℕ };
+
+    ghost view = { λ s. drop s.given s.bytes.items };
+
+    ghost invariant = { λ s. s.given ≤ vec_len s.bytes };
+}
+
+impl SteadySource {
+    /// A source that gives these bytes. It takes no memory.
+    pub fn new(bytes: Vec<u8>) -> Self
+        ensures { result ≡ bytes.items }
+    {
+        SteadySource { bytes, given: 0 }
+    }
+}
+
+impl Source for SteadySource {
+    ghost left = { λ s. Some s };
+
+    ghost faults = { λ _. 0 };
+
+    fn read(&mut self, into: &mut [u8]) -> Result<usize, Failed> {
+        let count = fill_front(into, &self.bytes[self.given..]);
+        self.given += count;
+        Ok(count)
+    }
+}
+
+// Copies the front of `left` to the front of `into`, as much as fits.
+fn fill_front(into: &mut [u8], left: &[u8]) -> usize
+    ensures count { result ≡ min (length left.now) (length into.old) }
+    ensures front { take result into.new ≡ take result left.now }
+    ensures behind { drop result into.new ≡ drop result into.old }
+{
+    let count = left.len().min(into.len());
+    into[..count].copy_from_slice(&left[..count]);
+    count
+}
+
+/// A sink in memory that never fails. It keeps what is written while that is at most its room, and
+/// never asks for memory; past its room it only counts, and tells its bytes no more.
+#[derive(Drop)]
+pub struct SteadySink {
+    kept: Kept,
+    finished: bool,
+}
+
+impl Model for SteadySink {
+    ghost Value = { RoomState };
+
+    ghost view = { λ s. record {
+      held = kept_whole s.kept.bytes.items s.kept.missing;
+      finished = s.finished;
+      room = s.kept.room;
+    } };
+
+    ghost invariant = { λ s. s.kept.room ≤ vec_capacity s.kept.bytes };
+}
+
+impl SteadySink {
+    /// A sink with no room. It takes no memory.
+    pub fn new(alloc: Global) -> Self
+        ensures { result ≡ record { held = Some []; finished = false; room = 0 } }
+    {
+        SteadySink {
+            kept: Kept {
+                bytes: Vec::new(alloc),
+                missing: 0,
+                room: 0,
+            },
+            finished: false,
+        }
+    }
+
+    /// A sink with room for so many bytes, which it reserves at once; `NoMemory` where there is none.
+    pub fn with_room(alloc: Global, room: usize) -> Result<Self, NoMemory>
+        ensures { IfOk result (λ s. s ≡ record { held = Some []; finished = false; room = room }) }
+    {
+        Ok(SteadySink {
+            kept: Kept {
+                bytes: Vec::with_capacity(alloc, room)?,
+                missing: 0,
+                room,
+            },
+            finished: false,
+        })
+    }
+
+    /// The bytes that were written, while they are kept: then all of them, in order.
+    pub fn bytes(&self) -> &[u8]
+        ensures { IfSome self.now.held (λ text. result.now ≡ text) }
+    {
+        &self.kept.bytes
+    }
+}
+
+impl Sink for SteadySink {
+    ghost held = { λ s. s.held };
+
+    ghost finished = { λ s. s.finished };
+
+    ghost faults = { λ _. 0 };
+
+    fn write(&mut self, bytes: &[u8]) -> Result<usize, Failed>
+        ensures whole { result ≡ Ok (length bytes.now) }
+        ensures added { Adds self.old.held bytes.now self.new.held }
+        ensures exact { self.new.held ≡ held_within self.old.room self.old.held bytes.now }
+        ensures unfinished { self.new.finished ≡ false }
+        ensures room { self.new.room ≡ self.old.room }
+    {
+        self.finished = false;
+        self.kept.add(bytes);
+        Ok(bytes.len())
+    }
+
+    fn finish(&mut self) -> Result<(), Failed>
+        ensures finished { self.new ≡ record self.old { finished = true } }
+        ensures never_fails { IsOk result }
+    {
+        self.finished = true;
+        Ok(())
+    }
+}
+
+#[cfg(test)]
+mod tests {
+    use super::*;
+    use std::test::Fail;
+
+    #[test]
+    fn sink_keeps_what_fits_its_room(rt: HostRuntime) -> Result<(), Fail> {
+        let mut source = SteadySource::new(b"value 7\n".to_vec(rt.alloc())?);
+        let mut block = [0; 16];
+        assert_eq!(rt; source.read(&mut block), Ok(8));
+        let mut sink = SteadySink::with_room(rt.alloc(), 8)?;
+        assert_eq!(rt; sink.write(&block[..8]), Ok(8));
+        assert_eq!(rt; sink.finish(), Ok(()));
+        assert_eq!(rt; sink.bytes(), b"value 7\n".as_slice());
+        assert_eq!(rt; SteadySink::new(rt.alloc()).write(b"value 7\n"), Ok(8));
+        Ok(())
+    }
+}
