@@ -1,0 +1,79 @@
+-- Numbers among words, as they are read.
+use Rattle.std.proofs.Common.{◌≡◌, ℕ, ◌+◌, ◌≤◌, suc, Bool, true, false, not, List, [], ◌∷◌, ◌++◌, length, Option, Some, None, max, refl, sym, ap, ◌∙◌, append_assoc, arith, cond, ◌||◌, nat_lt, ◌==◌, if◌then◌else◌}
+use Rattle.std.specs.List.{fold, list_any, filter}
+use Rattle.std.proofs.lemmas.Bool.Decides.{nat_tests}
+use Rattle.dcop_base.specs.Table.{CostTable, product, greatest}
+use Rattle.dcop_base.specs.Faults.{cell_count, greatest_sum}
+use Rattle.dcop_base.specs.declared.number.TheConstants.{CAP}
+use Rattle.dcop_base.specs.declared.problem.TheConstants.{MAX_COST, MAX_CELLS}
+use Rattle.problem_text.specs.Lines.{words, between_blanks, has_some, is_blank, onto_first}
+use Rattle.problem_text.specs.Tables.{onto, cells_fault}
+use Rattle.problem_text.specs.Cells.{summary}
+use Rattle.problem_text.specs.declared.fault.TextKind.{TextKind}
+use Rattle.problem_text.specs.declared.fault.TextKind.TheVariants.{Problem}
+use Rattle.problem_text.specs.declared.cell_words.Summary.{Summary}
+
+-- a list behind one that was read
+abbrev pub behind : List ℕ → Option (List ℕ) → Option (List ℕ)
+behind xs (Some ys) = Some (xs ++ ys)
+behind xs None = None
+
+pub behind-push : (xs : List ℕ) (x : ℕ) (o : Option (List ℕ)) → behind (xs ++ (x ∷ [])) o ≡ behind xs (onto (Some x) o)
+behind-push xs x None = refl
+behind-push xs x (Some ys) = ap (λ zs. Some zs) (append_assoc xs (x ∷ []) ys)
+
+-- what is told of cells of which so many, with this greatest, were read
+abbrev pub told : ℕ → ℕ → Option (List ℕ) → Option Summary
+told count greatest (Some cells) = Some (record { count = count + length cells; greatest = fold max greatest cells })
+told count greatest None = None
+
+pub told-more : (count greatest x : ℕ) (o : Option (List ℕ)) → told (count + 1) (max greatest x) o ≡ told count greatest (onto (Some x) o)
+told-more count greatest x None = refl
+told-more count greatest x (Some ys) = let e : (count + 1) + length ys ≡ count + suc (length ys) = omega arith in rw e refl
+
+lt-max : (m a c : ℕ) → nat_lt m (max a c) ≡ nat_lt m a || nat_lt m c
+lt-max m a c = grind (arith, nat_tests)
+
+lt-zero : (m : ℕ) → nat_lt m 0 ≡ false
+lt-zero m = grind (arith, nat_tests)
+
+regroup : (a b c d : Bool) → a ≡ b || c → a || d ≡ b || (c || d)
+regroup a true c d h = rw h refl
+regroup a false c d h = rw h refl
+
+exceed-from : (m a : ℕ) (cells : List ℕ) → nat_lt m (fold max a cells) ≡ nat_lt m a || list_any (λ c. nat_lt m c) cells
+exceed-from m a [] = grind (arith, nat_tests)
+exceed-from m a (c ∷ cs) = exceed-from m (max a c) cs ∙ regroup (nat_lt m (max a c)) (nat_lt m a) (nat_lt m c) (list_any (λ c. nat_lt m c) cs) (lt-max m a c)
+
+-- a cell exceeds a limit exactly where the greatest does
+pub exceed-greatest : (m : ℕ) (cells : List ℕ) → list_any (λ c. nat_lt m c) cells ≡ nat_lt m (greatest cells)
+exceed-greatest m cells = sym (exceed-from m 0 cells ∙ ap (λ t. t || list_any (λ c. nat_lt m c) cells) (lt-zero m))
+
+-- the tests of a further table's cells, by what is told of them
+abbrev pub fault_told : List CostTable → ℕ → Summary → Option TextKind
+fault_told earlier product s =
+    if not (s.count == product) then Some (Problem 6)
+    else (if nat_lt MAX_COST s.greatest then Some (Problem 7)
+    else (if nat_lt MAX_CELLS (cell_count earlier + s.count) then Some (Problem 9)
+    else (if nat_lt CAP (greatest_sum earlier + s.greatest) then Some (Problem 8)
+    else None)))
+
+pub fault-told : (earlier : List CostTable) (t : CostTable) (sizes : List ℕ) (s : Summary) → t.sizes ≡ sizes → summary t.cells ≡ s → cells_fault earlier t ≡ fault_told earlier (product sizes) s
+fault-told earlier t sizes s same told = rw (← same, ← told, exceed-greatest MAX_COST t.cells) refl
+
+words-tail : (word : List ℕ) (ws : List (List ℕ)) → length (filter has_some ws) ≤ length (filter has_some (word ∷ ws))
+words-tail [] ws = omega arith
+words-tail (b ∷ bs) ws = omega arith
+
+onto-short : (b n : ℕ) (pieces : List (List ℕ)) → length (filter has_some pieces) ≤ n → length (filter has_some (onto_first b pieces)) ≤ suc n
+onto-short b n [] h = omega arith
+onto-short b n (p ∷ ps) h = let t : length (filter has_some ps) ≤ length (filter has_some (p ∷ ps)) = words-tail p ps in omega arith
+
+short-step : (t : Bool) (b : ℕ) (bs : List ℕ) → length (words bs) ≤ length bs → length (filter has_some (cond t ([] ∷ between_blanks bs) (onto_first b (between_blanks bs)))) ≤ suc (length bs)
+short-step true b bs h = omega arith
+short-step false b bs h = onto-short b (length bs) (between_blanks bs) h
+
+-- there are no more words than bytes
+pub words-short : (bytes : List ℕ) → length (words bytes) ≤ length bytes
+words-short [] = omega arith
+words-short (b ∷ bs) = short-step (is_blank b) b bs (words-short bs)

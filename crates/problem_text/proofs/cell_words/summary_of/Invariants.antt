@@ -1,0 +1,14 @@
+use Rattle.std.proofs.Common.{◌≡◌, ◌≤◌, ◌+◌, length}
+use Rattle.problem_text.specs.Lines.{words}
+use Rattle.problem_text.specs.Tables.{numbers_of}
+use Rattle.problem_text.proofs.CellLaws.{told}
+use Rattle.problem_text.proofs.cell_words.summary_of.Given as goal
+
+-- what was read, with what is left, is the whole
+abbrev pub invariant-loop-word : goal.invariant-loop-word
+invariant-loop-word l =
+    (told l.count l.greatest (numbers_of (words l.rest)) ≡ told 0 0 (numbers_of (words l.text)))
+    × (l.count + length (words l.rest) ≤ length l.text)
+
+abbrev pub decreases-loop-word : goal.decreases-loop-word
+decreases-loop-word l = length (words l.rest)

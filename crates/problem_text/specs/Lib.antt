@@ -1,0 +1,15 @@
+pub mod Name
+pub mod Names
+pub mod File
+pub mod Canonical
+pub mod Numbered
+pub mod Lines
+pub mod Declarations
+pub mod Variables
+pub mod Tables
+pub mod Reading
+pub mod Drafts
+pub mod LineEnds
+pub mod Cells
+pub mod Steps
+pub mod WordLines

@@ -1,0 +1,10 @@
+-- The first of lines with words, as the reader gives it.
+use Rattle.std.specs.Prelude.{◌≡◌, ◌+◌, List, [], ◌∷◌, Option, Some, None}
+use Rattle.problem_text.specs.declared.word_line.WordLine.{WordLine}
+use Rattle.problem_text.specs.Lines.{Line, lines, words, numbered, with_words}
+
+-- the first of these lines, with the text behind it, where there is one
+abbrev pub IsFirstLine : List Line → Option WordLine → Type 0
+IsFirstLine ls None = ls ≡ []
+IsFirstLine ls (Some l) =
+    ls ≡ record { number = l.number; words = words l.text.now; used = l.used } ∷ with_words (numbered (l.number + 1) l.used (lines l.after.now))

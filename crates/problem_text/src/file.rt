@@ -1,0 +1,65 @@
+//! Problem files: problems with their version, goal and names.
+
+ghost use Rattle.std.specs.Prelude.{◌≡◌};
+ghost use Rattle.problem_text.specs.Name.{is_name};
+
+use crate::names::{Labels, Names};
+use dcop_base::{Problem, Sequence};
+use std::marker::Model;
+
+/// What is sought: the least or the greatest cost.
+#[derive(Clone, Copy, Debug, PartialEq, Eq)]
+pub enum Goal {
+    /// An assignment of the least cost.
+    Min,
+    /// An assignment of the greatest cost.
+    Max,
+}
+
+/// The value names of each variable, an entry for each, empty where none were given.
+pub type LabelList = Sequence<Labels>;
+
+/// A problem with its version, its goal, and the names of its variables and values.
+///
+/// The version is 1 or 2. It is 2 where a table has more than two variables, where the goal is
+/// max, or where a variable has value names. There is one name for each variable, in order. A
+/// variable has no value names or one for each value. Each name is one by
+/// [`is_name`](crate::is_name), and those of the variables are distinct, as are those of the
+/// values of one variable.
+#[derive(Debug, Drop)]
+pub struct ProblemFile {
+    pub version: u8,
+    pub goal: Goal,
+    pub names: Names,
+    pub labels: LabelList,
+    pub problem: Problem,
+}
+
+impl Model for ProblemFile {
+    ghost use Rattle.problem_text.specs.File.{TextFile, IsFile};
+
+    ghost Value = { TextFile };
+
+    ghost view = { λ f. record {
+      version = f.version;
+      goal = f.goal;
+      names = f.names;
+      labels = f.labels;
+      problem = f.problem;
+    } };
+
+    ghost invariant = { λ f. IsFile (record {
+      version = f.version;
+      goal = f.goal;
+      names = f.names;
+      labels = f.labels;
+      problem = f.problem;
+    }) };
+}
+
+/// A file that was read, and how many bytes of the text tell it, up to and with the line `end`.
+#[derive(Debug, Drop)]
+pub struct ReadFile {
+    pub file: ProblemFile,
+    pub used: usize,
+}

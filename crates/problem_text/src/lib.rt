@@ -1,0 +1,41 @@
+//! Problems as files: the names that go with a problem, and the text that tells both.
+//!
+//! A [`ProblemFile`] that exists has one name for each variable and value names that fit the
+//! sizes, all of them names by one rule. It has one canonical text, and [`write_problem`] writes
+//! exactly that. [`read_problem`] reads exactly the problem texts, line by line: it gives the file
+//! that a text declares, or the line and the kind of the text's first fault.
+#![tactic(auto)]
+
+mod canonical;
+mod cell_words;
+mod draft;
+mod edited;
+mod fault;
+mod file;
+mod header;
+mod line;
+mod line_end;
+mod name;
+mod name_word;
+mod names;
+mod numbered;
+mod reader;
+#[cfg(test)]
+mod reader_tests;
+mod scope_words;
+mod table_line;
+#[cfg(test)]
+mod tests;
+mod variable;
+mod word;
+mod word_line;
+
+pub use canonical::{write_cells, write_goal, write_problem, write_scope};
+pub use edited::{Edited, EditedList};
+pub use fault::{ReportFault, ReportKind, TextFault, TextKind};
+pub use file::{Goal, LabelList, ProblemFile, ReadFile};
+pub use line::{CR, HASH, LF};
+pub use name::{MAX_NAME, is_name};
+pub use names::{Labels, NameSet, Names};
+pub use reader::read_problem;
+pub use word_line::{WordLine, next_line};

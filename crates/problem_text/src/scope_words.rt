@@ -1,0 +1,113 @@
+//! Scopes among the words of a line.
+
+ghost use Rattle.std.specs.Prelude.{◌≡◌, ◌<◌, true, false, ℕ, List, Some, length, map, position, slice_index, MatchOption, IfOk, IfErr, IfSome};
+ghost use Rattle.std.specs.List.{list_any, list_all, before_first, after_first, All};
+ghost use Rattle.std.specs.Str.{bytes_eq};
+ghost use Rattle.dcop_base.specs.Table.{has, has_repeat};
+ghost use Rattle.problem_text.specs.Lines.{words};
+ghost use Rattle.problem_text.specs.LineEnds.{Ends};
+ghost use Rattle.problem_text.specs.Name.{is_name as is_name_of};
+ghost use Rattle.problem_text.specs.Declarations.{Declared};
+ghost use Rattle.problem_text.specs.Tables.{is_colon, named_by, with_scope, most_names as most_names_of};
+
+use crate::fault::TextKind;
+use crate::line_end::LineEnd;
+use crate::name_word::name_of;
+use crate::names::Names;
+use crate::word::{is_word, next_word};
+use dcop_base::{MAX_SCOPE, NoMemory, VarId};
+use std::alloc::Global;
+
+/// How many words stand before the first `:`, and what stands behind it; `None` exactly where
+/// there is no `:`.
+pub fn past_colon(text: &[u8]) -> Option<(usize, &[u8])>
+    ensures none { MatchOption result (list_any is_colon (words text.now) ≡ false)
+        (λ r. list_any is_colon (words text.now) ≡ true) }
+    ensures before { IfSome result (λ r. r.0 ≡ length (before_first is_colon (words text.now))) }
+    ensures after { IfSome result (λ r. words r.1.now ≡ after_first is_colon (words text.now)) }
+{
+    let mut count: usize = 0;
+    let mut rest = text;
+    while let Some((word, after)) = next_word(rest) {
+        if is_word(word, b":") {
+            return Some((count, after));
+        }
+        count += 1;
+        rest = after;
+    }
+    None
+}
+
+/// The most variables that a table has in this version.
+pub fn most_names(version: u8) -> usize
+    ensures { result ≡ most_names_of version }
+{
+    if version == 1 { 2 } else { MAX_SCOPE }
+}
+
+/// The variables that the words before the first `:` name.
+pub fn scope_of(alloc: Global, names: &Names, text: &[u8]) -> Result<Vec<VarId>, LineEnd>
+    requires { list_all is_name_of names.now ≡ true }
+    ensures found { IfOk result
+        (λ v. named_by names.now (before_first is_colon (words text.now)) ≡ Some v.items) }
+    ensures unknown { (d : Declared) → (cells : List (List ℕ)) → IfErr result (λ e.
+        Ends e (with_scope d (named_by names.now (before_first is_colon (words text.now))) cells)) }
+{
+    let mut scope = Vec::new(alloc);
+    let mut rest = text;
+    while let Some((word, after)) = next_word(rest) {
+        if is_word(word, b":") {
+            return Ok(scope);
+        }
+        let Some(var) = variable_of_word(names, word) else {
+            return Err(LineEnd::Fault(TextKind::UnknownName));
+        };
+        scope.push(var)?;
+        rest = after;
+    }
+    Ok(scope)
+}
+
+/// The variable that a word names; `None` exactly where no variable has that name.
+fn variable_of_word(names: &Names, word: &[u8]) -> Option<VarId>
+    requires { list_all is_name_of names.now ≡ true }
+    ensures { result ≡ position (bytes_eq word.now) names.now }
+{
+    match name_of(word) {
+        Some(name) => names.find(name),
+        None => None,
+    }
+}
+
+/// Whether a variable stands twice.
+pub fn repeats(scope: &[VarId]) -> bool
+    ensures { result ≡ has_repeat scope.now }
+{
+    let mut rest = scope;
+    while let Some((first, later)) = rest.split_first() {
+        if stands_in(later, *first) {
+            return true;
+        }
+        rest = later;
+    }
+    false
+}
+
+fn stands_in(vars: &[VarId], sought: VarId) -> bool
+    ensures { result ≡ has vars.now sought }
+{
+    vars.iter().any(|var| *var == sought)
+}
+
+/// The sizes of the variables of a scope.
+pub fn sizes_of(alloc: Global, sizes: &[u16], scope: &[VarId]) -> Result<Vec<u16>, NoMemory>
+    requires { All (λ v. v < length sizes.now) scope.now }
+    ensures { IfOk result (λ v. v.items ≡ map (λ v. slice_index sizes.now v) scope.now) }
+{
+    let mut own = Vec::with_capacity(alloc, scope.len())?;
+    for var in scope {
+        let place = *var;
+        own.push(sizes[place.0 as usize])?;
+    }
+    Ok(own)
+}

@@ -1,0 +1,66 @@
+//! The lines of tables.
+
+ghost use Rattle.std.specs.Prelude.{◌≡◌, ◌<◌, false, None, length, IfOk};
+ghost use Rattle.std.specs.List.{All};
+ghost use Rattle.dcop_base.specs.Table.{has_repeat};
+ghost use Rattle.problem_text.specs.Lines.{words};
+ghost use Rattle.problem_text.specs.LineEnds.{GivesTable};
+ghost use Rattle.problem_text.specs.Tables as lines;
+ghost use Rattle.problem_text.specs.Cells.{summary};
+
+use crate::cell_words::{Summary, cells_of, fault_of, summary_of};
+use crate::draft::Draft;
+use crate::fault::TextKind;
+use crate::line_end::LineEnd;
+use crate::scope_words::{most_names, past_colon, repeats, scope_of, sizes_of};
+use dcop_base::{CellList, SizeList, Table, VarId, VarList};
+use std::alloc::Global;
+
+/// The table that the words behind `table` declare, and what is told of its cells.
+pub fn table_of(alloc: Global, draft: &Draft, text: &[u8]) -> Result<(Table, Summary), LineEnd>
+    ensures gives { GivesTable draft.now result (lines.table_line draft.now (words text.now)) }
+    ensures told { IfOk result (λ r. summary r.0.cells ≡ r.1) }
+    ensures sound { IfOk result (λ r. lines.cells_fault draft.now.tables r.0 ≡ None) }
+{
+    let Some((many, cells)) = past_colon(text) else {
+        return Err(LineEnd::Fault(TextKind::BadWord));
+    };
+    if many == 0 || many > most_names(draft.version) {
+        return Err(LineEnd::Fault(TextKind::Problem { number: 3 }));
+    }
+    let scope = scope_of(alloc, &draft.names, text)?;
+    if repeats(scope.as_slice()) {
+        return Err(LineEnd::Fault(TextKind::Problem { number: 5 }));
+    }
+    table_with(alloc, draft, scope, cells)
+}
+
+/// The table with this scope and with the cells that these words write.
+fn table_with(
+    alloc: Global,
+    draft: &Draft,
+    scope: Vec<VarId>,
+    text: &[u8],
+) -> Result<(Table, Summary), LineEnd>
+    requires within { All (λ v. v < length draft.now.sizes) scope.items }
+    requires apart { has_repeat scope.items ≡ false }
+    ensures gives { GivesTable draft.now result
+        (lines.with_cells draft.now scope.items (lines.numbers_of (words text.now))) }
+    ensures told { IfOk result (λ r. summary r.0.cells ≡ r.1) }
+    ensures sound { IfOk result (λ r. lines.cells_fault draft.now.tables r.0 ≡ None) }
+{
+    let Some(summary) = summary_of(text) else {
+        return Err(LineEnd::Fault(TextKind::BadNumber));
+    };
+    let sizes = sizes_of(alloc, draft.sizes.as_slice(), scope.as_slice())?;
+    if let Some(kind) = fault_of(draft, sizes.as_slice(), &summary) {
+        return Err(LineEnd::Fault(kind));
+    }
+    let cells = cells_of(alloc, text, summary.count as usize)?;
+    let table = Table {
+        scope: VarList::from_vec(scope),
+        sizes: SizeList::from_vec(sizes),
+        cells: CellList::from_vec(cells),
+    };
+    Ok((table, summary))
+}
