@@ -1,0 +1,3 @@
+pub mod ListLaws
+pub mod SettingLaws
+pub mod AnswerLaws

@@ -1,0 +1,48 @@
+-- The table of options: their words, and the numbers that they take.
+use Rattle.std.specs.Prelude.{ℕ, List, [], ◌∷◌, Option, bytes_eq, codes, find}
+use Rattle.solve_words.specs.declared.options.WordOption.{WordOption}
+use Rattle.solve_words.specs.declared.options.WordOption.TheVariants.{Method, Certificate, Format, After, Number}
+use Rattle.solve_words.specs.declared.options.Numbers.{Numbers}
+use Rattle.solve_words.specs.declared.options.Quantity.{Quantity}
+use Rattle.solve_words.specs.declared.options.Quantity.TheVariants.{Workers, Error, Budget, Nodes, Seed, Vars, Size, Degree, Top, Cells}
+
+-- the word that names an option
+abbrev pub word_of : WordOption → List ℕ
+word_of Method = codes "--method"
+word_of Certificate = codes "--certificate"
+word_of Format = codes "--format"
+word_of After = codes "--after"
+word_of (Number Workers) = codes "--workers"
+word_of (Number Error) = codes "--error"
+word_of (Number Budget) = codes "--budget"
+word_of (Number Nodes) = codes "--nodes"
+word_of (Number Seed) = codes "--seed"
+word_of (Number Vars) = codes "--vars"
+word_of (Number Size) = codes "--size"
+word_of (Number Degree) = codes "--degree"
+word_of (Number Top) = codes "--top"
+word_of (Number Cells) = codes "--cells"
+
+-- each option
+abbrev pub options : List WordOption
+options =
+    Method ∷ Certificate ∷ Format ∷ After
+    ∷ Number Workers ∷ Number Error ∷ Number Budget ∷ Number Nodes ∷ Number Seed
+    ∷ Number Vars ∷ Number Size ∷ Number Degree ∷ Number Top ∷ Number Cells ∷ []
+
+-- the option that a word names
+abbrev pub option_named : List ℕ → Option WordOption
+option_named word = find (λ option. bytes_eq (word_of option) word) options
+
+-- what an option's number may be, and what it is where the option is not given
+abbrev pub numbers_of : Quantity → Numbers
+numbers_of Workers = record { least = 1; most = 64; default = 1 }
+numbers_of Error = record { least = 0; most = 4611686018427387904; default = 0 }
+numbers_of Budget = record { least = 0; most = 10000000; default = 1000000 }
+numbers_of Nodes = record { least = 1; most = 8; default = 1 }
+numbers_of Seed = record { least = 0; most = 9999999999999999999; default = 0 }
+numbers_of Vars = record { least = 1; most = 1000; default = 20 }
+numbers_of Size = record { least = 1; most = 16; default = 4 }
+numbers_of Degree = record { least = 1; most = 8; default = 2 }
+numbers_of Top = record { least = 0; most = 1000000; default = 100 }
+numbers_of Cells = record { least = 1024; most = 1048576; default = 1048576 }

@@ -1,0 +1,80 @@
+//! What is wrong with words that are no command.
+
+ghost use Rattle.std.specs.Prelude.{◌≡◌};
+ghost use Rattle.solve_words.specs.declared.fault.WordFault.TheVariants.{NoMemory as no_memory};
+
+use dcop_base::NoMemory;
+use std::alloc::{AllocError, AllocFailed};
+use thiserror::Error;
+
+/// What is wrong with a word. The number of a kind is its discriminant, from 1 on.
+#[derive(Clone, Copy, Debug, PartialEq, Eq, Error)]
+pub enum WordKind {
+    /// There is no word.
+    #[error("no command is given")]
+    NoCommand = 1,
+    /// The first word is no command.
+    #[error("no such command")]
+    UnknownCommand = 2,
+    /// A word in an option's place is no option.
+    #[error("no such option")]
+    UnknownOption = 3,
+    /// The option is the last word.
+    #[error("the option has no value")]
+    NoValue = 4,
+    /// The option came before.
+    #[error("the option is given twice")]
+    Twice = 5,
+    /// The value should be a number, of 1 to 19 digits, and is none.
+    #[error("the value is no number")]
+    BadNumber = 6,
+    /// The number is outside the option's range.
+    #[error("the number is out of range")]
+    OutOfRange = 7,
+    /// The value is none of the option's words.
+    #[error("the value is none of the choices")]
+    BadChoice = 8,
+    /// The option does not belong to the command or the method.
+    #[error("the option does not go with the command or the method")]
+    NotWith = 9,
+}
+
+/// Why words give no command.
+#[derive(Clone, Copy, Debug, PartialEq, Eq, Error)]
+pub enum WordFault {
+    /// The first fault of the words.
+    #[error("word {at}: {kind}")]
+    Bad {
+        /// The place of the word at fault, counted from 1.
+        at: u64,
+        /// What is wrong there.
+        kind: WordKind,
+    },
+    /// Memory was wanted and not had. No clause says when it comes.
+    #[error("out of memory")]
+    NoMemory,
+}
+
+impl From<NoMemory> for WordFault {
+    ghost from_gives = { λ _ e. e ≡ no_memory };
+
+    fn from(_refused: NoMemory) -> Self {
+        WordFault::NoMemory
+    }
+}
+
+impl From<AllocError> for WordFault {
+    ghost from_gives = { λ _ e. e ≡ no_memory };
+
+    fn from(_refused: AllocError) -> Self {
+        WordFault::NoMemory
+    }
+}
+
+impl<T: Drop> From<AllocFailed<T>> for WordFault {
+    ghost from_gives = { λ _ e. e ≡ no_memory };
+
+    fn from(_refused: AllocFailed<T>) -> Self {
+        WordFault::NoMemory
+    }
+}

@@ -1,0 +1,329 @@
+//! Words read as a command.
+
+ghost use Rattle.std.specs.Prelude.{◌≡◌, ◌≤◌, List, map, not, find, position, All, bytes_eq, string_bytes};
+ghost use Rattle.solve_words.specs.Options.{numbers_of};
+ghost use Rattle.solve_words.specs.Standing.{stands_with};
+ghost use Rattle.solve_words.specs.Settings.{option_of};
+ghost use Rattle.solve_words.specs.Reading.{IsWithin};
+ghost use Rattle.solve_words.specs.Values.{number_in, method_in, certificate_in, format_in, after_in};
+ghost use Rattle.solve_words.specs.Command.{command_of, Answers};
+
+use crate::command::{Choice, Command, Format};
+use crate::fault::{WordFault, WordKind};
+use crate::options::{Quantity, WordOption};
+use crate::settings::{Setting, find_setting, read_settings};
+use crate::verb::Verb;
+use std::alloc::Global;
+
+/// The command that these words give, with the default of each option that is not given.
+///
+/// The words are the command, then pairs of an option and its value; the program's own name is
+/// not among them. `Bad` tells the place, counted from 1, and the kind of the first fault. Pairs
+/// are read from left to right, and of each pair it is tested that the option exists, that the
+/// command takes it, that it is new, that a value stands behind it, and that the value is of its
+/// form and in its range. Behind all pairs it is tested, again from left to right, that each
+/// option that is given may be given with the method.
+pub fn read_words(alloc: Global, words: &[String]) -> Result<Command, WordFault>
+    ensures { Answers (map string_bytes words.now) result }
+{
+    let Some((first, pairs)) = words.split_first() else {
+        return Err(WordFault::Bad {
+            at: 1,
+            kind: WordKind::NoCommand,
+        });
+    };
+    let Some(verb) = Verb::named(first.as_str()) else {
+        return Err(WordFault::Bad {
+            at: 1,
+            kind: WordKind::UnknownCommand,
+        });
+    };
+    let settings = read_settings(alloc, verb, pairs)?;
+    let settings = settings.as_slice();
+    match first_refused(settings, method(settings)) {
+        Some(index) => Err(WordFault::Bad {
+            at: 2 + 2 * index as u64,
+            kind: WordKind::NotWith,
+        }),
+        None => Ok(command(verb, settings)),
+    }
+}
+
+/// The index of the first of these settings whose option may not be given with the method.
+fn first_refused(settings: &[Setting], method: Choice) -> Option<usize>
+    ensures { result
+        ≡ position (λ setting. not (stands_with method (option_of setting))) settings.now }
+{
+    settings
+        .iter()
+        .position(|setting| !setting.option().stands_with(method))
+}
+
+/// The command with these settings.
+fn command(verb: Verb, settings: &[Setting]) -> Command
+    requires { All IsWithin settings.now }
+    ensures { result ≡ command_of verb settings.now }
+{
+    match verb {
+        Verb::Solve => Command::Solve {
+            method: method(settings),
+            workers: number(settings, Quantity::Workers) as u32,
+            error: number(settings, Quantity::Error),
+            budget: number(settings, Quantity::Budget),
+            nodes: number(settings, Quantity::Nodes) as u32,
+            certificate: certificate(settings),
+            format: format(settings),
+            cells: number(settings, Quantity::Cells),
+        },
+        Verb::Tree => Command::Tree {
+            workers: number(settings, Quantity::Workers) as u32,
+            format: format(settings),
+        },
+        Verb::Check => Command::Check {
+            format: format(settings),
+        },
+        Verb::Replay => Command::Replay {
+            after: after(settings),
+            format: format(settings),
+        },
+        Verb::Drill => drill(settings),
+        Verb::Upgrade => Command::Upgrade {
+            format: format(settings),
+        },
+        Verb::Edit => Command::Edit,
+    }
+}
+
+fn drill(settings: &[Setting]) -> Command
+    requires { All IsWithin settings.now }
+    ensures { result ≡ command_of Verb.Drill settings.now }
+{
+    Command::Drill {
+        method: method(settings),
+        workers: number(settings, Quantity::Workers) as u32,
+        error: number(settings, Quantity::Error),
+        budget: number(settings, Quantity::Budget),
+        nodes: number(settings, Quantity::Nodes) as u32,
+        seed: number(settings, Quantity::Seed),
+        vars: number(settings, Quantity::Vars) as u32,
+        size: number(settings, Quantity::Size) as u16,
+        degree: number(settings, Quantity::Degree) as u32,
+        top: number(settings, Quantity::Top),
+        cells: number(settings, Quantity::Cells),
+    }
+}
+
+/// The number given for an option, or its default.
+fn number(settings: &[Setting], quantity: Quantity) -> u64
+    requires { All IsWithin settings.now }
+    ensures same { result ≡ number_in quantity settings.now }
+    ensures within { result ≤ (numbers_of quantity).most }
+{
+    match find_setting(settings, WordOption::Number(quantity).word()) {
+        Some(Setting::Number(_, number)) => number,
+        _ => quantity.numbers().default,
+    }
+}
+
+/// The method given, or auto.
+fn method(settings: &[Setting]) -> Choice
+    ensures { result ≡ method_in settings.now }
+{
+    match find_setting(settings, WordOption::Method.word()) {
+        Some(Setting::Method(choice)) => choice,
+        _ => Choice::Auto,
+    }
+}
+
+/// Whether a certificate was asked for.
+fn certificate(settings: &[Setting]) -> bool
+    ensures { result ≡ certificate_in settings.now }
+{
+    match find_setting(settings, WordOption::Certificate.word()) {
+        Some(Setting::Certificate(wanted)) => wanted,
+        _ => false,
+    }
+}
+
+/// The form of the problem given, or that of this product.
+fn format(settings: &[Setting]) -> Format
+    ensures { result ≡ format_in settings.now }
+{
+    match find_setting(settings, WordOption::Format.word()) {
+        Some(Setting::Format(format)) => format,
+        _ => Format::Dcop,
+    }
+}
+
+/// The number of events given, if one was.
+fn after(settings: &[Setting]) -> Option<u64>
+    ensures { result ≡ after_in settings.now }
+{
+    match find_setting(settings, WordOption::After.word()) {
+        Some(Setting::After(events)) => Some(events),
+        _ => None,
+    }
+}
+
+#[cfg(test)]
+mod tests {
+    use super::*;
+    use std::alloc::AllocError;
+    use std::test::Fail;
+
+    fn words_of(alloc: Global, text: &str) -> Result<Vec<String>, AllocError> {
+        let mut words = Vec::new(alloc);
+        for word in text.split_whitespace() {
+            words.push(String::from_str(alloc, word)?)?;
+        }
+        Ok(words)
+    }
+
+    #[test]
+    fn refused_words(rt: HostRuntime) -> Result<(), Fail> {
+        for (text, at, kind) in [
+            ("", 1, WordKind::NoCommand),
+            ("sove", 1, WordKind::UnknownCommand),
+            ("solve --worker 1", 2, WordKind::UnknownOption),
+            ("solve 1 --workers", 2, WordKind::UnknownOption),
+            ("tree --workers 2 --format", 4, WordKind::NoValue),
+            ("solve --budget 5 --budget 6", 4, WordKind::Twice),
+            ("solve --budget 5 --budget", 4, WordKind::Twice),
+            ("drill --seed 12345678901234567890", 3, WordKind::BadNumber),
+            ("replay --after -1", 3, WordKind::BadNumber),
+            ("replay --after 1000000001", 3, WordKind::OutOfRange),
+            ("solve --workers 0", 3, WordKind::OutOfRange),
+            ("solve --error 4611686018427387905", 3, WordKind::OutOfRange),
+            ("solve --budget 10000001", 3, WordKind::OutOfRange),
+            ("drill --vars 1001", 3, WordKind::OutOfRange),
+            ("drill --size 17 --degree 9", 3, WordKind::OutOfRange),
+            ("drill --degree 9 --top 1000001", 3, WordKind::OutOfRange),
+            ("drill --top 1000001", 3, WordKind::OutOfRange),
+            ("solve --method cut --cells 1023", 5, WordKind::OutOfRange),
+            ("solve --method best", 3, WordKind::BadChoice),
+            ("solve --certificate maybe", 3, WordKind::BadChoice),
+            ("check --format xml", 3, WordKind::BadChoice),
+            ("edit --format dcop", 2, WordKind::NotWith),
+            ("drill --certificate", 2, WordKind::NotWith),
+            ("solve --method dpop --error 1", 4, WordKind::NotWith),
+            ("solve --nodes 1 --method cut", 2, WordKind::NotWith),
+            (
+                "solve --certificate no --error 0 --method plain",
+                2,
+                WordKind::NotWith,
+            ),
+            ("solve --workers 2 --cells 1048576", 4, WordKind::NotWith),
+        ] {
+            let words = words_of(rt.alloc(), text)?;
+            let answer = read_words(rt.alloc(), words.as_slice());
+            assert_eq!(rt; answer, Err(WordFault::Bad { at, kind }), "{text}");
+        }
+        Ok(())
+    }
+
+    #[test]
+    fn accepted_words(rt: HostRuntime) -> Result<(), Fail> {
+        for (text, command) in [
+            (
+                "solve --method adopt --workers 64 --error 4 --budget 0 --nodes 8 --certificate yes",
+                Command::Solve {
+                    method: Choice::Adopt,
+                    workers: 64,
+                    error: 4,
+                    budget: 0,
+                    nodes: 8,
+                    certificate: true,
+                    format: Format::Dcop,
+                    cells: 1_048_576,
+                },
+            ),
+            (
+                "solve --cells 1024 --format wcsp --method cut",
+                Command::Solve {
+                    method: Choice::Cut,
+                    workers: 1,
+                    error: 0,
+                    budget: 1_000_000,
+                    nodes: 1,
+                    certificate: false,
+                    format: Format::Wcsp,
+                    cells: 1024,
+                },
+            ),
+            (
+                "tree",
+                Command::Tree {
+                    workers: 1,
+                    format: Format::Dcop,
+                },
+            ),
+            (
+                "check --format wcsp",
+                Command::Check {
+                    format: Format::Wcsp,
+                },
+            ),
+            (
+                "replay",
+                Command::Replay {
+                    after: None,
+                    format: Format::Dcop,
+                },
+            ),
+            (
+                "replay --after 007",
+                Command::Replay {
+                    after: Some(7),
+                    format: Format::Dcop,
+                },
+            ),
+            (
+                "drill --seed 9999999999999999999 --size 16 --top 0",
+                Command::Drill {
+                    method: Choice::Auto,
+                    workers: 1,
+                    error: 0,
+                    budget: 1_000_000,
+                    nodes: 1,
+                    seed: 9_999_999_999_999_999_999,
+                    vars: 20,
+                    size: 16,
+                    degree: 2,
+                    top: 0,
+                    cells: 1_048_576,
+                },
+            ),
+            (
+                "drill --vars 1000 --degree 8 --method plain",
+                Command::Drill {
+                    method: Choice::Plain,
+                    workers: 1,
+                    error: 0,
+                    budget: 1_000_000,
+                    nodes: 1,
+                    seed: 0,
+                    vars: 1000,
+                    size: 4,
+                    degree: 8,
+                    top: 100,
+                    cells: 1_048_576,
+                },
+            ),
+            (
+                "upgrade --format dcop",
+                Command::Upgrade {
+                    format: Format::Dcop,
+                },
+            ),
+            ("edit", Command::Edit),
+        ] {
+            let words = words_of(rt.alloc(), text)?;
+            assert_eq!(rt;
+                read_words(rt.alloc(), words.as_slice()),
+                Ok(command),
+                "{text}"
+            );
+        }
+        Ok(())
+    }
+}
