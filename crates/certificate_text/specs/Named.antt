@@ -1,0 +1,28 @@
+-- Reports that the names of a file can tell.
+use Rattle.std.specs.Prelude.{◌≡◌, ℕ, ◌<◌, List, length, IfSome}
+use Rattle.std.specs.List.{All, AllZip}
+use Rattle.problem_text.specs.File.{TextFile}
+use Rattle.certificate_text.specs.declared.certificate.Certificate.{Certificate}
+use Rattle.certificate_text.specs.declared.certificate.Certificate.TheVariants.{Tables}
+use Rattle.certificate_text.specs.declared.certificate.Util.{Util}
+use Rattle.certificate_text.specs.declared.report.Report.{Report}
+
+-- a value that has its name, where its variable has value names
+abbrev pub HasWord : List (List ℕ) → ℕ → Type 0
+HasWord labels value = 0 < length labels → value < length labels
+
+-- a UTIL table all of whose variables are among so many
+pub record IsNamedUtil (count : ℕ) (util : Util) : Type 0 where
+  pub own : util.var < count
+  pub parent : IfSome util.parent (λ p. p < count)
+  pub scope : All (λ v. v < count) util.scope
+
+-- a certificate all of whose variables are among so many
+abbrev pub IsNamedCertificate : ℕ → Certificate → Type 0
+IsNamedCertificate count (Tables utils) = All (IsNamedUtil count) utils
+
+-- a report that the names of a file can tell: one value for each name, each with its name where its variable has value names, and no variable without a name
+pub record CanTell (report : Report) (file : TextFile) : Type 0 where
+  pub many : length report.values ≡ length file.names
+  pub worded : AllZip HasWord file.labels report.values
+  pub named : IfSome report.certificate (IsNamedCertificate (length file.names))

@@ -1,0 +1,29 @@
+//! Certificates: what lets a reader check that no better values exist.
+
+use dcop_base::{CellList, Sequence, VarId, VarList};
+
+/// What a report gives as evidence for its bounds.
+#[derive(Debug, Drop)]
+pub enum Certificate {
+    /// The UTIL table of each agent of a run of DPOP, in the order of the report's lines.
+    Tables(UtilList),
+}
+
+/// The UTIL table of one agent, which it sends to its parent where it has one.
+///
+/// A cell is the least cost of the agent's subtree where the variables of the scope have the
+/// cell's values, of which the last moves fastest.
+#[derive(Debug, Drop)]
+pub struct Util {
+    /// The agent's variable.
+    pub var: VarId,
+    /// The parent's variable; `None` at the root.
+    pub parent: Option<VarId>,
+    /// The variables of the separator, which is empty at the root.
+    pub scope: VarList,
+    /// A cell for each choice of values of the scope: one at the root, the least total.
+    pub cells: CellList,
+}
+
+/// UTIL tables.
+pub type UtilList = Sequence<Util>;

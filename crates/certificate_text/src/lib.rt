@@ -1,0 +1,15 @@
+//! Reports of solving, the certificates in them, and the text that tells both.
+//!
+//! [`write_report`] writes exactly the text of a report. A certificate lets a reader who trusts
+//! no one check that no better values exist.
+#![tactic(auto)]
+
+mod certificate;
+mod report;
+#[cfg(test)]
+mod tests;
+mod writer;
+
+pub use certificate::{Certificate, Util, UtilList};
+pub use report::{Ending, Method, Report};
+pub use writer::write_report;
