@@ -1,0 +1,28 @@
+-- The words of each refusal's line.
+use Rattle.std.specs.Prelude.{ℕ, List, [], ◌∷◌, codes, ◌==◌, if◌then◌else◌}
+use Rattle.std.specs.Fmt.{decimal}
+
+-- `refused words at A kind K`
+abbrev pub words_refusal : ℕ → ℕ → List (List ℕ)
+words_refusal at kind = codes "refused" ∷ codes "words" ∷ codes "at" ∷ decimal at ∷ codes "kind" ∷ decimal kind ∷ []
+
+-- `problem P` behind kind 7, nothing behind another kind
+abbrev pub problem_words : ℕ → ℕ → List (List ℕ)
+problem_words kind problem = if kind == 7 then codes "problem" ∷ decimal problem ∷ [] else []
+
+-- `refused text line L kind K`, and `problem P` behind kind 7
+abbrev pub text_refusal : ℕ → ℕ → ℕ → List (List ℕ)
+text_refusal at kind problem =
+    codes "refused" ∷ codes "text" ∷ codes "line" ∷ decimal at ∷ codes "kind" ∷ decimal kind ∷ problem_words kind problem
+
+-- `refused many assignments N limit 65536`
+abbrev pub many_refusal : ℕ → List (List ℕ)
+many_refusal assignments = codes "refused" ∷ codes "many" ∷ codes "assignments" ∷ decimal assignments ∷ codes "limit" ∷ decimal 65536 ∷ []
+
+-- `refused read`
+abbrev pub read_refusal : List (List ℕ)
+read_refusal = codes "refused" ∷ codes "read" ∷ []
+
+-- `refused words at 1 kind 10`, where the words are accepted and not served yet
+abbrev pub not_yet_refusal : List (List ℕ)
+not_yet_refusal = codes "refused" ∷ codes "words" ∷ codes "at" ∷ codes "1" ∷ codes "kind" ∷ codes "10" ∷ []

@@ -1,0 +1,12 @@
+//! What a command answers, and the exact text of each answer.
+//!
+//! An [`Answer`] holds plain values, so this crate stands on none of those that found them.
+//! [`text_of`] is the only writer of answers.
+#![tactic(auto)]
+
+mod answer;
+mod refusal;
+#[cfg(test)]
+mod tests;
+
+pub use answer::{Answer, text_of};

@@ -1,0 +1,78 @@
+//! The line of each refusal.
+
+ghost use Rattle.std.specs.Prelude.{◌≡◌, IfOk};
+ghost use Rattle.std.specs.String.{string_bytes};
+ghost use Rattle.problem_text.specs.Canonical.{line as line_of};
+ghost use Rattle.solve_report.specs.Refusal.{words_refusal, text_refusal, many_refusal, read_refusal, not_yet_refusal};
+
+use dcop_base::{Bytes, NoMemory};
+use std::alloc::Global;
+
+/// The kind of a problem text's fault that has a number of its own behind it.
+const PROBLEM_KIND: u8 = 7;
+
+/// The most assignments that plain search goes through.
+const ASSIGNMENT_LIMIT: u64 = 65_536;
+
+/// `refused words at A kind K`
+pub(crate) fn refuse_words(alloc: Global, at: u64, kind: u8) -> Result<Bytes, NoMemory>
+    ensures { IfOk result (λ text. text ≡ line_of (words_refusal at kind)) }
+{
+    let mut text = String::new(alloc);
+    write!(text, "refused words at {at} kind {kind}\n")?;
+    Ok(bytes_of(text))
+}
+
+/// `refused text line L kind K`, for kind 7 followed by ` problem P`
+pub(crate) fn refuse_text(
+    alloc: Global,
+    line: u64,
+    kind: u8,
+    problem: u8,
+) -> Result<Bytes, NoMemory>
+    ensures { IfOk result (λ text. text ≡ line_of (text_refusal line kind problem)) }
+{
+    let mut text = String::new(alloc);
+    if kind == PROBLEM_KIND {
+        write!(
+            text,
+            "refused text line {line} kind {kind} problem {problem}\n"
+        )?;
+        Ok(bytes_of(text))
+    } else {
+        write!(text, "refused text line {line} kind {kind}\n")?;
+        Ok(bytes_of(text))
+    }
+}
+
+/// `refused many assignments N limit 65536`
+pub(crate) fn refuse_many(alloc: Global, assignments: u64) -> Result<Bytes, NoMemory>
+    ensures { IfOk result (λ text. text ≡ line_of (many_refusal assignments)) }
+{
+    let mut text = String::new(alloc);
+    write!(
+        text,
+        "refused many assignments {assignments} limit {ASSIGNMENT_LIMIT}\n"
+    )?;
+    Ok(bytes_of(text))
+}
+
+/// `refused read`
+pub(crate) fn refuse_read(alloc: Global) -> Result<Bytes, NoMemory>
+    ensures { IfOk result (λ text. text ≡ line_of read_refusal) }
+{
+    Ok(bytes_of(String::from_str(alloc, "refused read\n")?))
+}
+
+/// `refused words at 1 kind 10`
+pub(crate) fn refuse_not_yet(alloc: Global) -> Result<Bytes, NoMemory>
+    ensures { IfOk result (λ text. text ≡ line_of not_yet_refusal) }
+{
+    Ok(bytes_of(String::from_str(alloc, "refused words at 1 kind 10\n")?))
+}
+
+fn bytes_of(text: String) -> Bytes
+    ensures { result ≡ string_bytes text }
+{
+    Bytes::from_vec(text.into_bytes())
+}
