@@ -1,0 +1,153 @@
+-- Which answer belongs to which words and input, case by case; and what its status says of the source.
+use Rattle.std.proofs.Common.{◌≡◌, ◌≢◌, ℕ, ◌<◌, List, Option, Some, None, Result, Ok, Err, IfOk, sym, ap, subst, arith, refl}
+use Rattle.dcop_edge.specs.Faults.{Rose}
+use Rattle.dcop_base.specs.declared.memory.NoMemory.{NoMemory}
+use Rattle.problem_text.specs.Declarations.{Declared}
+use Rattle.problem_text.specs.Reading.{Fault}
+use Rattle.solve_words.specs.declared.command.Command.{Command}
+use Rattle.solve_words.specs.declared.fault.WordFault.{WordFault}
+use Rattle.solve_words.specs.declared.fault.WordFault.TheVariants as words
+use Rattle.solve_words.specs.Command.{answer_to}
+use Rattle.solve_report.specs.declared.answer.Answer.{Answer}
+use Rattle.solve_report.specs.declared.answer.Answer.TheVariants as answers
+use Rattle.solve_top.specs.declared.status.Status.TheVariants.{Solved, ReadFault}
+use Rattle.solve_top.specs.declared.task.Task.{Task}
+use Rattle.solve_top.specs.declared.task.Task.TheVariants as tasks
+use Rattle.solve_top.specs.Answering.{IsTaskAnswer, IsTextAnswer, IsInputAnswer, IsServedAnswer, IsCommandAnswer, IsAnswer}
+use Rattle.solve_top.specs.Goal.{TellsBest}
+use Rattle.solve_top.specs.Input.{Input, Unread, Broken, TooLong, Whole, SourceState, IsAllOf, HadMore, IsReadFrom}
+use Rattle.solve_top.specs.Served.{task_of}
+use Rattle.solve_top.specs.Solving.{Answered, HasFew, Accepts}
+use Rattle.solve_top.specs.Statuses.{status_of}
+use Rattle.solve_top.specs.Whole.{whole_read}
+
+-- the answer of a task, where words ask for it
+IsAnswer-task : (words : List (List ℕ)) (command : Command) (task : Task) (input : Input) (answer : Answer)
+    → answer_to words ≡ Ok command → task_of command ≡ Some task → IsInputAnswer task input answer → IsAnswer words input answer
+IsAnswer-task words command task input answer asked served is =
+    subst (λ (r : Result Command WordFault). IsCommandAnswer r input answer) (sym asked)
+    (subst (λ (t : Option Task). IsServedAnswer t input answer) (sym served) is)
+
+task-IsAnswer : (words : List (List ℕ)) (command : Command) (task : Task) (input : Input) (answer : Answer)
+    → answer_to words ≡ Ok command → task_of command ≡ Some task → IsAnswer words input answer → IsInputAnswer task input answer
+task-IsAnswer words command task input answer asked served is =
+    subst (λ (t : Option Task). IsServedAnswer t input answer) served
+    (subst (λ (r : Result Command WordFault). IsCommandAnswer r input answer) asked is)
+
+pub Answered-task : (words : List (List ℕ)) (command : Command) (task : Task) (before after : SourceState) (input : Input) (answer : Answer)
+    → answer_to words ≡ Ok command → task_of command ≡ Some task → IsReadFrom input before after → IsInputAnswer task input answer → TellsBest answer
+    → Answered words before after answer
+Answered-task words command task before after input answer asked served read is best = record {
+  input = input;
+  read = read;
+  belongs = IsAnswer-task words command task input answer asked served is;
+  best = best;
+}
+
+-- the same on all bytes that were read, unless memory was wanted
+pub Answered-text : (words : List (List ℕ)) (command : Command) (task : Task) (before after : SourceState) (bytes slice : List ℕ) (result : Result Answer NoMemory)
+    → answer_to words ≡ Ok command → task_of command ≡ Some task → IsReadFrom (Whole bytes) before after → slice ≡ bytes
+    → IfOk result (IsTextAnswer task (whole_read slice)) → IfOk result TellsBest → IfOk result (Answered words before after)
+Answered-text words command task before after bytes slice (Ok answer) asked served read same is best =
+    Answered-task words command task before after (Whole bytes) answer asked served read (subst (λ (t : List ℕ). IsTextAnswer task (whole_read t) answer) same is) best
+Answered-text words command task before after bytes slice (Err none) asked served read same is best = tt
+
+-- a task's answer to a text that was read is no failed reading
+task-sound : (task : Task) (d : Declared) (answer : Answer) → IsTaskAnswer task d answer → status_of answer ≢ ReadFault
+task-sound tasks.Plain d (answers.Report report file) is = λ e. cc
+task-sound tasks.Plain d (answers.Many n) is = λ e. cc
+task-sound tasks.Plain d (answers.Upgraded file) is = absurd is
+task-sound tasks.Plain d (answers.Words at kind) is = absurd is
+task-sound tasks.Plain d (answers.ProblemText line kind problem) is = absurd is
+task-sound tasks.Plain d answers.Read is = absurd is
+task-sound tasks.Plain d answers.NotYet is = absurd is
+task-sound tasks.Upgrade d (answers.Upgraded file) is = λ e. cc
+task-sound tasks.Upgrade d (answers.Report report file) is = absurd is
+task-sound tasks.Upgrade d (answers.Many n) is = absurd is
+task-sound tasks.Upgrade d (answers.Words at kind) is = absurd is
+task-sound tasks.Upgrade d (answers.ProblemText line kind problem) is = absurd is
+task-sound tasks.Upgrade d answers.Read is = absurd is
+task-sound tasks.Upgrade d answers.NotYet is = absurd is
+
+text-sound : (task : Task) (read : Result Declared Fault) (answer : Answer) → IsTextAnswer task read answer → status_of answer ≢ ReadFault
+text-sound task (Ok d) answer is = task-sound task d answer is
+text-sound task (Err fault) answer is = λ e. let s = ap status_of is in cc
+
+-- only a broken input is answered by a failed reading
+input-sound : (task : Task) (input : Input) (answer : Answer) → IsInputAnswer task input answer → status_of answer ≡ ReadFault → input ≡ Broken
+input-sound task Unread answer is fault = absurd is
+input-sound task Broken answer is fault = refl
+input-sound task TooLong answer is fault = let s = ap status_of is in cc
+input-sound task (Whole bytes) answer is fault = absurd (text-sound task (whole_read bytes) answer is fault)
+
+served-sound : (task : Option Task) (input : Input) (answer : Answer) → IsServedAnswer task input answer → status_of answer ≡ ReadFault → input ≡ Broken
+served-sound (Some task) input answer is fault = input-sound task input answer is fault
+served-sound None input answer is fault = let s = ap status_of is.1 in cc
+
+command-sound : (asked : Result Command WordFault) (input : Input) (answer : Answer) → IsCommandAnswer asked input answer → status_of answer ≡ ReadFault → input ≡ Broken
+command-sound (Ok command) input answer is fault = served-sound (task_of command) input answer is fault
+command-sound (Err (words.Bad at kind)) input answer is fault = let s = ap status_of is.1 in cc
+command-sound (Err words.NoMemory) input answer is fault = absurd is
+
+-- a broken input is answered by a failed reading
+served-broken : (task : Option Task) (answer : Answer) → IsServedAnswer task Broken answer → status_of answer ≡ ReadFault
+served-broken (Some task) answer is = ap status_of is
+served-broken None answer is = cc is.0
+
+command-broken : (asked : Result Command WordFault) (answer : Answer) → IsCommandAnswer asked Broken answer → status_of answer ≡ ReadFault
+command-broken (Ok command) answer is = served-broken (task_of command) answer is
+command-broken (Err (words.Bad at kind)) answer is = cc is.0
+command-broken (Err words.NoMemory) answer is = absurd is
+
+-- an answer by a failed reading comes only where the source failed
+pub Rose-answered : (words : List (List ℕ)) (before after : SourceState) (answer : Answer) → Answered words before after answer
+    → status_of answer ≡ ReadFault → Rose before.faults after.faults
+Rose-answered words before after answer done fault =
+    subst (λ (i : Input). IsReadFrom i before after) (command-sound (answer_to words) done.input answer done.belongs fault) done.read
+
+-- and it comes wherever the source failed
+failed-input : (words : List (List ℕ)) (before after : SourceState) (input : Input) (answer : Answer) → IsReadFrom input before after → IsAnswer words input answer
+    → before.faults < after.faults → status_of answer ≡ ReadFault
+failed-input words before after Unread answer read is more = absurd (omega (arith, more, ap (λ (s : SourceState). s.faults) read))
+failed-input words before after Broken answer read is more = command-broken (answer_to words) answer is
+failed-input words before after TooLong answer read is more = absurd (omega (arith, more, read.1))
+failed-input words before after (Whole bytes) answer read is more = absurd (omega (arith, more, read.2))
+
+pub ReadFault-answered : (words : List (List ℕ)) (before after : SourceState) (answer : Answer) → Answered words before after answer
+    → before.faults < after.faults → status_of answer ≡ ReadFault
+ReadFault-answered words before after answer done more = failed-input words before after done.input answer done.read done.belongs more
+
+-- a task on what a text declares is solved, where it has few assignments
+task-solved : (task : Task) (d : Declared) (answer : Answer) → HasFew task d → IsTaskAnswer task d answer → status_of answer ≡ Solved
+task-solved tasks.Plain d (answers.Report report file) few is = refl
+task-solved tasks.Plain d (answers.Many n) few is = absurd (omega (arith, few, is.0))
+task-solved tasks.Plain d (answers.Upgraded file) few is = absurd is
+task-solved tasks.Plain d (answers.Words at kind) few is = absurd is
+task-solved tasks.Plain d (answers.ProblemText line kind problem) few is = absurd is
+task-solved tasks.Plain d answers.Read few is = absurd is
+task-solved tasks.Plain d answers.NotYet few is = absurd is
+task-solved tasks.Upgrade d (answers.Upgraded file) few is = refl
+task-solved tasks.Upgrade d (answers.Report report file) few is = absurd is
+task-solved tasks.Upgrade d (answers.Many n) few is = absurd is
+task-solved tasks.Upgrade d (answers.Words at kind) few is = absurd is
+task-solved tasks.Upgrade d (answers.ProblemText line kind problem) few is = absurd is
+task-solved tasks.Upgrade d answers.Read few is = absurd is
+task-solved tasks.Upgrade d answers.NotYet few is = absurd is
+
+-- all of a text that is told, and accepted, is read and solved
+input-solved : (text : List ℕ) (words : List (List ℕ)) (accepts : Accepts words text) (before after : SourceState) (input : Input) (answer : Answer)
+    → before.left ≡ Some text → ¬ Rose before.faults after.faults → IsReadFrom input before after → IsInputAnswer accepts.task input answer → status_of answer ≡ Solved
+input-solved text words accepts before after Unread answer told steady read is = absurd is
+input-solved text words accepts before after Broken answer told steady read is = absurd (steady read)
+input-solved text words accepts before after TooLong answer told steady read is =
+    let more = subst HadMore told read.0 in absurd (omega (arith, more, accepts.short))
+input-solved text words accepts before after (Whole bytes) answer told steady read is =
+    let all = subst (λ (l : Option (List ℕ)). IsAllOf bytes l after.left) told read.1 in
+    let same = subst (λ (t : List ℕ). IsTextAnswer accepts.task (whole_read t) answer) all.0 is in
+    task-solved accepts.task accepts.declared answer accepts.few (subst (λ (r : Result Declared Fault). IsTextAnswer accepts.task r answer) accepts.read same)
+
+pub Solved-answered : (words : List (List ℕ)) (text : List ℕ) (before after : SourceState) (answer : Answer) → Answered words before after answer
+    → before.left ≡ Some text → Accepts words text → ¬ Rose before.faults after.faults → status_of answer ≡ Solved
+Solved-answered words text before after answer done told accepts steady =
+    input-solved text words accepts before after done.input answer told steady done.read
+    (task-IsAnswer words accepts.command accepts.task done.input answer accepts.asked accepts.served done.belongs)

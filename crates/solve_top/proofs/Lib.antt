@@ -1,0 +1,3 @@
+mod PassLaws
+mod TellLaws
+mod AnswerLaws

@@ -1,0 +1,11 @@
+pub mod Input
+pub mod Output
+pub mod Kinds
+pub mod Served
+pub mod Whole
+pub mod Texts
+pub mod Goal
+pub mod Plain
+pub mod Answering
+pub mod Statuses
+pub mod Solving

@@ -1,0 +1,62 @@
+-- What a top call does: it answers, and shows its answer.
+use Rattle.std.specs.Prelude.{◌≡◌, ℕ, ◌≤◌, ◌⊎◌, true, List, length, Some, Ok}
+use Rattle.dcop_base.specs.Table.{product}
+use Rattle.dcop_edge.specs.Sink.{Adds}
+use Rattle.dcop_optimum.specs.declared.plain.TheConstants.{MAX_ASSIGNMENTS}
+use Rattle.problem_text.specs.Declarations.{Declared}
+use Rattle.solve_words.specs.declared.command.Command.{Command}
+use Rattle.solve_words.specs.Command.{answer_to}
+use Rattle.solve_report.specs.declared.answer.Answer.{Answer}
+use Rattle.solve_report.specs.AnswerText.{answer_text}
+use Rattle.solve_top.specs.declared.reading.TheConstants.{MAX_INPUT}
+use Rattle.solve_top.specs.declared.status.Status.{Status}
+use Rattle.solve_top.specs.declared.status.Status.TheVariants as statuses
+use Rattle.solve_top.specs.declared.task.Task.{Task}
+use Rattle.solve_top.specs.declared.task.Task.TheVariants as tasks
+use Rattle.solve_top.specs.Answering.{IsAnswer}
+use Rattle.solve_top.specs.Goal.{TellsBest}
+use Rattle.solve_top.specs.Input.{Input, SourceState, IsReadFrom}
+use Rattle.solve_top.specs.Output.{SinkState, AddsPrefix}
+use Rattle.solve_top.specs.Served.{task_of}
+use Rattle.solve_top.specs.Statuses.{status_of}
+use Rattle.solve_top.specs.Whole.{whole_read}
+
+-- an answer to words, with what was read for it of a source that stood so before and stands so afterwards
+pub record Answered (words : List (List ℕ)) (before after : SourceState) (answer : Answer) : Type 0 where
+  pub input : Input
+  pub read : IsReadFrom input before after
+  pub belongs : IsAnswer words input answer
+  pub best : TellsBest answer
+
+-- the whole text of an answer was written, the sink is finished, and the status is the answer's
+pub record IsShown (answer : Answer) (before after : SinkState) (status : Status) : Type 0 where
+  pub text : Adds before.held (answer_text answer) after.held
+  pub finished : after.finished ≡ true
+  pub same : status ≡ status_of answer
+
+-- the sink failed behind a prefix of the text of an answer
+pub record IsCut (answer : Answer) (before after : SinkState) (status : Status) : Type 0 where
+  pub prefix : AddsPrefix before.held (answer_text answer) after.held
+  pub fault : status ≡ statuses.WriteFault
+
+-- a call on these words answered and showed its answer, or its sink failed
+pub record Solves (words : List (List ℕ)) (source source' : SourceState) (sink sink' : SinkState) (status : Status) : Type 0 where
+  pub answer : Answer
+  pub answered : Answered words source source' answer
+  pub shown : IsShown answer sink sink' status ⊎ IsCut answer sink sink' status
+
+-- the plain method has no more assignments to try than it tries
+abbrev pub HasFew : Task → Declared → Type 0
+HasFew tasks.Plain d = product d.sizes ≤ MAX_ASSIGNMENTS
+HasFew tasks.Upgrade d = Unit {0}
+
+-- words and a text that are accepted, and that can be served
+pub record Accepts (words : List (List ℕ)) (text : List ℕ) : Type 0 where
+  pub command : Command
+  pub task : Task
+  pub declared : Declared
+  pub asked : answer_to words ≡ Ok command
+  pub served : task_of command ≡ Some task
+  pub short : length text ≤ MAX_INPUT
+  pub read : whole_read text ≡ Ok declared
+  pub few : HasFew task declared

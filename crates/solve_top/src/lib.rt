@@ -1,0 +1,22 @@
+//! The top call of the solver: words and a source of bytes in, an answer into a sink, and a status.
+//!
+//! [`solve`] does all the work of the program. Its clauses say which answer belongs to which words
+//! and input, that the answer's whole text is written and the sink finished, that a solved report
+//! tells an assignment with the best sum of any, and when each fault may come.
+#![tactic(auto)]
+
+mod after_end;
+mod answering;
+mod plain;
+mod reading;
+mod status;
+mod task;
+#[cfg(test)]
+mod tests;
+mod top;
+mod whole;
+mod writing;
+
+pub use reading::MAX_INPUT;
+pub use status::Status;
+pub use top::solve;

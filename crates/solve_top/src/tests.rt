@@ -1,0 +1,186 @@
+//! Worked answers, over sources and sinks in memory.
+
+use crate::solve;
+use dcop_edge::{MemorySink, MemorySource};
+use std::alloc::Global;
+use std::test::Fail;
+
+const PAIR: &str = "dcop 1\nvar x 2\nvar y 2\ntable x y : 5 3 2 7\nend\n";
+
+const SINGLE: &str = "dcop 1\nvar a 3\ntable a : 4 1 1\nend\n";
+
+const GAIN: &str = "dcop 2\ngoal max\nvar x : lo hi\nvar y 2\ntable x y : 5 3 2 7\nend\n";
+
+const GAIN_LATE: &str = "dcop 2\nvar x : lo hi\ngoal max\nvar y 2\ntable x y : 5 3 2 7\nend\n";
+
+const PLAIN: &str = "solve --method plain";
+
+const PAIR_REPORT: &str = "status solved\nmethod plain\nerror 0\ndeliveries 0\ncost 2\nlower 2\n\
+    upper 2\nvalue x 1\nvalue y 0\nend\n";
+
+/// The code and the text that a call answers, over a source and a sink that fail at these calls.
+fn answer_over(
+    alloc: Global,
+    words: &str,
+    input: &[u8],
+    reads: &[u64],
+    writes: &[u64],
+) -> Result<(u8, Vec<u8>), Fail> {
+    let mut list = Vec::new(alloc);
+    for word in words.split_whitespace() {
+        list.push(String::from_str(alloc, word)?)?;
+    }
+    let mut source = MemorySource::new(input.to_vec(alloc)?, reads.to_vec(alloc)?);
+    let mut sink = MemorySink::new(alloc, writes.to_vec(alloc)?);
+    let status = solve(alloc, &list, &mut source, &mut sink);
+    Ok((status.code(), sink.bytes().to_vec(alloc)?))
+}
+
+#[test]
+fn worked_answers(rt: HostRuntime) -> Result<(), Fail> {
+    let rows = [
+        (PLAIN, PAIR, 0, PAIR_REPORT),
+        (
+            "solve --method plain --workers 4",
+            "dcop 1\nvar x 2\nvar y 2\ntable x y : 5 3 2 7\nend # the last line\n\n# that is all",
+            0,
+            PAIR_REPORT,
+        ),
+        (
+            PLAIN,
+            SINGLE,
+            0,
+            "status solved\nmethod plain\nerror 0\ndeliveries 0\ncost 1\nlower 1\nupper 1\n\
+                value a 1\nend\n",
+        ),
+        (
+            PLAIN,
+            GAIN,
+            0,
+            "status solved\nmethod plain\ngoal max\nerror 0\ndeliveries 0\ncost 7\nlower 7\n\
+                upper 7\nvalue x hi\nvalue y 1\nend\n",
+        ),
+        (
+            "upgrade",
+            PAIR,
+            0,
+            "dcop 2\nvar x 2\nvar y 2\ntable x y : 5 3 2 7\nend\n",
+        ),
+        (
+            PLAIN,
+            "dcop 1\nend\n",
+            3,
+            "refused text line 2 kind 7 problem 1\n",
+        ),
+        (PLAIN, GAIN_LATE, 3, "refused text line 3 kind 2\n"),
+        (
+            PLAIN,
+            "dcop 1\nvar a 3\nend\n\nend\n",
+            3,
+            "refused text line 5 kind 8\n",
+        ),
+        ("solve --workers 0", PAIR, 2, "refused words at 3 kind 7\n"),
+        (
+            "solve --budget 5 --budget 6",
+            PAIR,
+            2,
+            "refused words at 4 kind 5\n",
+        ),
+        (
+            "solve --method dpop --error 1",
+            PAIR,
+            2,
+            "refused words at 4 kind 9\n",
+        ),
+        ("", PAIR, 2, "refused words at 1 kind 1\n"),
+        (
+            "solve --method dpop",
+            PAIR,
+            2,
+            "refused words at 1 kind 10\n",
+        ),
+    ];
+    for (words, input, code, text) in rows {
+        let (ended, written) = answer_over(rt.alloc(), words, input.as_bytes(), &[], &[])?;
+        assert_eq!(rt; ended, code, "{words}");
+        assert_eq!(rt; written.as_slice(), text.as_bytes(), "{words}");
+    }
+    Ok(())
+}
+
+#[test]
+fn prefixes_of_a_text(rt: HostRuntime) -> Result<(), Fail> {
+    let rows = [
+        (0, "refused text line 1 kind 6\n"),
+        (5, "refused text line 1 kind 1\n"),
+        (7, "refused text line 2 kind 6\n"),
+        (13, "refused text line 2 kind 2\n"),
+        (33, "refused text line 4 kind 2\n"),
+        (41, "refused text line 4 kind 7 problem 6\n"),
+        (43, "refused text line 5 kind 6\n"),
+        (46, PAIR_REPORT),
+    ];
+    for (length, text) in rows {
+        let (_, written) = answer_over(rt.alloc(), PLAIN, &PAIR.as_bytes()[..length], &[], &[])?;
+        assert_eq!(rt; written.as_slice(), text.as_bytes(), "{length}");
+    }
+    Ok(())
+}
+
+#[test]
+fn outside_fails(rt: HostRuntime) -> Result<(), Fail> {
+    let rows: [(&[u64], &[u64], u8, &str); 5] = [
+        (&[0], &[], 5, "refused read\n"),
+        (&[1], &[], 5, "refused read\n"),
+        (&[], &[0], 6, ""),
+        (&[], &[1], 6, PAIR_REPORT),
+        (&[0], &[1], 6, "refused read\n"),
+    ];
+    for (reads, writes, code, text) in rows {
+        let (ended, written) = answer_over(rt.alloc(), PLAIN, PAIR.as_bytes(), reads, writes)?;
+        assert_eq!(rt; ended, code, "{text}");
+        assert_eq!(rt; written.as_slice(), text.as_bytes(), "{text}");
+    }
+    Ok(())
+}
+
+#[test]
+fn limits(rt: HostRuntime) -> Result<(), Fail> {
+    let alloc = rt.alloc();
+    let mut brim = String::from_str(alloc, "dcop 1\nvar a 1\n")?;
+    for _ in 0..4096 {
+        brim.push_str("table a : 1125899906842624\n")?;
+    }
+    let mut over = String::from_str(alloc, brim.as_str())?;
+    brim.push_str("end\n")?;
+    over.push_str("table a : 1\nend\n")?;
+    let mut loose = String::from_str(alloc, "dcop 1\n")?;
+    for place in 0..17 {
+        write!(loose, "var v{place} 2\n")?;
+    }
+    loose.push_str("end\n")?;
+    let rows = [
+        (
+            brim.as_str(),
+            0,
+            "status solved\nmethod plain\nerror 0\ndeliveries 0\ncost 4611686018427387904\n\
+                lower 4611686018427387904\nupper 4611686018427387904\nvalue a 0\nend\n",
+        ),
+        (
+            over.as_str(),
+            3,
+            "refused text line 4099 kind 7 problem 8\n",
+        ),
+        (
+            loose.as_str(),
+            11,
+            "refused many assignments 131072 limit 65536\n",
+        ),
+    ];
+    for (input, code, text) in rows {
+        let (ended, written) = answer_over(alloc, PLAIN, input.as_bytes(), &[], &[])?;
+        assert_eq!(rt; ended, code, "{text}");
+        assert_eq!(rt; written.as_slice(), text.as_bytes(), "{text}");
+    }
+    Ok(())
+}

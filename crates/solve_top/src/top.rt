@@ -1,0 +1,63 @@
+//! The top call.
+
+ghost use Rattle.std.specs.Prelude.{◌≡◌, ◌≢◌, ◌<◌, ◌⊎◌, ℕ, List, Some, map, string_bytes};
+ghost use Rattle.dcop_edge.specs.Faults.{Rose};
+ghost use Rattle.solve_top.specs.Input.{source_state};
+ghost use Rattle.solve_top.specs.Output.{sink_state};
+ghost use Rattle.solve_top.specs.Solving.{Solves, Accepts};
+
+use crate::answering::answer_of;
+use crate::status::Status;
+use crate::writing::write_all;
+use dcop_edge::{Sink, Source};
+use solve_report::text_of;
+use std::alloc::Global;
+
+/// Answers these words, which are the arguments of the program: reads the source as they ask,
+/// writes the answer to the sink, and says how it went.
+///
+/// The words are tested before anything is read, and the whole answer is built before anything is
+/// written. `solve --method plain` reads a problem and reports an assignment with the best sum of
+/// any, and `upgrade` reads a problem and writes it in the newest version of its text. Refusals
+/// are written to the sink too.
+///
+/// [`Status::ReadFault`] and [`Status::WriteFault`] come only where the source or the sink failed
+/// in this call. With `WriteFault` a prefix of the answer is written, with [`Status::NoMemory`],
+/// where memory was wanted and not had, nothing, and otherwise the whole answer, and the sink is
+/// finished.
+pub fn solve<S: Source, K: Sink>(
+    alloc: Global,
+    words: &[String],
+    source: &mut S,
+    sink: &mut K,
+) -> Status
+    ensures answered { result ≢ Status.NoMemory → Solves (map string_bytes words.now)
+        (source_state (S.left source.old) (S.faults source.old))
+        (source_state (S.left source.new) (S.faults source.new))
+        (sink_state (K.held sink.old) (K.finished sink.old))
+        (sink_state (K.held sink.new) (K.finished sink.new)) result }
+    ensures unwritten { result ≡ Status.NoMemory → sink.new ≡ sink.old }
+    ensures read_fault { result ≡ Status.ReadFault →
+        Rose (S.faults source.old) (S.faults source.new) }
+    ensures write_fault { result ≡ Status.WriteFault →
+        Rose (K.faults sink.old) (K.faults sink.new) }
+    ensures source_failed { S.faults source.old < S.faults source.new →
+        (result ≡ Status.ReadFault) ⊎ (result ≡ Status.WriteFault) ⊎ (result ≡ Status.NoMemory) }
+    ensures sink_failed { K.faults sink.old < K.faults sink.new → result ≡ Status.WriteFault }
+    ensures complete { (text : List ℕ) → S.left source.old ≡ Some text →
+        Accepts (map string_bytes words.now) text →
+        ¬ Rose (S.faults source.old) (S.faults source.new) →
+        ¬ Rose (K.faults sink.old) (K.faults sink.new) →
+        (result ≡ Status.Solved) ⊎ (result ≡ Status.NoMemory) }
+{
+    let Ok(answer) = answer_of(alloc, words, source) else {
+        return Status::NoMemory;
+    };
+    let Ok(text) = text_of(alloc, &answer) else {
+        return Status::NoMemory;
+    };
+    match write_all(sink, text.as_slice()) {
+        Ok(()) => Status::of(&answer),
+        Err(_) => Status::WriteFault,
+    }
+}
