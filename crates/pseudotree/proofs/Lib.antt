@@ -1,0 +1,11 @@
+pub mod ClimbLaws
+pub mod TreeLaws
+pub mod MarkLaws
+pub mod OrderLaws
+pub mod GatherLaws
+pub mod SpreadLaws
+pub mod CheckLaws
+pub mod PlaceLaws
+pub mod WidthLaws
+pub mod NestLaws
+pub mod SearchLaws

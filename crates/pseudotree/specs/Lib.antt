@@ -1,0 +1,12 @@
+pub mod Tree
+pub mod Preorder
+pub mod Pseudotree
+pub mod Parts
+pub mod Fault
+pub mod Climb
+pub mod Marks
+pub mod Splits
+pub mod Place
+pub mod Width
+pub mod Owner
+pub mod DepthFirst

@@ -1,0 +1,72 @@
+//! Trees from parents.
+
+ghost use Rattle.std.specs.Prelude.{◌≡◌, ◌≤◌, length, IfOk, IfErr};
+ghost use Rattle.pseudotree.specs.Tree.{IsTree};
+ghost use Rattle.pseudotree.specs.Pseudotree.{IsPseudotreeOf};
+ghost use Rattle.pseudotree.specs.Fault.{AreParents, parents_of, IsFirstFault};
+ghost use Rattle.pseudotree.specs.Climb.{IsSplitFault};
+ghost use Rattle.pseudotree.specs.Marks.{AreShort};
+
+use crate::ancestry::{first_apart, lower_of_all};
+use crate::climb::{paths_of, root_count};
+use crate::fault::TreeFault;
+use crate::marks::marks_together;
+use crate::order::{all_children, preorder_of};
+use crate::separator::{gather, marked_of_paths};
+use crate::tree::Tree;
+use dcop_base::{MAX_VARIABLES, Problem, VarId, VarList};
+use std::alloc::Global;
+
+/// The tree of these parents, or the first reason why they form no pseudotree of the problem.
+///
+/// There is one entry for each variable, the parent of a variable or `None` for the root. The
+/// reasons are told in the order of [`TreeFault`]. The time is of the order of the tables' scopes
+/// and the square of the number of variables.
+pub fn check_tree(
+    alloc: Global,
+    problem: &Problem,
+    parents: &[Option<VarId>],
+) -> Result<Tree, TreeFault>
+    requires { AreParents problem.now parents.now }
+    ensures tree { IfOk result (IsPseudotreeOf problem.now) }
+    ensures parents { IfOk result (λ tree. parents.now ≡ parents_of tree.paths) }
+    ensures fault { IfErr result (IsFirstFault problem.now parents.now) }
+{
+    // One that is read is known to be within its limits.
+    let _ = problem.sizes.as_slice();
+    let count = root_count(parents);
+    if count != 1 {
+        return Err(TreeFault::Roots { count });
+    }
+    let paths = paths_of(alloc, parents)?;
+    tree_of(alloc, problem, paths)
+}
+
+/// The tree with these paths, or the least pair that is not ancestor and descendant.
+fn tree_of(alloc: Global, problem: &Problem, paths: Vec<VarList>) -> Result<Tree, TreeFault>
+    requires few { length paths.items ≤ MAX_VARIABLES }
+    requires sized { length paths.items ≡ length problem.now.sizes }
+    requires tree { IsTree paths.items }
+    requires short { AreShort paths.items }
+    ensures tree { IfOk result (IsPseudotreeOf problem.now) }
+    ensures paths { IfOk result (λ tree. tree.paths ≡ paths.items) }
+    ensures fault { IfErr result (IsSplitFault problem.now paths.items) }
+{
+    let mut marks = marks_together(alloc, problem)?;
+    let lists = paths.as_slice();
+    if let Some((one, other)) = first_apart(lists, marks.as_slice()) {
+        return Err(TreeFault::Pair { one, other });
+    }
+    let lower = lower_of_all(alloc, lists, marks.as_slice())?;
+    gather(marks.as_mut_slice(), lists);
+    let separators = marked_of_paths(alloc, lists, marks.as_slice())?;
+    let children = all_children(alloc, lists)?;
+    let preorder = preorder_of(alloc, lists, children.as_slice())?;
+    Ok(Tree {
+        paths,
+        children,
+        separators,
+        lower,
+        preorder,
+    })
+}

@@ -1,0 +1,51 @@
+//! Why parents are refused.
+
+use dcop_base::{NoMemory, VarId};
+use std::alloc::{AllocError, AllocFailed};
+
+/// Why parents form no pseudotree of a problem.
+#[derive(Clone, Copy, Debug, PartialEq, Eq)]
+pub enum TreeFault {
+    /// The number of variables without a parent is not 1 but `count`.
+    Roots { count: u64 },
+    /// The parents of `var` do not reach the root, and it is the lowest such variable.
+    Loop { var: VarId },
+    /// The two variables share a table or a joint and are not ancestor and descendant. It is the
+    /// least such pair: by `one`, which is the lower of the two, and then by `other`.
+    Pair { one: VarId, other: VarId },
+    /// Memory was wanted and not had.
+    NoMemory,
+}
+
+impl From<NoMemory> for TreeFault {
+    ghost use Rattle.std.specs.Prelude.{◌≡◌};
+    ghost use Rattle.pseudotree.specs.declared.fault.TreeFault.TheVariants.{NoMemory as no_memory};
+
+    ghost from_gives = { λ _ e. e ≡ no_memory };
+
+    fn from(_refused: NoMemory) -> Self {
+        TreeFault::NoMemory
+    }
+}
+
+impl From<AllocError> for TreeFault {
+    ghost use Rattle.std.specs.Prelude.{◌≡◌};
+    ghost use Rattle.pseudotree.specs.declared.fault.TreeFault.TheVariants.{NoMemory as no_memory};
+
+    ghost from_gives = { λ _ e. e ≡ no_memory };
+
+    fn from(_refused: AllocError) -> Self {
+        TreeFault::NoMemory
+    }
+}
+
+impl<T: Drop> From<AllocFailed<T>> for TreeFault {
+    ghost use Rattle.std.specs.Prelude.{◌≡◌};
+    ghost use Rattle.pseudotree.specs.declared.fault.TreeFault.TheVariants.{NoMemory as no_memory};
+
+    ghost from_gives = { λ _ e. e ≡ no_memory };
+
+    fn from(_refused: AllocFailed<T>) -> Self {
+        TreeFault::NoMemory
+    }
+}

@@ -1,0 +1,31 @@
+//! Pseudotrees: the rooted trees over which the agents solve a problem.
+//!
+//! A [`Tree`] that [`check_tree`] gave is a pseudotree of its problem: it has one root, each
+//! variable's parents reach it, and any two variables of one table or joint are ancestor and
+//! descendant. Its readers, [`place`] and [`widths`] rest on that and test nothing again. Three
+//! laws follow from the definitions alone: separators nest, each table belongs to one variable,
+//! and the depth-first tree of a connected problem is a linked pseudotree.
+#![tactic(auto)]
+
+mod agent;
+mod agent_place;
+mod ancestry;
+mod check;
+mod climb;
+mod fault;
+mod law;
+mod marks;
+mod order;
+mod separator;
+#[cfg(test)]
+mod tests;
+mod tree;
+mod width;
+
+pub use agent::Place;
+pub use agent_place::place;
+pub use check::check_tree;
+pub use fault::TreeFault;
+pub use law::{depth_first_trees_are_linked, separators_nest, tables_have_owners};
+pub use tree::Tree;
+pub use width::{MAX_COUNT, MAX_JOINED_CELLS, MAX_SENT_CELLS, Wide, widths};
