@@ -1,0 +1,20 @@
+-- Lists of amounts, element by element.
+use Rattle.std.specs.Prelude.{ℕ, ◌+◌, List, map, min}
+use Rattle.std.specs.Simd.Lanes.{zip2}
+use Rattle.dcop_base.specs.declared.number.TheConstants.{CAP}
+
+-- the sum of two amounts, or CAP where it is above it
+abbrev pub plus : ℕ → ℕ → ℕ
+plus a b = min (a + b) CAP
+
+-- the amounts of two lists, each added to the one at its place
+abbrev pub sums : List ℕ → List ℕ → List ℕ
+sums into from = zip2 plus into from
+
+-- the lesser of two amounts at each place of two lists
+abbrev pub leasts : List ℕ → List ℕ → List ℕ
+leasts into from = zip2 min into from
+
+-- the amounts of a list, to each of which one amount is added
+abbrev pub raised : List ℕ → ℕ → List ℕ
+raised into cell = map (λ n. plus n cell) into

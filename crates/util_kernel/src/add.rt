@@ -1,0 +1,45 @@
+//! Sums, element by element.
+
+ghost use Rattle.std.specs.Prelude.{◌≡◌, ◌+◌, ◌≤◌, List, length};
+ghost use Rattle.std.specs.List.{All};
+ghost use Rattle.util_kernel.specs.Lanes.{sums};
+ghost use Rattle.std.specs.Simd.Lanes.{chunk, put_chunk};
+
+use dcop_base::CAP;
+use std::simd::prelude::u64x8;
+
+/// How many amounts a block has.
+const LANES: usize = 8;
+
+/// Adds each amount of `from` to the one of `into` at its place; a sum above [`CAP`] becomes
+/// [`CAP`].
+pub fn add_lanes(into: &mut [u64], from: &[u64])
+    requires equal { length into.old ≡ length from.now }
+    requires into { All (λ n. n ≤ CAP) into.old }
+    requires from { All (λ n. n ≤ CAP) from.now }
+    ensures { into.new ≡ sums into.old from.now }
+{
+    let mut at = 0;
+    while into.len() - at >= LANES {
+        add_block(into, from, at);
+        at += LANES;
+    }
+    while at < into.len() {
+        into[at] = (into[at] + from[at]).min(CAP);
+        at += 1;
+    }
+}
+
+/// Adds the block of eight from a place on.
+fn add_block(into: &mut [u64], from: &[u64], at: usize)
+    requires equal { length into.old ≡ length from.now }
+    requires room { at + LANES ≤ length into.old }
+    requires into { All (λ n. n ≤ CAP) (chunk at LANES into.old) }
+    requires from { All (λ n. n ≤ CAP) (chunk at LANES from.now) }
+    ensures { into.new ≡ put_chunk at into.old
+        (sums (chunk at LANES into.old) (chunk at LANES from.now)) }
+{
+    let sum = u64x8::from_slice(&into[at..]) + u64x8::from_slice(&from[at..]);
+    sum.simd_min(u64x8::splat(CAP))
+        .copy_to_slice(&mut into[at..]);
+}

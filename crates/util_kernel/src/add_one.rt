@@ -1,0 +1,41 @@
+//! Sums with one amount.
+
+ghost use Rattle.std.specs.Prelude.{◌≡◌, ◌+◌, ◌≤◌, length};
+ghost use Rattle.std.specs.List.{All};
+ghost use Rattle.util_kernel.specs.Lanes.{raised};
+ghost use Rattle.std.specs.Simd.Lanes.{chunk, put_chunk};
+
+use dcop_base::CAP;
+use std::simd::prelude::u64x8;
+
+/// How many amounts a block has.
+const LANES: usize = 8;
+
+/// Adds `cell` to each amount of `into`; a sum above [`CAP`] becomes [`CAP`].
+pub fn add_one_lanes(into: &mut [u64], cell: u64)
+    requires into { All (λ n. n ≤ CAP) into.old }
+    requires cell { cell ≤ CAP }
+    ensures { into.new ≡ raised into.old cell }
+{
+    let mut at = 0;
+    while into.len() - at >= LANES {
+        add_one_block(into, cell, at);
+        at += LANES;
+    }
+    while at < into.len() {
+        into[at] = (into[at] + cell).min(CAP);
+        at += 1;
+    }
+}
+
+/// Adds one amount to the block of eight from a place on.
+fn add_one_block(into: &mut [u64], cell: u64, at: usize)
+    requires room { at + LANES ≤ length into.old }
+    requires into { All (λ n. n ≤ CAP) (chunk at LANES into.old) }
+    requires cell { cell ≤ CAP }
+    ensures { into.new ≡ put_chunk at into.old (raised (chunk at LANES into.old) cell) }
+{
+    let sum = u64x8::from_slice(&into[at..]) + u64x8::splat(cell);
+    sum.simd_min(u64x8::splat(CAP))
+        .copy_to_slice(&mut into[at..]);
+}
