@@ -1,0 +1,67 @@
+-- Bounds of an ADOPT agent: an entry for each own value and child, and the bounds that they give.
+use Rattle.std.specs.Prelude.{ℕ, suc, zero, ◌+◌, Bool, true, false, List, [], ◌∷◌, Option, Some, None, nat_lt, if◌then◌else◌, slice_index_or, min}
+use Rattle.std.specs.List.{sum_by}
+use Rattle.adopt_context.specs.Context.{Context}
+use Rattle.dcop_base.specs.declared.number.TheConstants.{CAP}
+
+-- what an agent holds of one own value and one child: bounds, of which one that is none is not there yet, the share that is allotted to the child, and the context that they rest on
+pub record Entry : Type 0 where
+  pub lower : ℕ
+  pub upper : Option ℕ
+  pub share : ℕ
+  pub context : Context
+
+-- the entry of which nothing is known
+abbrev pub blank : Entry
+blank = record { lower = 0; upper = None; share = 0; context = [] }
+
+-- the row of own value d, one entry for each child
+abbrev pub row_at : List (List Entry) → ℕ → List Entry
+row_at rows d = slice_index_or rows d []
+
+-- the entry of own value d and the child at place k
+abbrev pub entry_at : List (List Entry) → ℕ → ℕ → Entry
+entry_at rows d k = slice_index_or (row_at rows d) k blank
+
+-- a number, cut off at the cap
+abbrev pub cap : ℕ → ℕ
+cap x = min x CAP
+
+-- the sum of two bounds, which is none where one of them is
+abbrev pub plus_bound : Option ℕ → Option ℕ → Option ℕ
+plus_bound None y = None
+plus_bound (Some x) None = None
+plus_bound (Some x) (Some y) = Some (x + y)
+
+-- the sum of the lower bounds of a row
+abbrev pub lower_sum : List Entry → ℕ
+lower_sum row = sum_by (λ e. e.lower) row
+
+-- the sum of the upper bounds of a row
+abbrev pub upper_sum : List Entry → Option ℕ
+upper_sum [] = Some 0
+upper_sum (e ∷ es) = plus_bound e.upper (upper_sum es)
+
+-- a bound, cut off at the cap
+abbrev pub capped : Option ℕ → Option ℕ
+capped None = None
+capped (Some x) = Some (cap x)
+
+-- LB(d): the cost of d by the agent's own tables, and the lower bounds of its row
+abbrev pub lower_at : (ℕ → ℕ) → List (List Entry) → ℕ → ℕ
+lower_at own rows d = cap (own d + lower_sum (row_at rows d))
+
+-- UB(d): the same with upper bounds; none where the own cost is not yet known, or a bound is none
+abbrev pub upper_at : (ℕ → Option ℕ) → List (List Entry) → ℕ → Option ℕ
+upper_at own rows d = capped (plus_bound (own d) (upper_sum (row_at rows d)))
+
+-- whether one bound is below another; none is the largest
+abbrev pub is_below : Option ℕ → Option ℕ → Bool
+is_below None y = false
+is_below (Some x) None = true
+is_below (Some x) (Some y) = nat_lt x y
+
+-- the lowest of the numbers 0 to n at which f is least
+abbrev pub lowest : {X : Type 0} → (X → X → Bool) → (ℕ → X) → ℕ → ℕ
+lowest less f zero = 0
+lowest less f (suc n) = if less (f (suc n)) (f (lowest less f n)) then suc n else lowest less f n

@@ -1,0 +1,119 @@
+//! Contexts: what is known of the values of some variables.
+
+ghost use Rattle.std.specs.Prelude.{◌≡◌, ℕ, List, [], true, IfOk, OnOk, OnErr};
+ghost use Rattle.adopt_context.specs.Context.{value_in, put, compatible, part_of, union, names_all};
+
+use crate::pairs::{agree, joined, name_each, put, stand_in, value_in};
+use dcop_base::{NoMemory, Val, VarId, VarList};
+use std::alloc::{AllocError, Global};
+use std::marker::Model;
+
+/// A finite map from variables to values, which contracts see as the list of its pairs. The
+/// variables of the pairs ascend strictly, so each stands in one pair at most.
+#[derive(Debug, Drop)]
+pub struct AgentContext {
+    pairs: Vec<(VarId, Val)>,
+}
+
+impl Model for AgentContext {
+    ghost use Rattle.std.specs.Prelude.{ℕ, List};
+    ghost use Rattle.adopt_context.specs.Context.{AscendsFrom};
+
+    ghost Value = { List (ℕ × ℕ) };
+
+    ghost view = { λ c. c.pairs.items };
+
+    ghost invariant = { λ c. AscendsFrom 0 c.pairs.items };
+}
+
+impl AgentContext {
+    /// The context that names no variable.
+    pub fn new(alloc: Global) -> AgentContext
+        ensures { result ≡ [] }
+    {
+        AgentContext {
+            pairs: Vec::new(alloc),
+        }
+    }
+
+    /// The value of a variable; `None` exactly where the variable is not named.
+    pub fn get(&self, var: VarId) -> Option<Val>
+        ensures { result ≡ value_in self.now var }
+    {
+        value_in(self.pairs.as_slice(), var)
+    }
+
+    /// Whether no variable has different values in the two contexts.
+    pub fn compatible(&self, other: &AgentContext) -> bool
+        ensures { result ≡ compatible self.now other.now }
+    {
+        agree(self.pairs.as_slice(), other.pairs.as_slice())
+    }
+
+    /// Whether the other context names each variable of this one, with the same value.
+    pub fn part_of(&self, other: &AgentContext) -> bool
+        ensures { result ≡ part_of self.now other.now }
+    {
+        stand_in(self.pairs.as_slice(), other.pairs.as_slice())
+    }
+
+    /// Whether all these variables are named.
+    pub fn names_all(&self, vars: &VarList) -> bool
+        ensures { result ≡ names_all self.now vars.now }
+    {
+        name_each(self.pairs.as_slice(), vars.as_slice())
+    }
+
+    /// Gives the variable this value, in place of the one that it had.
+    ///
+    /// # Errors
+    ///
+    /// [`NoMemory`] where memory was wanted and not had. The context is then as before.
+    pub fn set(&mut self, var: VarId, value: Val) -> Result<(), NoMemory>
+        ensures given { OnOk result (self.new ≡ put self.old var value) }
+        ensures kept { OnErr result (self.new ≡ self.old) }
+    {
+        put(&mut self.pairs, var, value)
+    }
+
+    /// Adds the pairs of a compatible context.
+    ///
+    /// # Errors
+    ///
+    /// [`NoMemory`] where memory was wanted and not had. The context is then as before.
+    pub fn union(&mut self, other: &AgentContext) -> Result<(), NoMemory>
+        requires { compatible self.old other.now ≡ true }
+        ensures joined { OnOk result (self.new ≡ union self.old other.now) }
+        ensures kept { OnErr result (self.new ≡ self.old) }
+    {
+        self.pairs = joined(
+            self.pairs.as_slice(),
+            other.pairs.as_slice(),
+            *self.pairs.allocator(),
+        )?;
+        Ok(())
+    }
+
+    /// A context with the same pairs.
+    ///
+    /// # Errors
+    ///
+    /// [`NoMemory`] where memory was wanted and not had.
+    pub fn copy(&self) -> Result<AgentContext, NoMemory>
+        ensures { IfOk result (λ context. context ≡ self.now) }
+    {
+        Ok(AgentContext {
+            pairs: self.pairs.clone()?,
+        })
+    }
+}
+
+impl Clone for AgentContext {
+    ghost is_clone = { λ context copy. copy ≡ context };
+
+    fn clone(&self) -> Result<Self, AllocError> {
+        Ok(AgentContext {
+            pairs: self.pairs.clone()?,
+        })
+    }
+}
