@@ -1,0 +1,73 @@
+-- The ADOPT step: all messages of a batch, then backTrack once.
+use Rattle.std.specs.Prelude.{ℕ, ◌-◌, Bool, true, ◌&&◌, ◌||◌, not, List, [], ◌∷◌, ◌++◌, map, ◌==◌, nat_lt, if◌then◌else◌}
+use Rattle.std.specs.List.{fold, flat_map, position, slice_set}
+use Rattle.dcop_base.specs.Table.{has}
+use Rattle.adopt_context.specs.Context.{put, is_value}
+use Rattle.adopt_context.specs.Bounds.{row_at, entry_at, upper_sum}
+use Rattle.adopt_context.specs.Allot.{lower_to, allot}
+use Rattle.protocol_steps.specs.declared.message.Message.{Message}
+use Rattle.protocol_steps.specs.declared.message.Message.TheVariants.{Value, Cost, Threshold, Terminate}
+use Rattle.protocol_steps.specs.Agent.{Stepped}
+use Rattle.protocol_steps.specs.Values.{or_zero}
+use Rattle.protocol_steps.specs.Adopt.{AdoptView, is_root}
+use Rattle.protocol_steps.specs.AdoptBounds.{delta, lower_of, best_lower, best_upper, lower_bound, upper_bound, restore}
+use Rattle.protocol_steps.specs.AdoptMessage.{adopt_message}
+use Rattle.protocol_steps.specs.AdoptRange.{is_parent}
+
+-- the agent takes another value where it has to: step 2
+abbrev pub choose : AdoptView → AdoptView
+choose v =
+    if is_value (upper_bound v) v.threshold then record v { value = best_upper v }
+    else (if nat_lt v.threshold (lower_of v v.value) then record v { value = best_lower v } else v)
+
+-- what is to be allotted: the threshold less the cost of the value, and no more than the children's upper bounds together
+abbrev pub to_allot : AdoptView → ℕ
+to_allot v = lower_to (v.threshold - delta v v.value) (upper_sum (row_at v.rows v.value))
+
+-- the threshold is allotted to the children: step 4
+abbrev pub allotted : AdoptView → AdoptView
+allotted v = record v { rows = slice_set v.rows v.value (allot (to_allot v) (row_at v.rows v.value)) }
+
+-- whether the agent may end: its threshold is its upper bound, and it is the root or has taken TERMINATE
+abbrev pub may_end : AdoptView → Bool
+may_end v = is_value (upper_bound v) v.threshold && (is_root v || v.told)
+
+-- the agent ends where it may: step 6
+abbrev pub settle : AdoptView → AdoptView
+settle v = if may_end v then record v { phase = record v.phase { ended = true } } else v
+
+-- the view after backTrack
+abbrev pub closed : AdoptView → AdoptView
+closed v = settle (allotted (choose (restore v)))
+
+-- what a child is allotted for the value that the agent has
+abbrev pub share_of : AdoptView → ℕ → ℕ
+share_of v j = (entry_at v.rows v.value (or_zero (position (λ child. child == j) v.place.children))).share
+
+-- the messages to a child
+abbrev pub messages_to_child : AdoptView → ℕ → List Message
+messages_to_child v j =
+    Threshold (share_of v j) v.known ∷ (if v.phase.ended then Terminate (put v.known v.own.me v.value) ∷ [] else [])
+
+-- the messages that a neighbour gets from a closed view: steps 3, 5 and 6
+abbrev pub messages_for : AdoptView → ℕ → List Message
+messages_for v j =
+    (if has v.place.lower j then Value v.value ∷ [] else [])
+    ++ (if has v.place.children j then messages_to_child v j else [])
+    ++ (if is_parent v j && not v.phase.ended then Cost v.known (lower_bound v) (upper_bound v) ∷ [] else [])
+
+-- what a closed view sends, by ascending receivers
+abbrev pub adopt_sends : AdoptView → List (ℕ × Message)
+adopt_sends v = flat_map (λ j. map (λ m. (j, m)) (messages_for v j)) v.own.neighbours
+
+-- backTrack
+abbrev pub back_track : AdoptView → Stepped AdoptView
+back_track v = record { view = closed v; sends = adopt_sends (closed v) }
+
+-- the start: the agent takes the lowest value of least LB(d)
+abbrev pub adopt_start : AdoptView → Stepped AdoptView
+adopt_start v = back_track (record v { value = best_lower v; phase = record v.phase { started = true } })
+
+-- one activation
+abbrev pub adopt_step : AdoptView → List (ℕ × Message) → Stepped AdoptView
+adopt_step v ls = back_track (fold (λ w l. adopt_message w l.0 l.1) v ls)

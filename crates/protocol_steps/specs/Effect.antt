@@ -1,0 +1,47 @@
+-- What an event does to a network, and what is pending in it.
+use Rattle.std.specs.Prelude.{ℕ, Bool, List, [], ◌++◌, Option, Some, None, if◌then◌else◌, slice_get}
+use Rattle.std.specs.List.{list_all, sum_by, slice_set}
+use Rattle.protocol_steps.specs.declared.message.Message.{Message}
+use Rattle.protocol_steps.specs.declared.event.Take.{Take}
+use Rattle.protocol_steps.specs.declared.event.Event.{Event}
+use Rattle.protocol_steps.specs.View.{View, ended_of}
+use Rattle.protocol_steps.specs.Step.{step_of}
+use Rattle.protocol_steps.specs.Network.{Desk, Network, waiting, batch}
+
+-- a desk after one more activation
+abbrev pub desk_after : Desk → List (ℕ × Message) → List Take → Desk
+desk_after x sends ts = record { sent = x.sent ++ sends; takes = x.takes ++ ts }
+
+-- a network after an activation of an agent with this view and desk on these letters
+abbrev pub network_after : Network → Event → View → Desk → List (ℕ × Message) → Network
+network_after net e v x ls = record {
+  views = slice_set net.views e.agent (step_of v ls).view;
+  desks = slice_set net.desks e.agent (desk_after x (step_of v ls).sends e.takes);
+}
+
+-- the effect of an event, where its agent is there
+abbrev pub effect_at : Network → Event → Option View → Option Desk → Network
+effect_at net e (Some v) (Some x) = network_after net e v x (batch net.desks e.agent e.takes)
+effect_at net e None x = net
+effect_at net e (Some v) None = net
+
+-- the effect of an event: the agent takes its batch, steps, and sends
+abbrev pub effect : Network → Event → Network
+effect net e = effect_at net e (slice_get net.views e.agent) (slice_get net.desks e.agent)
+
+-- a message is pending where it was sent to an agent that has not ended, and was not taken
+abbrev pub pending_at : Network → ℕ → ℕ → Option View → List Message
+pending_at net i j None = []
+pending_at net i j (Some v) = if ended_of v then [] else waiting net.desks i j
+
+-- what is pending at agent i from agent j
+abbrev pub pending : Network → ℕ → ℕ → List Message
+pending net i j = pending_at net i j (slice_get net.views i)
+
+-- ended: every view says so
+abbrev pub has_ended : Network → Bool
+has_ended net = list_all ended_of net.views
+
+-- the deliveries: all messages that were taken
+abbrev pub deliveries : Network → ℕ
+deliveries net = sum_by (λ x. sum_by (λ t. t.count) x.takes) net.desks

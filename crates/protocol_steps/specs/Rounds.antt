@@ -1,0 +1,46 @@
+-- Rounds: a run cut into pieces under a budget of deliveries.
+use Rattle.std.specs.Prelude.{◌≡◌, ℕ, ◌<◌, ◌≤◌, false, List, [], ◌∷◌, map, length, Some, min, slice_get, slice_index_or}
+use Rattle.std.specs.List.{flat_map}
+use Rattle.protocol_steps.specs.declared.event.Event.{Event}
+use Rattle.protocol_steps.specs.declared.event.Entry.{Entry}
+use Rattle.protocol_steps.specs.View.{View, ended_of}
+use Rattle.protocol_steps.specs.Network.{Network, taken_from}
+use Rattle.protocol_steps.specs.Effect.{pending, deliveries}
+use Rattle.protocol_steps.specs.Run.{run, journal}
+
+-- the most events of one agent in one round
+abbrev pub most_events : ℕ
+most_events = 32
+
+-- how many messages of one link a round takes at least, where as many are pending
+abbrev pub least_taken : ℕ
+least_taken = 64
+
+-- how many messages agent i takes from agent j in these events
+abbrev pub taken_in : ℕ → ℕ → List Event → ℕ
+taken_in i j es = taken_from j (flat_map (λ ts. ts) (journal i es))
+
+-- an agent that has not ended
+abbrev pub IsOpen : Network → ℕ → Type 0
+IsOpen net i = (v : View) × (slice_get net.views i ≡ Some v) × (ended_of v ≡ false)
+
+-- one round: events that lead from one network state to another, at most 32 of each agent, and on each link to an agent that is not ended afterwards at least the lesser of 64 and what was pending before
+pub record IsRound (before : Network) (es : List Event) (after : Network) : Type 0 where
+  pub leads : run before es ≡ Some after
+  pub few : (i : ℕ) → length (journal i es) ≤ most_events
+  pub served : (i j : ℕ) → IsOpen after i → min least_taken (length (pending before i j)) ≤ taken_in i j es
+
+-- rounds under a budget, which lead from one network state to another: each begins with fewer deliveries than the budget
+abbrev pub AreRounds : ℕ → Network → List (List Event) → Network → Type 0
+AreRounds budget before [] after = before ≡ after
+AreRounds budget before (es ∷ pieces) after = (deliveries before < budget) × ((middle : Network) × IsRound before es middle × AreRounds budget middle pieces after)
+
+-- journals agree with a list of events: each is its agent's events, in order
+abbrev pub AgreeWith : List (List Entry) → List Event → Type 0
+AgreeWith journals es = (i : ℕ) → map (λ entry. entry.takes) (slice_index_or journals i []) ≡ journal i es
+
+-- a family of journals, one for each agent, in rounds under a budget from the start state
+abbrev pub InRounds : ℕ → Network → List (List Entry) → Type 0
+InRounds budget start journals =
+    (length journals ≡ length start.views)
+    × ((pieces : List (List Event)) × (after : Network) × AreRounds budget start pieces after × AgreeWith journals (flat_map (λ es. es) pieces))

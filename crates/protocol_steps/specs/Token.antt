@@ -1,0 +1,45 @@
+-- The view of a token agent.
+use Rattle.std.specs.Prelude.{ℕ, Bool, false, not, ◌||◌, List, [], take, Option, Some, None, if◌then◌else◌}
+use Rattle.std.specs.List.{find, filter, flat_map, concat}
+use Rattle.dcop_base.specs.Table.{has}
+use Rattle.dcop_base.specs.declared.knowledge.Private.{Private}
+use Rattle.pseudotree.specs.declared.agent.Place.{Place}
+use Rattle.protocol_steps.specs.Agent.{Phase, waiting}
+
+-- a token agent: what it knows of the problem, whether it has opened and with which path, its children's subtrees that came back, and the child that it waits for
+pub record TokenView : Type 0 where
+  pub own : Private
+  pub phase : Phase
+  pub opened : Bool
+  pub path : List ℕ
+  pub kept : List (List ℕ)
+  pub awaited : Option ℕ
+
+-- a token agent as it is made
+abbrev pub new_token : Private → TokenView
+new_token own = record { own = own; phase = waiting; opened = false; path = []; kept = []; awaited = None }
+
+-- whether a variable stands in the path or in a kept subtree
+abbrev pub is_visited : TokenView → ℕ → Bool
+is_visited v u = has v.path u || has (concat v.kept) u
+
+-- the lowest neighbour that was not visited yet
+abbrev pub next_child : TokenView → Option ℕ
+next_child v = find (λ u. not (is_visited v u)) v.own.neighbours
+
+-- the children: the first variable of each kept subtree
+abbrev pub token_children : TokenView → List ℕ
+token_children v = flat_map (λ subtree. take 1 subtree) v.kept
+
+-- the place of a token agent that has ended: its neighbours that are not in its path stand below it
+abbrev pub token_place : TokenView → Option Place
+token_place v =
+    if v.phase.ended
+    then Some (record {
+      me = v.own.me;
+      path = v.path;
+      path_sizes = [];
+      children = token_children v;
+      lower = filter (λ u. not (has v.path u)) v.own.neighbours;
+    })
+    else None

@@ -1,0 +1,29 @@
+//! Laws that follow from the definitions alone. Each is the contract of a call that does nothing:
+//! who needs the law calls it.
+
+ghost use Rattle.protocol_steps.specs.Laws.{OriginsStay, ParcelsGoToNeighbours, JournalsDecide};
+ghost use Rattle.protocol_steps.specs.StampLaw.{StampsOrder};
+
+/// What an agent was made from never changes, by its start and by each step.
+pub fn origins_stay()
+    ensures { OriginsStay }
+{}
+
+/// Each parcel of a start and of a step goes to a neighbour that the view names, where the agent's
+/// parent and children are among its neighbours and what it takes comes from neighbours. This stays
+/// so.
+pub fn parcels_go_to_neighbours()
+    ensures { ParcelsGoToNeighbours }
+{}
+
+/// The journal law: two runs that agree with the same journals end in the same network state.
+pub fn journals_decide()
+    ensures { JournalsDecide }
+{}
+
+/// The stamp law: activations that each agent's own account allows are a run, by piece and by
+/// stamp in each piece, where at the end of each piece what was taken on a link is a first part
+/// of what was sent.
+pub fn stamps_order()
+    ensures { StampsOrder }
+{}

@@ -1,0 +1,80 @@
+//! Messages on their way, within their ranges.
+
+use crate::message::Message;
+use dcop_base::{Sequence, VarId};
+use std::marker::Model;
+
+/// A message on a link, with the stamp of the step that sent it. Contracts see the pair.
+///
+/// The stamp is at most `CAP`, and the message keeps its ranges: amounts at most `CAP`, variables
+/// below 1,000, values below 1,024, lists of at most 1,000 variables or 2^20 cells.
+#[derive(Debug, Drop)]
+pub struct Envelope {
+    /// The stamp of the sender's step; 0 for its start.
+    pub stamp: u64,
+    /// What is said.
+    pub message: Message,
+}
+
+impl Model for Envelope {
+    ghost use Rattle.std.specs.Prelude.{ℕ, ◌≤◌};
+    ghost use Rattle.dcop_base.specs.declared.number.TheConstants.{CAP};
+    ghost use Rattle.protocol_steps.specs.declared.message.Message.{Message};
+    ghost use Rattle.protocol_steps.specs.Ranges.{IsInRange};
+
+    ghost Value = { ℕ × Message };
+
+    ghost view = { λ e. (e.stamp, e.message) };
+
+    ghost invariant = { λ e. (e.stamp ≤ CAP) × IsInRange e.message };
+}
+
+/// A message that an agent takes, with its sender. Contracts see the pair. The message keeps the
+/// ranges of [`Envelope`].
+#[derive(Debug, Drop)]
+pub struct Letter {
+    /// Who sent it.
+    pub from: VarId,
+    /// What is said.
+    pub message: Message,
+}
+
+impl Model for Letter {
+    ghost use Rattle.std.specs.Prelude.{ℕ};
+    ghost use Rattle.protocol_steps.specs.declared.message.Message.{Message};
+    ghost use Rattle.protocol_steps.specs.Ranges.{IsInRange};
+
+    ghost Value = { ℕ × Message };
+
+    ghost view = { λ l. (l.from, l.message) };
+
+    ghost invariant = { λ l. IsInRange l.message };
+}
+
+/// A message that an agent sends, with its receiver. Contracts see the pair. The message keeps
+/// the ranges of [`Envelope`].
+#[derive(Debug, Drop)]
+pub struct Parcel {
+    /// Who is to get it.
+    pub to: VarId,
+    /// What is said.
+    pub message: Message,
+}
+
+impl Model for Parcel {
+    ghost use Rattle.std.specs.Prelude.{ℕ};
+    ghost use Rattle.protocol_steps.specs.declared.message.Message.{Message};
+    ghost use Rattle.protocol_steps.specs.Ranges.{IsInRange};
+
+    ghost Value = { ℕ × Message };
+
+    ghost view = { λ p. (p.to, p.message) };
+
+    ghost invariant = { λ p. IsInRange p.message };
+}
+
+/// The messages that one activation takes, sender by sender.
+pub type Batch = Sequence<Letter>;
+
+/// The messages that one activation sends, in order.
+pub type Outbox = Sequence<Parcel>;

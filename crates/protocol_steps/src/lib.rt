@@ -1,0 +1,25 @@
+//! What agents say to each other, and what one activation of an agent does.
+//!
+//! A [`Message`] travels in a [`Parcel`] to a neighbour, as an [`Envelope`] with its stamp on a
+//! link, and in a [`Letter`] to the agent that takes it; these three keep its numbers in their
+//! ranges. A [`Machine`] is an agent: its meaning is a view, a plain value that holds what the
+//! agent was made from and where it stands. `start` and `react` give the view and the parcels
+//! that the definitions of the token step, the DPOP step and the ADOPT step say, and nothing else
+//! is known of an agent. Over these steps stand networks, lawful events, runs, journals, stamps
+//! and rounds, with the journal law
+//! and the stamp law.
+#![tactic(auto)]
+
+mod event;
+mod law;
+mod letter;
+mod machine;
+mod message;
+mod standing;
+
+pub use event::{Entry, Event, EventFault, EventList, Journal, JournalList, Take, TakeList};
+pub use law::{journals_decide, origins_stay, parcels_go_to_neighbours, stamps_order};
+pub use letter::{Batch, Envelope, Letter, Outbox, Parcel};
+pub use machine::Machine;
+pub use message::Message;
+pub use standing::Standing;
