@@ -111,18 +111,30 @@ fn worked_answers(rt: HostRuntime) -> Result<(), Fail> {
 #[test]
 fn prefixes_of_a_text(rt: HostRuntime) -> Result<(), Fail> {
     let rows = [
-        (0, "refused text line 1 kind 6\n"),
-        (5, "refused text line 1 kind 1\n"),
-        (7, "refused text line 2 kind 6\n"),
-        (13, "refused text line 2 kind 2\n"),
-        (33, "refused text line 4 kind 2\n"),
-        (41, "refused text line 4 kind 7 problem 6\n"),
-        (43, "refused text line 5 kind 6\n"),
-        (46, PAIR_REPORT),
+        (0, 0, "refused text line 1 kind 6\n"),
+        (1, 5, "refused text line 1 kind 1\n"),
+        (6, 6, "refused text line 1 kind 6\n"),
+        (7, 7, "refused text line 2 kind 6\n"),
+        (8, 13, "refused text line 2 kind 2\n"),
+        (14, 14, "refused text line 2 kind 6\n"),
+        (15, 15, "refused text line 3 kind 6\n"),
+        (16, 21, "refused text line 3 kind 2\n"),
+        (22, 22, "refused text line 3 kind 6\n"),
+        (23, 23, "refused text line 4 kind 6\n"),
+        (24, 33, "refused text line 4 kind 2\n"),
+        (34, 41, "refused text line 4 kind 7 problem 6\n"),
+        (42, 42, "refused text line 4 kind 6\n"),
+        (43, 43, "refused text line 5 kind 6\n"),
+        (44, 45, "refused text line 5 kind 2\n"),
+        (46, 47, PAIR_REPORT),
     ];
-    for (length, text) in rows {
-        let (_, written) = answer_over(rt.alloc(), PLAIN, &PAIR.as_bytes()[..length], &[], &[])?;
-        assert_eq!(rt; written.as_slice(), text.as_bytes(), "{length}");
+    for (first, last, text) in rows {
+        for length in first..=last {
+            assert!(rt; length <= PAIR.len());
+            let prefix = &PAIR.as_bytes()[..length];
+            let (_, written) = answer_over(rt.alloc(), PLAIN, prefix, &[], &[])?;
+            assert_eq!(rt; written.as_slice(), text.as_bytes(), "{length}");
+        }
     }
     Ok(())
 }
@@ -144,6 +156,46 @@ fn outside_fails(rt: HostRuntime) -> Result<(), Fail> {
     Ok(())
 }
 
+/// A text of so many variables of two values, without tables.
+fn loose(alloc: Global, count: u32) -> Result<String, Fail> {
+    let mut text = String::from_str(alloc, "dcop 1\n")?;
+    for place in 0..count {
+        write!(text, "var v{place} 2\n")?;
+    }
+    text.push_str("end\n")?;
+    Ok(text)
+}
+
+#[test]
+fn all_assignments_that_are_tried(rt: HostRuntime) -> Result<(), Fail> {
+    let alloc = rt.alloc();
+    let mut report = String::from_str(
+        alloc,
+        "status solved\nmethod plain\nerror 0\ndeliveries 0\ncost 0\nlower 0\nupper 0\n",
+    )?;
+    for place in 0..16 {
+        write!(report, "value v{place} 0\n")?;
+    }
+    report.push_str("end\n")?;
+    let text = loose(alloc, 16)?;
+    let (ended, written) = answer_over(alloc, PLAIN, text.as_bytes(), &[], &[])?;
+    assert_eq!(rt; ended, 0);
+    assert_eq!(rt; written.as_slice(), report.as_bytes());
+    Ok(())
+}
+
+#[test]
+fn input_that_is_too_long(rt: HostRuntime) -> Result<(), Fail> {
+    let input = vec![in rt.alloc(); b'#'; (1 << 28) + 1]?;
+    let (ended, written) = answer_over(rt.alloc(), PLAIN, input.as_slice(), &[], &[])?;
+    assert_eq!(rt; ended, 3);
+    assert_eq!(rt;
+        written.as_slice(),
+        b"refused text line 0 kind 9\n".as_slice()
+    );
+    Ok(())
+}
+
 #[test]
 fn limits(rt: HostRuntime) -> Result<(), Fail> {
     let alloc = rt.alloc();
@@ -154,11 +206,7 @@ fn limits(rt: HostRuntime) -> Result<(), Fail> {
     let mut over = String::from_str(alloc, brim.as_str())?;
     brim.push_str("end\n")?;
     over.push_str("table a : 1\nend\n")?;
-    let mut loose = String::from_str(alloc, "dcop 1\n")?;
-    for place in 0..17 {
-        write!(loose, "var v{place} 2\n")?;
-    }
-    loose.push_str("end\n")?;
+    let loose = loose(alloc, 17)?;
     let rows = [
         (
             brim.as_str(),
