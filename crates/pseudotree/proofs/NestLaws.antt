@@ -1,4 +1,4 @@
--- Separators nest, and each table has one lowest variable.
+-- Separators nest, and each table has one deepest variable.
 use Rattle.std.proofs.Common.{◌≡◌, ℕ, ◌<◌, ◌≤◌, Bool, true, false, ◌&&◌, ◌||◌, not, cond, eqb, ltb, List, [], ◌∷◌, length, get_or, take, refl, sym, ap, subst, ◌∙◌, inl, inr, arith}
 use Rattle.std.specs.List.{filter, All}
 use Rattle.std.proofs.lemmas.Bool.{cases_Bool, cases_eq, and_parts, and_from, or_cases, or_left, or_right, eqb-true, eq-eqb, ne_eqb, not_from_false, ltb-true, ltb-false}
@@ -9,7 +9,7 @@ use Rattle.dcop_base.specs.Graph.{are_neighbours, share_table, are_joined}
 use Rattle.dcop_base.specs.Whole.{IsTableOf}
 use Rattle.pseudotree.specs.Tree.{path_of, is_above, IsTree}
 use Rattle.pseudotree.specs.Pseudotree.{is_within, touches, are_in_line, SeparatorsNest}
-use Rattle.pseudotree.specs.Owner.{deeper, deepest, IsLowest, HasOneOwner, TablesHaveOwners}
+use Rattle.pseudotree.specs.Owner.{deeper, deepest, IsDeepest, HasOneOwner, TablesHaveOwners}
 use Rattle.pseudotree.proofs.TreeLaws.{ancestor}
 use Rattle.pseudotree.proofs.SpreadLaws.{any_in_range, range_any, above_parent, within_parent}
 
@@ -119,14 +119,14 @@ deepest_longest paths v (w ∷ ws) x h =
           ]
     ]
 
--- the deepest variable of a scope in which any two are in line is the only lowest one
+-- the deepest variable of a scope in which any two are in line is the only one that lies within all others
 one_owner : (paths : List (List ℕ)) → IsTree paths → (scope : List ℕ) → 1 ≤ length scope
     → ((u v : ℕ) → has scope u ≡ true → has scope v ≡ true → (u ≡ v → ⊥) → are_in_line paths u v ≡ true) → HasOneOwner paths scope
 one_owner paths tree [] some line = absurd (omega arith)
 one_owner paths tree (v ∷ vs) some line = record {
   owner = deepest paths v vs;
   owns = refl;
-  lowest = lowest;
+  is_deepest = is_deepest;
   only = λ u other.
       elim (or_cases (eqb u (deepest paths v vs)) (is_above paths (deepest paths v vs) u) (other.others (deepest paths v vs) (deepest_in paths v vs))) [
         | inl same ↦ eqb-true u (deepest paths v vs) same
@@ -136,8 +136,8 @@ one_owner paths tree (v ∷ vs) some line = record {
             absurd (omega arith)
       ];
 } where
-  lowest : IsLowest paths (v ∷ vs) (deepest paths v vs)
-  lowest = record {
+  is_deepest : IsDeepest paths (v ∷ vs) (deepest paths v vs)
+  is_deepest = record {
     named = deepest_in paths v vs;
     others = λ u h.
         elim (cases_eq u (deepest paths v vs)) [

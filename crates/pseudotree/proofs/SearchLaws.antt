@@ -1,4 +1,4 @@
--- The depth-first search of a connected problem: its tree is a linked pseudotree.
+-- The depth-first search of a problem, which joints connect: its tree is a linked pseudotree.
 use Rattle.std.proofs.Common.{◌≡◌, ℕ, zero, suc, ◌+◌, ◌-◌, ◌<◌, ◌≤◌, Bool, true, false, ◌&&◌, ◌||◌, not, cond, eqb, List, [], ◌∷◌, ◌++◌, length, Option, Some, None, refl, sym, ap, subst, ◌∙◌, inl, inr, zero-add, arith}
 use Rattle.std.specs.Prelude.{◌⊎◌}
 use Rattle.std.specs.List.{find, slice_get, count_by, range_with_len, All}
@@ -13,6 +13,7 @@ use Rattle.dcop_base.specs.Table.{CostTable, has}
 use Rattle.dcop_base.specs.Problem.{Dcop}
 use Rattle.dcop_base.specs.Graph.{are_neighbours, neighbours, share_table, are_joined, IsPath, IsConnected}
 use Rattle.dcop_base.specs.Whole.{IsProblem, IsTableOf}
+use Rattle.dcop_base.proofs.JointLaws.{IsConnected-joints}
 use Rattle.pseudotree.specs.Tree.{path_of, parent_of, IsRoot}
 use Rattle.pseudotree.specs.Pseudotree.{IsPseudotree, IsLinked}
 use Rattle.pseudotree.specs.DepthFirst.{Visit, is_seen, next_of, and_next, visit, search_of, path_in, dfs, DepthFirstTreesAreLinked}
@@ -417,4 +418,5 @@ module _ (p : Dcop) (problem : IsProblem p) where
     dfs_linked v u h = (parent_facts v u h).2
 
 pub depth_first_trees_are_linked : DepthFirstTreesAreLinked
-depth_first_trees_are_linked p problem connected = (dfs_pseudotree p problem connected, dfs_linked p problem connected)
+depth_first_trees_are_linked p problem =
+    let connected = IsConnected-joints p problem.joints in (dfs_pseudotree p problem connected, dfs_linked p problem connected)

@@ -2,7 +2,7 @@
 use Rattle.std.specs.Prelude.{ℕ, zero, suc, Bool, not, List, [], ◌∷◌, ◌++◌, map, length, Option, Some, None, ◌==◌, if◌then◌else◌}
 use Rattle.std.specs.List.{list_any, find, range_with_len}
 use Rattle.dcop_base.specs.Problem.{Dcop}
-use Rattle.dcop_base.specs.Graph.{neighbours, IsConnected}
+use Rattle.dcop_base.specs.Graph.{neighbours}
 use Rattle.dcop_base.specs.Whole.{IsProblem}
 use Rattle.pseudotree.specs.Pseudotree.{IsPseudotree, IsLinked}
 
@@ -43,6 +43,6 @@ path_in (s ∷ ss) v = if s.var == v then s.path else path_in ss v
 abbrev pub dfs : Dcop → List (List ℕ)
 dfs p = map (path_in (search_of p)) (range_with_len 0 (length p.sizes))
 
--- the depth-first tree of a connected problem is a pseudotree of it, and linked
+-- the depth-first tree of a problem is a pseudotree of it, and linked
 abbrev pub DepthFirstTreesAreLinked : Type 0
-DepthFirstTreesAreLinked = (p : Dcop) → IsProblem p → IsConnected p → IsPseudotree p (dfs p) × IsLinked p (dfs p)
+DepthFirstTreesAreLinked = (p : Dcop) → IsProblem p → IsPseudotree p (dfs p) × IsLinked p (dfs p)

@@ -1,4 +1,4 @@
--- The lowest variable of a table, to which the table belongs.
+-- The deepest variable of a table, to which the table belongs.
 use Rattle.std.specs.Prelude.{◌≡◌, ℕ, true, List, [], ◌∷◌, length, Option, Some, None, nat_lt, if◌then◌else◌}
 use Rattle.std.specs.List.{All}
 use Rattle.dcop_base.specs.Table.{has}
@@ -21,17 +21,17 @@ abbrev pub owner_of : List (List ℕ) → List ℕ → Option ℕ
 owner_of paths [] = None
 owner_of paths (v ∷ vs) = Some (deepest paths v vs)
 
--- the lowest variable of a scope: each other variable of the scope is its ancestor
-pub record IsLowest (paths : List (List ℕ)) (scope : List ℕ) (v : ℕ) : Type 0 where
+-- the deepest variable of a scope: each other variable of the scope is its ancestor
+pub record IsDeepest (paths : List (List ℕ)) (scope : List ℕ) (v : ℕ) : Type 0 where
   pub named : has scope v ≡ true
   pub others : (u : ℕ) → has scope u ≡ true → is_within paths u v ≡ true
 
--- a table belongs to exactly one variable, the only lowest one of its scope
+-- a table belongs to exactly one variable, the only deepest one of its scope
 pub record HasOneOwner (paths : List (List ℕ)) (scope : List ℕ) : Type 0 where
   pub owner : ℕ
   pub owns : owner_of paths scope ≡ Some owner
-  pub lowest : IsLowest paths scope owner
-  pub only : (v : ℕ) → IsLowest paths scope v → v ≡ owner
+  pub is_deepest : IsDeepest paths scope owner
+  pub only : (v : ℕ) → IsDeepest paths scope v → v ≡ owner
 
 -- in a pseudotree of a problem, every table belongs to exactly one of its variables
 abbrev pub TablesHaveOwners : Type 0

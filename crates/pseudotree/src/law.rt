@@ -16,8 +16,8 @@ pub fn tables_have_owners()
     ensures { TablesHaveOwners }
 {}
 
-/// The depth-first tree of a connected problem is a pseudotree of it, and each variable but the
-/// root is a neighbour of its parent.
+/// The depth-first tree of a problem is a pseudotree of it, and each variable but the root is a
+/// neighbour of its parent.
 pub fn depth_first_trees_are_linked()
     ensures { DepthFirstTreesAreLinked }
 {}

@@ -4,7 +4,7 @@
 //! variable's parents reach it, and any two variables of one table or joint are ancestor and
 //! descendant. Its readers, [`place`] and [`widths`] rest on that and test nothing again. Three
 //! laws follow from the definitions alone: separators nest, each table belongs to one variable,
-//! and the depth-first tree of a connected problem is a linked pseudotree.
+//! and the depth-first tree of a problem is a linked pseudotree.
 #![tactic(auto)]
 
 mod agent;

@@ -66,6 +66,14 @@ fn parents_of(alloc: Global, above: &[u32]) -> Result<Vec<Option<VarId>>, Fail>
     Ok(parents)
 }
 
+/// Two pairs of variables, 0 and 1, and 2 and 3.
+fn two_pairs(alloc: Global) -> Result<Problem, Fail> {
+    let mut tables = Vec::new(alloc);
+    tables.push(zeros(alloc, 2, 0, 1)?)?;
+    tables.push(zeros(alloc, 2, 2, 3)?)?;
+    four(alloc, 2, tables)
+}
+
 /// What becomes of these parents of four variables.
 fn checked(
     rt: &impl Abort,
@@ -79,6 +87,25 @@ fn checked(
     assert!(rt; problem.sizes.as_slice().len() == 4);
     assert!(rt; above.len() == 4);
     Ok(check_tree(alloc, problem, parents.as_slice()))
+}
+
+/// The tree of these parents of four variables.
+fn tree_of(rt: &impl Abort, alloc: Global, problem: &Problem, above: &[u32]) -> Result<Tree, Fail>
+    ensures { IfOk result (λ tree. length tree.paths ≡ 4) }
+{
+    let tree = checked(rt, alloc, problem, above)??;
+    assert!(rt; problem.sizes.as_slice().len() == 4);
+    Ok(tree)
+}
+
+/// Whether these are the variables with these numbers.
+fn are(vars: &VarList, numbers: &[u32]) -> bool {
+    let vars = vars.as_slice();
+    vars.len() == numbers.len()
+        && vars
+            .iter()
+            .zip(numbers)
+            .all(|(var, number)| var.0 == *number)
 }
 
 /// The fault of these parents in the paw.
@@ -100,6 +127,30 @@ fn place_of_one(rt: &impl Abort, alloc: Global) -> Result<Place, Fail> {
     let tree = checked(rt, alloc, &paw, &[4, 0, 1, 1])??;
     assert!(rt; paw.sizes.as_slice().len() == 4);
     Ok(place(alloc, &tree, &paw, VarId(1))?)
+}
+
+#[test]
+fn tree_of_the_paw(rt: HostRuntime) -> Result<(), Fail> {
+    let tree = tree_of(&rt, rt.alloc(), &paw(rt.alloc())?, &[4, 0, 1, 1])?;
+    assert!(rt; tree.parent(VarId(0)) == None);
+    assert!(rt; tree.parent(VarId(3)) == Some(VarId(1)));
+    assert!(rt; are(tree.separator(VarId(0)), &[]));
+    assert!(rt; are(tree.separator(VarId(1)), &[0]));
+    assert!(rt; are(tree.separator(VarId(2)), &[0, 1]));
+    assert!(rt; are(tree.separator(VarId(3)), &[1]));
+    assert!(rt; are(tree.path(VarId(3)), &[0, 1]));
+    assert!(rt; are(tree.children(VarId(1)), &[2, 3]));
+    Ok(())
+}
+
+#[test]
+fn tree_of_two_components(rt: HostRuntime) -> Result<(), Fail> {
+    let tree = tree_of(&rt, rt.alloc(), &two_pairs(rt.alloc())?, &[4, 0, 0, 2])?;
+    assert!(rt; are(tree.separator(VarId(1)), &[0]));
+    assert!(rt; are(tree.separator(VarId(2)), &[0]));
+    assert!(rt; are(tree.separator(VarId(3)), &[2]));
+    assert!(rt; are(tree.preorder(), &[0, 1, 2, 3]));
+    Ok(())
 }
 
 #[test]
