@@ -5,3 +5,5 @@ pub mod ParcelLaws
 pub mod AccountLaws
 pub mod StampLaws
 pub mod Rows
+pub mod NetworkRows
+pub mod JournalStampLaws

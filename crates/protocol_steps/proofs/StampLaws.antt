@@ -94,7 +94,7 @@ waits_by n net now shows i j in_i in_j before =
     ∙ ap (λ (ms : List Message). drop (length (gained_from j (now i).gains)) ms) (sent_plain i (now j).posted ∙ ap (λ (es : List (ℕ × Message)). plain es) (sym before.1))
     ∙ drop_front (gained_from j (now i).gains) before.0
 
-unposted : (stamp : ℕ) (sends : List (ℕ × Message)) → map (λ p. (p.to, p.envelope.1)) (post stamp sends) ≡ sends
+pub unposted : (stamp : ℕ) (sends : List (ℕ × Message)) → map (λ p. (p.to, p.envelope.1)) (post stamp sends) ≡ sends
 unposted stamp [] = refl
 unposted stamp (p ∷ ps) = ap (λ (xs : List (ℕ × Message)). p ∷ xs) (unposted stamp ps)
 

@@ -6,7 +6,7 @@ use Rattle.dcop_base.specs.declared.knowledge.Private.{Private}
 use Rattle.pseudotree.specs.declared.agent.Place.{Place}
 use Rattle.adopt_context.specs.Context.{Context}
 use Rattle.adopt_context.specs.Bounds.{Entry, blank}
-use Rattle.protocol_steps.specs.Agent.{Phase, waiting}
+use Rattle.protocol_steps.specs.Agent.{Phase, not_started}
 
 -- an ADOPT agent: what it was made from, what it knows of the values of its path, its value, its threshold and the last one received, whether TERMINATE was taken, and for each own value a row of entries, one for each child
 pub record AdoptView : Type 0 where
@@ -27,7 +27,7 @@ new_adopt own place error = record {
   own = own;
   place = place;
   error = error;
-  phase = waiting;
+  phase = not_started;
   known = [];
   value = 0;
   threshold = 0;

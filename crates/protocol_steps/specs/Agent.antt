@@ -10,8 +10,8 @@ pub record Phase : Type 0 where
   pub failed : Bool
 
 -- an agent that has not started yet
-abbrev pub waiting : Phase
-waiting = record { started = false; ended = false; failed = false }
+abbrev pub not_started : Phase
+not_started = record { started = false; ended = false; failed = false }
 
 -- the last variable of a path, which is the parent; the root has none
 abbrev pub last_of : List ℕ → Option ℕ

@@ -6,7 +6,7 @@ use Rattle.dcop_base.specs.declared.knowledge.Private.{Private}
 use Rattle.pseudotree.specs.declared.agent.Place.{Place}
 use Rattle.adopt_context.specs.Context.{value_in}
 use Rattle.adopt_context.specs.Bounds.{cap, lowest}
-use Rattle.protocol_steps.specs.Agent.{Phase, waiting}
+use Rattle.protocol_steps.specs.Agent.{Phase, not_started}
 use Rattle.protocol_steps.specs.Values.{or_zero, valued, with_own, cost_with, choices}
 
 -- a DPOP agent: what it knows of the problem and its place, the children's tables that it keeps, in their order, the UTIL table that it made, and its value
@@ -20,7 +20,7 @@ pub record DpopView : Type 0 where
 
 -- a DPOP agent as it is made
 abbrev pub new_dpop : Private → Place → DpopView
-new_dpop own place = record { own = own; place = place; phase = waiting; kept = replicate (length place.children) None; made = None; value = 0 }
+new_dpop own place = record { own = own; place = place; phase = not_started; kept = replicate (length place.children) None; made = None; value = 0 }
 
 -- the table that is there, as a list
 abbrev pub there : Option CostTable → List CostTable

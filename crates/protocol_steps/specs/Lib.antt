@@ -23,3 +23,4 @@ pub mod Stamps
 pub mod Deeds
 pub mod StampLaw
 pub mod Rounds
+pub mod JournalStamps

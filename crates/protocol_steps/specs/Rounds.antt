@@ -21,14 +21,14 @@ abbrev pub taken_in : ℕ → ℕ → List Event → ℕ
 taken_in i j es = taken_from j (flat_map (λ ts. ts) (journal i es))
 
 -- an agent that has not ended
-abbrev pub IsOpen : Network → ℕ → Type 0
-IsOpen net i = (v : View) × (slice_get net.views i ≡ Some v) × (ended_of v ≡ false)
+abbrev pub HasNotEnded : Network → ℕ → Type 0
+HasNotEnded net i = (v : View) × (slice_get net.views i ≡ Some v) × (ended_of v ≡ false)
 
 -- one round: events that lead from one network state to another, at most 32 of each agent, and on each link to an agent that is not ended afterwards at least the lesser of 64 and what was pending before
 pub record IsRound (before : Network) (es : List Event) (after : Network) : Type 0 where
   pub leads : run before es ≡ Some after
   pub few : (i : ℕ) → length (journal i es) ≤ most_events
-  pub served : (i j : ℕ) → IsOpen after i → min least_taken (length (pending before i j)) ≤ taken_in i j es
+  pub served : (i j : ℕ) → HasNotEnded after i → min least_taken (length (pending before i j)) ≤ taken_in i j es
 
 -- rounds under a budget, which lead from one network state to another: each begins with fewer deliveries than the budget
 abbrev pub AreRounds : ℕ → Network → List (List Event) → Network → Type 0

@@ -4,7 +4,7 @@ use Rattle.std.specs.List.{find, filter, flat_map, concat}
 use Rattle.dcop_base.specs.Table.{has}
 use Rattle.dcop_base.specs.declared.knowledge.Private.{Private}
 use Rattle.pseudotree.specs.declared.agent.Place.{Place}
-use Rattle.protocol_steps.specs.Agent.{Phase, waiting}
+use Rattle.protocol_steps.specs.Agent.{Phase, not_started}
 
 -- a token agent: what it knows of the problem, whether it has opened and with which path, its children's subtrees that came back, and the child that it waits for
 pub record TokenView : Type 0 where
@@ -17,7 +17,7 @@ pub record TokenView : Type 0 where
 
 -- a token agent as it is made
 abbrev pub new_token : Private → TokenView
-new_token own = record { own = own; phase = waiting; opened = false; path = []; kept = []; awaited = None }
+new_token own = record { own = own; phase = not_started; opened = false; path = []; kept = []; awaited = None }
 
 -- whether a variable stands in the path or in a kept subtree
 abbrev pub is_visited : TokenView → ℕ → Bool

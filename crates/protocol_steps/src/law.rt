@@ -3,6 +3,7 @@
 
 ghost use Rattle.protocol_steps.specs.Laws.{OriginsStay, ParcelsGoToNeighbours, JournalsDecide};
 ghost use Rattle.protocol_steps.specs.StampLaw.{StampsOrder};
+ghost use Rattle.protocol_steps.specs.JournalStamps.{StartsShow, JournalsOrder};
 
 /// What an agent was made from never changes, by its start and by each step.
 pub fn origins_stay()
@@ -26,4 +27,17 @@ pub fn journals_decide()
 /// of what was sent.
 pub fn stamps_order()
     ensures { StampsOrder }
+{}
+
+/// The start state is the network of its agents' accounts, and nothing is taken in it, so the stamp
+/// law may begin there.
+pub fn starts_show()
+    ensures { StartsShow }
+{}
+
+/// The stamp law for journals: the activations that agents' journals and the lists of the messages
+/// that they took tell are, by piece and by stamp in each piece, a run from the start state, and
+/// the journals agree with it.
+pub fn journals_order()
+    ensures { JournalsOrder }
 {}

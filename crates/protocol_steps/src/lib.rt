@@ -6,8 +6,7 @@
 //! agent was made from and where it stands. `start` and `react` give the view and the parcels
 //! that the definitions of the token step, the DPOP step and the ADOPT step say, and nothing else
 //! is known of an agent. Over these steps stand networks, lawful events, runs, journals, stamps
-//! and rounds, with the journal law
-//! and the stamp law.
+//! and rounds, with the journal law and the stamp law.
 #![tactic(auto)]
 
 mod event;
@@ -18,7 +17,10 @@ mod message;
 mod standing;
 
 pub use event::{Entry, Event, EventFault, EventList, Journal, JournalList, Take, TakeList};
-pub use law::{journals_decide, origins_stay, parcels_go_to_neighbours, stamps_order};
+pub use law::{
+    journals_decide, journals_order, origins_stay, parcels_go_to_neighbours, stamps_order,
+    starts_show,
+};
 pub use letter::{Batch, Envelope, Letter, Outbox, Parcel};
 pub use machine::Machine;
 pub use message::Message;
