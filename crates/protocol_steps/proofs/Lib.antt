@@ -7,3 +7,4 @@ pub mod StampLaws
 pub mod Rows
 pub mod NetworkRows
 pub mod JournalStampLaws
+pub mod LinkLaws

@@ -24,3 +24,4 @@ pub mod Deeds
 pub mod StampLaw
 pub mod Rounds
 pub mod JournalStamps
+pub mod Links

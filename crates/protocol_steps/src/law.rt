@@ -2,6 +2,7 @@
 //! who needs the law calls it.
 
 ghost use Rattle.protocol_steps.specs.Laws.{OriginsStay, ParcelsGoToNeighbours, JournalsDecide};
+ghost use Rattle.protocol_steps.specs.Links.{LinksGrow};
 ghost use Rattle.protocol_steps.specs.StampLaw.{StampsOrder};
 ghost use Rattle.protocol_steps.specs.JournalStamps.{StartsShow, JournalsOrder};
 
@@ -15,6 +16,12 @@ pub fn origins_stay()
 /// so.
 pub fn parcels_go_to_neighbours()
     ensures { ParcelsGoToNeighbours }
+{}
+
+/// What stands on the links of a network: in the start state what the starts sent, and after a
+/// lawful event besides each parcel of the step, and the number taken rises by the takes.
+pub fn links_grow()
+    ensures { LinksGrow }
 {}
 
 /// The journal law: two runs that agree with the same journals end in the same network state.
