@@ -3,3 +3,8 @@ pub mod OptimumLaws
 pub mod BestLaws
 pub mod TurnLaws
 pub mod TurnedTableLaws
+pub mod SumLaws
+pub mod LineLaws
+pub mod OwnerLaws
+pub mod JoinLaws
+pub mod DecompositionLaws

@@ -1,2 +1,5 @@
 pub mod Optimum
 pub mod Goal
+pub mod Subtree
+pub mod Decomposition
+pub mod Enclosing

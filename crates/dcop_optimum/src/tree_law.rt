@@ -1,0 +1,27 @@
+//! The laws of optima on trees, which follow from the definitions alone. Each is the contract of a
+//! call that does nothing: who needs the law calls it.
+
+ghost use Rattle.dcop_optimum.specs.Subtree.{SubtreeOptimaAreOne};
+ghost use Rattle.dcop_optimum.specs.Decomposition.{DecompositionLaw, SubtreeOptimaReadSeparators};
+ghost use Rattle.dcop_optimum.specs.Enclosing.{RootBoundsEncloseOptima};
+
+/// Every variable of a tree has exactly one subtree optimum, for all values of its ancestors.
+pub fn subtree_optima_are_one()
+    ensures { SubtreeOptimaAreOne }
+{}
+
+/// The decomposition law: a subtree optimum is the least, over the values of its variable, of the
+/// variable's own tables and its children's subtree optima; the root's is the optimum.
+pub fn subtree_optima_decompose()
+    ensures { DecompositionLaw }
+{}
+
+/// A subtree optimum depends on the values of the separator alone.
+pub fn subtree_optima_read_separators()
+    ensures { SubtreeOptimaReadSeparators }
+{}
+
+/// Bounds that enclose the root of a pseudotree enclose the optimum of the problem.
+pub fn root_bounds_enclose_optima()
+    ensures { RootBoundsEncloseOptima }
+{}
