@@ -8,3 +8,6 @@ pub mod LineLaws
 pub mod OwnerLaws
 pub mod JoinLaws
 pub mod DecompositionLaws
+pub mod PreorderLaws
+pub mod TreeOptimumLaws
+pub mod ChoiceLaws

@@ -3,3 +3,4 @@ pub mod Goal
 pub mod Subtree
 pub mod Decomposition
 pub mod Enclosing
+pub mod TreeOptimum

@@ -21,5 +21,5 @@ pub use goal::{top_sum, turn};
 pub use law::{one_first_optimum, one_optimum};
 pub use plain::{Best, MAX_ASSIGNMENTS, PlainFault, least_plain};
 pub use tree_law::{
-    root_bounds_enclose_optima, subtree_optima_are_one, subtree_optima_decompose, subtree_optima_read_separators,
+    best_choices_are_first, first_optima_of_trees_are_one, root_bounds_enclose_optima, subtree_optima_are_one, subtree_optima_decompose, subtree_optima_read_separators,
 };

@@ -4,6 +4,7 @@
 ghost use Rattle.dcop_optimum.specs.Subtree.{SubtreeOptimaAreOne};
 ghost use Rattle.dcop_optimum.specs.Decomposition.{DecompositionLaw, SubtreeOptimaReadSeparators};
 ghost use Rattle.dcop_optimum.specs.Enclosing.{RootBoundsEncloseOptima};
+ghost use Rattle.dcop_optimum.specs.TreeOptimum.{FirstOptimaOfTreesAreOne, BestChoicesAreFirst};
 
 /// Every variable of a tree has exactly one subtree optimum, for all values of its ancestors.
 pub fn subtree_optima_are_one()
@@ -24,4 +25,15 @@ pub fn subtree_optima_read_separators()
 /// Bounds that enclose the root of a pseudotree enclose the optimum of the problem.
 pub fn root_bounds_enclose_optima()
     ensures { RootBoundsEncloseOptima }
+{}
+
+/// Every pseudotree of a problem has exactly one first optimum.
+pub fn first_optima_of_trees_are_one()
+    ensures { FirstOptimaOfTreesAreOne }
+{}
+
+/// Where each variable, from the root down, has the lowest of its best values, the values are the
+/// first optimum of the tree.
+pub fn best_choices_are_first()
+    ensures { BestChoicesAreFirst }
 {}
