@@ -8,6 +8,7 @@ pub mod LineLaws
 pub mod OwnerLaws
 pub mod JoinLaws
 pub mod DecompositionLaws
+pub mod CertificateLaws
 pub mod PreorderLaws
 pub mod TreeOptimumLaws
 pub mod ChoiceLaws

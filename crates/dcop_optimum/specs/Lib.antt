@@ -4,3 +4,4 @@ pub mod Subtree
 pub mod Decomposition
 pub mod Enclosing
 pub mod TreeOptimum
+pub mod Certificate

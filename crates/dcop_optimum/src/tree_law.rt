@@ -5,6 +5,8 @@ ghost use Rattle.dcop_optimum.specs.Subtree.{SubtreeOptimaAreOne};
 ghost use Rattle.dcop_optimum.specs.Decomposition.{DecompositionLaw, SubtreeOptimaReadSeparators};
 ghost use Rattle.dcop_optimum.specs.Enclosing.{RootBoundsEncloseOptima};
 ghost use Rattle.dcop_optimum.specs.TreeOptimum.{FirstOptimaOfTreesAreOne, BestChoicesAreFirst};
+ghost use Rattle.dcop_optimum.specs.Certificate.{TablesOnPathsAreOwn, LowerTablesBoundOptima};
+ghost use Rattle.dcop_optimum.specs.Certificate.{CertificatesShowOptima};
 
 /// Every variable of a tree has exactly one subtree optimum, for all values of its ancestors.
 pub fn subtree_optima_are_one()
@@ -36,4 +38,20 @@ pub fn first_optima_of_trees_are_one()
 /// first optimum of the tree.
 pub fn best_choices_are_first()
     ensures { BestChoicesAreFirst }
+{}
+
+/// The tables that name a variable and otherwise only its ancestors are those whose deepest
+/// variable it is.
+pub fn tables_on_paths_are_own()
+    ensures { TablesOnPathsAreOwn }
+{}
+
+/// In the tables of a certificate, whoever made them, each cell is at most the subtree optimum.
+pub fn lower_tables_bound_optima()
+    ensures { LowerTablesBoundOptima }
+{}
+
+/// Where a certificate of tables holds, its values are optimal.
+pub fn certificates_show_optima()
+    ensures { CertificatesShowOptima }
 {}
