@@ -12,3 +12,4 @@ pub mod CertificateLaws
 pub mod PreorderLaws
 pub mod TreeOptimumLaws
 pub mod ChoiceLaws
+pub mod OptimumTableLaws

@@ -5,3 +5,4 @@ pub mod Decomposition
 pub mod Enclosing
 pub mod TreeOptimum
 pub mod Certificate
+pub mod OptimumTables

@@ -21,7 +21,8 @@ pub use goal::{top_sum, turn};
 pub use law::{one_first_optimum, one_optimum};
 pub use plain::{Best, MAX_ASSIGNMENTS, PlainFault, least_plain};
 pub use tree_law::{
-    best_choices_are_first, certificates_show_optima, first_optima_of_trees_are_one,
-    lower_tables_bound_optima, root_bounds_enclose_optima, subtree_optima_are_one,
-    subtree_optima_decompose, subtree_optima_read_separators, tables_on_paths_are_own,
+    best_choices_are_first, certificates_show_optima, costs_are_within_cap,
+    first_optima_of_trees_are_one, lower_tables_bound_optima, optima_make_certificates,
+    root_bounds_enclose_optima, subtree_optima_are_one, subtree_optima_decompose,
+    subtree_optima_read_separators, tables_on_paths_are_own,
 };

@@ -7,6 +7,7 @@ ghost use Rattle.dcop_optimum.specs.Enclosing.{RootBoundsEncloseOptima};
 ghost use Rattle.dcop_optimum.specs.TreeOptimum.{FirstOptimaOfTreesAreOne, BestChoicesAreFirst};
 ghost use Rattle.dcop_optimum.specs.Certificate.{TablesOnPathsAreOwn, LowerTablesBoundOptima};
 ghost use Rattle.dcop_optimum.specs.Certificate.{CertificatesShowOptima};
+ghost use Rattle.dcop_optimum.specs.OptimumTables.{OptimaMakeCertificates, CostsAreWithinCap};
 
 /// Every variable of a tree has exactly one subtree optimum, for all values of its ancestors.
 pub fn subtree_optima_are_one()
@@ -54,4 +55,14 @@ pub fn lower_tables_bound_optima()
 /// Where a certificate of tables holds, its values are optimal.
 pub fn certificates_show_optima()
     ensures { CertificatesShowOptima }
+{}
+
+/// Tables of the subtree optima with optimal values are a certificate that holds.
+pub fn optima_make_certificates()
+    ensures { OptimaMakeCertificates }
+{}
+
+/// No sum of costs over a subtree exceeds the cap.
+pub fn costs_are_within_cap()
+    ensures { CostsAreWithinCap }
 {}
