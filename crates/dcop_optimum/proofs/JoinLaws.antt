@@ -1,5 +1,5 @@
 -- Assignments joined along the tree: each subtree takes its values from an assignment of its own.
-use Rattle.std.proofs.Common.{◌≡◌, ℕ, suc, ◌+◌, ◌<◌, true, eqb, List, [], ◌∷◌, length, map, get_or, Some, sym, ap, subst, ◌∙◌, inl, inr, arith, All}
+use Rattle.std.proofs.Common.{◌≡◌, ℕ, suc, ◌+◌, ◌<◌, true, eqb, List, [], ◌∷◌, length, map, get_or, Some, refl, sym, ap, subst, ◌∙◌, inl, inr, arith, All}
 use Rattle.std.specs.List.{sum_by, range_with_len}
 use Rattle.std.proofs.lemmas.Bool.{cases_eq, cond-true, cond-false, eq-eqb, ne_eqb}
 use Rattle.std.proofs.lemmas.List.FromFn.{get_or-map-range_with_len, length-map-range_with_len}
@@ -11,8 +11,8 @@ use Rattle.pseudotree.specs.Tree.{path_of, parent_of, children_of, is_variable, 
 use Rattle.pseudotree.specs.Pseudotree.{IsPseudotree, is_within, touches, separator_of}
 use Rattle.pseudotree.proofs.CheckLaws.{within_tree}
 use Rattle.pseudotree.proofs.GatherLaws.{variable_is}
-use Rattle.pseudotree.proofs.SpreadLaws.{above_parent}
-use Rattle.pseudotree.proofs.NestLaws.{has_filter}
+use Rattle.pseudotree.proofs.SpreadLaws.{above_parent, any_in_range}
+use Rattle.pseudotree.proofs.NestLaws.{has_filter, filter_has}
 use Rattle.dcop_optimum.specs.Subtree.{cost_with, with_own, own_tables_of, subtree_tables_of, AgreesAbove}
 use Rattle.dcop_optimum.proofs.SumLaws.{sum_same}
 use Rattle.dcop_optimum.proofs.LineLaws.{within_cases, branch, branch_is, below_in_tree, above_in_tree}
@@ -57,6 +57,13 @@ own_else i d value v ne = cond-false (eqb v i) d (value v) (ne_eqb v i ne)
 pub children_parent : (paths : List (List ℕ)) (i : ℕ) → All (λ c. parent_of paths c ≡ Some i) (children_of paths i)
 children_parent paths i k d lt =
     variable_is i (parent_of paths (get_or (children_of paths i) k d)) (filter_passes (λ c. is_variable i (parent_of paths c)) (range_with_len 0 (length paths)) k d lt)
+
+-- a child stands among the children
+pub child_named : (paths : List (List ℕ)) (i c : ℕ) → parent_of paths c ≡ Some i → has (children_of paths i) c ≡ true
+child_named paths i c parent =
+    filter_has (λ c. is_variable i (parent_of paths c)) (range_with_len 0 (length paths)) c
+    (any_in_range (λ y. eqb y c) (length paths) c (within_tree paths c i parent) (eq-eqb c c refl))
+    (ap (is_variable i) parent ∙ eq-eqb i i refl)
 
 -- an assignment with these values of i and of what stands above it
 pub record IsPiece (p : Dcop) (paths : List (List ℕ)) (i : ℕ) (value : ℕ → ℕ) (xs : List ℕ) : Type 0 where

@@ -13,3 +13,4 @@ pub mod PreorderLaws
 pub mod TreeOptimumLaws
 pub mod ChoiceLaws
 pub mod OptimumTableLaws
+pub mod SeparatorLaws

@@ -17,7 +17,7 @@ use Rattle.pseudotree.proofs.NestLaws.{filter_has, above_shorter}
 use Rattle.dcop_optimum.specs.Optimum.{IsBefore}
 use Rattle.dcop_optimum.specs.TreeOptimum.{in_preorder}
 use Rattle.dcop_optimum.proofs.LineLaws.{within_cases, branch, branch_child, within_root, path_short}
-use Rattle.dcop_optimum.proofs.JoinLaws.{children_parent}
+use Rattle.dcop_optimum.proofs.JoinLaws.{children_parent, child_named}
 
 -- what stands in the list of one element stands in all lists together
 has_flat_map : (f : ℕ → List ℕ) (xs : List ℕ) (c u : ℕ) → has xs c ≡ true → has (f c) u ≡ true → has (flat_map f xs) u ≡ true
@@ -50,12 +50,8 @@ module _ (paths : List (List ℕ)) (tree : IsTree paths) where
             let child = branch_child paths tree v u above in
             let c : ℕ = branch paths v u in
             let long = longer paths tree c v child.0 in
-            let named : has (children_of paths v) c ≡ true =
-            filter_has (λ c. is_variable v (parent_of paths c)) (range_with_len 0 (length paths)) c
-            (any_in_range (λ y. eqb y c) (length paths) c (within_tree paths c v child.0) (eq-eqb c c refl))
-            (ap (is_variable v) child.0 ∙ eq-eqb v v refl) in
             or_right (eqb v u) (has (flat_map (subtree (children_of paths) levels) (children_of paths v)) u)
-            (has_flat_map (subtree (children_of paths) levels) (children_of paths v) c u named (has_subtree levels c u child.1 (omega (arith, deep, long))))
+            (has_flat_map (subtree (children_of paths) levels) (children_of paths v) c u (child_named paths v c child.0) (has_subtree levels c u child.1 (omega (arith, deep, long))))
       ]
 
   -- the preorder names each variable

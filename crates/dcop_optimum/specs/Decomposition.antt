@@ -1,10 +1,11 @@
 -- The decomposition law: subtree optima are a recursion over the tree, and the root's is the optimum.
-use Rattle.std.specs.Prelude.{◌≡◌, ℕ, ◌+◌, ◌<◌, ◌≤◌, ◌↔◌, true, List, Some, length, slice_index}
-use Rattle.std.specs.List.{sum_by}
+use Rattle.std.specs.Prelude.{◌≡◌, ℕ, ◌+◌, ◌<◌, ◌≤◌, ◌↔◌, true, ◌||◌, List, Some, length, slice_index}
+use Rattle.std.specs.List.{sum_by, filter, list_any}
 use Rattle.dcop_base.specs.Table.{has}
 use Rattle.dcop_base.specs.Problem.{Dcop}
+use Rattle.dcop_base.specs.Graph.{are_neighbours}
 use Rattle.dcop_base.specs.Whole.{IsProblem}
-use Rattle.pseudotree.specs.Tree.{parent_of, children_of, IsRoot}
+use Rattle.pseudotree.specs.Tree.{path_of, parent_of, children_of, IsRoot, IsTree}
 use Rattle.pseudotree.specs.Pseudotree.{IsPseudotree, separator_of}
 use Rattle.dcop_optimum.specs.Optimum.{IsOptimum}
 use Rattle.dcop_optimum.specs.Subtree.{cost_with, with_own, own_tables_of, AreValuesAbove, IsSubtreeOptimum}
@@ -40,3 +41,8 @@ SubtreeOptimaReadSeparators = (p : Dcop) (paths : List (List ℕ)) (i : ℕ) (va
     → AreValuesAbove p paths i value → AreValuesAbove p paths i other
     → ((v : ℕ) → has (separator_of p paths i) v ≡ true → value v ≡ other v)
     → (m : ℕ) → IsSubtreeOptimum p paths i value m → IsSubtreeOptimum p paths i other m
+
+-- the separator is a recursion too: of the path, the variable's neighbours and what the children's separators name
+abbrev pub SeparatorsDecompose : Type 0
+SeparatorsDecompose = (p : Dcop) (paths : List (List ℕ)) → IsTree paths → (i : ℕ)
+    → separator_of p paths i ≡ filter (λ v. are_neighbours p i v || list_any (λ c. has (separator_of p paths c) v) (children_of paths i)) (path_of paths i)

@@ -23,6 +23,6 @@ pub use plain::{Best, MAX_ASSIGNMENTS, PlainFault, least_plain};
 pub use tree_law::{
     best_choices_are_first, certificates_show_optima, costs_are_within_cap,
     first_optima_of_trees_are_one, lower_tables_bound_optima, optima_make_certificates,
-    root_bounds_enclose_optima, subtree_optima_are_one, subtree_optima_decompose,
-    subtree_optima_read_separators, tables_on_paths_are_own,
+    root_bounds_enclose_optima, separators_decompose, subtree_optima_are_one,
+    subtree_optima_decompose, subtree_optima_read_separators, tables_on_paths_are_own,
 };

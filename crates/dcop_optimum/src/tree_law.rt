@@ -3,6 +3,7 @@
 
 ghost use Rattle.dcop_optimum.specs.Subtree.{SubtreeOptimaAreOne};
 ghost use Rattle.dcop_optimum.specs.Decomposition.{DecompositionLaw, SubtreeOptimaReadSeparators};
+ghost use Rattle.dcop_optimum.specs.Decomposition.{SeparatorsDecompose};
 ghost use Rattle.dcop_optimum.specs.Enclosing.{RootBoundsEncloseOptima};
 ghost use Rattle.dcop_optimum.specs.TreeOptimum.{FirstOptimaOfTreesAreOne, BestChoicesAreFirst};
 ghost use Rattle.dcop_optimum.specs.Certificate.{TablesOnPathsAreOwn, LowerTablesBoundOptima};
@@ -23,6 +24,12 @@ pub fn subtree_optima_decompose()
 /// A subtree optimum depends on the values of the separator alone.
 pub fn subtree_optima_read_separators()
     ensures { SubtreeOptimaReadSeparators }
+{}
+
+/// The separator of a variable consists of those of its ancestors that are its neighbours or stand
+/// in a child's separator.
+pub fn separators_decompose()
+    ensures { SeparatorsDecompose }
 {}
 
 /// Bounds that enclose the root of a pseudotree enclose the optimum of the problem.
