@@ -4,6 +4,10 @@
 //! [`least_plain`] finds it by trying every assignment. A problem whose greatest sum is wanted is
 //! turned: [`turn`] replaces each cell by its table's greatest cell less it, and an assignment is
 //! the cheaper in the turned problem the dearer it is in the problem itself.
+//!
+//! On a pseudotree the optimum is a recursion: the subtree optimum of a variable is the least, over
+//! its values, of its own tables and its children's subtree optima. The laws of `tree_law` say so,
+//! and what follows: which values are the first optimum of a tree, and what a certificate shows.
 #![tactic(auto)]
 
 mod goal;
@@ -11,7 +15,14 @@ mod law;
 mod plain;
 #[cfg(test)]
 mod tests;
+mod tree_law;
 
 pub use goal::{top_sum, turn};
 pub use law::{one_first_optimum, one_optimum};
 pub use plain::{Best, MAX_ASSIGNMENTS, PlainFault, least_plain};
+pub use tree_law::{
+    best_choices_are_first, certificates_show_optima, costs_are_within_cap,
+    first_optima_of_trees_are_one, lower_tables_bound_optima, optima_make_certificates,
+    root_bounds_enclose_optima, separators_decompose, subtree_optima_are_one,
+    subtree_optima_decompose, subtree_optima_read_separators, tables_on_paths_are_own,
+};
