@@ -6,9 +6,9 @@ use Rattle.std.proofs.lemmas.List.{length-append}
 use Rattle.std.proofs.lemmas.List.FromFn.{length-map-range_with_len, get_or-map-range_with_len}
 use Rattle.dcop_base.specs.Table.{has}
 use Rattle.dcop_base.specs.Problem.{Dcop}
-use Rattle.dcop_base.specs.Graph.{are_neighbours, neighbours, IsConnected}
+use Rattle.dcop_base.specs.Graph.{are_neighbours, neighbours}
 use Rattle.dcop_base.specs.Whole.{IsProblem}
-use Rattle.dcop_base.proofs.JointLaws.{are_neighbours-sym, IsConnected-joints}
+use Rattle.dcop_base.proofs.JointLaws.{are_neighbours-sym}
 use Rattle.pseudotree.specs.Tree.{path_of, parent_of, is_variable, is_above, children_of, IsRoot}
 use Rattle.pseudotree.specs.Pseudotree.{IsPseudotree, IsLinked, lower_of}
 use Rattle.pseudotree.specs.DepthFirst.{Visit, path_in, search_of, dfs}
@@ -40,14 +40,11 @@ filters_same f g (x ∷ xs) same =
     ∙ ap (λ (ys : List ℕ). cond (g x) (x ∷ ys) ys) (filters_same f g xs (λ u h. same u (in_right (x ∷ []) xs u h)))
 
 module _ (p : Dcop) (problem : IsProblem p) where
-  connected : IsConnected p
-  connected = IsConnected-joints p problem.joints
-
   pub tree : IsPseudotree p (dfs p)
-  tree = (depth_first_trees_are_linked p problem connected).0
+  tree = (depth_first_trees_are_linked p problem).0
 
   pub linked : IsLinked p (dfs p)
-  linked = (depth_first_trees_are_linked p problem connected).1
+  linked = (depth_first_trees_are_linked p problem).1
 
   long : length (dfs p) ≡ length p.sizes
   long = length-map-range_with_len (path_in (search_of p)) 0 (length p.sizes)
