@@ -8,3 +8,4 @@ pub mod NumberWord
 pub mod Knowledge
 pub mod Totals
 pub mod Made
+pub mod Values

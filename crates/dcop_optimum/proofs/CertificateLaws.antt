@@ -14,7 +14,8 @@ use Rattle.pseudotree.specs.Owner.{owner_of}
 use Rattle.pseudotree.proofs.CheckLaws.{within_tree}
 use Rattle.pseudotree.proofs.TreeLaws.{longer}
 use Rattle.pseudotree.proofs.NestLaws.{separators_nest}
-use Rattle.dcop_optimum.specs.Subtree.{cell_with, cost_with, with_own, own_tables_of, subtree_tables_of}
+use Rattle.dcop_base.specs.Values.{cell_with, cost_with, with_own}
+use Rattle.dcop_optimum.specs.Subtree.{own_tables_of, subtree_tables_of}
 use Rattle.dcop_optimum.specs.Certificate.{value_by, util_of, is_on_path, tables_on_path, AreLowerTables, TablesOnPathsAreOwn, LowerTablesBoundOptima, CertificatesShowOptima}
 use Rattle.dcop_optimum.proofs.SumLaws.{sum_same, sum_le}
 use Rattle.dcop_optimum.proofs.LineLaws.{within_cases, within_self, not_both, path_short}

@@ -10,7 +10,8 @@ use Rattle.pseudotree.specs.Pseudotree.{IsPseudotree, is_within}
 use Rattle.pseudotree.specs.Owner.{owner_of}
 use Rattle.pseudotree.proofs.CheckLaws.{within_tree}
 use Rattle.pseudotree.proofs.TreeLaws.{longer}
-use Rattle.dcop_optimum.specs.Subtree.{cell_with, cost_with, with_own, is_owner_within, subtree_tables_of, IsSubtreeOptimum}
+use Rattle.dcop_base.specs.Values.{cell_with, cost_with, with_own}
+use Rattle.dcop_optimum.specs.Subtree.{is_owner_within, subtree_tables_of, IsSubtreeOptimum}
 use Rattle.dcop_optimum.specs.Decomposition.{best_cost_at}
 use Rattle.dcop_optimum.specs.TreeOptimum.{IsFirstOptimumOf, IsBestChoice, BestChoicesAreFirst}
 use Rattle.dcop_optimum.proofs.SumLaws.{sum_filter, sum_same, sum_both}

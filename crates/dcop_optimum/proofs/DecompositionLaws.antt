@@ -13,7 +13,8 @@ use Rattle.pseudotree.specs.Pseudotree.{IsPseudotree, is_within, separator_of}
 use Rattle.pseudotree.specs.Owner.{owner_of}
 use Rattle.pseudotree.proofs.GatherLaws.{variable_is}
 use Rattle.pseudotree.proofs.SpreadLaws.{above_child}
-use Rattle.dcop_optimum.specs.Subtree.{cell_with, cost_with, with_own, is_owner_within, subtree_tables_of, AreValuesAbove, AgreesAbove, IsSubtreeOptimum, SubtreeOptimaAreOne}
+use Rattle.dcop_base.specs.Values.{cell_with, cost_with, with_own}
+use Rattle.dcop_optimum.specs.Subtree.{is_owner_within, subtree_tables_of, AreValuesAbove, AgreesAbove, IsSubtreeOptimum, SubtreeOptimaAreOne}
 use Rattle.dcop_optimum.specs.Decomposition.{AreChildOptima, best_cost_at, Decomposes, DecompositionLaw, SubtreeOptimaReadSeparators}
 use Rattle.dcop_optimum.specs.Enclosing.{RootBoundsEncloseOptima}
 use Rattle.dcop_optimum.proofs.SumLaws.{sum_filter, sum_same, sum_le}

@@ -13,7 +13,8 @@ use Rattle.pseudotree.proofs.CheckLaws.{within_tree}
 use Rattle.pseudotree.proofs.GatherLaws.{variable_is}
 use Rattle.pseudotree.proofs.SpreadLaws.{above_parent, any_in_range}
 use Rattle.pseudotree.proofs.NestLaws.{has_filter, filter_has}
-use Rattle.dcop_optimum.specs.Subtree.{cost_with, with_own, own_tables_of, subtree_tables_of, AgreesAbove}
+use Rattle.dcop_base.specs.Values.{cost_with, with_own}
+use Rattle.dcop_optimum.specs.Subtree.{own_tables_of, subtree_tables_of, AgreesAbove}
 use Rattle.dcop_optimum.proofs.SumLaws.{sum_same}
 use Rattle.dcop_optimum.proofs.LineLaws.{within_cases, branch, branch_is, below_in_tree, above_in_tree}
 use Rattle.dcop_optimum.proofs.OwnerLaws.{own_reads, subtree_reads, cost_split}

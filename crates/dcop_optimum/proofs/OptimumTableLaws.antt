@@ -18,7 +18,8 @@ use Rattle.pseudotree.specs.Owner.{owner_of}
 use Rattle.pseudotree.proofs.CheckLaws.{within_tree}
 use Rattle.pseudotree.proofs.TreeLaws.{ancestor}
 use Rattle.pseudotree.proofs.SpreadLaws.{above_parent}
-use Rattle.dcop_optimum.specs.Subtree.{cell_with, cost_with, with_own, is_owner_within, own_tables_of, AreValuesAbove}
+use Rattle.dcop_base.specs.Values.{cell_with, cost_with, with_own}
+use Rattle.dcop_optimum.specs.Subtree.{is_owner_within, own_tables_of, AreValuesAbove}
 use Rattle.dcop_optimum.specs.Decomposition.{AreChildOptima}
 use Rattle.dcop_optimum.specs.Certificate.{value_by, util_of, tables_on_path, AreLowerCells}
 use Rattle.dcop_optimum.specs.OptimumTables.{AreOptimumTables, OptimaMakeCertificates, CostsAreWithinCap}

@@ -17,7 +17,8 @@ use Rattle.pseudotree.proofs.GatherLaws.{variable_is}
 use Rattle.pseudotree.proofs.MarkLaws.{or_false}
 use Rattle.pseudotree.proofs.SpreadLaws.{any_in_range}
 use Rattle.pseudotree.proofs.NestLaws.{has_filter, filter_has, scope_below, tables_have_owners}
-use Rattle.dcop_optimum.specs.Subtree.{cell_with, cost_with, is_owner_within, own_tables_of, subtree_tables_of}
+use Rattle.dcop_base.specs.Values.{cell_with, cost_with}
+use Rattle.dcop_optimum.specs.Subtree.{is_owner_within, own_tables_of, subtree_tables_of}
 use Rattle.dcop_optimum.proofs.SumLaws.{sum_filter, sum_same, sum_both, sum_zeros, range_zeros, range_single}
 use Rattle.dcop_optimum.proofs.LineLaws.{within_cases, within_above, within_self, not_both, in_line, branch, branch_child, branch_is, below_child}
 

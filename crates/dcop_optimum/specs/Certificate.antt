@@ -9,7 +9,8 @@ use Rattle.pseudotree.specs.Pseudotree.{IsPseudotree, is_within, separator_of}
 use Rattle.pseudotree.specs.Place.{sizes_of}
 use Rattle.pseudotree.specs.Fault.{parents_of}
 use Rattle.dcop_optimum.specs.Optimum.{IsOptimum}
-use Rattle.dcop_optimum.specs.Subtree.{cell_with, cost_with, with_own, own_tables_of, IsSubtreeOptimum}
+use Rattle.dcop_base.specs.Values.{cell_with, cost_with, with_own}
+use Rattle.dcop_optimum.specs.Subtree.{own_tables_of, IsSubtreeOptimum}
 
 -- the value that these values of a scope give a variable, 0 where the scope does not name it
 abbrev pub value_by : List ℕ → List ℕ → ℕ → ℕ

@@ -8,7 +8,8 @@ use Rattle.dcop_base.specs.Whole.{IsProblem}
 use Rattle.pseudotree.specs.Tree.{path_of, parent_of, children_of, IsRoot, IsTree}
 use Rattle.pseudotree.specs.Pseudotree.{IsPseudotree, separator_of}
 use Rattle.dcop_optimum.specs.Optimum.{IsOptimum}
-use Rattle.dcop_optimum.specs.Subtree.{cost_with, with_own, own_tables_of, AreValuesAbove, IsSubtreeOptimum}
+use Rattle.dcop_base.specs.Values.{cost_with, with_own}
+use Rattle.dcop_optimum.specs.Subtree.{own_tables_of, AreValuesAbove, IsSubtreeOptimum}
 
 -- the least of the numbers f 0 to f (n - 1)
 pub record IsLeastBelow (n : ℕ) (f : ℕ → ℕ) (least : ℕ) : Type 0 where

@@ -8,7 +8,8 @@ use Rattle.dcop_base.specs.declared.number.TheConstants.{CAP}
 use Rattle.pseudotree.specs.Pseudotree.{IsPseudotree, separator_of}
 use Rattle.pseudotree.specs.Fault.{parents_of}
 use Rattle.dcop_optimum.specs.Optimum.{IsOptimum}
-use Rattle.dcop_optimum.specs.Subtree.{cell_with, cost_with, subtree_tables_of, AreValuesAbove, IsSubtreeOptimum}
+use Rattle.dcop_base.specs.Values.{cell_with, cost_with}
+use Rattle.dcop_optimum.specs.Subtree.{subtree_tables_of, AreValuesAbove, IsSubtreeOptimum}
 use Rattle.dcop_optimum.specs.Decomposition.{AreChildOptima, best_cost_at}
 use Rattle.dcop_optimum.specs.Certificate.{util_of, IsTableCertificate}
 

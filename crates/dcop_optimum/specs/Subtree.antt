@@ -1,24 +1,13 @@
 -- Subtree optima of a tree: the least cost of the tables that belong to a variable and its descendants.
-use Rattle.std.specs.Prelude.{◌≡◌, ℕ, ◌<◌, ◌≤◌, Bool, true, false, List, map, Option, Some, None, ◌==◌, if◌then◌else◌, slice_index}
-use Rattle.std.specs.List.{sum_by, filter}
-use Rattle.dcop_base.specs.Table.{CostTable, cell_place}
+use Rattle.std.specs.Prelude.{◌≡◌, ℕ, ◌<◌, ◌≤◌, Bool, true, false, List, Option, Some, None, slice_index}
+use Rattle.std.specs.List.{filter}
+use Rattle.dcop_base.specs.Table.{CostTable}
 use Rattle.dcop_base.specs.Problem.{Dcop, IsAssignment}
 use Rattle.dcop_base.specs.Whole.{IsProblem}
+use Rattle.dcop_base.specs.Values.{cost_with}
 use Rattle.pseudotree.specs.Tree.{is_variable, is_above}
 use Rattle.pseudotree.specs.Pseudotree.{is_within}
 use Rattle.pseudotree.specs.Owner.{owner_of}
-
--- the cell of a table where each variable v has the value `value v`
-abbrev pub cell_with : CostTable → (ℕ → ℕ) → ℕ
-cell_with t value = slice_index t.cells (cell_place t.sizes (map value t.scope))
-
--- the sum of the tables' cells at these values
-abbrev pub cost_with : List CostTable → (ℕ → ℕ) → ℕ
-cost_with ts value = sum_by (λ t. cell_with t value) ts
-
--- the same values, but d for the variable i
-abbrev pub with_own : ℕ → ℕ → (ℕ → ℕ) → ℕ → ℕ
-with_own i d value v = if v == i then d else value v
 
 -- whether the variable to which a table belongs is i or a descendant of i
 abbrev pub is_owner_within : List (List ℕ) → ℕ → Option ℕ → Bool

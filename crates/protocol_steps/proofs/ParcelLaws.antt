@@ -9,7 +9,8 @@ use Rattle.adopt_context.specs.Context.{Context, is_value}
 use Rattle.protocol_steps.specs.declared.message.Message.{Message}
 use Rattle.protocol_steps.specs.declared.message.Message.TheVariants.{Token, Done, Util, ValueAll, Value, Cost, Threshold, Terminate}
 use Rattle.protocol_steps.specs.Agent.{Stepped, quiet, next_letter, last_of}
-use Rattle.protocol_steps.specs.Values.{context_of, with_own, valued}
+use Rattle.dcop_base.specs.Values.{with_own}
+use Rattle.protocol_steps.specs.Values.{context_of, valued}
 use Rattle.protocol_steps.specs.Token.{TokenView, next_child, is_visited}
 use Rattle.protocol_steps.specs.TokenStep.{token_start, token_step, done_for, pass_on, look, open_with, takes_token, takes_done, token_message}
 use Rattle.protocol_steps.specs.Dpop.{DpopView, util_table, there, best_value}

@@ -5,7 +5,8 @@ use Rattle.dcop_base.specs.Table.{CostTable, has}
 use Rattle.adopt_context.specs.Context.{Context, value_in, names_all}
 use Rattle.adopt_context.specs.Bounds.{cap, lower_at, upper_at, is_below, lowest}
 use Rattle.adopt_context.specs.Allot.{lower_to, reset}
-use Rattle.protocol_steps.specs.Values.{valued, with_own, cost_with}
+use Rattle.dcop_base.specs.Values.{with_own, cost_with}
+use Rattle.protocol_steps.specs.Values.{valued}
 use Rattle.protocol_steps.specs.Adopt.{AdoptView, is_root, higher}
 
 -- whether a table counts: besides the agent it names only variables of the path that are known

@@ -7,7 +7,8 @@ use Rattle.pseudotree.specs.declared.agent.Place.{Place}
 use Rattle.adopt_context.specs.Context.{value_in}
 use Rattle.adopt_context.specs.Bounds.{cap, lowest}
 use Rattle.protocol_steps.specs.Agent.{Phase, not_started}
-use Rattle.protocol_steps.specs.Values.{or_zero, valued, with_own, cost_with, choices}
+use Rattle.dcop_base.specs.Values.{with_own, cost_with}
+use Rattle.protocol_steps.specs.Values.{or_zero, valued, choices}
 
 -- a DPOP agent: what it knows of the problem and its place, the children's tables that it keeps, in their order, the UTIL table that it made, and its value
 pub record DpopView : Type 0 where

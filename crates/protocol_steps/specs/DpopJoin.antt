@@ -7,7 +7,8 @@ use Rattle.adopt_context.specs.Context.{Context}
 use Rattle.protocol_steps.specs.declared.message.Message.{Message}
 use Rattle.protocol_steps.specs.declared.message.Message.TheVariants.{Util, ValueAll}
 use Rattle.protocol_steps.specs.Agent.{Stepped, quiet, last_of}
-use Rattle.protocol_steps.specs.Values.{valued, with_own, context_of}
+use Rattle.dcop_base.specs.Values.{with_own}
+use Rattle.protocol_steps.specs.Values.{valued, context_of}
 use Rattle.protocol_steps.specs.Dpop.{DpopView, kept_scopes, there, joined_cells_with, best_value, util_table}
 
 -- VALUE for the child of each kept table: the values of the table's scope
