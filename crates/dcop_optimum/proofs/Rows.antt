@@ -5,7 +5,8 @@ use Rattle.dcop_base.specs.Table.{CostTable}
 use Rattle.dcop_base.specs.Problem.{Dcop, cost}
 use Rattle.pseudotree.specs.Tree.{children_of}
 use Rattle.pseudotree.specs.Pseudotree.{separator_of}
-use Rattle.dcop_optimum.specs.Subtree.{cell_with, cost_with, with_own, own_tables_of, subtree_tables_of}
+use Rattle.dcop_base.specs.Values.{cell_with, cost_with, with_own}
+use Rattle.dcop_optimum.specs.Subtree.{own_tables_of, subtree_tables_of}
 use Rattle.dcop_optimum.specs.TreeOptimum.{in_preorder}
 use Rattle.dcop_optimum.specs.Certificate.{value_by, util_of, tables_on_path}
 
