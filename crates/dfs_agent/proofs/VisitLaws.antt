@@ -1,0 +1,90 @@
+-- Lists of variables: what is marked of them, and what stands in several together.
+use Rattle.std.proofs.Common.{◌≡◌, ℕ, suc, ◌+◌, ◌<◌, Bool, true, false, cond, not, ◌&&◌, ◌||◌, ◌==◌, Some, List, [], ◌∷◌, ◌++◌, length, take, drop, set, get_or, refl, sym, ap, ◌∙◌, inl, inr, arith}
+use Rattle.std.specs.List.{All, concat, filter, find, list_any}
+use Rattle.std.proofs.lemmas.Bool.{cases_eq, eq-eqb, ne_eqb, or_right}
+use Rattle.std.proofs.lemmas.List.{take_more, take_at, drop_at, append-nil, get_or-set_same, get_or-set_other}
+use Rattle.std.proofs.lemmas.List.Folds.{concat-append, list_any-append}
+use Rattle.std.proofs.lemmas.List.Elements.{All-nil, All-cons, All-head, All-tail, All-take, All-drop, All-same}
+use Rattle.dcop_base.specs.Table.{has, has_repeat}
+
+-- one more list
+pub concat_more : (xss : List (List ℕ)) (k : ℕ) (d : List ℕ) → k < length xss → concat (take (k + 1) xss) ≡ concat (take k xss) ++ get_or xss k d
+concat_more xss k d h = ap concat (take_more xss k d h) ∙ concat-append (take k xss) (get_or xss k d ∷ []) ∙ ap (λ xs. concat (take k xss) ++ xs) (append-nil (get_or xss k d))
+
+-- what stands in one more list
+pub has_more : (xss : List (List ℕ)) (k : ℕ) (d : List ℕ) (v : ℕ) → k < length xss → has (concat (take (k + 1) xss)) v ≡ (has (concat (take k xss)) v || has (get_or xss k d) v)
+has_more xss k d v h = ap (λ xs. has xs v) (concat_more xss k d h) ∙ list_any-append (λ y. y == v) (concat (take k xss)) (get_or xss k d)
+
+-- what holds of all together holds of each
+pub each_of : (P : ℕ → Type 0) (xss : List (List ℕ)) → All P (concat xss) → All (λ xs. All P xs) xss
+each_of P [] h = All-nil (λ xs. All P xs)
+each_of P (xs ∷ xss) h =
+    let first = All-same P xs (take (length xs) (xs ++ concat xss)) (sym (take_at xs (concat xss) (length xs) refl)) (All-take P (length xs) (xs ++ concat xss) h) in
+    let rest = All-same P (concat xss) (drop (length xs) (xs ++ concat xss)) (sym (drop_at xs (concat xss) (length xs) refl)) (All-drop P (length xs) (xs ++ concat xss) h) in
+    All-cons (λ ys. All P ys) xs xss first (each_of P xss rest)
+
+-- tests that agree on all of a list find the same
+pub find-agree : (f g : ℕ → Bool) (xs : List ℕ) → All (λ x. f x ≡ g x) xs → find f xs ≡ find g xs
+find-agree f g [] h = refl
+find-agree f g (x ∷ xs) h =
+    ap (λ b. cond b (Some x) (find f xs)) (All-head (λ y. f y ≡ g y) x xs h) ∙ ap (λ o. cond (g x) (Some x) o) (find-agree f g xs (All-tail (λ y. f y ≡ g y) x xs h))
+
+-- and keep the same
+pub filter-agree : (f g : ℕ → Bool) (xs : List ℕ) → All (λ x. f x ≡ g x) xs → filter f xs ≡ filter g xs
+filter-agree f g [] h = refl
+filter-agree f g (x ∷ xs) h =
+    let rest = filter-agree f g xs (All-tail (λ y. f y ≡ g y) x xs h) in
+    ap (λ b. cond b (x ∷ filter f xs) (filter f xs)) (All-head (λ y. f y ≡ g y) x xs h) ∙ ap (λ ys. cond (g x) (x ∷ ys) ys) rest
+
+-- whether variables are distinct and not marked
+abbrev pub are_spare : List Bool → List ℕ → Bool
+are_spare marks xs = not (has_repeat xs) && not (list_any (λ v. get_or marks v false) xs)
+
+spare_not : (a b c : Bool) → (not (a || b) && not (true || c)) ≡ false
+spare_not true b c = refl
+spare_not false true c = refl
+spare_not false false c = refl
+
+-- a marked variable is not spare
+pub spare_marked : (marks : List Bool) (x : ℕ) (xs : List ℕ) → get_or marks x false ≡ true → are_spare marks (x ∷ xs) ≡ false
+spare_marked marks x xs h = ap (λ b. not (has xs x || has_repeat xs) && not (b || list_any (λ v. get_or marks v false) xs)) h ∙ spare_not (has xs x) (has_repeat xs) (list_any (λ v. get_or marks v false) xs)
+
+or_false : (b : Bool) → (b || false) ≡ b
+or_false true = refl
+or_false false = refl
+
+marked_after : (marks : List Bool) (x v : ℕ) → x < length marks → get_or (set marks x true) v false ≡ (get_or marks v false || v == x)
+marked_after marks x v h = elim (cases_eq v x) [
+  | inl e ↦
+      let there : get_or (set marks x true) v false ≡ true = ap (λ k. get_or (set marks x true) k false) e ∙ get_or-set_same marks x true false h in
+      there ∙ sym (or_right (get_or marks v false) (v == x) (eq-eqb v x e))
+  | inr ne ↦ get_or-set_other marks x v true false ne ∙ sym (or_false (get_or marks v false)) ∙ ap (λ b. get_or marks v false || b) (sym (ne_eqb v x ne))
+]
+
+shuffled : (a b c d : Bool) → ((a || b) || (c || d)) ≡ ((a || c) || (b || d))
+shuffled true b c d = refl
+shuffled false true true d = refl
+shuffled false true false d = refl
+shuffled false false c d = refl
+
+any_marked : (marks : List Bool) (x : ℕ) (xs : List ℕ) → x < length marks → list_any (λ v. get_or (set marks x true) v false) xs ≡ (list_any (λ v. get_or marks v false) xs || has xs x)
+any_marked marks x [] h = refl
+any_marked marks x (y ∷ ys) h =
+    ap (λ b. b || list_any (λ v. get_or (set marks x true) v false) ys) (marked_after marks x y h)
+    ∙ ap (λ b. (get_or marks y false || y == x) || b) (any_marked marks x ys h)
+    ∙ shuffled (get_or marks y false) (y == x) (list_any (λ v. get_or marks v false) ys) (has ys x)
+
+spare_moved : (a b c : Bool) → (not (a || b) && not c) ≡ (not b && not (c || a))
+spare_moved true true c = refl
+spare_moved true false true = refl
+spare_moved true false false = refl
+spare_moved false true c = refl
+spare_moved false false true = refl
+spare_moved false false false = refl
+
+-- a variable that is not marked is marked for the rest
+pub spare_more : (marks : List Bool) (x : ℕ) (xs : List ℕ) → x < length marks → get_or marks x false ≡ false → are_spare marks (x ∷ xs) ≡ are_spare (set marks x true) xs
+spare_more marks x xs lt h =
+    ap (λ b. not (has xs x || has_repeat xs) && not (b || list_any (λ v. get_or marks v false) xs)) h
+    ∙ spare_moved (has xs x) (has_repeat xs) (list_any (λ v. get_or marks v false) xs)
+    ∙ ap (λ b. not (has_repeat xs) && not b) (sym (any_marked marks x xs lt))
