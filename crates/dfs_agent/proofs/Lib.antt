@@ -1,1 +1,2 @@
 mod VisitLaws
+mod AgentLaws

@@ -1,8 +1,8 @@
 -- Lists of variables: what is marked of them, and what stands in several together.
-use Rattle.std.proofs.Common.{◌≡◌, ℕ, suc, ◌+◌, ◌<◌, Bool, true, false, cond, not, ◌&&◌, ◌||◌, ◌==◌, Some, List, [], ◌∷◌, ◌++◌, length, take, drop, set, get_or, refl, sym, ap, ◌∙◌, inl, inr, arith}
+use Rattle.std.proofs.Common.{◌≡◌, ℕ, zero, suc, ◌+◌, ◌<◌, Bool, true, false, cond, not, ◌&&◌, ◌||◌, ◌==◌, Some, List, [], ◌∷◌, ◌++◌, length, take, drop, set, get_or, refl, sym, ap, ◌∙◌, inl, inr, arith}
 use Rattle.std.specs.List.{All, concat, filter, find, list_any}
 use Rattle.std.proofs.lemmas.Bool.{cases_eq, eq-eqb, ne_eqb, or_right}
-use Rattle.std.proofs.lemmas.List.{take_more, take_at, drop_at, append-nil, get_or-set_same, get_or-set_other}
+use Rattle.std.proofs.lemmas.List.{take_more, take_at, drop_at, append-nil, at_drop_more, get_or-set_same, get_or-set_other}
 use Rattle.std.proofs.lemmas.List.Folds.{concat-append, list_any-append}
 use Rattle.std.proofs.lemmas.List.Elements.{All-nil, All-cons, All-head, All-tail, All-take, All-drop, All-same}
 use Rattle.dcop_base.specs.Table.{has, has_repeat}
@@ -16,12 +16,15 @@ pub has_more : (xss : List (List ℕ)) (k : ℕ) (d : List ℕ) (v : ℕ) → k 
 has_more xss k d v h = ap (λ xs. has xs v) (concat_more xss k d h) ∙ list_any-append (λ y. y == v) (concat (take k xss)) (get_or xss k d)
 
 -- what holds of all together holds of each
-pub each_of : (P : ℕ → Type 0) (xss : List (List ℕ)) → All P (concat xss) → All (λ xs. All P xs) xss
+each_of : (P : ℕ → Type 0) (xss : List (List ℕ)) → All P (concat xss) → All (λ xs. All P xs) xss
 each_of P [] h = All-nil (λ xs. All P xs)
 each_of P (xs ∷ xss) h =
     let first = All-same P xs (take (length xs) (xs ++ concat xss)) (sym (take_at xs (concat xss) (length xs) refl)) (All-take P (length xs) (xs ++ concat xss) h) in
     let rest = All-same P (concat xss) (drop (length xs) (xs ++ concat xss)) (sym (drop_at xs (concat xss) (length xs) refl)) (All-drop P (length xs) (xs ++ concat xss) h) in
     All-cons (λ ys. All P ys) xs xss first (each_of P xss rest)
+
+pub each_below : (n : ℕ) (xss : List (List ℕ)) → All (λ v. v < n) (concat xss) → All (λ xs. All (λ v. v < n) xs) xss
+each_below n xss h = each_of (λ v. v < n) xss h
 
 -- tests that agree on all of a list find the same
 pub find-agree : (f g : ℕ → Bool) (xs : List ℕ) → All (λ x. f x ≡ g x) xs → find f xs ≡ find g xs
@@ -35,6 +38,12 @@ filter-agree f g [] h = refl
 filter-agree f g (x ∷ xs) h =
     let rest = filter-agree f g xs (All-tail (λ y. f y ≡ g y) x xs h) in
     ap (λ b. cond b (x ∷ filter f xs) (filter f xs)) (All-head (λ y. f y ≡ g y) x xs h) ∙ ap (λ ys. cond (g x) (x ∷ ys) ys) rest
+
+-- no mark is set
+pub blank : (marks : List Bool) (v : ℕ) → All (λ mark. mark ≡ false) marks → get_or marks v false ≡ false
+blank [] v h = refl
+blank (b ∷ bs) zero h = All-head (λ mark. mark ≡ false) b bs h
+blank (b ∷ bs) (suc v) h = blank bs v (All-tail (λ mark. mark ≡ false) b bs h)
 
 -- whether variables are distinct and not marked
 abbrev pub are_spare : List Bool → List ℕ → Bool
@@ -88,3 +97,22 @@ spare_more marks x xs lt h =
     ap (λ b. not (has xs x || has_repeat xs) && not (b || list_any (λ v. get_or marks v false) xs)) h
     ∙ spare_moved (has xs x) (has_repeat xs) (list_any (λ v. get_or marks v false) xs)
     ∙ ap (λ b. not (has_repeat xs) && not b) (sym (any_marked marks x xs lt))
+
+pub spare_next : (marks : List Bool) (vars : List ℕ) (k x : ℕ) → k < length vars → x ≡ get_or vars k x → x < length marks → get_or marks x false ≡ false → are_spare marks (drop k vars) ≡ are_spare (set marks x true) (drop (k + 1) vars)
+spare_next marks vars k x lt e within h =
+    at_drop_more (are_spare marks) vars k x lt ∙ ap (λ y. are_spare marks (y ∷ drop (k + 1) vars)) (sym e) ∙ spare_more marks x (drop (k + 1) vars) within h
+
+pub spare_end : (marks : List Bool) (vars : List ℕ) (k x : ℕ) → k < length vars → x ≡ get_or vars k x → get_or marks x false ≡ true → are_spare marks (drop k vars) ≡ false
+spare_end marks vars k x lt e h =
+    at_drop_more (are_spare marks) vars k x lt ∙ ap (λ y. are_spare marks (y ∷ drop (k + 1) vars)) (sym e) ∙ spare_marked marks x (drop (k + 1) vars) h
+
+none_marked : (marks : List Bool) (vars : List ℕ) → All (λ mark. mark ≡ false) marks → list_any (λ v. get_or marks v false) vars ≡ false
+none_marked marks [] h = refl
+none_marked marks (v ∷ vs) h = ap (λ b. b || list_any (λ w. get_or marks w false) vs) (blank marks v h) ∙ none_marked marks vs h
+
+-- where one variable alone is marked
+pub one_marked : (marks : List Bool) (me : ℕ) (vars : List ℕ) → All (λ mark. mark ≡ false) marks → me < length marks → list_any (λ v. get_or (set marks me true) v false) vars ≡ has vars me
+one_marked marks me vars none h = any_marked marks me vars h ∙ ap (λ b. b || has vars me) (none_marked marks vars none)
+
+pub spare_one : (marks : List Bool) (me : ℕ) (vars : List ℕ) → All (λ mark. mark ≡ false) marks → me < length marks → are_spare (set marks me true) vars ≡ (not (has_repeat vars) && not (has vars me))
+spare_one marks me vars none h = ap (λ b. not (has_repeat vars) && not b) (one_marked marks me vars none h)

@@ -190,6 +190,7 @@ impl TokenAgent {
     }
 
     /// Handles all messages of a batch, in order.
+    #[tactic(auto, using(crate::proofs::AgentLaws::leads_on, crate::proofs::AgentLaws::led_to))]
     fn handle_all(&mut self, letters: &[Letter]) -> Result<Vec<Parcel>, NoMemory>
         requires running { IsRunning self.old }
         requires near { All (λ l. Contains self.old.own.neighbours l.0) letters.now }

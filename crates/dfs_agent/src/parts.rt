@@ -41,6 +41,7 @@ fn children_of(alloc: Global, kept: &[VarList]) -> Result<VarList, NoMemory>
 }
 
 /// The agent, and then the subtrees of its children.
+#[tactic(auto, using(crate::proofs::VisitLaws::concat_more))]
 fn subtree_of(alloc: Global, me: VarId, kept: &[VarList]) -> Result<VarList, NoMemory>
     ensures { IfOk result (λ subtree. subtree ≡ me ∷ concat kept.now) }
 {
