@@ -1,8 +1,8 @@
 -- What a token agent keeps in its steps, and how its messages, batches and starts make up those of a machine.
-use Rattle.std.proofs.Common.{◌≡◌, ℕ, ◌+◌, ◌<◌, ◌≤◌, Bool, true, false, ◌&&◌, nat_le, List, [], ◌∷◌, ◌++◌, length, drop, get_or, Option, Some, None, refl, sym, ap, subst, ◌∙◌, arith}
+use Rattle.std.proofs.Common.{◌≡◌, ℕ, ◌+◌, ◌<◌, ◌≤◌, Bool, true, false, ◌&&◌, nat_le, List, [], ◌∷◌, ◌++◌, length, drop, get_or, Option, Some, refl, sym, ap, subst, ◌∙◌}
 use Rattle.std.specs.Prelude.{slice_get}
 use Rattle.std.specs.List.{All, Contains, concat, fold}
-use Rattle.std.proofs.lemmas.Bool.{and_parts, leb-true, false≢true}
+use Rattle.std.proofs.lemmas.Bool.{leb-true, false≢true}
 use Rattle.std.proofs.lemmas.List.{at_drop_more, at_drop_all, append-nil, length-append}
 use Rattle.std.proofs.lemmas.List.Folds.{concat-append}
 use Rattle.std.proofs.lemmas.List.Elements.{All-append, All-same}
@@ -10,10 +10,10 @@ use Rattle.dcop_base.specs.declared.knowledge.Private.{Private}
 use Rattle.dcop_base.specs.declared.problem.TheConstants.{MAX_VARIABLES}
 use Rattle.adopt_context.specs.Context.{is_value}
 use Rattle.protocol_steps.specs.declared.message.Message.{Message}
-use Rattle.protocol_steps.specs.Agent.{Stepped, quiet, next_letter}
+use Rattle.protocol_steps.specs.Agent.{Stepped, next_letter}
 use Rattle.protocol_steps.specs.Token.{TokenView}
 use Rattle.protocol_steps.specs.TokenStep.{most_others, takes_done, token_message, token_start, token_step}
-use Rattle.protocol_steps.specs.View.{View, TokenKind}
+use Rattle.protocol_steps.specs.View.{TokenKind}
 use Rattle.protocol_steps.specs.Step.{start_of, step_of}
 use Rattle.protocol_steps.specs.Machine.{IsStart, IsStep, IsToNeighbour}
 use Rattle.protocol_steps.specs.Laws.{IsParentBeside}

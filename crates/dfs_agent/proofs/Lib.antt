@@ -1,2 +1,3 @@
 mod VisitLaws
 mod AgentLaws
+mod PrivateLaws

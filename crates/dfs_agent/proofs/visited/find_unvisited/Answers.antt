@@ -1,4 +1,4 @@
-use Rattle.std.proofs.Common.{ℕ, ◌<◌, length, false, not, ◌||◌, get_or, ap, ◌∙◌}
+use Rattle.std.proofs.Common.{◌<◌, length, false, not, ◌||◌, get_or, ap, ◌∙◌}
 use Rattle.std.specs.List.{concat}
 use Rattle.dcop_base.specs.Table.{has}
 use Rattle.dfs_agent.proofs.VisitLaws.{find-agree, blank}

@@ -1,4 +1,4 @@
-use Rattle.std.proofs.Common.{ℕ, ◌<◌, length, false, not, ◌||◌, ◌≡◌, get_or, ap, ◌∙◌}
+use Rattle.std.proofs.Common.{◌<◌, length, false, not, ◌||◌, ◌≡◌, get_or, ap, ◌∙◌}
 use Rattle.std.specs.List.{filter}
 use Rattle.std.proofs.lemmas.Result.{IfOk-weaker}
 use Rattle.dcop_base.specs.Table.{has}

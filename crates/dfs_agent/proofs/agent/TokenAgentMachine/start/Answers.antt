@@ -1,4 +1,4 @@
-use Rattle.std.proofs.Common.{sym, subst, ◌∙◌}
+use Rattle.std.proofs.Common.{subst, ◌∙◌}
 use Rattle.protocol_steps.specs.Token.{TokenView}
 use Rattle.protocol_steps.specs.Laws.{IsParentBeside}
 use Rattle.dfs_agent.proofs.AgentLaws.{is_start, start_reaches}
