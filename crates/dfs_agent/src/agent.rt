@@ -207,6 +207,15 @@ impl TokenAgent {
         Ok(parcels)
     }
 
+    /// Fails for good.
+    fn fail(&mut self) -> NoMemory
+        ensures own { self.new.own ≡ self.old.own }
+        ensures failed { self.new.phase.failed ≡ true }
+    {
+        self.stage = Stage::Failed;
+        NoMemory
+    }
+
     /// Starts: the root opens with the empty path.
     fn begin(&mut self) -> Result<Vec<Parcel>, NoMemory>
         requires { IsNew self.old }
@@ -233,32 +242,22 @@ impl Machine for TokenAgent {
         if matches!(self.stage, Stage::Failed) {
             return Err(NoMemory);
         }
-        match self.begin() {
-            Ok(parcels) => {
-                *out = Outbox::from_vec(parcels);
-                Ok(())
-            }
-            Err(refused) => {
-                self.stage = Stage::Failed;
-                Err(refused)
-            }
-        }
+        let Ok(parcels) = self.begin() else {
+            return Err(self.fail());
+        };
+        *out = Outbox::from_vec(parcels);
+        Ok(())
     }
 
     fn react(&mut self, batch: &Batch, out: &mut Outbox) -> Result<(), NoMemory> {
         if matches!(self.stage, Stage::Failed) {
             return Err(NoMemory);
         }
-        match self.handle_all(batch.as_slice()) {
-            Ok(parcels) => {
-                *out = Outbox::from_vec(parcels);
-                Ok(())
-            }
-            Err(refused) => {
-                self.stage = Stage::Failed;
-                Err(refused)
-            }
-        }
+        let Ok(parcels) = self.handle_all(batch.as_slice()) else {
+            return Err(self.fail());
+        };
+        *out = Outbox::from_vec(parcels);
+        Ok(())
     }
 
     fn ended(&self) -> bool {
