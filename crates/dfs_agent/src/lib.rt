@@ -11,6 +11,8 @@ mod agent;
 mod law;
 mod parts;
 mod stage;
+#[cfg(test)]
+mod tests;
 mod visited;
 
 pub use agent::TokenAgent;
