@@ -8,5 +8,7 @@ mod add;
 mod joined;
 mod row;
 mod stride;
+#[cfg(test)]
+mod tests;
 
 pub use joined::{JoinFault, Joined, MAX_JOINED_CELLS};

@@ -11,7 +11,7 @@ use util_kernel::{add_lanes, add_one_lanes};
 
 /// The last variables of a joined table, along whose cells the place in a table moves by one step
 /// from each to the next.
-#[derive(Clone, Copy, Debug, PartialEq, Eq)]
+#[derive(Clone, Copy)]
 pub(crate) struct Row {
     /// How many variables stand before them.
     pub start: usize,
@@ -47,8 +47,7 @@ pub(crate) fn row_of(table: &Table, over: &[VarId], sizes: &[u16]) -> Row
     if row.start > 0 {
         return Row {
             start: row.start + 1,
-            width: row.width,
-            step: row.step,
+            ..row
         };
     }
     extended(row, usize::from(*size), stride_of(table, *var))
@@ -78,11 +77,7 @@ fn extended(row: Row, size: usize, stride: usize) -> Row
             width: size * row.width,
             step: row.step,
         },
-        _ => Row {
-            start: 1,
-            width: row.width,
-            step: row.step,
-        },
+        _ => Row { start: 1, ..row },
     }
 }
 
