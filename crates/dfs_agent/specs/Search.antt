@@ -1,7 +1,7 @@
 -- What one look, one message and one batch give.
 use Rattle.std.specs.Prelude.{◌≡◌, ℕ, true, false, List, [], ◌∷◌, Option, Some, None}
 use Rattle.protocol_steps.specs.declared.message.Message.{Message}
-use Rattle.protocol_steps.specs.Agent.{Stepped, waiting}
+use Rattle.protocol_steps.specs.Agent.{Stepped, not_started}
 use Rattle.protocol_steps.specs.Token.{TokenView}
 
 -- a parcel, where there is one
@@ -21,5 +21,5 @@ pub record IsRunning (v : TokenView) : Type 0 where
 
 -- an agent that has not started
 pub record IsNew (v : TokenView) : Type 0 where
-  pub phase : v.phase ≡ waiting
+  pub phase : v.phase ≡ not_started
   pub opened : v.opened ≡ false

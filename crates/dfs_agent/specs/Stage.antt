@@ -2,7 +2,7 @@
 use Rattle.std.specs.Prelude.{ℕ, Bool, true, false, List, Option, Some, None}
 use Rattle.dcop_base.specs.declared.knowledge.Private.{Private}
 use Rattle.pseudotree.specs.declared.agent.Place.{Place}
-use Rattle.protocol_steps.specs.Agent.{Phase, waiting}
+use Rattle.protocol_steps.specs.Agent.{Phase, not_started}
 use Rattle.protocol_steps.specs.Token.{TokenView}
 use Rattle.dfs_agent.specs.declared.stage.Stage.{Stage}
 use Rattle.dfs_agent.specs.declared.stage.Stage.TheVariants.{Waiting, Closed, Open, Ended, Failed}
@@ -12,7 +12,7 @@ abbrev pub searching : Phase
 searching = record { started = true; ended = false; failed = false }
 
 abbrev pub phase_at : Stage → Phase
-phase_at Waiting = waiting
+phase_at Waiting = not_started
 phase_at Closed = searching
 phase_at (Open child) = searching
 phase_at (Ended place) = record { started = true; ended = true; failed = false }
