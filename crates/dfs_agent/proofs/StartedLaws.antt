@@ -7,7 +7,7 @@ use Rattle.protocol_steps.specs.declared.message.Message.TheVariants.{Token, Don
 use Rattle.protocol_steps.specs.Agent.{Stepped, quiet, next_letter}
 use Rattle.protocol_steps.specs.Token.{TokenView, next_child}
 use Rattle.protocol_steps.specs.TokenStep.{pass_on, look, open_with, takes_token, takes_done, token_message, token_start}
-use Rattle.protocol_steps.specs.View.{View, TokenKind, started_of}
+use Rattle.protocol_steps.specs.View.{TokenKind, started_of}
 use Rattle.protocol_steps.specs.Step.{start_of, step_of}
 use Rattle.protocol_steps.specs.Machine.{IsStart, IsStep}
 
