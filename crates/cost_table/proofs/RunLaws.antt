@@ -95,27 +95,28 @@ cut-step v p b r i = grind arith
 cut-step-at : (v p s b x r i : ℕ) → v * (p * (s * r)) + ((b * s + x) * r + i) ≡ ((v * p + b) * s + x) * r + i
 cut-step-at v p s b x r i = grind arith
 
-pub cut-at : (sizes : List ℕ) (k : ℕ) (values : List ℕ) → k < length sizes → AreWithin (remove sizes k) values → (b i : ℕ) × IsCut sizes k values b i
+pub cut-at : (sizes : List ℕ) (k : ℕ) (values : List ℕ) → k < length sizes → AreWithin (remove sizes k) values → IsCut sizes k values (cell_place (take k sizes) (take k values)) (cell_place (drop (suc k) sizes) (drop k values))
 cut-at [] k values h w = absurd (omega arith)
-cut-at (s ∷ ss) zero values h w = (0, cell_place ss values, record { block = omega arith; inner = cell_place-lt ss values w; without = omega arith; within = λ x. omega arith })
+cut-at (s ∷ ss) zero values h w = record {
+  block = omega arith;
+  inner = cell_place-lt ss values w;
+  without = omega arith;
+  within = λ x. omega arith;
+}
 cut-at (s ∷ ss) (suc k) [] h w = absurd w
 cut-at (s ∷ ss) (suc k) (v ∷ vs) h w =
-    let rest = cut-at ss k vs (omega arith) w.1 in
-    let b = rest.0 in
-    let i = rest.1 in
-    let cut : IsCut ss k vs b i = rest.2 in
+    let cut = cut-at ss k vs (omega arith) w.1 in
+    let b = cell_place (take k ss) (take k vs) in
+    let i = cell_place (drop (suc k) ss) (drop k vs) in
     let p = product (take k ss) in
     let r = product (drop (suc k) ss) in
-    let low : v * p + b < s * p = omega (arith, mul-add-lt v p b s w.0 cut.block, mul_comm p s) in (
-      v * p + b,
-      i,
-      record {
-        block = low;
-        inner = cut.inner;
-        without = ap₂ (λ (m n : ℕ). v * m + n) (product-remove ss k (omega arith)) cut.without ∙ cut-step v p b r i;
-        within = λ x. ap₂ (λ (m n : ℕ). v * m + n) (product-cut ss k (omega arith)) (cut.within x) ∙ cut-step-at v p (get_or ss k 0) b x r i;
-      },
-    )
+    let low : v * p + b < s * p = omega (arith, mul-add-lt v p b s w.0 cut.block, mul_comm p s) in
+    record {
+      block = low;
+      inner = cut.inner;
+      without = ap₂ (λ (m n : ℕ). v * m + n) (product-remove ss k (omega arith)) cut.without ∙ cut-step v p b r i;
+      within = λ x. ap₂ (λ (m n : ℕ). v * m + n) (product-cut ss k (omega arith)) (cut.within x) ∙ cut-step-at v p (get_or ss k 0) b x r i;
+    }
 
 -- the count of the cells, by blocks and runs
 pub count-cut : (sizes : List ℕ) (k count blocks size inner : ℕ) → k < length sizes → count ≡ product sizes → AreCounts sizes k blocks inner → size ≡ get_or sizes k 0 → count ≡ blocks * (size * inner)
@@ -128,6 +129,6 @@ cells-of_runs sizes cells k val kept blocks size inner h counts es given =
     record {
       count = runs.count ∙ sym (product-remove sizes k h);
       each = λ values w. (let cut = cut-at sizes k values h w in
-          ap (λ n. get_or kept n 0) cut.2.without ∙ runs.each cut.0 cut.1 cut.2.block cut.2.inner ∙ sym (ap (λ n. get_or cells n 0) (cut.2.within val)));
+          ap (λ n. get_or kept n 0) cut.without ∙ runs.each _ _ cut.block cut.inner ∙ sym (ap (λ n. get_or cells n 0) (cut.within val)));
       within = runs.within;
     }

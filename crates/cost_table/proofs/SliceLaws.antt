@@ -39,15 +39,15 @@ apart-remove (x ∷ xs) (suc k) e =
     let both = or_parts (has xs x) (has_repeat xs) e in
     or_from (has (remove xs k) x) (has_repeat (remove xs k)) (has-remove xs k x both.0) (apart-remove xs k both.1)
 
--- the parts of a slice
-pub slice-parts : (scope sizes cells : List ℕ) (k val : ℕ) (kept : List ℕ) → k < length sizes → table_fault scope sizes cells ≡ None → AreCellsAt sizes cells k val kept → table_fault (remove scope k) (remove sizes k) kept ≡ None
-slice-parts scope sizes cells k val kept lt e at =
+-- the parts of a table without one of its variables, with as many cells as that has and none above a bound of the old ones
+pub slice-parts : (scope sizes cells : List ℕ) (k : ℕ) (kept : List ℕ) → k < length sizes → table_fault scope sizes cells ≡ None → length kept ≡ product (remove sizes k) → ((bound : ℕ) → All (λ c. c ≤ bound) cells → All (λ c. c ≤ bound) kept) → table_fault (remove scope k) (remove sizes k) kept ≡ None
+slice-parts scope sizes cells k kept lt e count within =
     let parts = parts-of scope sizes cells e in
     let scope-lt : k < length scope = omega (arith, lt, parts.sized) in
     faultless (remove scope k) (remove sizes k) kept (record {
       apart = apart-remove scope k parts.apart;
       sized = omega (arith, parts.sized, length-remove sizes k lt, length-remove scope k scope-lt);
       positive = All-remove (λ s. 1 ≤ s) sizes k parts.positive;
-      full = at.count;
-      small = at.within CAP parts.small;
+      full = count;
+      small = within CAP parts.small;
     })

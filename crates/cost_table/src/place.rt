@@ -43,7 +43,7 @@ pub fn place_of(table: &Table, values: &[Val]) -> usize
 }
 
 /// The place of the cell at these values, in a table of so many cells.
-fn place_at(sizes: &[u16], values: &[Val], count: usize) -> usize
+pub fn place_at(sizes: &[u16], values: &[Val], count: usize) -> usize
     requires within { AreWithin sizes.now values.now }
     requires full { count ≡ product sizes.now }
     ensures { result ≡ cell_place sizes.now values.now }
@@ -56,8 +56,8 @@ fn place_at(sizes: &[u16], values: &[Val], count: usize) -> usize
     place
 }
 
-/// The place of a variable among these.
-pub(crate) fn place_in(vars: &[VarId], var: VarId) -> usize
+/// The place of a variable among these; their number where it does not stand there.
+pub fn place_in(vars: &[VarId], var: VarId) -> usize
     ensures { result ≡ place_in vars.now var }
 {
     match found(vars, var) {
@@ -74,7 +74,7 @@ fn found(vars: &[VarId], var: VarId) -> Option<usize>
 }
 
 /// The product of the sizes, or `usize::MAX` where it is more.
-pub(crate) fn product_of(sizes: &[u16]) -> usize
+pub fn product_of(sizes: &[u16]) -> usize
     ensures { result ≡ min (product sizes.now) usize.MAX }
 {
     let mut product: usize = 1;

@@ -103,7 +103,11 @@ fn runs_of(
 }
 
 /// The scope without the variable at this place.
-fn scope_without(alloc: Global, scope: &[VarId], place: usize) -> Result<Vec<VarId>, NoMemory>
+///
+/// # Errors
+///
+/// [`NoMemory`] where memory was wanted and not had.
+pub fn scope_without(alloc: Global, scope: &[VarId], place: usize) -> Result<Vec<VarId>, NoMemory>
     requires { place < length scope.now }
     ensures { IfOk result (λ rest. rest.items ≡ remove scope.now place) }
 {
@@ -113,7 +117,11 @@ fn scope_without(alloc: Global, scope: &[VarId], place: usize) -> Result<Vec<Var
 }
 
 /// The sizes without the one at this place.
-fn sizes_without(alloc: Global, sizes: &[u16], place: usize) -> Result<Vec<u16>, NoMemory>
+///
+/// # Errors
+///
+/// [`NoMemory`] where memory was wanted and not had.
+pub fn sizes_without(alloc: Global, sizes: &[u16], place: usize) -> Result<Vec<u16>, NoMemory>
     requires { place < length sizes.now }
     ensures { IfOk result (λ rest. rest.items ≡ remove sizes.now place) }
 {
