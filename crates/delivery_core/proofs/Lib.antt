@@ -1,0 +1,2 @@
+mod LinkLaws
+mod KindLaws

@@ -1,0 +1,13 @@
+//! The network of agents as a machine that one thread runs, one event after another.
+//!
+//! [`replay`] runs a list of events, and refuses the first one that is not lawful; [`play`] makes
+//! the events itself, in rounds, until all agents have ended or a budget of deliveries is spent.
+//! Both end in a [`CoreState`], which is the network state at the end of that run.
+#![tactic(auto)]
+
+mod agent;
+mod inbox;
+mod link;
+mod start;
+
+pub use start::Start;
