@@ -8,3 +8,4 @@ pub mod SeatEvents
 pub mod SeatTurns
 pub mod Starts
 pub mod Kinds
+pub mod Shown

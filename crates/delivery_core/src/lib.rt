@@ -7,7 +7,9 @@
 
 mod agent;
 mod inbox;
+mod lawful;
 mod link;
+mod seat;
 mod start;
 
 pub use start::Start;
