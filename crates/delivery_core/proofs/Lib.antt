@@ -1,3 +1,4 @@
+mod ListLaws
 mod LinkLaws
 mod KindLaws
 mod InboxLaws
@@ -5,3 +6,4 @@ mod StartedLaws
 mod DeliverLaws
 mod NearLaws
 mod ShownLaws
+mod ActLaws

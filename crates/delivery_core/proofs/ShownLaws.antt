@@ -103,7 +103,7 @@ module _ (p : Dcop) (net : Network) (seats : List SeatView) (s : Shows p net sea
   pub fault_same : (e : Event) → event_fault net e ≡ core_fault seats e
   fault_same e = fault_by e (slice_get seats e.agent) refl
 
-both_none : (a b : Option EventFault) → or_else a b ≡ None → (a ≡ None) × (b ≡ None)
+pub both_none : (a b : Option EventFault) → or_else a b ≡ None → (a ≡ None) × (b ≡ None)
 both_none None b h = (refl, h)
 both_none (Some f) b h = absurd (none-some f (sym h))
 
@@ -143,16 +143,16 @@ module _ (p : Dcop) (net : Network) (seats : List SeatView) (s : Shows p net sea
   abbrev W : ℕ → List Message
   W j = waiting net.desks e.agent j
 
-  inside : e.agent < length seats
+  pub inside : e.agent < length seats
   inside = slice_get_within seats e.agent x here
 
-  box : inbox_at seats e.agent ≡ x.inbox
+  pub box : inbox_at seats e.agent ≡ x.inbox
   box = ap inbox_of here
 
-  form : form_fault (length seats) (ended_of x.view) e.takes ≡ None
+  pub form : form_fault (length seats) (ended_of x.view) e.takes ≡ None
   form = (both_none (form_fault (length seats) (ended_of x.view) e.takes) (short_in x.inbox e.takes) fine).0
 
-  short : short_in x.inbox e.takes ≡ None
+  pub short : short_in x.inbox e.takes ≡ None
   short = (both_none (form_fault (length seats) (ended_of x.view) e.takes) (short_in x.inbox e.takes) fine).1
 
   pub ascend : ascends_from 0 e.takes ≡ true

@@ -1,8 +1,10 @@
 -- What a core state holds: each agent's view, what waits for it and what it took last, and a count of deliveries.
 use Rattle.std.specs.Prelude.{ℕ, List, [], ◌∷◌, map, Option, Some, None, ◌==◌, slice_get}
 use Rattle.std.specs.List.{find, last_or}
+use Rattle.dcop_base.specs.Table.{CostTable}
+use Rattle.pseudotree.specs.declared.agent.Place.{Place}
 use Rattle.protocol_steps.specs.declared.message.Message.{Message}
-use Rattle.protocol_steps.specs.View.{View}
+use Rattle.protocol_steps.specs.View.{View, place_of, table_of}
 
 -- what one sender sent to an agent: the last letter that was taken, and the letters that wait
 pub record LinkView : Type 0 where
@@ -62,3 +64,15 @@ last_sent s from to = message_of (last_letter (inbox_at s.seats to) from)
 -- each agent's view
 abbrev pub views_of : List SeatView → List View
 views_of seats = map (λ x. x.view) seats
+
+-- the view of agent i
+abbrev pub view_at : CoreView → ℕ → Option View
+view_at s i = slice_get (views_of s.seats) i
+
+abbrev pub place_in : Option View → Option Place
+place_in None = None
+place_in (Some v) = place_of v
+
+abbrev pub table_in : Option View → Option CostTable
+table_in None = None
+table_in (Some v) = table_of v

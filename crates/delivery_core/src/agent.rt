@@ -6,7 +6,7 @@ ghost use Rattle.protocol_steps.specs.Token.{new_token};
 ghost use Rattle.protocol_steps.specs.View.{TokenKind, made_of, ended_of, value_of, standing_of, table_of, place_of};
 ghost use Rattle.protocol_steps.specs.Machine.{MayStart, MayReact, IsBatch, IsStart, IsStep, IsToNeighbour};
 
-use dcop_base::{NoMemory, Private, Val};
+use dcop_base::{NoMemory, Private, Table, Val};
 use dfs_agent::TokenAgent;
 use protocol_steps::{Batch, Machine, Outbox, Standing};
 use pseudotree::Place;
@@ -104,6 +104,15 @@ impl Agent {
     {
         match &self.kind {
             Kind::Token(agent) => agent.place(),
+        }
+    }
+
+    /// The UTIL table that a DPOP agent made.
+    pub(crate) fn table(&self) -> Option<&Table>
+        ensures { MatchOption result (table_of self.now ≡ None) (λ t. table_of self.now ≡ Some t.now) }
+    {
+        match &self.kind {
+            Kind::Token(agent) => agent.table(),
         }
     }
 }

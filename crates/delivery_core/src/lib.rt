@@ -6,10 +6,13 @@
 #![tactic(auto)]
 
 mod agent;
+mod deliver;
 mod inbox;
 mod lawful;
 mod link;
 mod seat;
 mod start;
+mod state;
 
 pub use start::Start;
+pub use state::CoreState;

@@ -1,14 +1,11 @@
-use Rattle.std.proofs.Common.{◌≡◌, Result, Ok, Err, ap, sym, ◌∙◌}
-use Rattle.std.specs.Result.{OnOk}
+use Rattle.std.proofs.Common.{◌≡◌, ap, sym, ◌∙◌}
+use Rattle.delivery_core.proofs.ListLaws.{on_ok}
 use Rattle.std.specs.List.{slice_set}
 use Rattle.delivery_core.specs.State.{LinkView}
 use Rattle.delivery_core.specs.Inboxes.{with_letter, edit_link}
 use Rattle.delivery_core.proofs.LinkLaws.{edited, unedited}
 use Rattle.delivery_core.proofs.inbox.add.Goals as goal
 
-on_ok : {T E : Type 0} (r : Result T E) {A B : Type 0} → OnOk r A → (A → B) → OnOk r B
-on_ok (Ok x) h f = f h
-on_ok (Err e) h f = h
 
 pub returns-in-Some : goal.returns-in-Some
 returns-in-Some c =
