@@ -9,7 +9,7 @@ use Rattle.protocol_steps.specs.declared.event.Event.{Event}
 use Rattle.protocol_steps.specs.declared.event.EventFault.{EventFault}
 use Rattle.protocol_steps.specs.Network.{Network, taken_from, takes_at, link}
 use Rattle.protocol_steps.specs.Effect.{effect, deliveries}
-use Rattle.protocol_steps.specs.Run.{event_fault}
+use Rattle.protocol_steps.specs.Run.{event_fault, run}
 use Rattle.delivery_core.specs.State.{SeatView, CoreView, waiting_from, last_taken, inbox_at, views_of}
 use Rattle.delivery_core.specs.NetworkState.{letters_of, most_counted}
 use Rattle.delivery_core.specs.Inboxes.{senders}
@@ -53,3 +53,7 @@ Refuses s e fault = (p : Dcop) (net : Network) → IsCore p net s → event_faul
 -- the event of an agent that is there, with these takes, leads from some agents to others
 abbrev pub Moves : List SeatView → Event → List SeatView → Type 0
 Moves old e new = (p : Dcop) (net : Network) → Shows p net old → Shows p (effect net e) new
+
+-- some events are a run that ends in this core state
+abbrev pub RunsTo : Dcop → Network → List Event → CoreView → Type 0
+RunsTo p first es s = (net : Network) × (run first es ≡ Some net) × IsCore p net s

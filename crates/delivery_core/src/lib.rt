@@ -10,9 +10,11 @@ mod deliver;
 mod inbox;
 mod lawful;
 mod link;
+mod replaying;
 mod seat;
 mod start;
 mod state;
 
+pub use replaying::{ReplayFault, replay};
 pub use start::Start;
 pub use state::CoreState;

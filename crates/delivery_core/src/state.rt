@@ -1,16 +1,20 @@
 //! The state of a core, and its readers.
 
-ghost use Rattle.std.specs.Prelude.{◌≡◌, ◌<◌, length, MatchOption, Some, None};
+ghost use Rattle.std.specs.Prelude.{◌≡◌, ◌<◌, length, MatchOption, IfOk, Some, None};
 ghost use Rattle.std.specs.Option.{option_map};
 ghost use Rattle.std.specs.List.{list_all};
 ghost use Rattle.protocol_steps.specs.View.{ended_of, value_of, standing_of};
 ghost use Rattle.delivery_core.specs.State.{view_at, place_in, table_in, last_sent, views_of};
+ghost use Rattle.delivery_core.specs.Shown.{IsSomeCore, Advances, Refuses};
 
+use crate::deliver::{act, count_of};
 use crate::inbox::last_of;
+use crate::lawful::fault_of;
 use crate::seat::Seat;
-use dcop_base::{Table, Val, VarId};
-use protocol_steps::{Message, Standing};
+use dcop_base::{NoMemory, Table, Val, VarId};
+use protocol_steps::{Event, EventFault, Message, Standing};
 use pseudotree::Place;
+use std::alloc::Global;
 use std::marker::Model;
 
 /// A network state: what each agent is, and what stands on each link.
@@ -105,5 +109,20 @@ impl CoreState {
             (λ t. table_in (view_at self.now me) ≡ Some t.now) }
     {
         self.seats[me.0 as usize].agent().table()
+    }
+
+    /// One event, or what makes it unlawful; nothing then changes.
+    pub(crate) fn happen(&mut self, alloc: Global, event: &Event) -> Result<Option<EventFault>, NoMemory>
+        requires { IsSomeCore self.old }
+        ensures { IfOk result (λ found. MatchOption found (Advances self.old event.now self.new)
+            (λ fault. Refuses self.old event.now fault)) }
+    {
+        if let Some(fault) = fault_of(self.seats.as_slice(), event) {
+            return Ok(Some(fault));
+        }
+        act(alloc, self.seats.as_mut_slice(), event)?;
+        let taken = count_of(event.takes.as_slice());
+        self.delivered = self.delivered.saturating_add(taken);
+        Ok(None)
     }
 }
