@@ -7,3 +7,6 @@ mod DeliverLaws
 mod NearLaws
 mod ShownLaws
 mod ActLaws
+mod StartLaws
+mod CountLaws
+mod RunLaws

@@ -117,7 +117,7 @@ last_on : (k : ℕ) (ms : List (ℕ × Message)) (o : Option LinkView) → (o �
 last_on k ms None h = sym (ap (λ (ls : List (ℕ × Message)). last_or None ls) (h refl))
 last_on k ms (Some l) h = refl
 
-last_append : {A : Type 0} (o : Option A) (xs ys : List A) → last_or (last_or o xs) ys ≡ last_or o (xs ++ ys)
+pub last_append : {A : Type 0} (o : Option A) (xs ys : List A) → last_or (last_or o xs) ys ≡ last_or o (xs ++ ys)
 last_append o [] ys = refl
 last_append o (x ∷ xs) ys = last_append (Some x) xs ys
 

@@ -1,10 +1,13 @@
 -- Playing in rounds: which events a round has, and where playing stops.
-use Rattle.std.specs.Prelude.{◌≡◌, ℕ, Bool, true, false, ◌||◌, List, [], ◌∷◌, ◌++◌, length, ◌==◌, nat_le, if◌then◌else◌, min}
+use Rattle.std.specs.Prelude.{◌≡◌, ℕ, Bool, true, false, ◌||◌, List, [], ◌∷◌, ◌++◌, length, ◌==◌, nat_le, if◌then◌else◌, min, Some}
 use Rattle.std.specs.List.{flat_map, fold, range_with_len}
 use Rattle.protocol_steps.specs.declared.event.Take.{Take}
 use Rattle.protocol_steps.specs.declared.event.Event.{Event}
 use Rattle.protocol_steps.specs.Network.{Network}
 use Rattle.protocol_steps.specs.Effect.{effect, pending, has_ended, deliveries}
+use Rattle.protocol_steps.specs.Run.{run}
+use Rattle.delivery_core.specs.State.{CoreView}
+use Rattle.delivery_core.specs.NetworkState.{IsStateOf}
 
 -- the most messages of one link that an event of a round takes
 abbrev pub most_taken : ℕ
@@ -47,3 +50,12 @@ stops budget net = has_ended net || nat_le budget (deliveries net) || (length (r
 abbrev pub PlaysTo : ℕ → Network → List (List Event) → Network → Type 0
 PlaysTo budget net [] end = (stops budget net ≡ true) × (net ≡ end)
 PlaysTo budget net (es ∷ pieces) end = (stops budget net ≡ false) × (round net ≡ es) × PlaysTo budget (after net es) pieces end
+
+-- what was played: the events of such rounds are a run, and the core state is the network state at its end
+pub record IsPlayed (budget : ℕ) (first : Network) (events : List Event) (state : CoreView) : Type 0 where
+  pub end : Network
+  pub pieces : List (List Event)
+  pub plays : PlaysTo budget first pieces end
+  pub joined : events ≡ flat_map (λ es. es) pieces
+  pub leads : run first events ≡ Some end
+  pub shows : IsStateOf end state

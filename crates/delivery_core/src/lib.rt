@@ -14,7 +14,9 @@ mod replaying;
 mod seat;
 mod start;
 mod state;
+mod turn;
 
 pub use replaying::{ReplayFault, replay};
 pub use start::Start;
 pub use state::CoreState;
+pub use turn::Played;

@@ -36,7 +36,8 @@ fn token_seat(alloc: Global, problem: &Problem, me: VarId) -> Result<Seat, NoMem
 
 /// The token agents of a problem.
 fn token_seats(alloc: Global, problem: &Problem) -> Result<Vec<Seat>, NoMemory>
-    ensures { IfOk result (λ seats. seats.items ≡ map new_seat (agents_of problem.now Start.Token)) }
+    ensures made { IfOk result (λ seats. seats.items ≡ map new_seat (agents_of problem.now Start.Token)) }
+    ensures few { IfOk result (λ seats. length seats.items ≤ MAX_VARIABLES) }
 {
     let mut seats = Vec::new(alloc);
     for me in 0..problem.sizes.as_slice().len() {
@@ -47,7 +48,8 @@ fn token_seats(alloc: Global, problem: &Problem) -> Result<Vec<Seat>, NoMemory>
 
 /// The agents of a start.
 pub(crate) fn make(alloc: Global, problem: &Problem, start: Start) -> Result<Vec<Seat>, NoMemory>
-    ensures { IfOk result (λ seats. seats.items ≡ map new_seat (agents_of problem.now start)) }
+    ensures made { IfOk result (λ seats. seats.items ≡ map new_seat (agents_of problem.now start)) }
+    ensures few { IfOk result (λ seats. length seats.items ≤ MAX_VARIABLES) }
 {
     match start {
         Start::Token => token_seats(alloc, problem),

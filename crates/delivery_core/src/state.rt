@@ -1,10 +1,11 @@
 //! The state of a core, and its readers.
 
-ghost use Rattle.std.specs.Prelude.{◌≡◌, ◌<◌, length, MatchOption, IfOk, Some, None};
+ghost use Rattle.std.specs.Prelude.{◌≡◌, ◌<◌, length, slice_index_or, MatchOption, IfOk, OnOk, Some, None};
 ghost use Rattle.std.specs.Option.{option_map};
 ghost use Rattle.std.specs.List.{list_all};
 ghost use Rattle.protocol_steps.specs.View.{ended_of, value_of, standing_of};
-ghost use Rattle.delivery_core.specs.State.{view_at, place_in, table_in, last_sent, views_of};
+ghost use Rattle.delivery_core.specs.State.{SeatView, view_at, place_in, table_in, last_sent, views_of};
+ghost use Rattle.delivery_core.specs.SeatEvents.{core_fault};
 ghost use Rattle.delivery_core.specs.Shown.{IsSomeCore, Advances, Refuses};
 
 use crate::deliver::{act, count_of};
@@ -111,6 +112,33 @@ impl CoreState {
         self.seats[me.0 as usize].agent().table()
     }
 
+    /// How many agents there are.
+    pub(crate) fn count(&self) -> usize
+        ensures { result ≡ length self.now.seats }
+    {
+        self.seats.len()
+    }
+
+    /// An agent, and what it was sent.
+    pub(crate) fn seat(&self, me: usize) -> &Seat
+        requires { me < length self.now.seats }
+        ensures { (d : SeatView) → slice_index_or self.now.seats me d ≡ result.now }
+    {
+        &self.seats[me]
+    }
+
+    /// A lawful event.
+    pub(crate) fn follow(&mut self, alloc: Global, event: &Event) -> Result<(), NoMemory>
+        requires core { IsSomeCore self.old }
+        requires lawful { core_fault self.old.seats event.now ≡ None }
+        ensures { OnOk result (Advances self.old event.now self.new) }
+    {
+        act(alloc, self.seats.as_mut_slice(), event)?;
+        let taken = count_of(event.takes.as_slice());
+        self.delivered = self.delivered.saturating_add(taken);
+        Ok(())
+    }
+
     /// One event, or what makes it unlawful; nothing then changes.
     pub(crate) fn happen(&mut self, alloc: Global, event: &Event) -> Result<Option<EventFault>, NoMemory>
         requires { IsSomeCore self.old }
@@ -120,9 +148,7 @@ impl CoreState {
         if let Some(fault) = fault_of(self.seats.as_slice(), event) {
             return Ok(Some(fault));
         }
-        act(alloc, self.seats.as_mut_slice(), event)?;
-        let taken = count_of(event.takes.as_slice());
-        self.delivered = self.delivered.saturating_add(taken);
+        self.follow(alloc, event)?;
         Ok(None)
     }
 }
