@@ -80,7 +80,7 @@ wait_step : (l : LinkView) (ls : List LinkView) (j : ℕ) (b : Bool) → (l.from
 wait_step l ls j true h more w = subst (λ (k : ℕ). Contains (senders (l ∷ ls)) k) (eqb-true l.from j h) (Contains-head l.from (senders ls))
 wait_step l ls j false h more w = Contains-tail l.from (senders ls) j (more (λ e. w (rw h e)))
 
-waits_of : (ls : List LinkView) (j : ℕ) → waiting_from ls j ≢ [] → Contains (senders ls) j
+pub waits_of : (ls : List LinkView) (j : ℕ) → waiting_from ls j ≢ [] → Contains (senders ls) j
 waits_of [] j w = absurd (w refl)
 waits_of (l ∷ ls) j w = wait_step l ls j (l.from == j) refl (waits_of ls j) w
 

@@ -10,3 +10,5 @@ mod ActLaws
 mod StartLaws
 mod CountLaws
 mod RunLaws
+mod TurnLaws
+mod PlayLaws

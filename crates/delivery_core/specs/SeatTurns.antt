@@ -1,6 +1,6 @@
 -- A round of play over the agents of a core state.
-use Rattle.std.specs.Prelude.{◌≡◌, ℕ, ◌+◌, ◌-◌, ◌≤◌, List, [], ◌++◌, length, Option, Some, None, if◌then◌else◌}
-use Rattle.std.specs.List.{flat_map, range_with_len}
+use Rattle.std.specs.Prelude.{◌≡◌, ℕ, ◌+◌, ◌-◌, ◌≤◌, Bool, ◌||◌, nat_le, List, [], ◌++◌, length, Some, if◌then◌else◌}
+use Rattle.std.specs.List.{flat_map, list_all, range_with_len}
 use Rattle.dcop_base.specs.Problem.{Dcop}
 use Rattle.protocol_steps.specs.declared.event.Take.{Take}
 use Rattle.protocol_steps.specs.declared.event.Event.{Event}
@@ -8,8 +8,8 @@ use Rattle.protocol_steps.specs.View.{ended_of}
 use Rattle.protocol_steps.specs.Network.{Network}
 use Rattle.protocol_steps.specs.Effect.{deliveries}
 use Rattle.protocol_steps.specs.Run.{run}
-use Rattle.delivery_core.specs.State.{LinkView, SeatView, CoreView}
-use Rattle.delivery_core.specs.Turns.{take_some, turn, turns, round, after, PlaysTo}
+use Rattle.delivery_core.specs.State.{LinkView, SeatView, CoreView, views_of}
+use Rattle.delivery_core.specs.Turns.{take_some, turn, turns, round, after, PlaysTo, IsPlayed}
 use Rattle.delivery_core.specs.Shown.{IsCore}
 
 -- what is taken of the links of an inbox, at most 64 letters of each
@@ -52,3 +52,11 @@ pub record Playing (p : Dcop) (budget : ℕ) (first : Network) (k : ℕ) (s : Co
   pub joined : events ≡ flat_map (λ es. es) pieces
   pub spent : k ≤ deliveries mid
   pub next : (rest : List (List Event)) (end : Network) → PlaysTo budget mid rest end → PlaysTo budget first (pieces ++ rest) end
+
+-- whether no further round is played, by the core state
+abbrev pub is_over : ℕ → CoreView → Bool
+is_over budget s = list_all ended_of (views_of s.seats) || nat_le budget s.delivered
+
+-- rounds from one core state to another, until playing stops
+abbrev pub PlaysOut : ℕ → CoreView → CoreView → List Event → Type 0
+PlaysOut budget old new events = (p : Dcop) (first : Network) → IsCore p first old → IsPlayed budget first events new

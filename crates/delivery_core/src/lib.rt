@@ -19,4 +19,4 @@ mod turn;
 pub use replaying::{ReplayFault, replay};
 pub use start::Start;
 pub use state::CoreState;
-pub use turn::Played;
+pub use turn::{Played, play};

@@ -1,13 +1,13 @@
 //! Replaying a list of events.
 
-ghost use Rattle.std.specs.Prelude.{IfOk};
+ghost use Rattle.std.specs.Prelude.{◌≤◌, length, IfOk};
 ghost use Rattle.delivery_core.specs.Agents.{network_of};
 ghost use Rattle.delivery_core.specs.Shown.{IsCore};
 ghost use Rattle.delivery_core.specs.Faults.{Replays};
 
 use crate::start::{Start, make, start_all};
 use crate::state::CoreState;
-use dcop_base::{NoMemory, Problem};
+use dcop_base::{MAX_VARIABLES, NoMemory, Problem};
 use protocol_steps::{EventFault, EventList};
 use std::alloc::Global;
 
@@ -38,7 +38,8 @@ impl From<NoMemory> for ReplayFault {
 
 /// The state where all agents of a start have started, and nothing is taken.
 pub(crate) fn begin(alloc: Global, problem: &Problem, start: Start) -> Result<CoreState, NoMemory>
-    ensures { IfOk result (λ state. IsCore problem.now (network_of problem.now start) state) }
+    ensures core { IfOk result (λ state. IsCore problem.now (network_of problem.now start) state) }
+    ensures few { IfOk result (λ state. length state.seats ≤ MAX_VARIABLES) }
 {
     let mut seats = make(alloc, problem, start)?;
     start_all(alloc, seats.as_mut_slice())?;

@@ -19,8 +19,8 @@ start_all-requires-clause-begun c =
 pub start_all-requires-clause-few : goal.start_all-requires-clause-few
 start_all-requires-clause-few c = subst (λ (xs : List SeatView). length xs ≤ MAX_VARIABLES) (sym c.as_mut_slice.ensures.value) c.in_ok-seats.ensures.few
 
-pub returns : goal.returns
-returns c =
+pub returns-clause-core : goal.returns-clause-core
+returns-clause-core c =
     let p = c.args.problem.now in
     let made = agents_of p c.args.start in
     let is : map new_seat made ≡ c.as_mut_slice.result.now = sym (c.as_mut_slice.ensures.value ∙ c.in_ok-seats.ensures.made) in
