@@ -4,6 +4,7 @@ ghost use Rattle.std.specs.Prelude.{◌≡◌, [], IfOk, OnOk, OnErr, MatchOptio
 ghost use Rattle.std.specs.List.{All};
 ghost use Rattle.protocol_steps.specs.Token.{new_token};
 ghost use Rattle.protocol_steps.specs.View.{TokenKind, made_of, ended_of, value_of, standing_of, table_of, place_of};
+ghost use Rattle.dfs_agent.specs.Knowledge.{IsKnowledge};
 ghost use Rattle.protocol_steps.specs.Machine.{MayStart, MayReact, IsBatch, IsStart, IsStep, IsToNeighbour};
 
 use dcop_base::{NoMemory, Private, Table, Val};
@@ -38,6 +39,7 @@ impl Model for Agent {
 impl Agent {
     /// A token agent that knows this.
     pub(crate) fn token(alloc: Global, own: Private) -> Result<Agent, NoMemory>
+        requires { IsKnowledge own }
         ensures { IfOk result (λ agent. agent ≡ TokenKind (new_token own)) }
     {
         let agent = TokenAgent::new(alloc, own)?;

@@ -2,6 +2,7 @@
 
 ghost use Rattle.std.specs.Prelude.{◌≡◌, ℕ, ◌+◌, ◌<◌, ◌≤◌, List, length, map, IfOk, OnOk};
 ghost use Rattle.dcop_base.specs.Problem.{Dcop};
+ghost use Rattle.dcop_base.specs.Whole.{IsProblem};
 ghost use Rattle.dcop_base.specs.Knowledge.{private_of};
 ghost use Rattle.protocol_steps.specs.Token.{new_token};
 ghost use Rattle.protocol_steps.specs.View.{View, TokenKind};
@@ -13,6 +14,7 @@ use crate::deliver::post;
 use crate::inbox::new_links;
 use crate::seat::Seat;
 use dcop_base::{MAX_VARIABLES, NoMemory, Problem, VarId, private};
+use dfs_agent::private_is_knowledge;
 use std::alloc::Global;
 
 /// What a run starts with: the kind of its agents, and what they are made from besides the
@@ -25,9 +27,11 @@ pub enum Start {
 
 /// The token agent of a variable.
 fn token_seat(alloc: Global, problem: &Problem, me: VarId) -> Result<Seat, NoMemory>
-    requires { me < length problem.now.sizes }
+    requires whole { IsProblem problem.now }
+    requires inside { me < length problem.now.sizes }
     ensures { IfOk result (λ seat. seat ≡ new_seat (TokenKind (new_token (private_of problem.now me)))) }
 {
+    private_is_knowledge();
     let own = private(alloc, problem, me)?;
     let links = new_links(alloc, own.neighbours.as_slice())?;
     let agent = Agent::token(alloc, own)?;

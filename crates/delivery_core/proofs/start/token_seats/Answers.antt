@@ -1,7 +1,9 @@
-use Rattle.std.proofs.Common.{◌≡◌, ℕ, ◌++◌, ◌∷◌, [], List, map, length, sym, ap, ◌∙◌, arith}
+use Rattle.std.proofs.Common.{◌≡◌, ℕ, ◌++◌, ◌∷◌, [], List, map, length, sym, ap, subst, ◌∙◌, arith}
 use Rattle.std.specs.List.{range_with_len}
 use Rattle.std.proofs.lemmas.List.{length-map}
 use Rattle.std.proofs.lemmas.List.FromFn.{length-map-range_with_len}
+use Rattle.dcop_base.specs.Problem.{Dcop}
+use Rattle.dcop_base.specs.Whole.{IsProblem}
 use Rattle.delivery_core.specs.State.{SeatView}
 use Rattle.delivery_core.specs.Starts.{new_seat}
 use Rattle.delivery_core.proofs.StartLaws.{token_made, seats_more}
@@ -24,3 +26,6 @@ returns-clause-few c =
         ap (λ (xs : List SeatView). length xs) before ∙ length-map (map (token_made p) (range_with_len 0 c.loop-me.me)) new_seat ∙ length-map-range_with_len (token_made p) 0 c.loop-me.me in
     let all : length c.as_slice-me-end.result.now ≡ length c.problem.inside.sizes = ap (λ (xs : List ℕ). length xs) c.as_slice-me-end.ensures in
     omega (arith, c.problem.invariant.few)
+
+pub token_seat-requires-clause-whole : goal.token_seat-requires-clause-whole
+token_seat-requires-clause-whole c = subst (λ (p : Dcop). IsProblem p) c.problem.view_is c.problem.invariant

@@ -3,4 +3,4 @@ use Rattle.delivery_core.proofs.KindLaws.{toward}
 use Rattle.delivery_core.proofs.agent.Agent.react.Goals as goal
 
 pub returns-clause-receivers : goal.returns-clause-receivers
-returns-clause-receivers c = toward _ c.args.self.now c.react.new._out c.react.ensures.receivers (search rules)
+returns-clause-receivers c = toward _ c.args.self.now c.react.new.out c.react.ensures.receivers (search rules)
