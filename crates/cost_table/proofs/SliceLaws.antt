@@ -8,7 +8,6 @@ use Rattle.std.proofs.lemmas.Bool.{or_parts, or_from, ne_eqb, eq-eqb, le-ltb, no
 use Rattle.dcop_base.specs.Table.{product, has, has_repeat, table_fault}
 use Rattle.dcop_base.specs.declared.number.TheConstants.{CAP}
 use Rattle.dcop_base.proofs.TableLaws.{AreParts, parts-of}
-use Rattle.cost_table.specs.Runs.{AreCellsAt}
 
 -- nothing is wrong with a table of which the parts are right
 pub faultless : (scope sizes cells : List ℕ) → AreParts scope sizes cells → table_fault scope sizes cells ≡ None
