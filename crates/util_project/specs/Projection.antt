@@ -20,12 +20,12 @@ abbrev pub size_in : CostTable → ℕ → ℕ
 size_in t var = slice_index t.sizes (place_in t.scope var)
 
 -- the cell of a table at a value of a variable and values of the other ones, in scope order
-abbrev pub cell_with : CostTable → ℕ → List ℕ → ℕ → ℕ
-cell_with t var others d = cell_of t (insert others (place_in t.scope var) d)
+abbrev pub cell_at_value : CostTable → ℕ → List ℕ → ℕ → ℕ
+cell_at_value t var others d = cell_of t (insert others (place_in t.scope var) d)
 
 -- the projection of a table by a variable: a table without the variable, of which each cell is the least over the variable's values
 pub record IsProjection (t : CostTable) (var : ℕ) (less : CostTable) : Type 0 where
   pub same_scope : less.scope ≡ remove t.scope (place_in t.scope var)
   pub same_sizes : less.sizes ≡ remove t.sizes (place_in t.scope var)
   pub whole : IsTable less
-  pub cells : (others : List ℕ) → AreWithin (remove t.sizes (place_in t.scope var)) others → IsLeast (cell_with t var others) (size_in t var) (cell_of less others)
+  pub cells : (others : List ℕ) → AreWithin (remove t.sizes (place_in t.scope var)) others → IsLeast (cell_at_value t var others) (size_in t var) (cell_of less others)

@@ -4,7 +4,7 @@ ghost use Rattle.std.specs.Prelude.{◌≡◌, ℕ, ◌+◌, ◌*◌, ◌<◌, �
 ghost use Rattle.std.specs.List.{All, remove, insert};
 ghost use Rattle.dcop_base.specs.Table.{has, product, cell_place, table_fault, AreWithin};
 ghost use Rattle.cost_table.specs.Cells.{place_in};
-ghost use Rattle.util_project.specs.Projection.{IsLowestLeast, cell_with, size_in};
+ghost use Rattle.util_project.specs.Projection.{IsLowestLeast, cell_at_value, size_in};
 
 use cost_table::{place_at, place_in, product_of};
 use dcop_base::{Table, Val, VarId};
@@ -14,7 +14,7 @@ use dcop_base::{Table, Val, VarId};
 pub fn pick(table: &Table, var: VarId, values: &[Val]) -> Val
     requires stands { has table.now.scope var ≡ true }
     requires within { AreWithin (remove table.now.sizes (place_in table.now.scope var)) values.now }
-    ensures { IsLowestLeast (cell_with table.now var values.now) (size_in table.now var) result }
+    ensures { IsLowestLeast (cell_at_value table.now var values.now) (size_in table.now var) result }
 {
     pick_of(
         table.scope.as_slice(),
@@ -31,7 +31,7 @@ fn pick_of(scope: &[VarId], sizes: &[u16], cells: &[u64], var: VarId, values: &[
     requires stands { has scope.now var ≡ true }
     requires within { AreWithin (remove sizes.now (place_in scope.now var)) values.now }
     ensures { IsLowestLeast
-        (cell_with (record { scope = scope.now; sizes = sizes.now; cells = cells.now }) var values.now)
+        (cell_at_value (record { scope = scope.now; sizes = sizes.now; cells = cells.now }) var values.now)
         (size_in (record { scope = scope.now; sizes = sizes.now; cells = cells.now }) var) result }
 {
     pick_at(sizes, cells, place_in(scope, var), values)
