@@ -56,7 +56,7 @@ some_by W ls (t ∷ ts) n short w e =
     let k : ℕ = length (waiting_from ls t.from) in
     let parts = not_then (nat_lt k t.count) (TooMany t.from t.count k) (short_in ls ts) short in
     let enough : t.count ≤ length (W t.from) =
-        subst (λ (m : ℕ). t.count ≤ m) (ap (λ (ms : List (ℕ × Message)). length ms) (w t.from) ∙ length-map (W t.from) (λ m. (t.from, m))) (ltb-false k t.count parts.0) in
+    subst (λ (m : ℕ). t.count ≤ m) (ap (λ (ms : List (ℕ × Message)). length ms) (w t.from) ∙ length-map (W t.from) (λ m. (t.from, m))) (ltb-false k t.count parts.0) in
     let front : List (ℕ × Message) = letters_of t.from (take t.count (W t.from)) in
     let size : length front ≡ t.count = length-map (take t.count (W t.from)) (λ m. (t.from, m)) ∙ length-take-le t.count (W t.from) enough in
     let whole : length front + length (letters_taken W ts) ≡ 0 = sym (length-append front (letters_taken W ts)) ∙ ap (λ (ms : List (ℕ × Message)). length ms) e in
@@ -140,7 +140,7 @@ pub moved : (seats : List SeatView) (e : Event) (h : Seated seats e) (k agent : 
 moved seats e h k agent y out final at by after sends reach is = λ p net s.
     let all : All (IsToNeighbour h.seat.view) (seat_sends h.seat e.takes) = subst (λ (ms : List (ℕ × Message)). All (IsToNeighbour h.seat.view) ms) sends reach in
     let end : seats_after seats e.agent e.takes (slice_get seats e.agent) ≡ final =
-        ap (λ (o : Option SeatView). seats_after seats e.agent e.takes o) h.here
-        ∙ sym (is ∙ ap (λ (i : ℕ). deliver_all i (slice_set seats k y) out) by ∙ ap (λ (i : ℕ). deliver_all e.agent (slice_set seats i y) out) at
-        ∙ ap (λ (z : SeatView). deliver_all e.agent (slice_set seats e.agent z) out) after ∙ ap (λ (ms : List (ℕ × Message)). deliver_all e.agent (slice_set seats e.agent (seat_after h.seat e.takes)) ms) sends) in
+    ap (λ (o : Option SeatView). seats_after seats e.agent e.takes o) h.here
+    ∙ sym (is ∙ ap (λ (i : ℕ). deliver_all i (slice_set seats k y) out) by ∙ ap (λ (i : ℕ). deliver_all e.agent (slice_set seats i y) out) at
+    ∙ ap (λ (z : SeatView). deliver_all e.agent (slice_set seats e.agent z) out) after ∙ ap (λ (ms : List (ℕ × Message)). deliver_all e.agent (slice_set seats e.agent (seat_after h.seat e.takes)) ms) sends) in
     subst (λ (zs : List SeatView). Shows p (effect net e) zs) end (shown_after p net seats s e h.seat h.here h.fine all)

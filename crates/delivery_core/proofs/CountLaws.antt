@@ -29,13 +29,12 @@ deliveries_after p net seats s e h =
     let ls = batch net.desks i e.takes in
     let y : Desk = desk_after d.0 (step_of h.seat.view ls).sends e.takes in
     let is : network_after net e h.seat.view d.0 ls ≡ effect net e =
-        ap (λ (v : Option View). effect_at net e v (Some d.0)) (sym (view_there p net seats s i (Some h.seat) h.here)) ∙ ap (λ (x : Option Desk). effect_at net e (slice_get net.views i) x) (sym d.1) in
+    ap (λ (v : Option View). effect_at net e v (Some d.0)) (sym (view_there p net seats s i (Some h.seat) h.here)) ∙ ap (λ (x : Option Desk). effect_at net e (slice_get net.views i) x) (sym d.1) in
     let set : sum_by taken_by (slice_set net.desks i y) + taken_by (get_or net.desks i d.0) ≡ sum_by taken_by net.desks + taken_by y = sum_by-set taken_by net.desks i y d.0 (omega (arith, lt, s.desks)) in
     let old : taken_by (get_or net.desks i d.0) ≡ taken_by d.0 = ap taken_by (get_or_from_slice_get net.desks i d.0 d.0 d.1) in
     let new : taken_by y ≡ taken_by d.0 + counts e.takes = sum_by-append (λ (t : Take). t.count) d.0.takes e.takes in
     let whole : sum_by taken_by (slice_set net.desks i y) ≡ deliveries net + counts e.takes = omega (arith, set, old, new) in
     sym (ap deliveries is) ∙ whole
-
 
 pub counted : (D S d s r m : ℕ) → d ≡ min D m → s ≡ min S m → r ≡ min (d + s) m → r ≡ min (D + S) m
 counted D S d s r m p q h = omega arith

@@ -114,7 +114,7 @@ came i q seats x l here there =
     let y : SeatView = record x { inbox = add_letter x.inbox m } in
     let new : List SeatView = slice_set seats k y in
     let boxes : (n : ℕ) → inbox_at new n ≡ (if k == n then add_letter (inbox_at seats n) m else inbox_at seats n) =
-        λ n. inbox_set seats k x y here n ∙ box_case (k == n) k n seats x m refl here in
+    λ n. inbox_set seats k x y here n ∙ box_case (k == n) k n seats x m refl here in
     let is : new ≡ deliver i seats q = ap (λ (o : Option SeatView). come seats k m o) (sym here) in
     subst (λ (s : List SeatView). Delivered i (q ∷ []) seats s) is (record {
       size = length-set seats k y;
@@ -146,9 +146,9 @@ delivered i (q ∷ ps) seats all =
     let one = came i q seats s.seat there.0 s.is there.1 in
     let next : List SeatView = deliver i seats q in
     let tail : All (λ (r : ℕ × Message). (r.0 < length next) × Contains (senders (inbox_at next r.0)) i) ps =
-        All-weaker (λ r. (r.0 < length seats) × Contains (senders (inbox_at seats r.0)) i) (λ r. (r.0 < length next) × Contains (senders (inbox_at next r.0)) i)
-        (λ r h. (omega (arith, h.0, one.size), subst (λ (ns : List ℕ). Contains ns i) (sym (one.same r.0)) h.1)) ps
-        (All-tail (λ r. (r.0 < length seats) × Contains (senders (inbox_at seats r.0)) i) q ps all) in
+    All-weaker (λ r. (r.0 < length seats) × Contains (senders (inbox_at seats r.0)) i) (λ r. (r.0 < length next) × Contains (senders (inbox_at next r.0)) i)
+    (λ r h. (omega (arith, h.0, one.size), subst (λ (ns : List ℕ). Contains ns i) (sym (one.same r.0)) h.1)) ps
+    (All-tail (λ r. (r.0 < length seats) × Contains (senders (inbox_at seats r.0)) i) q ps all) in
     let more = delivered i ps next tail in
     record {
       size = more.size ∙ one.size;

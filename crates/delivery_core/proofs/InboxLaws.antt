@@ -119,16 +119,15 @@ asc_parts b t ts h =
 abbrev pub Waits : ℕ → (ℕ → List Message) → List LinkView → Type 0
 Waits b W ls = (j : ℕ) → b ≤ j → waiting_from ls j ≡ letters_of j (W j)
 
-
 pub letters_all : (W : ℕ → List Message) (ts : List Take) (b : ℕ) (ls : List LinkView) → ascends_from b ts ≡ true → Waits b W ls → letters_by ls ts ≡ letters_taken W ts
 letters_all W [] b ls asc w = refl
 letters_all W (t ∷ ts) b ls asc w =
     let parts = asc_parts b t ts asc in
     let first : take t.count (waiting_from ls t.from) ≡ letters_of t.from (take t.count (W t.from)) =
-        ap (λ (ms : List (ℕ × Message)). take t.count ms) (w t.from parts.0) ∙ take-map (λ (m : Message). (t.from, m)) t.count (W t.from) in
+    ap (λ (ms : List (ℕ × Message)). take t.count ms) (w t.from parts.0) ∙ take-map (λ (m : Message). (t.from, m)) t.count (W t.from) in
     let later : Waits (t.from + 1) W (take_off ls t) = λ j le.
-        ap waiting_on (link_edit j t.from (without_next t.count) (λ l. refl) ls ∙ ap (λ (b : Bool). map_link b (without_next t.count) (link_from j ls)) (ne_eqb t.from j (λ e. omega (arith, e, le))))
-        ∙ w j (omega (arith, parts.0, le)) in
+    ap waiting_on (link_edit j t.from (without_next t.count) (λ l. refl) ls ∙ ap (λ (b : Bool). map_link b (without_next t.count) (link_from j ls)) (ne_eqb t.from j (λ e. omega (arith, e, le))))
+    ∙ w j (omega (arith, parts.0, le)) in
     ap (λ (ms : List (ℕ × Message)). ms ++ letters_by (take_off ls t) ts) first
     ∙ ap (λ (ms : List (ℕ × Message)). letters_of t.from (take t.count (W t.from)) ++ ms) (letters_all W ts (t.from + 1) (take_off ls t) parts.1 later)
 
@@ -174,8 +173,8 @@ taken_of W j b (t ∷ ts) asc =
     let parts = asc_parts b t ts asc in
     let ms : List Message = take t.count (W t.from) in
     let cut : from_of j (letters_taken W (t ∷ ts)) ≡ (if t.from == j then letters_of t.from ms else []) ++ from_of j (letters_taken W ts) =
-        filter-append (λ (m : ℕ × Message). m.0 == j) (letters_of t.from ms) (letters_taken W ts)
-        ∙ ap (λ (xs : List (ℕ × Message)). xs ++ from_of j (letters_taken W ts)) (of_sender t.from j ms) in
+    filter-append (λ (m : ℕ × Message). m.0 == j) (letters_of t.from ms) (letters_taken W ts)
+    ∙ ap (λ (xs : List (ℕ × Message)). xs ++ from_of j (letters_taken W ts)) (of_sender t.from j ms) in
     let count : taken_from j (t ∷ ts) ≡ (if t.from == j then t.count else 0) + taken_from j ts = sum_by-cons (λ (u : Take). if u.from == j then u.count else 0) t ts in
     cut ∙ taken_at W t j ts (t.from == j) refl (taken_of W j (t.from + 1) ts parts.1) (λ e. none_of W j (t.from + 1) ts parts.1 (omega (arith, e)))
     ∙ ap (λ (n : ℕ). letters_of j (take n (W j))) (sym count)

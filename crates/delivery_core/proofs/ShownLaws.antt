@@ -57,11 +57,11 @@ fits W ls (t ∷ ts) b w short asc j =
     let parts = not_then (nat_lt n t.count) (TooMany t.from t.count n) (short_in ls ts) short in
     let up = asc_parts b t ts asc in
     let enough : t.count ≤ length (W t.from) =
-        subst (λ (m : ℕ). t.count ≤ m) (ap (λ (ms : List (ℕ × Message)). length ms) (w t.from) ∙ length-map (W t.from) (λ m. (t.from, m))) (ltb-false n t.count parts.0) in
+    subst (λ (m : ℕ). t.count ≤ m) (ap (λ (ms : List (ℕ × Message)). length ms) (w t.from) ∙ length-map (W t.from) (λ m. (t.from, m))) (ltb-false n t.count parts.0) in
     let step = fits_step (t.from == j) t.count (taken_from j ts) (length (W j))
-        (λ e. let same : t.from ≡ j = eqb-true t.from j e in
-        (subst (λ (k : ℕ). t.count ≤ length (W k)) same enough, (none_of W j (t.from + 1) ts up.1 (omega (arith, same))).1))
-        (fits W ls ts (t.from + 1) w parts.1 up.1 j) in
+    (λ e. let same : t.from ≡ j = eqb-true t.from j e in
+    (subst (λ (k : ℕ). t.count ≤ length (W k)) same enough, (none_of W j (t.from + 1) ts up.1 (omega (arith, same))).1))
+    (fits W ls ts (t.from + 1) w parts.1 up.1 j) in
     subst (λ (k : ℕ). k ≤ length (W j)) (sym (sum_by-cons (λ (u : Take). if u.from == j then u.count else 0) t ts)) step
 
 -- the fault of an event of an agent that is there
@@ -90,7 +90,7 @@ module _ (p : Dcop) (net : Network) (seats : List SeatView) (s : Shows p net sea
       let lt : i < length seats = slice_get_within seats i x h in
       ap (λ (n : ℕ). or_else (form_fault n (ended_of x.view) e.takes) (too_many net.desks i e.takes)) s.desks
       ∙ ap (λ (o : Option EventFault). or_else (form_fault (length seats) (ended_of x.view) e.takes) o)
-          (short_same i net.desks x.inbox e.takes (λ j. ap (λ (o : Option SeatView). waiting_from (inbox_of o) j) (sym h) ∙ waits_is i j lt))
+      (short_same i net.desks x.inbox e.takes (λ j. ap (λ (o : Option SeatView). waiting_from (inbox_of o) j) (sym h) ∙ waits_is i j lt))
 
   fault_by : (e : Event) (o : Option SeatView) → slice_get seats e.agent ≡ o → event_fault net e ≡ seat_fault (length seats) e.takes o
   fault_by e None h = rw (view_there e.agent None h) refl
@@ -212,9 +212,10 @@ module _ (p : Dcop) (net : Network) (seats : List SeatView) (s : Shows p net sea
   module _ (reach : All (IsToNeighbour x.view) sends) where
     to_links : All (λ q. (q.0 < length mid) × Contains (senders (inbox_at mid q.0)) e.agent) sends
     to_links = All-weaker (IsToNeighbour x.view) (λ q. (q.0 < length mid) × Contains (senders (inbox_at mid q.0)) e.agent) (λ q c.
-        let near = near_back p e.agent q.0 (omega (arith, inside, s.size)) (subst (λ (ns : List ℕ). Contains ns q.0) (s.running e.agent x.view view_here).near c) in
-        (omega (arith, near.0, s.size, length-set seats e.agent (seat_after x e.takes)),
-        subst (λ (ns : List ℕ). Contains ns e.agent) (sym (mid_senders q.0 ∙ s.links q.0 (omega (arith, near.0, s.size)))) near.1)) sends reach
+        let near = near_back p e.agent q.0 (omega (arith, inside, s.size)) (subst (λ (ns : List ℕ). Contains ns q.0) (s.running e.agent x.view view_here).near c) in (
+          omega (arith, near.0, s.size, length-set seats e.agent (seat_after x e.takes)),
+          subst (λ (ns : List ℕ). Contains ns e.agent) (sym (mid_senders q.0 ∙ s.links q.0 (omega (arith, near.0, s.size)))) near.1,
+        )) sends reach
 
     new : Delivered e.agent sends mid (deliver_all e.agent mid sends)
     new = delivered e.agent sends mid to_links
@@ -326,6 +327,6 @@ module _ (p : Dcop) (net : Network) (seats : List SeatView) (s : Shows p net sea
     pub shown_after : Shows p (effect net e) (seats_after seats e.agent e.takes (slice_get seats e.agent))
     shown_after =
         let is : one ≡ effect net e =
-            ap (λ (v : Option View). effect_at net e v (Some desk_here.0)) (sym view_here) ∙ ap (λ (d : Option Desk). effect_at net e (slice_get net.views e.agent) d) (sym desk_here.1) in
+        ap (λ (v : Option View). effect_at net e v (Some desk_here.0)) (sym view_here) ∙ ap (λ (d : Option Desk). effect_at net e (slice_get net.views e.agent) d) (sym desk_here.1) in
         let now : seats_new ≡ seats_after seats e.agent e.takes (slice_get seats e.agent) = ap (λ (o : Option SeatView). seats_after seats e.agent e.takes o) (sym here) in
         subst (λ (n : Network). Shows p n (seats_after seats e.agent e.takes (slice_get seats e.agent))) is (subst (λ (zs : List SeatView). Shows p one zs) now shown_one)

@@ -110,9 +110,10 @@ module _ (p : Dcop) (made : List View) (k : ℕ) (seats : List SeatView) (b : Be
   module _ (reach : All (IsToNeighbour x.view) sends) where
     new : Delivered k sends mid (deliver_all k mid sends)
     new = delivered k sends mid (All-weaker (IsToNeighbour x.view) (λ q. (q.0 < length mid) × Contains (senders (inbox_at mid q.0)) k) (λ q c.
-        let back = near_back p k q.0 (omega (arith, inside, b.size, b.count)) (subst (λ (ns : List ℕ). Contains ns q.0) fresh.near c) in
-        (omega (arith, back.0, b.size, b.count, length-set seats k y),
-        subst (λ (ns : List ℕ). Contains ns k) (sym (ap senders (mid_box q.0) ∙ b.links q.0 (omega (arith, back.0, b.size, b.count)))) back.1)) sends reach)
+        let back = near_back p k q.0 (omega (arith, inside, b.size, b.count)) (subst (λ (ns : List ℕ). Contains ns q.0) fresh.near c) in (
+          omega (arith, back.0, b.size, b.count, length-set seats k y),
+          subst (λ (ns : List ℕ). Contains ns k) (sym (ap senders (mid_box q.0) ∙ b.links q.0 (omega (arith, back.0, b.size, b.count)))) back.1,
+        )) sends reach)
 
     size_new : length (deliver_all k mid sends) ≡ length seats
     size_new = new.size ∙ length-set seats k y

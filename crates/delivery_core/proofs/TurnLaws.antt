@@ -191,7 +191,7 @@ module _ (p : Dcop) (net : Network) (seats : List SeatView) (s : Shows p net sea
     turn_lawful =
         ap (λ (o : Option SeatView). seat_fault (length seats) (seat_takes x) o) here
         ∙ ap (λ (f : Option EventFault). or_else f (short_in x.inbox (seat_takes x)))
-            (form_ok (length seats) (ended_of x.view) (seat_takes x) fine.known opened.0 nonempty (fine.asc 0 (omega arith)))
+        (form_ok (length seats) (ended_of x.view) (seat_takes x) fine.known opened.0 nonempty (fine.asc 0 (omega arith)))
         ∙ fine.short
 
     turn_is : turn net i ≡ e ∷ []
@@ -205,12 +205,15 @@ module _ (p : Dcop) (net : Network) (seats : List SeatView) (s : Shows p net sea
 
     -- so the turn leads on
     pub turn_leads : (new : CoreView) → IsCore p (effect net e) new → (mid : Network) × Leads p net (turn net i) mid new
-    turn_leads new core = subst (λ (es : List Event). (mid : Network) × Leads p net es mid new) (sym turn_is) (effect net e, record {
-      ran = happens_next net e (fault_same p net seats s e ∙ turn_lawful);
-      is = refl;
-      core = core;
-      more = counted_more;
-    })
+    turn_leads new core = subst (λ (es : List Event). (mid : Network) × Leads p net es mid new) (sym turn_is) (
+      effect net e,
+      record {
+        ran = happens_next net e (fault_same p net seats s e ∙ turn_lawful);
+        is = refl;
+        core = core;
+        more = counted_more;
+      },
+    )
 
     pub turn_adds : (before : List Event) → before ++ e ∷ [] ≡ before ++ turn net i
     turn_adds before = ap (λ (es : List Event). before ++ es) (sym turn_is)

@@ -59,4 +59,4 @@ is_over budget s = list_all ended_of (views_of s.seats) || nat_le budget s.deliv
 
 -- rounds from one core state to another, until playing stops
 abbrev pub PlaysOut : ℕ → CoreView → CoreView → List Event → Type 0
-PlaysOut budget old new events = (p : Dcop) (first : Network) → IsCore p first old → IsPlayed budget first events new
+PlaysOut budget old new events = (p : Dcop) (first : Network) → IsCore p first old → IsPlayed budget first events new × (length new.seats ≡ length p.sizes)

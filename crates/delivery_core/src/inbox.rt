@@ -91,7 +91,11 @@ fn gather_one(links: &mut [Link], next: Take, batch: &mut Vec<Letter>) -> Result
 }
 
 /// Takes off the letters of all takes, one take after another.
-pub(crate) fn gather(alloc: Global, links: &mut [Link], takes: &[Take]) -> Result<Vec<Letter>, NoMemory>
+pub(crate) fn gather(
+    alloc: Global,
+    links: &mut [Link],
+    takes: &[Take],
+) -> Result<Vec<Letter>, NoMemory>
     ensures batch { IfOk result (λ batch. batch.items ≡ letters_by links.old takes.now) }
     ensures rest { OnOk result (links.new ≡ fold take_off links.old takes.now) }
 {

@@ -1,6 +1,6 @@
 //! Replaying a list of events.
 
-ghost use Rattle.std.specs.Prelude.{◌≤◌, length, IfOk};
+ghost use Rattle.std.specs.Prelude.{◌≡◌, ◌≤◌, length, IfOk};
 ghost use Rattle.delivery_core.specs.Agents.{network_of};
 ghost use Rattle.delivery_core.specs.Shown.{IsCore};
 ghost use Rattle.delivery_core.specs.Faults.{Replays};
@@ -62,7 +62,8 @@ pub fn replay(
     start: Start,
     events: &EventList,
 ) -> Result<CoreState, ReplayFault>
-    ensures { Replays (network_of problem.now start) events.now result }
+    ensures end { Replays (network_of problem.now start) events.now result }
+    ensures size { IfOk result (λ state. length state.seats ≡ length problem.now.sizes) }
 {
     let mut state = begin(alloc, problem, start)?;
     for (at, event) in events.as_slice().iter().enumerate() {

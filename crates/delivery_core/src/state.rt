@@ -140,7 +140,11 @@ impl CoreState {
     }
 
     /// One event, or what makes it unlawful; nothing then changes.
-    pub(crate) fn happen(&mut self, alloc: Global, event: &Event) -> Result<Option<EventFault>, NoMemory>
+    pub(crate) fn happen(
+        &mut self,
+        alloc: Global,
+        event: &Event,
+    ) -> Result<Option<EventFault>, NoMemory>
         requires { IsSomeCore self.old }
         ensures { IfOk result (λ found. MatchOption found (Advances self.old event.now self.new)
             (λ fault. Refuses self.old event.now fault)) }

@@ -132,7 +132,8 @@ fn play_rounds(
 ///
 /// [`NoMemory`] where memory was wanted and not had.
 pub fn play(alloc: Global, problem: &Problem, start: Start, budget: u64) -> Result<Played, NoMemory>
-    ensures { IfOk result (λ played. IsPlayed budget (network_of problem.now start) played.events played.state) }
+    ensures end { IfOk result (λ played. IsPlayed budget (network_of problem.now start) played.events played.state) }
+    ensures size { IfOk result (λ played. length played.state.seats ≡ length problem.now.sizes) }
 {
     let mut state = begin(alloc, problem, start)?;
     let mut events = Vec::new(alloc);

@@ -11,7 +11,7 @@ last_on o = last_or (taken_on o) (waiting_on o)
 pub returns-in-Some : goal.returns-in-Some
 returns-in-Some c =
     let here : link_from c.args.from c.args.links.now ≡ Some c.index-links-at.result =
-        found c.args.from c.args.links.now c.in-Some.at c.index-links-at.result (sym c.place_of.ensures ∙ c.in-Some.is) ∙ ap (λ (x : LinkView). Some x) (sym c.index-links-at.is) in
+    found c.args.from c.args.links.now c.in-Some.at c.index-links-at.result (sym c.place_of.ensures ∙ c.in-Some.is) ∙ ap (λ (x : LinkView). Some x) (sym c.index-links-at.is) in
     subst (λ (o : Option LinkView). MatchOption c.last.result (last_on o ≡ None) (λ l. last_on o ≡ Some l.now)) (sym here) c.last.ensures
 
 pub returns-in-None : goal.returns-in-None

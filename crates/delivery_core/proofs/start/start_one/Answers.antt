@@ -29,8 +29,8 @@ returns c =
     let x : SeatView = get_or c.args.seats.now c.args.me c.index-seats-me.result in
     let here = agent_there c.args.seats.now c.args.me c.index-seats-me.result c.requires.inside in
     on_ok c.post.result c.post.ensures (λ new. λ p made b.
-        let reach = subst (λ (ms : List (ℕ × Message)). All (IsToNeighbour x.view) ms) c.in_ok-out.ensures.sends c.in_ok-out.ensures.receivers in
-        let is = new
-            ∙ ap (λ (y : SeatView). deliver_all c.args.me (slice_set c.args.seats.now c.args.me y) c.in_ok-out.out) c.in_ok-out.ensures.view
-            ∙ ap (λ (ms : List (ℕ × Message)). deliver_all c.args.me (slice_set c.args.seats.now c.args.me (record x { view = (start_of x.view).view })) ms) c.in_ok-out.ensures.sends in
-        subst (λ (xs : List SeatView). Begun p made (c.args.me + 1) xs) (sym is) (start_next p made c.args.me c.args.seats.now b x here reach))
+    let reach = subst (λ (ms : List (ℕ × Message)). All (IsToNeighbour x.view) ms) c.in_ok-out.ensures.sends c.in_ok-out.ensures.receivers in
+    let is = new
+    ∙ ap (λ (y : SeatView). deliver_all c.args.me (slice_set c.args.seats.now c.args.me y) c.in_ok-out.out) c.in_ok-out.ensures.view
+    ∙ ap (λ (ms : List (ℕ × Message)). deliver_all c.args.me (slice_set c.args.seats.now c.args.me (record x { view = (start_of x.view).view })) ms) c.in_ok-out.ensures.sends in
+    subst (λ (xs : List SeatView). Begun p made (c.args.me + 1) xs) (sym is) (start_next p made c.args.me c.args.seats.now b x here reach))

@@ -23,7 +23,7 @@ returns-clause-few c =
     let p = c.args.problem.now in
     let before : c.loop-me.seats.items ≡ map new_seat (map (token_made p) (range_with_len 0 c.loop-me.me)) = c.loop-me.invariant in
     let size : length c.loop-me.seats.items ≡ c.loop-me.me =
-        ap (λ (xs : List SeatView). length xs) before ∙ length-map (map (token_made p) (range_with_len 0 c.loop-me.me)) new_seat ∙ length-map-range_with_len (token_made p) 0 c.loop-me.me in
+    ap (λ (xs : List SeatView). length xs) before ∙ length-map (map (token_made p) (range_with_len 0 c.loop-me.me)) new_seat ∙ length-map-range_with_len (token_made p) 0 c.loop-me.me in
     let all : length c.as_slice-me-end.result.now ≡ length c.problem.inside.sizes = ap (λ (xs : List ℕ). length xs) c.as_slice-me-end.ensures in
     omega (arith, c.problem.invariant.few)
 

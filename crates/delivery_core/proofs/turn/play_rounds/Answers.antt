@@ -9,9 +9,11 @@ loop-init c = λ p first core. playing_none p c.args.budget first c.args.state.n
 pub returns-then-is_over : goal.returns-then-is_over
 returns-then-is_over c = λ p first core.
     let fits : c.args.budget ≤ most_counted = omega arith in
-    let h = c.loop.invariant p first core in
-    played p c.args.budget first c.loop.counter c.loop.state c.loop.events.items h
-    (stops_over c.args.budget h.mid (sym (over_is p c.args.budget h.mid c.loop.state fits h.core) ∙ sym c.is_over.ensures ∙ c.if-is_over.true))
+    let h = c.loop.invariant p first core in (
+      played p c.args.budget first c.loop.counter c.loop.state c.loop.events.items h
+          (stops_over c.args.budget h.mid (sym (over_is p c.args.budget h.mid c.loop.state fits h.core) ∙ sym c.is_over.ensures ∙ c.if-is_over.true)),
+      h.core.shows.size,
+    )
 
 pub play_round-requires-clause-core : goal.play_round-requires-clause-core
 play_round-requires-clause-core c =
@@ -33,8 +35,10 @@ returns-then-len-before c = λ p first core.
     let h = c.loop.invariant p first core in
     let test = c.if-len-before.true in
     let same : length c.play_round.new.events.items ≡ length c.loop.events.items =
-        sym c.play_round.new.events.ok.0 ∙ sym c.len.ensures ∙ test ∙ c.len-before.ensures ∙ c.loop.events.ok.0 in
-    played_still p c.args.budget first c.loop.counter c.loop.state c.play_round.new.state c.loop.events.items c.play_round.new.events.items h c.in_ok-play_round.ensures same
+    sym c.play_round.new.events.ok.0 ∙ sym c.len.ensures ∙ test ∙ c.len-before.ensures ∙ c.loop.events.ok.0 in (
+      played_still p c.args.budget first c.loop.counter c.loop.state c.play_round.new.state c.loop.events.items c.play_round.new.events.items h c.in_ok-play_round.ensures same,
+      (c.in_ok-play_round.ensures p h.mid h.core).1.core.shows.size,
+    )
 
 pub loop-preserved : goal.loop-preserved
 loop-preserved c = λ p first core.
@@ -42,7 +46,7 @@ loop-preserved c = λ p first core.
     let h = c.loop.invariant p first core in
     let test = c.if-len-before.false in
     let grown : length c.play_round.new.events.items ≢ length c.loop.events.items =
-        λ e. test (c.len.ensures ∙ c.play_round.new.events.ok.0 ∙ e ∙ sym c.loop.events.ok.0 ∙ sym c.len-before.ensures) in
+    λ e. test (c.len.ensures ∙ c.play_round.new.events.ok.0 ∙ e ∙ sym c.loop.events.ok.0 ∙ sym c.len-before.ensures) in
     playing_next p c.args.budget first c.loop.counter c.loop.state c.play_round.new.state c.loop.events.items c.play_round.new.events.items h fits (sym c.is_over.ensures ∙ c.if-is_over.false)
     c.in_ok-play_round.ensures grown
 
@@ -51,4 +55,4 @@ returns c = λ p first core.
     let h = c.loop.invariant p first core in
     let spent = h.spent in
     let done = c.loop-test.false in
-    played p c.args.budget first c.loop.counter c.loop.state c.loop.events.items h (stops_spent c.args.budget h.mid (omega (arith, spent, done)))
+    (played p c.args.budget first c.loop.counter c.loop.state c.loop.events.items h (stops_spent c.args.budget h.mid (omega (arith, spent, done))), h.core.shows.size)

@@ -38,9 +38,10 @@ returns c = λ p net core.
     let takes : c.from_vec.result ≡ seat_takes x = c.from_vec.ensures ∙ c.in_ok-takes.ensures in
     let done = c.in_ok-follow.ensures p net core in
     let now = subst (λ (ts : List Take). IsCore p (effect net (record { agent = c.args.me; takes = ts })) c.follow.new.self) takes done.1 in
-    let leads = turn_leads p net c.args.state.now.seats core.shows c.args.me x here some c.follow.new.self now in
-    (leads.0,
-    leads.1,
-    c.in_ok-push.ensures.items
-    ∙ ap (λ (ts : List Take). let e : Event = record { agent = c.args.me; takes = ts } in c.args.events.now.items ++ e ∷ []) takes
-    ∙ turn_adds p net c.args.state.now.seats core.shows c.args.me x here some c.args.events.now.items)
+    let leads = turn_leads p net c.args.state.now.seats core.shows c.args.me x here some c.follow.new.self now in (
+      leads.0,
+      leads.1,
+      c.in_ok-push.ensures.items
+          ∙ ap (λ (ts : List Take). let e : Event = record { agent = c.args.me; takes = ts } in c.args.events.now.items ++ e ∷ []) takes
+          ∙ turn_adds p net c.args.state.now.seats core.shows c.args.me x here some c.args.events.now.items,
+    )
