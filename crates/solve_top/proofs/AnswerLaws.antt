@@ -56,6 +56,7 @@ Answered-text words command task before after bytes slice (Err none) asked serve
 task-sound : (task : Task) (d : Declared) (answer : Answer) → IsTaskAnswer task d answer → status_of answer ≢ ReadFault
 task-sound tasks.Plain d (answers.Report report file) is = λ e. cc
 task-sound tasks.Plain d (answers.Many n) is = λ e. cc
+task-sound tasks.Plain d (answers.Tree deliveries nodes names) is = absurd is
 task-sound tasks.Plain d (answers.Upgraded file) is = absurd is
 task-sound tasks.Plain d (answers.Words at kind) is = absurd is
 task-sound tasks.Plain d (answers.ProblemText line kind problem) is = absurd is
@@ -63,6 +64,7 @@ task-sound tasks.Plain d answers.Read is = absurd is
 task-sound tasks.Plain d answers.NotYet is = absurd is
 task-sound tasks.Upgrade d (answers.Upgraded file) is = λ e. cc
 task-sound tasks.Upgrade d (answers.Report report file) is = absurd is
+task-sound tasks.Upgrade d (answers.Tree deliveries nodes names) is = absurd is
 task-sound tasks.Upgrade d (answers.Many n) is = absurd is
 task-sound tasks.Upgrade d (answers.Words at kind) is = absurd is
 task-sound tasks.Upgrade d (answers.ProblemText line kind problem) is = absurd is
@@ -121,6 +123,7 @@ ReadFault-answered words before after answer done more = failed-input words befo
 task-solved : (task : Task) (d : Declared) (answer : Answer) → HasFew task d → IsTaskAnswer task d answer → status_of answer ≡ Solved
 task-solved tasks.Plain d (answers.Report report file) few is = refl
 task-solved tasks.Plain d (answers.Many n) few is = absurd (omega (arith, few, is.0))
+task-solved tasks.Plain d (answers.Tree deliveries nodes names) few is = absurd is
 task-solved tasks.Plain d (answers.Upgraded file) few is = absurd is
 task-solved tasks.Plain d (answers.Words at kind) few is = absurd is
 task-solved tasks.Plain d (answers.ProblemText line kind problem) few is = absurd is
@@ -128,6 +131,7 @@ task-solved tasks.Plain d answers.Read few is = absurd is
 task-solved tasks.Plain d answers.NotYet few is = absurd is
 task-solved tasks.Upgrade d (answers.Upgraded file) few is = refl
 task-solved tasks.Upgrade d (answers.Report report file) few is = absurd is
+task-solved tasks.Upgrade d (answers.Tree deliveries nodes names) few is = absurd is
 task-solved tasks.Upgrade d (answers.Many n) few is = absurd is
 task-solved tasks.Upgrade d (answers.Words at kind) few is = absurd is
 task-solved tasks.Upgrade d (answers.ProblemText line kind problem) few is = absurd is
