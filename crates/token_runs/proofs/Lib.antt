@@ -1,0 +1,15 @@
+pub mod MemberLaws
+pub mod Serial
+pub mod SerialLaws
+pub mod Visits
+pub mod VisitLaws
+pub mod CallLaws
+pub mod SearchRuns
+pub mod TallyLaws
+pub mod NetworkLaws
+pub mod RunSteps
+pub mod StartLaws
+pub mod PlaceLaws
+pub mod SoundLaws
+pub mod DeliveredLaws
+pub mod RunLaws

@@ -1,0 +1,3 @@
+pub mod TokenRun
+pub mod Agents
+pub mod Laws
