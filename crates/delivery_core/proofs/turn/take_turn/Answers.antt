@@ -1,14 +1,12 @@
-use Rattle.std.proofs.Common.{◌≡◌, ◌++◌, ◌∷◌, [], ◌==◌, Bool, true, false, List, None, length, vec_len, refl, sym, ap, subst, ◌∙◌}
+use Rattle.std.proofs.Common.{◌≡◌, ◌++◌, ◌∷◌, [], ◌==◌, false, List, None, length, vec_len, sym, ap, subst, ◌∙◌}
 use Rattle.std.proofs.lemmas.Option.{get_or_from_slice_get}
 use Rattle.std.proofs.lemmas.List.{append-nil}
-use Rattle.dcop_base.specs.Problem.{Dcop}
 use Rattle.protocol_steps.specs.declared.event.Take.{Take}
 use Rattle.protocol_steps.specs.declared.event.Event.{Event}
-use Rattle.protocol_steps.specs.Network.{Network}
 use Rattle.protocol_steps.specs.Effect.{effect}
-use Rattle.delivery_core.specs.State.{SeatView, CoreView}
+use Rattle.delivery_core.specs.State.{CoreView}
 use Rattle.delivery_core.specs.SeatEvents.{core_fault}
-use Rattle.delivery_core.specs.SeatTurns.{seat_takes, Leads}
+use Rattle.delivery_core.specs.SeatTurns.{seat_takes}
 use Rattle.delivery_core.specs.Turns.{turn}
 use Rattle.delivery_core.specs.Shown.{IsCore, IsSomeCore}
 use Rattle.delivery_core.proofs.ShownLaws.{there_is}
@@ -19,7 +17,7 @@ pub returns-then-is_empty : goal.returns-then-is_empty
 returns-then-is_empty c = λ p net core.
     let s = there_is c.args.state.now.seats c.args.me c.requires.inside in
     let takes : c.in_ok-takes.takes.items ≡ seat_takes s.0 =
-        c.in_ok-takes.ensures.takes s.0 ∙ ap seat_takes (get_or_from_slice_get c.args.state.now.seats c.args.me s.0 s.0 s.1) in
+    c.in_ok-takes.ensures.takes s.0 ∙ ap seat_takes (get_or_from_slice_get c.args.state.now.seats c.args.me s.0 s.0 s.1) in
     let size : length (seat_takes s.0) ≡ vec_len c.in_ok-takes.takes = sym (c.in_ok-takes.takes.ok.0 ∙ ap (λ (ts : List Take). length ts) takes) in
     let none = turn_none p net c.args.state.now.seats core.shows c.args.me s.0 s.1 (ap (λ n. n == 0) size ∙ sym c.if-is_empty.ensures) in
     let kept : IsCore p net c.takes.new.self = subst (λ (t : CoreView). IsCore p net t) (sym c.in_ok-takes.ensures.same) core in
@@ -34,7 +32,7 @@ follow-requires-clause-lawful c =
     let core = c.requires.core in
     let s = there_is c.args.state.now.seats c.args.me c.requires.inside in
     let found : c.in_ok-takes.takes.items ≡ seat_takes s.0 =
-        c.in_ok-takes.ensures.takes s.0 ∙ ap seat_takes (get_or_from_slice_get c.args.state.now.seats c.args.me s.0 s.0 s.1) in
+    c.in_ok-takes.ensures.takes s.0 ∙ ap seat_takes (get_or_from_slice_get c.args.state.now.seats c.args.me s.0 s.0 s.1) in
     let size : length (seat_takes s.0) ≡ vec_len c.in_ok-takes.takes = sym (c.in_ok-takes.takes.ok.0 ∙ ap (λ (ts : List Take). length ts) found) in
     let takes : c.from_vec.result ≡ seat_takes s.0 = c.from_vec.ensures ∙ found in
     subst (λ (t : CoreView). core_fault t.seats (record { agent = c.args.me; takes = c.from_vec.result }) ≡ None) (sym c.in_ok-takes.ensures.same)
@@ -45,16 +43,17 @@ pub returns : goal.returns
 returns c = λ p net core.
     let s = there_is c.args.state.now.seats c.args.me c.requires.inside in
     let found : c.in_ok-takes.takes.items ≡ seat_takes s.0 =
-        c.in_ok-takes.ensures.takes s.0 ∙ ap seat_takes (get_or_from_slice_get c.args.state.now.seats c.args.me s.0 s.0 s.1) in
+    c.in_ok-takes.ensures.takes s.0 ∙ ap seat_takes (get_or_from_slice_get c.args.state.now.seats c.args.me s.0 s.0 s.1) in
     let size : length (seat_takes s.0) ≡ vec_len c.in_ok-takes.takes = sym (c.in_ok-takes.takes.ok.0 ∙ ap (λ (ts : List Take). length ts) found) in
     let some : (length (seat_takes s.0) == 0) ≡ false = ap (λ n. n == 0) size ∙ sym c.if-is_empty.ensures in
     let takes : c.from_vec.result ≡ seat_takes s.0 = c.from_vec.ensures ∙ found in
     let kept : IsCore p net c.takes.new.self = subst (λ (t : CoreView). IsCore p net t) (sym c.in_ok-takes.ensures.same) core in
     let done = c.in_ok-follow.ensures p net kept in
     let now = subst (λ (ts : List Take). IsCore p (effect net (record { agent = c.args.me; takes = ts })) c.follow.new.self) takes done.1 in
-    let leads = turn_leads p net c.args.state.now.seats core.shows c.args.me s.0 s.1 some c.follow.new.self now in
-    (leads.0,
-    leads.1,
-    c.in_ok-push.ensures.items
-    ∙ ap (λ (ts : List Take). let e : Event = record { agent = c.args.me; takes = ts } in c.args.events.now.items ++ e ∷ []) takes
-    ∙ turn_adds p net c.args.state.now.seats core.shows c.args.me s.0 s.1 some c.args.events.now.items)
+    let leads = turn_leads p net c.args.state.now.seats core.shows c.args.me s.0 s.1 some c.follow.new.self now in (
+      leads.0,
+      leads.1,
+      c.in_ok-push.ensures.items
+          ∙ ap (λ (ts : List Take). let e : Event = record { agent = c.args.me; takes = ts } in c.args.events.now.items ++ e ∷ []) takes
+          ∙ turn_adds p net c.args.state.now.seats core.shows c.args.me s.0 s.1 some c.args.events.now.items,
+    )
