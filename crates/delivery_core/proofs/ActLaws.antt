@@ -1,17 +1,15 @@
 -- A lawful event: its agent may react on its batch, and its parcels go to agents that are there.
-use Rattle.std.proofs.Common.{◌≡◌, ◌≢◌, ℕ, zero, suc, ◌+◌, ◌<◌, ◌≤◌, Bool, true, false, cond, ◌==◌, ◌||◌, not, nat_lt, nat_le, if◌then◌else◌, List, [], ◌∷◌, ◌++◌, map, take, length, get_or, Option, Some, None, refl, sym, ap, subst, ◌∙◌, inl, inr, arith}
+use Rattle.std.proofs.Common.{◌≡◌, ◌≢◌, ℕ, zero, suc, ◌+◌, ◌<◌, ◌≤◌, Bool, true, false, ◌==◌, not, nat_lt, nat_le, if◌then◌else◌, List, [], ◌∷◌, ◌++◌, take, length, get_or, Option, Some, None, refl, sym, ap, subst, ◌∙◌, inl, arith}
 use Rattle.std.specs.List.{slice_get, slice_set, list_any, All, Contains}
 use Rattle.std.proofs.lemmas.Bool.{ltb-false, or_parts, eqb-false, eqb-true, false≢true}
-use Rattle.std.proofs.lemmas.Option.{none-some, slice_get_within, get_or_from_slice_get}
-use Rattle.std.proofs.lemmas.List.{length-map, length-append, length-take-le, length-set}
+use Rattle.std.proofs.lemmas.Option.{none-some, get_or_from_slice_get}
+use Rattle.std.proofs.lemmas.List.{length-map, length-append, length-take-le}
 use Rattle.std.proofs.lemmas.List.Elements.{All-nil, All-append, All-map, All-weaker}
 use Rattle.dcop_base.specs.Problem.{Dcop}
-use Rattle.dcop_base.specs.Graph.{neighbours}
 use Rattle.dcop_base.proofs.FirstLaws.{Contains-head, Contains-tail}
 use Rattle.protocol_steps.specs.declared.message.Message.{Message}
 use Rattle.protocol_steps.specs.declared.event.Take.{Take}
 use Rattle.protocol_steps.specs.declared.event.Event.{Event}
-use Rattle.protocol_steps.specs.declared.event.EventFault.{EventFault}
 use Rattle.protocol_steps.specs.declared.event.EventFault.TheVariants.{Nobody, Ended, Nothing, Order, TooMany}
 use Rattle.protocol_steps.specs.View.{View, private_of, ended_of}
 use Rattle.protocol_steps.specs.Machine.{MayReact, IsBatch, SendersFrom, IsToNeighbour}
@@ -19,14 +17,14 @@ use Rattle.protocol_steps.specs.Network.{Network, waiting}
 use Rattle.protocol_steps.specs.Run.{form_fault, has_nothing, ascends_from}
 use Rattle.protocol_steps.specs.Effect.{effect}
 use Rattle.protocol_steps.proofs.EventLaws.{not_then}
-use Rattle.delivery_core.specs.State.{LinkView, SeatView, link_from, waiting_from}
+use Rattle.delivery_core.specs.State.{LinkView, SeatView, waiting_from}
 use Rattle.delivery_core.specs.NetworkState.{letters_of}
 use Rattle.delivery_core.specs.Inboxes.{senders, letters_by, short_in}
 use Rattle.delivery_core.specs.SeatEvents.{seat_after, seat_sends, deliver_all, seats_after, seat_fault, core_fault}
 use Rattle.delivery_core.specs.Shown.{Shows, Moves}
 use Rattle.delivery_core.proofs.NearLaws.{near_back}
 use Rattle.delivery_core.proofs.InboxLaws.{letters_taken, asc_parts}
-use Rattle.delivery_core.proofs.ShownLaws.{view_there, both_none, ascend, waits_here, letters_same, inside, form, short, box, shown_after}
+use Rattle.delivery_core.proofs.ShownLaws.{view_there, ascend, waits_here, letters_same, inside, form, short, box, shown_after}
 
 -- the agent of an event without a fault
 pub record Seated (seats : List SeatView) (e : Event) : Type 0 where

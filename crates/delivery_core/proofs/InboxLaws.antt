@@ -1,18 +1,17 @@
 -- An inbox after letters came, after takes, and after what was taken is kept.
-use Rattle.std.proofs.Common.{◌≡◌, ◌≢◌, ℕ, zero, suc, ◌+◌, ◌<◌, ◌≤◌, Bool, true, false, cond, ◌==◌, nat_le, if◌then◌else◌, List, [], ◌∷◌, ◌++◌, map, take, drop, length, Option, Some, None, refl, sym, ap, subst, ◌∙◌, inl, inr, arith}
-use Rattle.std.specs.List.{find, filter, flat_map, fold, last_or, All, Contains, sum_by}
-use Rattle.std.proofs.lemmas.Bool.{cases_eq, eqb-true, ne_eqb, eq-eqb, eqb-false, leb-true, false≢true}
-use Rattle.std.proofs.lemmas.List.{append-nil, drop-drop, take-map, drop-map}
+use Rattle.std.proofs.Common.{◌≡◌, ℕ, ◌+◌, ◌<◌, ◌≤◌, Bool, true, false, cond, ◌==◌, nat_le, if◌then◌else◌, List, [], ◌∷◌, ◌++◌, take, Option, Some, None, refl, sym, ap, ◌∙◌, arith}
+use Rattle.std.specs.List.{filter, flat_map, fold, last_or}
+use Rattle.std.proofs.lemmas.Bool.{eqb-true, ne_eqb, eqb-false, leb-true, false≢true}
+use Rattle.std.proofs.lemmas.List.{append-nil, drop-drop, take-map}
 use Rattle.std.proofs.lemmas.List.Sums.{sum_by-cons}
-use Rattle.std.proofs.lemmas.List.Elements.{filter-append, All-nil, All-append, All-map}
+use Rattle.std.proofs.lemmas.List.Elements.{filter-append}
 use Rattle.protocol_steps.specs.declared.message.Message.{Message}
 use Rattle.protocol_steps.specs.declared.event.Take.{Take}
 use Rattle.protocol_steps.specs.Network.{taken_from}
 use Rattle.protocol_steps.specs.Run.{ascends_from}
-use Rattle.protocol_steps.specs.Machine.{SendersFrom}
-use Rattle.delivery_core.specs.State.{LinkView, link_from, waiting_on, taken_on, waiting_from, last_taken}
+use Rattle.delivery_core.specs.State.{LinkView, link_from, waiting_on, waiting_from}
 use Rattle.delivery_core.specs.NetworkState.{letters_of}
-use Rattle.delivery_core.specs.Inboxes.{senders, edit_link, with_letter, without_next, with_last, add_letter, take_off, keep_last, letters_by}
+use Rattle.delivery_core.specs.Inboxes.{senders, edit_link, without_next, with_last, take_off, keep_last, letters_by}
 
 -- a link that may be there is changed, where it is the one
 abbrev pub map_link : Bool → (LinkView → LinkView) → Option LinkView → Option LinkView

@@ -1,5 +1,5 @@
 -- The link of a sender in an inbox: found, looked up, and changed.
-use Rattle.std.proofs.Common.{◌≡◌, ◌≢◌, ℕ, zero, suc, ◌<◌, ◌≤◌, ◌-◌, Bool, true, false, cond, ◌==◌, nat_lt, List, [], ◌∷◌, ◌++◌, length, take, get_or, Option, Some, None, refl, sym, ap, subst, ◌∙◌, arith}
+use Rattle.std.proofs.Common.{◌≡◌, ℕ, zero, suc, ◌<◌, ◌-◌, Bool, true, false, cond, ◌==◌, nat_lt, List, [], ◌∷◌, ◌++◌, length, take, get_or, Option, Some, None, refl, sym, ap, ◌∙◌, arith}
 use native.Mathlib.Numerals.{unary_clauses}
 use Rattle.std.specs.List.{find, position, position_or_len, slice_set, last_or}
 use Rattle.std.proofs.lemmas.Bool.{ltb-false}

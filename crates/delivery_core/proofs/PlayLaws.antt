@@ -1,7 +1,7 @@
 -- Rounds: turn by turn, and round by round until playing stops.
-use Rattle.std.proofs.Common.{◌≡◌, ◌≢◌, ℕ, zero, suc, ◌+◌, ◌-◌, ◌<◌, ◌≤◌, Bool, true, false, ◌==◌, ◌||◌, nat_le, List, [], ◌∷◌, ◌++◌, length, min, Option, Some, None, refl, sym, ap, subst, ◌∙◌, inl, inr, arith}
+use Rattle.std.proofs.Common.{◌≡◌, ◌≢◌, ℕ, suc, ◌+◌, ◌-◌, ◌<◌, ◌≤◌, Bool, true, false, ◌==◌, ◌||◌, nat_le, List, [], ◌∷◌, ◌++◌, length, min, Option, Some, refl, sym, ap, subst, ◌∙◌, inl, inr, arith}
 use Rattle.std.specs.List.{fold, flat_map, range_with_len, list_all}
-use Rattle.std.proofs.lemmas.Bool.{false≢true, cases_lt, ne_eqb, eq-eqb, eqb-false, le-leb, lt-leb, or_parts}
+use Rattle.std.proofs.lemmas.Bool.{cases_lt, ne_eqb, le-leb, lt-leb}
 use Rattle.std.proofs.lemmas.List.{append-nil, append_assoc, length-append, length-map}
 use Rattle.std.proofs.lemmas.List.Sums.{fold-append}
 use Rattle.std.proofs.lemmas.List.Concat.{flat_map-append}
@@ -11,10 +11,10 @@ use Rattle.protocol_steps.specs.View.{View, ended_of}
 use Rattle.protocol_steps.specs.Network.{Network}
 use Rattle.protocol_steps.specs.Run.{happen, run}
 use Rattle.protocol_steps.specs.Effect.{effect, has_ended, deliveries}
-use Rattle.delivery_core.specs.State.{SeatView, CoreView, views_of}
+use Rattle.delivery_core.specs.State.{CoreView}
 use Rattle.delivery_core.specs.NetworkState.{most_counted}
 use Rattle.delivery_core.specs.Turns.{turn, turns, round, after, stops, PlaysTo, IsPlayed}
-use Rattle.delivery_core.specs.Shown.{Shows, IsCore}
+use Rattle.delivery_core.specs.Shown.{IsCore}
 use Rattle.delivery_core.specs.SeatTurns.{Leads, TakesTurn, Turned, PlaysRound, Playing, is_over}
 use Rattle.delivery_core.proofs.RunLaws.{is_state}
 

@@ -1,19 +1,18 @@
 -- Runs by one more event, and core states as network states.
-use Rattle.std.proofs.Common.{◌≡◌, ℕ, ◌+◌, ◌<◌, ◌≤◌, List, [], ◌∷◌, ◌++◌, map, take, length, get_or, Option, Some, None, refl, sym, ap, subst, ◌∙◌, arith}
-use Rattle.std.specs.List.{slice_get, last_or, fold}
-use Rattle.std.proofs.lemmas.Option.{slice_get_read}
+use Rattle.std.proofs.Common.{◌≡◌, ℕ, ◌+◌, ◌<◌, List, [], ◌∷◌, ◌++◌, take, length, get_or, Option, Some, None, refl, sym, ap, ◌∙◌}
+use Rattle.std.specs.List.{last_or}
 use Rattle.std.proofs.lemmas.List.{take_more, map-append}
 use Rattle.std.proofs.lemmas.List.Sums.{fold_push}
 use Rattle.dcop_base.specs.Problem.{Dcop}
 use Rattle.protocol_steps.specs.declared.message.Message.{Message}
 use Rattle.protocol_steps.specs.declared.event.Event.{Event}
 use Rattle.protocol_steps.specs.declared.event.EventFault.{EventFault}
-use Rattle.protocol_steps.specs.Network.{Network, link}
+use Rattle.protocol_steps.specs.Network.{Network}
 use Rattle.protocol_steps.specs.Effect.{effect}
 use Rattle.protocol_steps.specs.Run.{event_fault, unless, happen, run}
-use Rattle.delivery_core.specs.State.{CoreView, message_of, waiting_from, last_taken, last_letter, inbox_at, last_sent}
+use Rattle.delivery_core.specs.State.{CoreView, message_of, waiting_from, inbox_at}
 use Rattle.delivery_core.specs.NetworkState.{IsStateOf, letters_of}
-use Rattle.delivery_core.specs.Shown.{Shows, IsCore}
+use Rattle.delivery_core.specs.Shown.{IsCore}
 use Rattle.delivery_core.proofs.ShownLaws.{waits_is, last_append}
 
 -- one more lawful event of a run

@@ -1,20 +1,19 @@
 -- Agents that are those of a network: which events are lawful, and what an event does.
-use Rattle.std.proofs.Common.{◌≡◌, ◌≢◌, ℕ, zero, suc, ◌+◌, ◌<◌, ◌≤◌, Bool, true, false, cond, ◌==◌, nat_lt, if◌then◌else◌, List, [], ◌∷◌, ◌++◌, map, take, drop, length, Option, Some, None, refl, sym, ap, subst, ◌∙◌, inl, inr, arith}
-use Rattle.std.specs.List.{slice_get, slice_set, last_or, All, Contains, fold, sum_by}
+use Rattle.std.proofs.Common.{◌≡◌, ℕ, zero, suc, ◌+◌, ◌<◌, ◌≤◌, Bool, true, false, cond, ◌==◌, nat_lt, if◌then◌else◌, List, [], ◌∷◌, ◌++◌, take, drop, length, Option, Some, None, refl, sym, ap, subst, ◌∙◌, inl, inr, arith}
+use Rattle.std.specs.List.{slice_get, slice_set, last_or, All, Contains, fold}
 use Rattle.std.specs.Option.{option_map}
-use Rattle.std.proofs.lemmas.Bool.{cases_eq, eqb-true, ne_eqb, eqb-false, ltb-false}
+use Rattle.std.proofs.lemmas.Bool.{cases_eq, eqb-true, eqb-false, ltb-false}
 use Rattle.std.proofs.lemmas.Option.{none-some, same_Some, slice_get_within, slice_get-map}
 use Rattle.std.proofs.lemmas.List.{append-nil, append_assoc, length-set, length-map, length-append, length-take-le, map-set, map-append, drop-map, drop_at, take-append-drop}
 use Rattle.std.proofs.lemmas.List.Sums.{sum_by-cons, sum_by-append}
 use Rattle.std.proofs.lemmas.List.Elements.{All-weaker}
 use Rattle.dcop_base.specs.Problem.{Dcop}
-use Rattle.dcop_base.specs.Graph.{neighbours}
 use Rattle.protocol_steps.specs.declared.message.Message.{Message}
 use Rattle.protocol_steps.specs.declared.event.Take.{Take}
 use Rattle.protocol_steps.specs.declared.event.Event.{Event}
 use Rattle.protocol_steps.specs.declared.event.EventFault.{EventFault}
 use Rattle.protocol_steps.specs.declared.event.EventFault.TheVariants.{TooMany}
-use Rattle.protocol_steps.specs.View.{View, private_of, ended_of, started_of}
+use Rattle.protocol_steps.specs.View.{View, ended_of}
 use Rattle.protocol_steps.specs.Step.{step_of}
 use Rattle.protocol_steps.specs.Machine.{IsToNeighbour}
 use Rattle.protocol_steps.specs.Network.{Desk, Network, messages_to, taken_from, takes_at, link, waiting, batch}
@@ -22,14 +21,14 @@ use Rattle.protocol_steps.specs.Run.{or_else, form_fault, too_many, takes_fault,
 use Rattle.protocol_steps.specs.Effect.{desk_after, network_after, effect, effect_at}
 use Rattle.protocol_steps.proofs.EventLaws.{Happens, get_same, get_other, link_after, added, not_then}
 use Rattle.protocol_steps.proofs.AccountLaws.{form_parts}
-use Rattle.delivery_core.specs.State.{LinkView, SeatView, link_from, waiting_on, taken_on, waiting_from, last_taken, inbox_of, inbox_at, views_of}
+use Rattle.delivery_core.specs.State.{LinkView, SeatView, link_from, waiting_on, taken_on, waiting_from, last_taken, inbox_of, inbox_at}
 use Rattle.delivery_core.specs.NetworkState.{letters_of}
 use Rattle.delivery_core.specs.Inboxes.{senders, without_next, take_off, letters_by, inbox_after, short_in}
 use Rattle.delivery_core.specs.SeatEvents.{seat_after, seat_sends, deliver_all, seats_after, seat_fault, core_fault}
 use Rattle.delivery_core.specs.Shown.{IsRunning, Shows}
 use Rattle.delivery_core.proofs.NearLaws.{near_back}
 use Rattle.delivery_core.proofs.StartedLaws.{step_started, step_private}
-use Rattle.delivery_core.proofs.InboxLaws.{map_link, with_lasts, from_of, link_off, link_kept, off_senders, kept_senders, letters_taken, letters_all, taken_of, none_of, asc_parts}
+use Rattle.delivery_core.proofs.InboxLaws.{map_link, with_lasts, from_of, link_off, link_kept, off_senders, kept_senders, letters_all, taken_of, none_of, asc_parts}
 use Rattle.delivery_core.proofs.DeliverLaws.{Delivered, delivered, inbox_set, seen_from}
 
 pub there_is : {A : Type 0} (xs : List A) (i : ℕ) → i < length xs → (x : A) × (slice_get xs i ≡ Some x)

@@ -1,23 +1,22 @@
 -- The agents of a core while they start, and when all have started.
 use Rattle.std.proofs.Common.{◌≡◌, ◌≢◌, ℕ, zero, suc, ◌+◌, ◌<◌, ◌≤◌, Bool, true, false, ◌==◌, nat_lt, if◌then◌else◌, List, [], ◌∷◌, ◌++◌, map, take, drop, length, get_or, Option, Some, None, refl, sym, ap, subst, ◌∙◌, inl, inr, arith}
-use Rattle.std.specs.List.{slice_get, slice_set, range_with_len, All, Contains, sum_by, fold, find}
+use Rattle.std.specs.List.{slice_get, slice_set, range_with_len, All, Contains, sum_by, fold}
 use Rattle.std.specs.Option.{option_map}
 use Rattle.std.proofs.Math.Seq.{drop-length}
-use Rattle.std.proofs.lemmas.Bool.{false≢true, cases_eq, cases_lt, eqb-true, eqb-false, ne_eqb, eq-eqb, le-ltb, lt-ltb}
+use Rattle.std.proofs.lemmas.Bool.{false≢true, cases_lt, eqb-true, eqb-false, le-ltb, lt-ltb}
 use Rattle.std.proofs.lemmas.Option.{none-some, same_Some, slice_get_within, slice_get_past, slice_get-map, slice_get-get_or}
 use Rattle.std.proofs.lemmas.List.{append-nil, length-set, length-map, map-set, map-append, take_all}
 use Rattle.std.proofs.lemmas.List.Elements.{All-weaker}
-use Rattle.std.proofs.lemmas.List.FromFn.{length-range_with_len, length-map-range_with_len, map-range_with_len_more}
+use Rattle.std.proofs.lemmas.List.FromFn.{length-map-range_with_len, map-range_with_len_more}
 use Rattle.dcop_base.specs.Problem.{Dcop}
-use Rattle.dcop_base.specs.Graph.{neighbours}
 use Rattle.dcop_base.specs.Knowledge.{private_of as known_by}
 use Rattle.protocol_steps.specs.declared.message.Message.{Message}
 use Rattle.protocol_steps.specs.declared.event.Take.{Take}
 use Rattle.protocol_steps.specs.Token.{new_token}
-use Rattle.protocol_steps.specs.View.{View, TokenKind, private_of, started_of}
+use Rattle.protocol_steps.specs.View.{View, TokenKind, private_of}
 use Rattle.protocol_steps.specs.Step.{start_of}
 use Rattle.protocol_steps.specs.Machine.{MayStart, IsToNeighbour}
-use Rattle.protocol_steps.specs.Network.{Desk, Network, start_state, messages_to, sent_at, takes_at, taken_from}
+use Rattle.protocol_steps.specs.Network.{Desk, start_state, messages_to, sent_at, takes_at, taken_from}
 use Rattle.protocol_steps.specs.Effect.{deliveries}
 use Rattle.delivery_core.specs.declared.start.Start.{Start}
 use Rattle.delivery_core.specs.declared.start.Start.TheVariants.{Token}

@@ -1,9 +1,9 @@
 -- A turn: what the code takes of an inbox is what the turn takes in the network, and its event is lawful.
-use Rattle.std.proofs.Common.{◌≡◌, ◌≢◌, ℕ, zero, suc, ◌+◌, ◌<◌, ◌≤◌, Bool, true, false, cond, ◌==◌, ◌||◌, not, nat_lt, nat_le, if◌then◌else◌, List, [], ◌∷◌, ◌++◌, map, length, min, Option, Some, None, refl, sym, ap, subst, ◌∙◌, inl, inr, arith}
-use Rattle.std.specs.List.{slice_get, filter, flat_map, range_with_len, list_any, Contains, sum_by}
-use Rattle.std.proofs.lemmas.Bool.{false≢true, cases_eq, ne_eqb, eq-eqb, eqb-true, eqb-false, le-ltb, le-leb, lt-leb, or_parts}
+use Rattle.std.proofs.Common.{◌≡◌, ℕ, zero, suc, ◌+◌, ◌<◌, ◌≤◌, Bool, true, false, cond, ◌==◌, nat_le, if◌then◌else◌, List, [], ◌∷◌, ◌++◌, length, min, Option, Some, None, refl, sym, ap, subst, ◌∙◌, inl, inr, arith}
+use Rattle.std.specs.List.{slice_get, filter, flat_map, range_with_len, list_any, Contains}
+use Rattle.std.proofs.lemmas.Bool.{false≢true, cases_eq, ne_eqb, eq-eqb, eqb-false, le-ltb, le-leb, lt-leb, or_parts}
 use Rattle.std.proofs.lemmas.Option.{slice_get_within}
-use Rattle.std.proofs.lemmas.List.{append-nil, length-map}
+use Rattle.std.proofs.lemmas.List.{length-map}
 use Rattle.std.proofs.lemmas.List.Sums.{sum_by-cons}
 use Rattle.dcop_base.specs.Problem.{Dcop}
 use Rattle.dcop_base.specs.Graph.{neighbours, are_neighbours}
@@ -11,18 +11,16 @@ use Rattle.protocol_steps.specs.declared.message.Message.{Message}
 use Rattle.protocol_steps.specs.declared.event.Take.{Take}
 use Rattle.protocol_steps.specs.declared.event.Event.{Event}
 use Rattle.protocol_steps.specs.declared.event.EventFault.{EventFault}
-use Rattle.protocol_steps.specs.declared.event.EventFault.TheVariants.{Nobody, Ended, Nothing, Order, TooMany}
 use Rattle.protocol_steps.specs.View.{View, ended_of}
 use Rattle.protocol_steps.specs.Network.{Network, waiting}
-use Rattle.protocol_steps.specs.Run.{or_else, form_fault, has_nothing, ascends_from, event_fault, happen, run}
+use Rattle.protocol_steps.specs.Run.{or_else, form_fault, has_nothing, ascends_from}
 use Rattle.protocol_steps.specs.Effect.{effect, pending, pending_at, deliveries}
-use Rattle.delivery_core.specs.State.{LinkView, SeatView, CoreView, link_from, waiting_on, waiting_from, inbox_of, inbox_at}
-use Rattle.delivery_core.specs.NetworkState.{letters_of}
+use Rattle.delivery_core.specs.State.{LinkView, SeatView, CoreView, link_from, waiting_on, waiting_from, inbox_of}
 use Rattle.delivery_core.specs.Inboxes.{senders, short_in}
 use Rattle.delivery_core.specs.SeatEvents.{seat_fault, core_fault}
-use Rattle.delivery_core.specs.Turns.{most_taken, take_some, turn_takes, event_with, turn, after}
+use Rattle.delivery_core.specs.Turns.{most_taken, take_some, turn_takes, event_with, turn}
 use Rattle.delivery_core.specs.SeatTurns.{inbox_takes, seat_takes, Leads}
-use Rattle.delivery_core.specs.Shown.{Shows, IsCore, Advances}
+use Rattle.delivery_core.specs.Shown.{Shows, IsCore}
 use Rattle.delivery_core.proofs.NearLaws.{from_filter}
 use Rattle.delivery_core.proofs.ShownLaws.{view_there, waits_is, fault_same}
 use Rattle.delivery_core.proofs.ActLaws.{waits_of, seated}

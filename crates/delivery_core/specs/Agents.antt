@@ -1,5 +1,5 @@
 -- The agents of a start, as they are made.
-use Rattle.std.specs.Prelude.{ℕ, List, map, length}
+use Rattle.std.specs.Prelude.{List, map, length}
 use Rattle.std.specs.List.{range_with_len}
 use Rattle.dcop_base.specs.Problem.{Dcop}
 use Rattle.dcop_base.specs.Knowledge.{private_of}

@@ -1,6 +1,6 @@
 -- What an event does to the agents of a core state.
-use Rattle.std.specs.Prelude.{◌≡◌, ℕ, ◌+◌, ◌<◌, true, List, [], ◌∷◌, map, length, Option, Some, None, min, slice_get}
-use Rattle.std.specs.List.{fold, sum_by, slice_set, Contains}
+use Rattle.std.specs.Prelude.{◌≡◌, ℕ, ◌+◌, true, List, length, Option, Some, None, min, slice_get}
+use Rattle.std.specs.List.{fold, sum_by, slice_set}
 use Rattle.dcop_base.specs.Problem.{Dcop}
 use Rattle.dcop_base.specs.Graph.{neighbours}
 use Rattle.protocol_steps.specs.declared.message.Message.{Message}

@@ -1,5 +1,5 @@
 -- What a core state holds: each agent's view, what waits for it and what it took last, and a count of deliveries.
-use Rattle.std.specs.Prelude.{ℕ, List, [], ◌∷◌, map, Option, Some, None, ◌==◌, slice_get}
+use Rattle.std.specs.Prelude.{ℕ, List, [], map, Option, Some, None, ◌==◌, slice_get}
 use Rattle.std.specs.List.{find, last_or}
 use Rattle.dcop_base.specs.Table.{CostTable}
 use Rattle.pseudotree.specs.declared.agent.Place.{Place}

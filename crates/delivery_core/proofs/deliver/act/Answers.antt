@@ -1,12 +1,12 @@
-use Rattle.std.proofs.Common.{◌≡◌, ℕ, ◌<◌, List, length, get_or, refl, subst, sym, ap, ◌∙◌}
-use Rattle.std.specs.List.{All, slice_set}
+use Rattle.std.proofs.Common.{◌≡◌, ℕ, ◌<◌, List, get_or, refl, subst, sym, ap, ◌∙◌}
+use Rattle.std.specs.List.{All}
 use Rattle.std.proofs.lemmas.List.{length-set}
 use Rattle.protocol_steps.specs.declared.message.Message.{Message}
 use Rattle.protocol_steps.specs.declared.event.Take.{Take}
 use Rattle.protocol_steps.specs.Machine.{MayReact, IsBatch, IsToNeighbour}
 use Rattle.delivery_core.specs.State.{SeatView}
 use Rattle.delivery_core.specs.Inboxes.{letters_by}
-use Rattle.delivery_core.specs.SeatEvents.{seat_after, seat_sends, deliver_all}
+use Rattle.delivery_core.specs.SeatEvents.{seat_after, seat_sends}
 use Rattle.delivery_core.proofs.ListLaws.{on_ok}
 use Rattle.delivery_core.proofs.ActLaws.{seated, read_seat, may_react, is_batch, all_below, moved}
 use Rattle.delivery_core.proofs.deliver.act.Goals as goal

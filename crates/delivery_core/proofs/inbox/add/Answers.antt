@@ -1,8 +1,8 @@
-use Rattle.std.proofs.Common.{◌≡◌, ap, sym, ◌∙◌}
+use Rattle.std.proofs.Common.{ap, sym, ◌∙◌}
 use Rattle.delivery_core.proofs.ListLaws.{on_ok}
 use Rattle.std.specs.List.{slice_set}
 use Rattle.delivery_core.specs.State.{LinkView}
-use Rattle.delivery_core.specs.Inboxes.{with_letter, edit_link}
+use Rattle.delivery_core.specs.Inboxes.{with_letter}
 use Rattle.delivery_core.proofs.LinkLaws.{edited, unedited}
 use Rattle.delivery_core.proofs.inbox.add.Goals as goal
 

@@ -1,4 +1,4 @@
-use Rattle.std.proofs.Common.{◌≡◌, ap, ◌∙◌, sym}
+use Rattle.std.proofs.Common.{ap, ◌∙◌, sym}
 use Rattle.std.specs.List.{slice_set}
 use Rattle.delivery_core.specs.State.{LinkView}
 use Rattle.delivery_core.specs.Inboxes.{with_last}

@@ -1,4 +1,4 @@
-use Rattle.std.proofs.Common.{◌≡◌, ◌≤◌, drop}
+use Rattle.std.proofs.Common.{◌≡◌, drop}
 use Rattle.protocol_steps.specs.Run.{ascends_from}
 use Rattle.delivery_core.proofs.lawful.is_ascending.Given as goal
 

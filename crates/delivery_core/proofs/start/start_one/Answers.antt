@@ -1,4 +1,4 @@
-use Rattle.std.proofs.Common.{◌≡◌, ℕ, ◌+◌, ◌<◌, length, List, get_or, sym, ap, subst, ◌∙◌}
+use Rattle.std.proofs.Common.{ℕ, ◌+◌, ◌<◌, List, get_or, sym, ap, subst, ◌∙◌}
 use Rattle.std.specs.List.{All, slice_set}
 use Rattle.std.proofs.lemmas.List.{length-set}
 use Rattle.protocol_steps.specs.declared.message.Message.{Message}

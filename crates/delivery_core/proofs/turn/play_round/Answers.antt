@@ -1,4 +1,4 @@
-use Rattle.std.proofs.Common.{◌≡◌, ◌<◌, ◌≤◌, length, arith}
+use Rattle.std.proofs.Common.{arith}
 use Rattle.delivery_core.proofs.PlayLaws.{turned_none, turned_next, turned_all}
 use Rattle.delivery_core.proofs.turn.play_round.Goals as goal
 

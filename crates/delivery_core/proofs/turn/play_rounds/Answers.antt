@@ -1,4 +1,4 @@
-use Rattle.std.proofs.Common.{◌≡◌, ◌≢◌, ◌≤◌, vec_len, length, sym, ◌∙◌, arith}
+use Rattle.std.proofs.Common.{◌≡◌, ◌≢◌, ◌≤◌, length, sym, ◌∙◌, arith}
 use Rattle.delivery_core.specs.NetworkState.{most_counted}
 use Rattle.delivery_core.proofs.PlayLaws.{over_is, stops_over, stops_spent, playing_none, playing_next, played, played_still}
 use Rattle.delivery_core.proofs.turn.play_rounds.Goals as goal

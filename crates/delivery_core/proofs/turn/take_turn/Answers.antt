@@ -1,14 +1,12 @@
-use Rattle.std.proofs.Common.{◌≡◌, ◌++◌, ◌∷◌, [], ◌==◌, Bool, true, false, List, None, length, vec_len, refl, sym, ap, subst, ◌∙◌}
+use Rattle.std.proofs.Common.{◌≡◌, ◌++◌, ◌∷◌, [], ◌==◌, false, List, None, length, vec_len, sym, ap, subst, ◌∙◌}
 use Rattle.std.proofs.lemmas.Option.{get_or_from_slice_get}
 use Rattle.std.proofs.lemmas.List.{append-nil}
-use Rattle.dcop_base.specs.Problem.{Dcop}
 use Rattle.protocol_steps.specs.declared.event.Take.{Take}
 use Rattle.protocol_steps.specs.declared.event.Event.{Event}
-use Rattle.protocol_steps.specs.Network.{Network}
 use Rattle.protocol_steps.specs.Effect.{effect}
-use Rattle.delivery_core.specs.State.{SeatView, CoreView}
+use Rattle.delivery_core.specs.State.{CoreView}
 use Rattle.delivery_core.specs.SeatEvents.{core_fault}
-use Rattle.delivery_core.specs.SeatTurns.{seat_takes, Leads}
+use Rattle.delivery_core.specs.SeatTurns.{seat_takes}
 use Rattle.delivery_core.specs.Turns.{turn}
 use Rattle.delivery_core.specs.Shown.{IsCore, IsSomeCore}
 use Rattle.delivery_core.proofs.ShownLaws.{there_is}

@@ -1,4 +1,4 @@
-use Rattle.std.proofs.Common.{◌≡◌, ◌<◌, ◌-◌, length, deque_len, Some, subst, arith, get_or, refl}
+use Rattle.std.proofs.Common.{◌≡◌, ◌<◌, ◌-◌, length, deque_len, Some, subst, get_or, refl}
 use Rattle.std.specs.List.{last_or}
 use Rattle.delivery_core.specs.State.{LinkView}
 use Rattle.delivery_core.proofs.LinkLaws.{last_is}

@@ -1,6 +1,6 @@
-use Rattle.std.proofs.Common.{◌≡◌, Bool, List, ap, ◌∙◌}
+use Rattle.std.proofs.Common.{List, ap, ◌∙◌}
 use Rattle.std.specs.List.{list_all}
-use Rattle.protocol_steps.specs.View.{View, ended_of}
+use Rattle.protocol_steps.specs.View.{ended_of}
 use Rattle.delivery_core.specs.State.{SeatView, CoreView, views_of}
 use Rattle.delivery_core.proofs.ListLaws.{all-map}
 use Rattle.delivery_core.proofs.state.CoreState.all_ended.Goals as goal

@@ -1,14 +1,8 @@
-use Rattle.std.proofs.Common.{◌≡◌, List, length, None, min, arith, sym, ap, subst, ◌∙◌}
-use Rattle.protocol_steps.specs.declared.event.Take.{Take}
-use Rattle.protocol_steps.specs.Effect.{effect, deliveries}
+use Rattle.std.proofs.Common.{List, sym, ap, subst, ◌∙◌}
 use Rattle.delivery_core.specs.State.{SeatView, CoreView}
-use Rattle.delivery_core.specs.NetworkState.{most_counted}
 use Rattle.delivery_core.specs.SeatEvents.{core_fault}
-use Rattle.delivery_core.specs.Shown.{IsCore, Shows}
-use Rattle.delivery_core.proofs.ListLaws.{written_back}
+use Rattle.delivery_core.specs.Shown.{IsCore}
 use Rattle.delivery_core.proofs.ShownLaws.{fault_same}
-use Rattle.delivery_core.proofs.ActLaws.{seated}
-use Rattle.delivery_core.proofs.CountLaws.{deliveries_after, counts, counted}
 use Rattle.delivery_core.proofs.state.CoreState.happen.Goals as goal
 
 pub returns-in-Some : goal.returns-in-Some
