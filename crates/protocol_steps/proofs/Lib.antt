@@ -8,3 +8,4 @@ pub mod Rows
 pub mod NetworkRows
 pub mod JournalStampLaws
 pub mod LinkLaws
+pub mod TallyLaws

@@ -6,9 +6,9 @@ use Rattle.std.proofs.lemmas.Bool.{and_parts, and_from}
 use Rattle.std.proofs.lemmas.Option.{none-some, same_Some}
 use Rattle.protocol_steps.specs.declared.message.Message.{Message}
 use Rattle.protocol_steps.specs.Network.{Desk, Network, taken_from, takes_at, link}
-use Rattle.token_runs.specs.TokenRun.{taken_on, delivered}
+use Rattle.protocol_steps.specs.Delivered.{taken_on, delivered}
 use Rattle.token_runs.proofs.Serial.{Serial}
-use Rattle.token_runs.proofs.TallyLaws.{tally, tally_same, count-flat}
+use Rattle.protocol_steps.proofs.TallyLaws.{tally, tally_same, count-flat}
 use Rattle.token_runs.proofs.NetworkLaws.{message_on, total, IsSerial}
 
 module _ (n : ℕ) (net : Network) (s : Serial) (is : IsSerial n net s) where

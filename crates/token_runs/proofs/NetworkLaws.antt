@@ -18,7 +18,7 @@ use Rattle.protocol_steps.specs.Effect.{desk_after, deliveries}
 use Rattle.protocol_steps.proofs.EventLaws.{get_same, get_other}
 use Rattle.token_runs.specs.TokenRun.{is_token, is_done}
 use Rattle.token_runs.proofs.Serial.{Flight, Serial, put, flight_of, one_if, tick_at}
-use Rattle.token_runs.proofs.TallyLaws.{tally, tally_pair, sum-set}
+use Rattle.protocol_steps.proofs.TallyLaws.{tally, tally_pair, sum-set}
 use Rattle.token_runs.proofs.CallLaws.{put_same, put_other}
 
 -- the message under way, on the link from j to i
