@@ -9,3 +9,4 @@ pub mod NetworkRows
 pub mod JournalStampLaws
 pub mod LinkLaws
 pub mod TallyLaws
+pub mod DeliveredLaws

@@ -29,7 +29,8 @@ use Rattle.token_runs.proofs.RunSteps.{RunsOn, runs_on, waits_for}
 use Rattle.token_runs.proofs.StartLaws.{first_state, starts, none_delivered}
 use Rattle.token_runs.proofs.PlaceLaws.{tree, linked, all_seen, place_is}
 use Rattle.token_runs.proofs.SoundLaws.{IsSound, sound_ticks, sound_first}
-use Rattle.token_runs.proofs.DeliveredLaws.{told, all_pass, one_passes}
+use Rattle.protocol_steps.proofs.DeliveredLaws.{all_pass, one_passes}
+use Rattle.token_runs.proofs.DeliveredLaws.{told}
 
 module _ (p : Dcop) (problem : IsProblem p) where
   abbrev first_seen : List Visit
