@@ -49,7 +49,7 @@ and_true : (a : Bool) → (a && true) ≡ a
 and_true true = refl
 and_true false = refl
 
-told_none : (a b : Bool) (m : Message) → b ≡ false → told (a && b) m ≡ []
+pub told_none : (a b : Bool) (m : Message) → b ≡ false → told (a && b) m ≡ []
 told_none a b m h = ap (λ (c : Bool). told c m) (and_right a b h)
 
 -- what waits, by whether one is the other's child, and what was taken and sent
@@ -74,7 +74,7 @@ down_waits a b u d J E U V ha hb hd hE = rw (ha, hb, hd, hE) refl
 down_none : (a b u d J E : Bool) (U V : Message) → a ≡ false → b ≡ true → d ≡ false → E ≡ false → waits_at a b u d J E U V ≡ []
 down_none a b u d J E U V ha hb hd hE = rw (ha, hb, hd, hE) refl
 
-no_link : (a b u d J E : Bool) (U V : Message) → a ≡ false → b ≡ false → waits_at a b u d J E U V ≡ []
+pub no_link : (a b u d J E : Bool) (U V : Message) → a ≡ false → b ≡ false → waits_at a b u d J E U V ≡ []
 no_link a b u d J E U V ha hb = rw (ha, hb) refl
 
 mark_cases : (f : ℕ → Bool) (c x : ℕ) → mark f c x ≡ true → (x ≡ c) ⊎ (f x ≡ true)

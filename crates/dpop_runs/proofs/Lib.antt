@@ -6,3 +6,6 @@ pub mod SomePlan
 pub mod AgentLaws
 pub mod Marks
 pub mod LetterLaws
+pub mod BatchLaws
+pub mod RunSteps
+pub mod StartLaws
