@@ -85,7 +85,7 @@ to_children : (table : ℕ → CostTable) (value : ℕ → ℕ) (xs : List ℕ) 
 to_children table value [] = refl
 to_children table value (x ∷ xs) = ap (λ (ms : List (ℕ × Message)). told_by table value x ∷ ms) (to_children table value xs)
 
-none_above : (xs : List ℕ) → slice_get xs (length xs - 1) ≡ None → xs ≡ []
+pub none_above : (xs : List ℕ) → slice_get xs (length xs - 1) ≡ None → xs ≡ []
 none_above [] e = refl
 none_above (x ∷ xs) e = absurd (none-some _ (sym e ∙ last_there (x ∷ xs) (omega arith)))
 

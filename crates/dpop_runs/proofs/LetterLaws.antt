@@ -59,7 +59,7 @@ waits_at a b u d J E U V = drop (length (told (a && u) U ++ told (b && d) V)) (t
 up_taken : (a b u d J E : Bool) (U V : Message) → a ≡ true → b ≡ false → u ≡ true → J ≡ true → waits_at a b u d J E U V ≡ []
 up_taken a b u d J E U V ha hb hu hJ = rw (ha, hb, hu, hJ) refl
 
-up_waits : (a b u d J E : Bool) (U V : Message) → a ≡ true → b ≡ false → u ≡ false → J ≡ true → waits_at a b u d J E U V ≡ U ∷ []
+pub up_waits : (a b u d J E : Bool) (U V : Message) → a ≡ true → b ≡ false → u ≡ false → J ≡ true → waits_at a b u d J E U V ≡ U ∷ []
 up_waits a b u d J E U V ha hb hu hJ = rw (ha, hb, hu, hJ) refl
 
 up_none : (a b u d J E : Bool) (U V : Message) → a ≡ true → b ≡ false → u ≡ false → J ≡ false → waits_at a b u d J E U V ≡ []
@@ -68,7 +68,7 @@ up_none a b u d J E U V ha hb hu hJ = rw (ha, hb, hu, hJ) refl
 down_taken : (a b u d J E : Bool) (U V : Message) → a ≡ false → b ≡ true → d ≡ true → E ≡ true → waits_at a b u d J E U V ≡ []
 down_taken a b u d J E U V ha hb hd hE = rw (ha, hb, hd, hE) refl
 
-down_waits : (a b u d J E : Bool) (U V : Message) → a ≡ false → b ≡ true → d ≡ false → E ≡ true → waits_at a b u d J E U V ≡ V ∷ []
+pub down_waits : (a b u d J E : Bool) (U V : Message) → a ≡ false → b ≡ true → d ≡ false → E ≡ true → waits_at a b u d J E U V ≡ V ∷ []
 down_waits a b u d J E U V ha hb hd hE = rw (ha, hb, hd, hE) refl
 
 down_none : (a b u d J E : Bool) (U V : Message) → a ≡ false → b ≡ true → d ≡ false → E ≡ false → waits_at a b u d J E U V ≡ []
@@ -83,7 +83,7 @@ mark_cases f c x h = elim (cases_eq x c) [
   | inr ne ↦ inr (sym (mark_else f c x ne) ∙ h)
 ]
 
-one_more : (f : ℕ → Bool) (n c : ℕ) → c < n → f c ≡ false → tally (λ x. one_if (mark f c x)) n ≡ tally (λ x. one_if (f x)) n + 1
+pub one_more : (f : ℕ → Bool) (n c : ℕ) → c < n → f c ≡ false → tally (λ x. one_if (mark f c x)) n ≡ tally (λ x. one_if (f x)) n + 1
 one_more f n c lt fresh =
     tally_more (λ x. one_if (f x)) (λ x. one_if (mark f c x)) n c 1 lt
     (ap one_if (mark_here f c) ∙ ap (λ (b : Bool). one_if b + 1) (sym fresh)) (λ x ne. ap one_if (mark_else f c x ne))

@@ -9,3 +9,5 @@ pub mod LetterLaws
 pub mod BatchLaws
 pub mod RunSteps
 pub mod StartLaws
+pub mod CountLaws
+pub mod PendingLaws

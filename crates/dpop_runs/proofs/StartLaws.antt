@@ -46,7 +46,7 @@ one_start : (v : DpopView) → start_of (DpopKind v) ≡ as_kind DpopKind (dpop_
 unfolding start_of
 one_start v = refl
 
-tally_none : (n : ℕ) → tally (λ c. 0) n ≡ 0
+pub tally_none : (n : ℕ) → tally (λ c. 0) n ≡ 0
 tally_none zero = refl
 tally_none (suc n) = let rest = tally_none n in omega (arith, rest)
 
