@@ -1,7 +1,7 @@
 -- One DPOP agent: how it joins, takes a table, and takes values.
-use Rattle.std.proofs.Common.{◌≡◌, ℕ, ◌+◌, ◌-◌, ◌*◌, ◌<◌, ◌≤◌, Bool, true, false, cond, ◌&&◌, ◌||◌, eqb, ltb, leb, List, [], ◌∷◌, ◌++◌, map, length, get_or, set, Option, Some, None, is_some, nat_eq, refl, sym, ap, ap₂, subst, ◌∙◌, inl, inr, arith}
+use Rattle.std.proofs.Common.{◌≡◌, ℕ, ◌-◌, ◌*◌, ◌<◌, ◌≤◌, Bool, true, false, cond, ◌&&◌, ◌||◌, eqb, leb, List, [], ◌∷◌, ◌++◌, map, length, get_or, set, Option, Some, None, is_some, nat_eq, refl, sym, ap, ap₂, subst, ◌∙◌, inl, inr, arith}
 use Rattle.std.specs.Prelude.{slice_get}
-use Rattle.std.specs.List.{filter, flat_map, list_all, list_any, zip, position, range_with_len}
+use Rattle.std.specs.List.{filter, flat_map, list_all, list_any, zip}
 use Rattle.std.specs.Option.{option_map}
 use Rattle.std.specs.Cmp.Lexicographic.{pointwise}
 use Rattle.std.proofs.Math.Nat.{mul-le-mul_left}
@@ -9,7 +9,7 @@ use Rattle.std.proofs.lemmas.Bool.{cases_Bool, cases_eq, both_ways, cond-true, c
 use Rattle.std.proofs.lemmas.Option.{none-some, slice_get-map, slice_get-get_or}
 use Rattle.std.proofs.lemmas.List.{get_or_default}
 use Rattle.std.proofs.lemmas.List.Elements.{filter-append}
-use Rattle.dcop_base.specs.Table.{CostTable, has, has_repeat, product}
+use Rattle.dcop_base.specs.Table.{CostTable, has, product}
 use Rattle.dcop_base.specs.Problem.{Dcop}
 use Rattle.dcop_base.specs.Graph.{are_neighbours, neighbours}
 use Rattle.dcop_base.specs.Whole.{IsProblem}
@@ -25,16 +25,16 @@ use Rattle.pseudotree.proofs.SpreadLaws.{any_in_range, above_child, above_parent
 use Rattle.pseudotree.proofs.NestLaws.{has_filter, filter_has, separators_nest, above_shorter}
 use Rattle.adopt_context.specs.Context.{Context, value_in, is_value}
 use Rattle.protocol_steps.specs.declared.message.Message.{Message}
-use Rattle.protocol_steps.specs.declared.message.Message.TheVariants.{Util, ValueAll}
+use Rattle.protocol_steps.specs.declared.message.Message.TheVariants.{ValueAll}
 use Rattle.protocol_steps.specs.Agent.{Stepped, quiet}
 use Rattle.protocol_steps.specs.Values.{or_zero, valued, context_of}
-use Rattle.protocol_steps.specs.Dpop.{DpopView, there, kept_scopes, size_of, separator, separator_with, joined_cells_with, best_value, util_table}
+use Rattle.protocol_steps.specs.Dpop.{DpopView, there, kept_scopes, size_of, separator, joined_cells_with, best_value, util_table}
 use Rattle.protocol_steps.specs.DpopJoin.{values_for, decide, send_up, can_join, join}
 use Rattle.protocol_steps.specs.DpopStep.{is_below_size, is_open, takes_util, with_table, take_util, takes_values, dpop_message}
 use Rattle.dcop_optimum.proofs.LineLaws.{within_above, within_self}
 use Rattle.dcop_optimum.proofs.JoinLaws.{size_some, child_named, above_in_problem, separator_above}
 use Rattle.dpop_runs.proofs.ValueLaws.{value_in-zip, value_in-context_of, all-context_of, context_of_same}
-use Rattle.dpop_runs.proofs.ListLaws.{same_truth, has_head, has_tail, has_at, product_le, filter_distinct, map_alike, IsPlaced, placed, set_map, all_from, all_at, any_where, mark, mark_here, mark_else}
+use Rattle.dpop_runs.proofs.ListLaws.{same_truth, has_at, product_le, filter_distinct, map_alike, placed, set_map, all_from, all_at, any_where, mark, mark_here, mark_else}
 use Rattle.dpop_runs.proofs.Plan.{view_with, kept_if, full, Plan, util_of_plan, values_for_child, decided, joins}
 use Rattle.dpop_runs.proofs.FullLaws.{scopes_of, any_map, child_is, size_is, sizes_are, near_is, separator_within, child_scope, scope_is, full_separator, sizes_is, cells_full, best_reads, best_below}
 

@@ -1,5 +1,5 @@
 -- A batch of a run of DPOP: what it changes.
-use Rattle.std.proofs.Common.{◌≡◌, ℕ, zero, suc, ◌+◌, ◌<◌, ◌≤◌, Bool, true, false, cond, not, ◌==◌, nat_lt, nat_le, if◌then◌else◌, List, [], ◌∷◌, ◌++◌, map, length, take, drop, Option, Some, None, refl, sym, ap, ap₂, subst, ◌∙◌, inl, inr, arith}
+use Rattle.std.proofs.Common.{◌≡◌, ℕ, ◌+◌, ◌<◌, ◌≤◌, Bool, true, false, cond, not, ◌==◌, nat_lt, nat_le, if◌then◌else◌, List, [], ◌∷◌, ◌++◌, map, length, take, drop, Option, Some, None, refl, sym, ap, ap₂, subst, ◌∙◌, inl, inr, arith}
 use Rattle.std.specs.List.{list_any, sum_by, fold}
 use Rattle.std.proofs.lemmas.Bool.{cases_eq, or_parts, eq-eqb, ne_eqb, ltb-false, leb-true, leb-false, not-false, true≢false, false_from_ne_true}
 use Rattle.std.proofs.lemmas.Option.{none-some}
@@ -128,16 +128,16 @@ module _ (p : Dcop) (paths : List (List ℕ)) (problem : IsProblem p) (pseudo : 
       let now : IsTaken p paths problem pseudo linked narrow plan s i t.from (dpop_message (view plan s i) t.from m) = one.next.taken_is in
       let y : Stepped DpopView = next_letter dpop_message x (t.from, m) in
       let later : (j : ℕ) → t.from + 1 ≤ j → j < length paths → waiting ds i j ≡ waits plan now.next i j = λ j high low.
-          let ne : j ≡ t.from → ⊥ = λ e. omega (arith, e, high) in
-          there j (omega (arith, from_b, high)) low
-          ∙ sym (elim (cases_eq j i) [
-            | inl self ↦ waits_self now.next i j self ∙ sym (waits_self s i j self)
-            | inr other ↦
-                ap₂ (λ (k : ℕ) (ms : List Message). drop k ms) (ap (λ (ms : List Message). length ms) (now.elsewhere i j (λ q. ne q.1))) (now.other_sent j i other)
-          ]) in
+      let ne : j ≡ t.from → ⊥ = λ e. omega (arith, e, high) in
+      there j (omega (arith, from_b, high)) low
+      ∙ sym (elim (cases_eq j i) [
+        | inl self ↦ waits_self now.next i j self ∙ sym (waits_self s i j self)
+        | inr other ↦
+            ap₂ (λ (k : ℕ) (ms : List Message). drop k ms) (ap (λ (ms : List Message). length ms) (now.elsewhere i j (λ q. ne q.1))) (now.other_sent j i other)
+      ]) in
       let rest = batched ds i lt ts (t.from + 1) now.next y now.fit (ap (λ (v : DpopView). (dpop_message v t.from m).view) is ∙ now.view_is) later all_known.1 all_some.1 up.1 short.1 in
       let whole : fold (next_letter dpop_message) x (batch ds i (t ∷ ts)) ≡ fold (next_letter dpop_message) y (batch ds i ts) =
-          ap (λ (ls : List (ℕ × Message)). fold (next_letter dpop_message) x (ls ++ batch ds i ts)) one.letters in
+      ap (λ (ls : List (ℕ × Message)). fold (next_letter dpop_message) x (ls ++ batch ds i ts)) one.letters in
       let S : List (ℕ × Message) = (dpop_message (view plan s i) t.from m).sends in
       let per : ℕ → ℕ → ℕ = λ j k. cond (k == j) t.count 0 in
       record {

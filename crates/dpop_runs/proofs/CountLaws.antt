@@ -1,7 +1,7 @@
 -- How many messages were taken in a run of DPOP, by kind.
-use Rattle.std.proofs.Common.{◌≡◌, ℕ, zero, suc, ◌+◌, ◌<◌, ◌≤◌, Bool, true, false, ◌&&◌, eqb, List, [], ◌∷◌, ◌++◌, length, take, Option, Some, None, refl, sym, ap, ap₂, subst, ◌∙◌, inl, inr, arith}
+use Rattle.std.proofs.Common.{◌≡◌, ℕ, zero, suc, ◌+◌, ◌<◌, ◌≤◌, Bool, true, false, ◌&&◌, eqb, List, ◌++◌, length, take, Option, Some, refl, sym, ap, ap₂, ◌∙◌, inl, inr, arith}
 use Rattle.std.specs.List.{count_by}
-use Rattle.std.proofs.lemmas.Bool.{cases_Bool, cases_eq, false≢true, eq-eqb, ne_eqb, and_right, or_left, or_right}
+use Rattle.std.proofs.lemmas.Bool.{cases_eq, false≢true, eq-eqb, ne_eqb, and_right, or_left, or_right}
 use Rattle.dcop_base.specs.Problem.{Dcop}
 use Rattle.dcop_base.specs.Whole.{IsProblem}
 use Rattle.pseudotree.specs.Tree.{parent_of, is_variable}
@@ -14,11 +14,11 @@ use Rattle.protocol_steps.specs.declared.message.Message.TheVariants.{Util, Valu
 use Rattle.protocol_steps.specs.Network.{Network}
 use Rattle.protocol_steps.specs.Delivered.{taken_on}
 use Rattle.protocol_steps.proofs.TallyLaws.{tally, tally_same, tally_more}
-use Rattle.protocol_steps.proofs.DeliveredLaws.{total, delivered_are}
+use Rattle.protocol_steps.proofs.DeliveredLaws.{delivered_are}
 use Rattle.dpop_runs.specs.DpopRun.{is_util, is_value_all, utils, values}
 use Rattle.dpop_runs.proofs.ListLaws.{mark}
 use Rattle.dpop_runs.proofs.Plan.{Plan, util_of_plan, values_for_child}
-use Rattle.dpop_runs.proofs.Marks.{Marks, told, one_if, joined, ended, sent, past, IsFit}
+use Rattle.dpop_runs.proofs.Marks.{Marks, told, one_if, joined, ended, past}
 use Rattle.dpop_runs.proofs.LetterLaws.{not_both, one_more}
 use Rattle.dpop_runs.proofs.RunSteps.{IsAt}
 use Rattle.dpop_runs.proofs.StartLaws.{tally_none}

@@ -1,11 +1,11 @@
 -- Agents with the tables of all their children: what they join, and what they choose.
-use Rattle.std.proofs.Common.{◌≡◌, ℕ, zero, suc, ◌+◌, ◌-◌, ◌*◌, ◌<◌, ◌≤◌, Bool, true, false, cond, ◌&&◌, ◌||◌, eqb, ltb, min, List, [], ◌∷◌, ◌++◌, map, length, get_or, Option, Some, None, refl, sym, ap, ap₂, subst, ◌∙◌, inl, inr, arith}
+use Rattle.std.proofs.Common.{◌≡◌, ℕ, zero, suc, ◌+◌, ◌-◌, ◌<◌, ◌≤◌, Bool, true, false, cond, ◌&&◌, ◌||◌, eqb, ltb, List, [], ◌∷◌, map, length, get_or, Some, None, refl, sym, ap, ap₂, subst, ◌∙◌, inl, inr, arith}
 use Rattle.std.proofs.Math.Path.{fun_ext}
-use Rattle.std.specs.List.{filter, flat_map, list_all, list_any, sum_by, zip, All}
-use Rattle.std.proofs.lemmas.Bool.{cases_Bool, cases_eq, cond-true, cond-false, cond_both, eqb-true, eq-eqb, or_cases, ltb-true, ltb-false}
+use Rattle.std.specs.List.{filter, flat_map, list_all, list_any, sum_by, zip}
+use Rattle.std.proofs.lemmas.Bool.{cases_Bool, cases_eq, cond-true, cond-false, cond_both, eqb-true, ltb-true, ltb-false}
 use Rattle.std.proofs.lemmas.List.{length-map}
 use Rattle.std.proofs.lemmas.List.Sums.{sum_by-cons}
-use Rattle.dcop_base.specs.Table.{CostTable, has, product, AreWithin, cell_place}
+use Rattle.dcop_base.specs.Table.{CostTable, has, product, AreWithin}
 use Rattle.dcop_base.specs.Problem.{Dcop}
 use Rattle.dcop_base.specs.Graph.{are_neighbours, neighbours}
 use Rattle.dcop_base.specs.Whole.{IsProblem}
@@ -24,7 +24,7 @@ use Rattle.adopt_context.specs.Bounds.{cap, lowest}
 use Rattle.protocol_steps.specs.Values.{or_zero, valued, choices}
 use Rattle.protocol_steps.specs.Dpop.{there, own_tables, kept_tables, size_of, separator, joined_cost, best_value, util_cell, util_table}
 use Rattle.dcop_optimum.specs.Subtree.{own_tables_of, AreValuesAbove, IsSubtreeOptimum}
-use Rattle.dcop_optimum.specs.Decomposition.{IsLeastBelow, AreChildOptima, best_cost_at}
+use Rattle.dcop_optimum.specs.Decomposition.{AreChildOptima, best_cost_at}
 use Rattle.dcop_optimum.specs.TreeOptimum.{IsLowestLeast, IsBestChoice}
 use Rattle.dcop_optimum.proofs.SumLaws.{sum_same}
 use Rattle.dcop_optimum.proofs.LineLaws.{within_cases, within_above}

@@ -1,13 +1,12 @@
 -- One message of a run of DPOP: what it changes.
-use Rattle.std.proofs.Common.{◌≡◌, ℕ, zero, suc, ◌+◌, ◌<◌, Bool, true, false, cond, ◌&&◌, ◌||◌, ◌⊎◌, eqb, List, [], ◌∷◌, ◌++◌, map, length, drop, Option, Some, None, refl, sym, ap, ap₂, subst, ◌∙◌, inl, inr, arith}
-use Rattle.std.specs.List.{list_all}
-use Rattle.std.proofs.lemmas.Bool.{cases_Bool, cases_eq, both_ways, cond-true, cond-false, eqb-true, eq-eqb, ne_eqb, and_right, or_parts, or_from, false_from_ne_true}
-use Rattle.std.proofs.lemmas.Option.{none-some, same_Some}
+use Rattle.std.proofs.Common.{◌≡◌, ℕ, ◌+◌, ◌<◌, Bool, true, false, cond, ◌&&◌, ◌||◌, ◌⊎◌, eqb, List, [], ◌∷◌, ◌++◌, map, length, drop, Option, Some, None, refl, sym, ap, ap₂, subst, ◌∙◌, inl, inr, arith}
+use Rattle.std.proofs.lemmas.Bool.{cases_Bool, cases_eq, both_ways, eqb-true, eq-eqb, ne_eqb, and_right, or_parts, false_from_ne_true}
+use Rattle.std.proofs.lemmas.Option.{same_Some}
 use Rattle.std.proofs.lemmas.List.{append-nil, length-append}
 use Rattle.dcop_base.specs.Table.{CostTable, has, has_repeat}
 use Rattle.dcop_base.specs.Problem.{Dcop}
 use Rattle.dcop_base.specs.Whole.{IsProblem}
-use Rattle.pseudotree.specs.Tree.{path_of, parent_of, children_of, is_variable}
+use Rattle.pseudotree.specs.Tree.{parent_of, children_of, is_variable}
 use Rattle.pseudotree.specs.Pseudotree.{IsPseudotree, IsLinked}
 use Rattle.pseudotree.specs.Width.{IsNarrow}
 use Rattle.pseudotree.proofs.TreeLaws.{longer}
@@ -17,7 +16,7 @@ use Rattle.protocol_steps.specs.declared.message.Message.{Message}
 use Rattle.protocol_steps.specs.Agent.{Stepped, quiet}
 use Rattle.protocol_steps.specs.Dpop.{DpopView}
 use Rattle.protocol_steps.specs.DpopStep.{dpop_message}
-use Rattle.protocol_steps.specs.Network.{message_to, messages_to}
+use Rattle.protocol_steps.specs.Network.{messages_to}
 use Rattle.protocol_steps.proofs.TallyLaws.{tally, tally_more}
 use Rattle.dcop_optimum.proofs.JoinLaws.{child_named}
 use Rattle.dpop_runs.proofs.ListLaws.{same_truth, map_alike, filter_distinct, all_at, all_alike, all_from, mark, mark_here, mark_else, mark_kept}

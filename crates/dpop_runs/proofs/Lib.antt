@@ -11,3 +11,5 @@ pub mod RunSteps
 pub mod StartLaws
 pub mod CountLaws
 pub mod PendingLaws
+pub mod TableLaws
+pub mod RunLaws

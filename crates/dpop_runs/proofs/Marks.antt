@@ -1,5 +1,5 @@
 -- How far a run of DPOP is: which UTIL and which VALUE were taken, and what all agents and links are then.
-use Rattle.std.specs.Prelude.{◌≡◌, ℕ, ◌+◌, Bool, true, false, ◌&&◌, List, [], ◌∷◌, ◌++◌, map, length, drop, Option, Some, None, if◌then◌else◌}
+use Rattle.std.specs.Prelude.{◌≡◌, ℕ, ◌+◌, Bool, true, ◌&&◌, List, [], ◌∷◌, ◌++◌, map, length, drop, Option, Some, None, if◌then◌else◌}
 use Rattle.std.specs.List.{list_all}
 use Rattle.dcop_base.specs.Table.{CostTable}
 use Rattle.dcop_base.specs.Problem.{Dcop}

@@ -1,12 +1,12 @@
 -- In a run of DPOP a message is pending until all agents have ended.
-use Rattle.std.proofs.Common.{◌≡◌, ℕ, zero, suc, ◌+◌, ◌-◌, ◌*◌, ◌<◌, ◌≤◌, Bool, true, false, ◌&&◌, ◌⊎◌, if◌then◌else◌, List, [], ◌∷◌, length, Option, Some, None, refl, sym, ap, subst, ◌∙◌, inl, inr, arith}
+use Rattle.std.proofs.Common.{◌≡◌, ℕ, zero, suc, ◌+◌, ◌-◌, ◌*◌, ◌<◌, ◌≤◌, Bool, true, false, ◌&&◌, ◌⊎◌, if◌then◌else◌, List, [], ◌∷◌, length, Option, Some, None, refl, sym, ap, ◌∙◌, inl, inr, arith}
 use Rattle.std.specs.List.{list_all, slice_get}
 use Rattle.std.proofs.lemmas.Bool.{cases_Bool, cases_eq, both_ways, and_from, eq-eqb, false_from_ne_true}
 use Rattle.std.proofs.lemmas.Option.{none-some}
 use Rattle.dcop_base.specs.Table.{has}
 use Rattle.dcop_base.specs.Problem.{Dcop}
 use Rattle.dcop_base.specs.Whole.{IsProblem}
-use Rattle.pseudotree.specs.Tree.{path_of, parent_of, children_of, is_variable, IsRoot}
+use Rattle.pseudotree.specs.Tree.{path_of, parent_of, children_of, is_variable}
 use Rattle.pseudotree.specs.Pseudotree.{IsPseudotree, IsLinked}
 use Rattle.pseudotree.specs.Width.{IsNarrow}
 use Rattle.pseudotree.proofs.CheckLaws.{within_tree}
@@ -22,7 +22,7 @@ use Rattle.dpop_runs.proofs.ListLaws.{has_head, has_tail, all_at, from_leaves, f
 use Rattle.dpop_runs.proofs.Plan.{Plan, util_of_plan, values_for_child}
 use Rattle.dpop_runs.proofs.FullLaws.{child_is}
 use Rattle.dpop_runs.proofs.AgentLaws.{none_above}
-use Rattle.dpop_runs.proofs.Marks.{Marks, ended_by, one_if, joined, ended, view, waits, IsFit}
+use Rattle.dpop_runs.proofs.Marks.{Marks, ended_by, joined, ended, view, waits}
 use Rattle.dpop_runs.proofs.LetterLaws.{not_both, up_waits, down_waits}
 use Rattle.dpop_runs.proofs.RunSteps.{IsAt, waits_for}
 use Rattle.dpop_runs.proofs.CountLaws.{tally_miss, tally_miss_two, tally_all, utils_are, values_are}

@@ -1,5 +1,5 @@
 -- Each event of a run of DPOP keeps the network as the marks tell it.
-use Rattle.std.proofs.Common.{◌≡◌, ℕ, ◌+◌, ◌<◌, Bool, true, false, cond, ◌==◌, nat_le, List, [], ◌∷◌, ◌++◌, length, drop, Option, Some, None, refl, sym, ap, ap₂, subst, ◌∙◌, inl, inr, arith}
+use Rattle.std.proofs.Common.{◌≡◌, ℕ, ◌+◌, ◌<◌, Bool, true, false, cond, ◌==◌, nat_le, List, [], ◌∷◌, ◌++◌, length, drop, Some, None, refl, sym, ap, ap₂, subst, ◌∙◌, inl, inr, arith}
 use Rattle.std.specs.List.{list_any, sum_by, fold, slice_get}
 use Rattle.std.proofs.lemmas.Bool.{cases_eq, or_parts, eq-eqb, ne_eqb}
 use Rattle.std.proofs.lemmas.Option.{same_Some, slice_get_within}
@@ -59,7 +59,6 @@ module _ (p : Dcop) (paths : List (List ℕ)) (problem : IsProblem p) (pseudo : 
 
     form : (list_any (λ t. nat_le (length net.desks) t.from) e.takes ≡ false) × (has_nothing e.takes ≡ false) × (ascends_from 0 e.takes ≡ true)
     form = form_all (length net.desks) (ended_of h.view) e.takes fine.0
-
 
     it : IsBatched p paths problem pseudo linked narrow plan s e.agent (quiet (view plan s e.agent)) (batch net.desks e.agent e.takes) e.takes
     it =

@@ -1,5 +1,5 @@
 -- The start of DPOP agents: the leaves join, and the others wait.
-use Rattle.std.proofs.Common.{◌≡◌, ℕ, zero, suc, ◌+◌, ◌<◌, Bool, true, false, List, [], ◌∷◌, ◌++◌, map, length, replicate, get_or, Option, Some, None, zero-add, refl, sym, ap, ap₂, subst, ◌∙◌, arith}
+use Rattle.std.proofs.Common.{◌≡◌, ℕ, zero, suc, ◌+◌, ◌<◌, Bool, true, false, List, [], ◌∷◌, ◌++◌, map, length, replicate, Option, Some, None, zero-add, refl, sym, ap, ap₂, subst, ◌∙◌, arith}
 use Rattle.std.specs.List.{slice_get, sum_by, range_with_len}
 use Rattle.std.specs.Option.{option_map}
 use Rattle.std.proofs.lemmas.Bool.{false≢true}
@@ -22,14 +22,13 @@ use Rattle.protocol_steps.specs.DpopJoin.{join}
 use Rattle.protocol_steps.specs.DpopStep.{dpop_start}
 use Rattle.protocol_steps.specs.View.{View, DpopKind}
 use Rattle.protocol_steps.specs.Step.{as_kind, start_of}
-use Rattle.protocol_steps.specs.Network.{Desk, Network, start_state, messages_to, link}
-use Rattle.protocol_steps.specs.Effect.{deliveries}
+use Rattle.protocol_steps.specs.Network.{Desk, Network, start_state, messages_to}
 use Rattle.protocol_steps.specs.Links.{IsBegun}
 use Rattle.protocol_steps.proofs.LinkLaws.{links_grow}
 use Rattle.protocol_steps.proofs.TallyLaws.{tally}
 use Rattle.dpop_runs.specs.DpopRun.{place_at, dpop_agents}
 use Rattle.dpop_runs.proofs.Plan.{view_with, kept_if, Plan, util_of_plan, values_for_child}
-use Rattle.dpop_runs.proofs.Marks.{Marks, ended_by, joined, view, sent, past, IsFit, taken}
+use Rattle.dpop_runs.proofs.Marks.{Marks, ended_by, joined, past}
 use Rattle.dpop_runs.proofs.AgentLaws.{join_is}
 use Rattle.dpop_runs.proofs.LetterLaws.{told_none, IsShown, shown}
 use Rattle.dpop_runs.proofs.RunSteps.{IsAt}
