@@ -39,6 +39,8 @@ abbrev pub cut : ℕ → List Entry → List Entry
 cut excess [] = []
 cut excess (e ∷ es) = record e { share = lowered excess e } ∷ cut (excess + lowered excess e - e.share) es
 
--- allots the goal to the children of a row
+-- allots the goal to the children of a row; where their shares are the goal together, they stay
 abbrev pub allot : ℕ → List Entry → List Entry
-allot goal row = if nat_lt (share_sum row) goal then raise (goal - share_sum row) row else cut (share_sum row - goal) row
+allot goal row =
+    if nat_lt (share_sum row) goal then raise (goal - share_sum row) row
+    else (if nat_lt goal (share_sum row) then cut (share_sum row - goal) row else row)

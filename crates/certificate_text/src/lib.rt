@@ -12,4 +12,4 @@ mod writer;
 
 pub use certificate::{Certificate, Util, UtilList};
 pub use report::{Ending, Method, Report};
-pub use writer::write_report;
+pub use writer::{parent_word, write_report};

@@ -180,7 +180,7 @@ fn write_util(text: &mut String, names: &Names, util: &Util) -> Result<(), NoMem
         ≡ string_bytes text.old ++ line (util_words names.now util.now)) }
 {
     let name = names.name(util.var);
-    let parent = parent_of(names, util.parent);
+    let parent = parent_word(names, util.parent);
     write!(text, "util {name} {parent} :")?;
     write_scope(text, names, util.scope.as_slice())?;
     text.push_str(" :")?;
@@ -188,8 +188,8 @@ fn write_util(text: &mut String, names: &Names, util: &Util) -> Result<(), NoMem
     Ok(text.push_str("\n")?)
 }
 
-/// The word that tells an agent's parent.
-fn parent_of(names: &Names, parent: Option<VarId>) -> &str
+/// The word that tells a variable's parent: the parent's name, `-` for none.
+pub fn parent_word(names: &Names, parent: Option<VarId>) -> &str
     requires { IfSome parent (λ p. p < length names.now) }
     ensures { result.now ≡ parent_word names.now parent }
 {

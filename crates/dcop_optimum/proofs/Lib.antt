@@ -14,3 +14,4 @@ pub mod TreeOptimumLaws
 pub mod ChoiceLaws
 pub mod OptimumTableLaws
 pub mod SeparatorLaws
+mod Rows

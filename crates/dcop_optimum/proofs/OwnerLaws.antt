@@ -39,8 +39,8 @@ all_owned p paths problem pseudo k d lt =
     record {
       owner = one.owner;
       owns = one.owns;
-      named = one.lowest.named;
-      others = one.lowest.others;
+      named = one.is_deepest.named;
+      others = one.is_deepest.others;
       inside = scope_below t.scope (length p.sizes) (problem.tables k d lt).within;
       shared = λ u v hu hv. list_any_at (λ (x : CostTable). has x.scope u && has x.scope v) p.tables k d lt (and_from (has t.scope u) (has t.scope v) hu hv);
     }

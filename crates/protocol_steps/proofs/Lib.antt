@@ -10,3 +10,4 @@ pub mod JournalStampLaws
 pub mod LinkLaws
 pub mod TallyLaws
 pub mod DeliveredLaws
+pub mod StampRows

@@ -40,17 +40,20 @@ outcome net = (map (λ v. (value_of v, ended_of v)) net.views, deliveries net)
 abbrev pair_table : CostTable
 pair_table = of_two 0 1 (5 ∷ 3 ∷ 2 ∷ 7 ∷ [])
 
-abbrev pair : List View
-pair =
-    AdoptKind (new_adopt
+abbrev pub pair_x : View
+pair_x = AdoptKind (new_adopt
     (record { me = 0; size = 2; neighbours = 1 ∷ []; neighbour_sizes = 2 ∷ []; tables = pair_table ∷ [] })
     (record { me = 0; path = []; path_sizes = []; children = 1 ∷ []; lower = 1 ∷ [] })
     0)
-    ∷ AdoptKind (new_adopt
+
+abbrev pub pair_y : View
+pair_y = AdoptKind (new_adopt
     (record { me = 1; size = 2; neighbours = 0 ∷ []; neighbour_sizes = 2 ∷ []; tables = pair_table ∷ [] })
     (record { me = 1; path = 0 ∷ []; path_sizes = 2 ∷ []; children = []; lower = [] })
     0)
-    ∷ []
+
+abbrev pair : List View
+pair = pair_x ∷ pair_y ∷ []
 
 abbrev pair_events : List Event
 pair_events = takes_one 0 1 1 ∷ takes_one 1 0 4 ∷ takes_one 0 1 1 ∷ takes_one 1 0 2 ∷ takes_one 0 1 1 ∷ takes_one 1 0 3 ∷ []

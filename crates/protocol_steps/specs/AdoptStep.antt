@@ -3,7 +3,7 @@ use Rattle.std.specs.Prelude.{ℕ, ◌-◌, Bool, true, ◌&&◌, ◌||◌, not,
 use Rattle.std.specs.List.{fold, flat_map, position, slice_set}
 use Rattle.dcop_base.specs.Table.{has}
 use Rattle.adopt_context.specs.Context.{put, is_value}
-use Rattle.adopt_context.specs.Bounds.{row_at, entry_at, upper_sum}
+use Rattle.adopt_context.specs.Bounds.{row_at, entry_at, upper_sum, capped}
 use Rattle.adopt_context.specs.Allot.{lower_to, allot}
 use Rattle.protocol_steps.specs.declared.message.Message.{Message}
 use Rattle.protocol_steps.specs.declared.message.Message.TheVariants.{Value, Cost, Threshold, Terminate}
@@ -22,7 +22,7 @@ choose v =
 
 -- what is to be allotted: the threshold less the cost of the value, and no more than the children's upper bounds together
 abbrev pub to_allot : AdoptView → ℕ
-to_allot v = lower_to (v.threshold - delta v v.value) (upper_sum (row_at v.rows v.value))
+to_allot v = lower_to (v.threshold - delta v v.value) (capped (upper_sum (row_at v.rows v.value)))
 
 -- the threshold is allotted to the children: step 4
 abbrev pub allotted : AdoptView → AdoptView

@@ -4,26 +4,48 @@ ghost use Rattle.std.specs.Prelude.{◌≡◌, IfOk};
 ghost use Rattle.solve_report.specs.AnswerText.{HasText, answer_text};
 
 use crate::refusal::{refuse_many, refuse_not_yet, refuse_read, refuse_text, refuse_words};
+use crate::tree::{NodeRowList, write_tree};
 use certificate_text::{Report, write_report};
 use dcop_base::{Bytes, NoMemory};
-use problem_text::{ProblemFile, write_problem};
+use problem_text::{Names, ProblemFile, write_problem};
 use std::alloc::Global;
 
 /// What a command answers.
 #[derive(Debug, Drop)]
 pub enum Answer {
     /// A report on a file.
-    Report { report: Report, file: ProblemFile },
+    Report {
+        report: Report,
+        file: ProblemFile,
+    },
+    /// A tree: the messages that were delivered to find it, its nodes in the order of their lines,
+    /// and the names of its variables.
+    Tree {
+        deliveries: u64,
+        nodes: NodeRowList,
+        names: Names,
+    },
     /// A file, told by its canonical text; `upgrade` gives it version 2.
-    Upgraded { file: ProblemFile },
+    Upgraded {
+        file: ProblemFile,
+    },
     /// The words are refused, for the fault of this kind at this word. Words count from 1.
-    Words { at: u64, kind: u8 },
+    Words {
+        at: u64,
+        kind: u8,
+    },
     /// The problem text is refused, for the fault of this kind at this line. Lines count from 1.
     /// `problem` is the number of the problem's fault where the kind is 7, and 0 otherwise.
-    ProblemText { line: u64, kind: u8, problem: u8 },
+    ProblemText {
+        line: u64,
+        kind: u8,
+        problem: u8,
+    },
     /// There are more assignments than plain search goes through: so many, or [`u64::MAX`] where
     /// there are more than that.
-    Many { assignments: u64 },
+    Many {
+        assignments: u64,
+    },
     /// The input could not be read.
     Read,
     /// The words are accepted, and what they ask for is not served yet.
@@ -32,13 +54,18 @@ pub enum Answer {
 
 /// The exact text of an answer.
 ///
-/// It is the text of the report or of the file, or the one line of a refusal.
+/// It is the text of the report, of the tree or of the file, or the one line of a refusal.
 pub fn text_of(alloc: Global, answer: &Answer) -> Result<Bytes, NoMemory>
     requires { HasText answer.now }
     ensures { IfOk result (λ text. text ≡ answer_text answer.now) }
 {
     match answer {
         Answer::Report { report, file } => write_report(alloc, report, file),
+        Answer::Tree {
+            deliveries,
+            nodes,
+            names,
+        } => write_tree(alloc, *deliveries, nodes.as_slice(), names),
         Answer::Upgraded { file } => write_problem(alloc, file),
         Answer::Words { at, kind } => refuse_words(alloc, *at, *kind),
         Answer::ProblemText {

@@ -8,5 +8,7 @@ mod answer;
 mod refusal;
 #[cfg(test)]
 mod tests;
+mod tree;
 
 pub use answer::{Answer, text_of};
+pub use tree::{NodeRow, NodeRowList};

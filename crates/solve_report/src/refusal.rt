@@ -71,7 +71,8 @@ pub(crate) fn refuse_not_yet(alloc: Global) -> Result<Bytes, NoMemory>
     Ok(bytes_of(String::from_str(alloc, "refused words at 1 kind 10\n")?))
 }
 
-fn bytes_of(text: String) -> Bytes
+/// The bytes of a text.
+pub(crate) fn bytes_of(text: String) -> Bytes
     ensures { result ≡ string_bytes text }
 {
     Bytes::from_vec(text.into_bytes())

@@ -1,12 +1,14 @@
 //! The text of each answer, each with ample memory.
 
-ghost use Rattle.std.specs.Prelude.{◌≡◌, ℕ, [], ◌∷◌, length, None, IfOk};
+ghost use Rattle.std.specs.Prelude.{◌≡◌, ◌<◌, ℕ, [], ◌∷◌, length, None, IfOk, IfSome};
+ghost use Rattle.std.specs.List.{All};
 ghost use Rattle.solve_report.specs.AnswerText.{HasText};
+ghost use Rattle.solve_report.specs.Tree.{IsNamedRow};
 
-use crate::{Answer, text_of};
+use crate::{Answer, NodeRow, NodeRowList, text_of};
 use certificate_text::{Ending, Method, Report};
 use dcop_base::{CellList, Problem, SizeList, Table, TableList, Val, ValList, VarId, VarList};
-use problem_text::{Goal, ProblemFile};
+use problem_text::{Goal, Names, ProblemFile};
 use std::alloc::Global;
 use std::process::Abort;
 use std::test::Fail;
@@ -65,6 +67,63 @@ fn a_report_and_a_file_are_told_whole(rt: HostRuntime) -> Result<(), Fail> {
     let file = single(alloc)?;
     let expected = "dcop 1\nvar v0 3\ntable v0 : 4 0 9\nend\n";
     assert_text(&rt, alloc, &Answer::Upgraded { file }, expected)
+}
+
+/// The names of four variables.
+fn four_names(alloc: Global) -> Result<Names, Fail>
+    ensures { IfOk result (λ names. length names ≡ 4) }
+{
+    let mut names = Names::new(alloc);
+    names.push("a")?;
+    names.push("b")?;
+    names.push("c")?;
+    names.push("d")?;
+    Ok(names)
+}
+
+/// The row of one of four variables.
+fn row(var: VarId, parent: Option<VarId>, separator: Vec<VarId>) -> NodeRow
+    requires own { var < 4 }
+    requires parent { IfSome parent (λ p. p < 4) }
+    requires separator { All (λ v. v < 4) separator.items }
+    ensures { IsNamedRow 4 result }
+{
+    NodeRow {
+        var,
+        parent,
+        separator: VarList::from_vec(separator),
+    }
+}
+
+/// The depth-first tree of a triangle a, b, c with a tail d at b.
+fn paw_tree(alloc: Global) -> Result<NodeRowList, Fail>
+    ensures { IfOk result (All (IsNamedRow 4)) }
+{
+    let root = row(VarId(0), None, Vec::new(alloc));
+    let second = row(VarId(1), Some(VarId(0)), vec![in alloc; VarId(0)]?);
+    let third = row(
+        VarId(2),
+        Some(VarId(1)),
+        vec![in alloc; VarId(0), VarId(1)]?,
+    );
+    let tail = row(VarId(3), Some(VarId(1)), vec![in alloc; VarId(1)]?);
+    Ok(NodeRowList::from_vec(vec![in alloc; root, second, third, tail]?))
+}
+
+#[test]
+fn a_tree_is_told_whole(rt: HostRuntime) -> Result<(), Fail> {
+    let alloc = rt.alloc();
+    let names = four_names(alloc)?;
+    let nodes = paw_tree(alloc)?;
+    let tree = Answer::Tree {
+        deliveries: 6,
+        nodes,
+        names,
+    };
+    let expected = "status tree\ndeliveries 6\nnode a parent - separator\n\
+        node b parent a separator a\nnode c parent b separator a b\n\
+        node d parent b separator b\nend\n";
+    assert_text(&rt, alloc, &tree, expected)
 }
 
 #[test]

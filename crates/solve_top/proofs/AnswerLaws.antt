@@ -3,6 +3,7 @@ use Rattle.std.proofs.Common.{◌≡◌, ◌≢◌, ℕ, ◌<◌, List, Option, 
 use Rattle.dcop_edge.specs.Faults.{Rose}
 use Rattle.dcop_base.specs.declared.memory.NoMemory.{NoMemory}
 use Rattle.problem_text.specs.Declarations.{Declared}
+use Rattle.problem_text.specs.File.{TextFile}
 use Rattle.problem_text.specs.Reading.{Fault}
 use Rattle.solve_words.specs.declared.command.Command.{Command}
 use Rattle.solve_words.specs.declared.fault.WordFault.{WordFault}
@@ -19,6 +20,7 @@ use Rattle.solve_top.specs.Input.{Input, Unread, Broken, TooLong, Whole, SourceS
 use Rattle.solve_top.specs.Served.{task_of}
 use Rattle.solve_top.specs.Solving.{Answered, HasFew, Accepts}
 use Rattle.solve_top.specs.Statuses.{status_of}
+use Rattle.solve_top.specs.Tree.{IsTreeAnswer}
 use Rattle.solve_top.specs.Whole.{whole_read}
 
 -- the answer of a task, where words ask for it
@@ -52,17 +54,31 @@ Answered-text words command task before after bytes slice (Ok answer) asked serv
     Answered-task words command task before after (Whole bytes) answer asked served read (subst (λ (t : List ℕ). IsTextAnswer task (whole_read t) answer) same is) best
 Answered-text words command task before after bytes slice (Err none) asked served read same is best = tt
 
+-- an answer of `tree` is solved
+tree-solved : (file : TextFile) (answer : Answer) → IsTreeAnswer file answer → status_of answer ≡ Solved
+tree-solved file (answers.Tree deliveries nodes names) is = refl
+tree-solved file (answers.Report report same) is = absurd is
+tree-solved file (answers.Many n) is = absurd is
+tree-solved file (answers.Upgraded same) is = absurd is
+tree-solved file (answers.Words at kind) is = absurd is
+tree-solved file (answers.ProblemText line kind problem) is = absurd is
+tree-solved file answers.Read is = absurd is
+tree-solved file answers.NotYet is = absurd is
+
 -- a task's answer to a text that was read is no failed reading
 task-sound : (task : Task) (d : Declared) (answer : Answer) → IsTaskAnswer task d answer → status_of answer ≢ ReadFault
 task-sound tasks.Plain d (answers.Report report file) is = λ e. cc
 task-sound tasks.Plain d (answers.Many n) is = λ e. cc
+task-sound tasks.Plain d (answers.Tree deliveries nodes names) is = absurd is
 task-sound tasks.Plain d (answers.Upgraded file) is = absurd is
 task-sound tasks.Plain d (answers.Words at kind) is = absurd is
 task-sound tasks.Plain d (answers.ProblemText line kind problem) is = absurd is
 task-sound tasks.Plain d answers.Read is = absurd is
 task-sound tasks.Plain d answers.NotYet is = absurd is
+task-sound tasks.Tree d answer is = λ e. let s = tree-solved is.file answer is.is in cc
 task-sound tasks.Upgrade d (answers.Upgraded file) is = λ e. cc
 task-sound tasks.Upgrade d (answers.Report report file) is = absurd is
+task-sound tasks.Upgrade d (answers.Tree deliveries nodes names) is = absurd is
 task-sound tasks.Upgrade d (answers.Many n) is = absurd is
 task-sound tasks.Upgrade d (answers.Words at kind) is = absurd is
 task-sound tasks.Upgrade d (answers.ProblemText line kind problem) is = absurd is
@@ -121,13 +137,16 @@ ReadFault-answered words before after answer done more = failed-input words befo
 task-solved : (task : Task) (d : Declared) (answer : Answer) → HasFew task d → IsTaskAnswer task d answer → status_of answer ≡ Solved
 task-solved tasks.Plain d (answers.Report report file) few is = refl
 task-solved tasks.Plain d (answers.Many n) few is = absurd (omega (arith, few, is.0))
+task-solved tasks.Plain d (answers.Tree deliveries nodes names) few is = absurd is
 task-solved tasks.Plain d (answers.Upgraded file) few is = absurd is
 task-solved tasks.Plain d (answers.Words at kind) few is = absurd is
 task-solved tasks.Plain d (answers.ProblemText line kind problem) few is = absurd is
 task-solved tasks.Plain d answers.Read few is = absurd is
 task-solved tasks.Plain d answers.NotYet few is = absurd is
+task-solved tasks.Tree d answer few is = tree-solved is.file answer is.is
 task-solved tasks.Upgrade d (answers.Upgraded file) few is = refl
 task-solved tasks.Upgrade d (answers.Report report file) few is = absurd is
+task-solved tasks.Upgrade d (answers.Tree deliveries nodes names) few is = absurd is
 task-solved tasks.Upgrade d (answers.Many n) few is = absurd is
 task-solved tasks.Upgrade d (answers.Words at kind) few is = absurd is
 task-solved tasks.Upgrade d (answers.ProblemText line kind problem) few is = absurd is

@@ -17,6 +17,7 @@ use Rattle.solve_top.specs.Input.{Input, Unread, Broken, TooLong, Whole}
 use Rattle.solve_top.specs.Kinds.{number_of_words, number_of_text, number_of_problem}
 use Rattle.solve_top.specs.Plain.{IsPlainReport, HasFirstOptimum, IsTooMany}
 use Rattle.solve_top.specs.Served.{task_of}
+use Rattle.solve_top.specs.Tree.{AnswersTree}
 use Rattle.solve_top.specs.Whole.{whole_read}
 
 -- the answer to a task on a text that declares this: plain has at most MAX_ASSIGNMENTS assignments to try
@@ -24,6 +25,7 @@ abbrev pub IsTaskAnswer : Task → Declared → Answer → Type 0
 IsTaskAnswer tasks.Plain d (answers.Report report file) =
     (product d.sizes ≤ MAX_ASSIGNMENTS) × (declared_by file ≡ d) × IsPlainReport file report × HasFirstOptimum file report
 IsTaskAnswer tasks.Plain d (answers.Many assignments) = IsTooMany (product d.sizes) assignments
+IsTaskAnswer tasks.Tree d answer = AnswersTree d answer
 IsTaskAnswer tasks.Upgrade d (answers.Upgraded file) = declared_by file ≡ record d { version = 2 }
 IsTaskAnswer task d answer = ⊥
 

@@ -6,6 +6,8 @@ pub mod Whole
 pub mod Texts
 pub mod Goal
 pub mod Plain
+pub mod Tree
+pub mod Found
 pub mod Answering
 pub mod Statuses
 pub mod Solving

@@ -48,6 +48,7 @@ pub record Solves (words : List (List ℕ)) (source source' : SourceState) (sink
 -- the plain method has no more assignments to try than it tries
 abbrev pub HasFew : Task → Declared → Type 0
 HasFew tasks.Plain d = product d.sizes ≤ MAX_ASSIGNMENTS
+HasFew tasks.Tree d = Unit {0}
 HasFew tasks.Upgrade d = Unit {0}
 
 -- words and a text that are accepted, and that can be served

@@ -8,6 +8,7 @@ use Rattle.solve_top.specs.declared.status.Status.TheVariants.{Solved, BadWords,
 -- the status that goes with an answer
 abbrev pub status_of : Answer → Status
 status_of (answers.Report report file) = Solved
+status_of (answers.Tree deliveries nodes names) = Solved
 status_of (answers.Upgraded file) = Solved
 status_of (answers.Words at kind) = BadWords
 status_of answers.NotYet = BadWords

@@ -12,6 +12,7 @@ ghost use Rattle.solve_top.specs.Whole.{whole_read};
 use crate::plain::plain_answer;
 use crate::reading::{ReadEnd, read_all};
 use crate::task::Task;
+use crate::tree::tree_answer;
 use crate::whole::read_whole;
 use dcop_base::NoMemory;
 use dcop_edge::Source;
@@ -57,6 +58,7 @@ fn text_answer(alloc: Global, task: Task, bytes: &[u8]) -> Result<Answer, NoMemo
     match read_whole(alloc, bytes) {
         Ok(file) => match task {
             Task::Plain => plain_answer(alloc, file),
+            Task::Tree => tree_answer(alloc, file),
             Task::Upgrade => Ok(Answer::Upgraded {
                 file: upgraded(file),
             }),

@@ -14,6 +14,7 @@ mod task;
 #[cfg(test)]
 mod tests;
 mod top;
+mod tree;
 mod whole;
 mod writing;
 

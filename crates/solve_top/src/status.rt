@@ -8,7 +8,7 @@ use solve_report::Answer;
 /// How a call ended.
 #[derive(Clone, Copy, Debug, PartialEq, Eq)]
 pub enum Status {
-    /// A solved report or an upgraded text was printed.
+    /// A solved report, a tree or an upgraded text was printed.
     Solved,
     /// The words are refused, or ask for what is not served yet.
     BadWords,
@@ -45,7 +45,7 @@ impl Status {
         ensures { result ≡ status_of answer.now }
     {
         match answer {
-            Answer::Report { .. } | Answer::Upgraded { .. } => Status::Solved,
+            Answer::Report { .. } | Answer::Tree { .. } | Answer::Upgraded { .. } => Status::Solved,
             Answer::Words { .. } | Answer::NotYet => Status::BadWords,
             Answer::ProblemText { .. } => Status::BadText,
             Answer::Read => Status::ReadFault,

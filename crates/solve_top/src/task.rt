@@ -10,6 +10,8 @@ use solve_words::{Choice, Command, Format};
 pub enum Task {
     /// Solve a problem by the plain method.
     Plain,
+    /// Find the depth-first tree of a problem.
+    Tree,
     /// Write a problem again in the newest version of its text.
     Upgrade,
 }
@@ -25,6 +27,10 @@ impl Task {
                 format: Format::Dcop,
                 ..
             } => Some(Task::Plain),
+            Command::Tree {
+                format: Format::Dcop,
+                ..
+            } => Some(Task::Tree),
             Command::Upgrade {
                 format: Format::Dcop,
             } => Some(Task::Upgrade),

@@ -13,6 +13,21 @@ const GAIN: &str = "dcop 2\ngoal max\nvar x : lo hi\nvar y 2\ntable x y : 5 3 2 
 
 const GAIN_LATE: &str = "dcop 2\nvar x : lo hi\ngoal max\nvar y 2\ntable x y : 5 3 2 7\nend\n";
 
+const PAW: &str = "dcop 1\nvar a 2\nvar b 2\nvar c 2\nvar d 2\ntable a b : 1 2 2 0\n\
+    table a c : 1 2 2 0\ntable b c : 1 2 2 0\ntable b d : 1 2 2 0\nend\n";
+
+const PAW_TREE: &str = "status tree\ndeliveries 6\nnode a parent - separator\n\
+    node b parent a separator a\nnode c parent b separator a b\n\
+    node d parent b separator b\nend\n";
+
+/// Two components, which a joint of a and c ties.
+const APART: &str = "dcop 1\nvar a 2\nvar b 2\nvar c 2\nvar d 2\ntable a b : 1 0 3 2\n\
+    table c d : 4 4 5 1\nend\n";
+
+const APART_TREE: &str = "status tree\ndeliveries 6\nnode a parent - separator\n\
+    node b parent a separator a\nnode c parent a separator a\n\
+    node d parent c separator c\nend\n";
+
 const PLAIN: &str = "solve --method plain";
 
 const PAIR_REPORT: &str = "status solved\nmethod plain\nerror 0\ndeliveries 0\ncost 2\nlower 2\n\
@@ -60,6 +75,8 @@ fn worked_answers(rt: HostRuntime) -> Result<(), Fail> {
             "status solved\nmethod plain\ngoal max\nerror 0\ndeliveries 0\ncost 7\nlower 7\n\
                 upper 7\nvalue x hi\nvalue y 1\nend\n",
         ),
+        ("tree", PAW, 0, PAW_TREE),
+        ("tree --workers 4", APART, 0, APART_TREE),
         (
             "upgrade",
             PAIR,

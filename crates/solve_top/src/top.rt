@@ -18,8 +18,8 @@ use std::alloc::Global;
 ///
 /// The words are tested before anything is read, and the whole answer is built before anything is
 /// written. `solve --method plain` reads a problem and reports an assignment with the best sum of
-/// any, and `upgrade` reads a problem and writes it in the newest version of its text. Refusals
-/// are written to the sink too.
+/// any, `tree` reads a problem and writes the tree over which its agents work, and `upgrade` reads a
+/// problem and writes it in the newest version of its text. Refusals are written to the sink too.
 ///
 /// [`Status::ReadFault`] and [`Status::WriteFault`] come only where the source or the sink failed
 /// in this call. With `WriteFault` a prefix of the answer is written, with [`Status::NoMemory`],

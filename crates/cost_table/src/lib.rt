@@ -1,0 +1,17 @@
+//! Operations on one cost table: how many cells sizes make, where a cell stands, and slices.
+//!
+//! A slice of a table at a value of one of its variables is the table without the variable, with
+//! the cells at that value. A slice of a problem leaves its cut variables one value each.
+//! Contracts say a table by its cells, as a function of the values of its scope's variables, in
+//! scope order.
+#![tactic(auto)]
+
+mod cut;
+mod place;
+mod slicing;
+#[cfg(test)]
+mod tests;
+
+pub use cut::slice;
+pub use place::{cells_of, place_at, place_in, place_of, product_of};
+pub use slicing::{fix, scope_without, sizes_without};

@@ -1,0 +1,14 @@
+mod ListLaws
+mod LinkLaws
+mod KindLaws
+mod InboxLaws
+mod StartedLaws
+mod DeliverLaws
+mod NearLaws
+mod ShownLaws
+mod ActLaws
+mod StartLaws
+mod CountLaws
+mod RunLaws
+mod TurnLaws
+mod PlayLaws

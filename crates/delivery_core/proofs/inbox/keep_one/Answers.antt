@@ -1,0 +1,14 @@
+use Rattle.std.proofs.Common.{◌≡◌, ap, ◌∙◌, sym}
+use Rattle.std.specs.List.{slice_set}
+use Rattle.delivery_core.specs.State.{LinkView}
+use Rattle.delivery_core.specs.Inboxes.{with_last}
+use Rattle.delivery_core.proofs.LinkLaws.{edited, unedited}
+use Rattle.delivery_core.proofs.inbox.keep_one.Goals as goal
+
+pub returns-in-Some : goal.returns-in-Some
+returns-in-Some c =
+    ap (λ (x : LinkView). slice_set c.args.links.now c.in-Some.at x) c.keep.ensures
+    ∙ edited c.args.from (with_last c.args.letter) c.args.links.now c.in-Some.at c.index-links-at.result (sym c.place_of.ensures ∙ c.in-Some.is)
+
+pub returns-in_default : goal.returns-in_default
+returns-in_default c = unedited c.args.from (with_last c.args.letter) c.args.links.now (sym c.place_of.ensures ∙ c.in_default.is)

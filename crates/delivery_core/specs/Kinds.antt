@@ -1,0 +1,8 @@
+-- The view of an agent of any kind.
+use Rattle.protocol_steps.specs.View.{View, TokenKind}
+use Rattle.delivery_core.specs.declared.agent.Kind.{Kind}
+use Rattle.delivery_core.specs.declared.agent.Kind.TheVariants.{Token}
+
+-- the view of an agent
+abbrev pub view_of : Kind → View
+view_of (Token a) = TokenKind a

@@ -1,0 +1,11 @@
+pub mod State
+pub mod Agents
+pub mod NetworkState
+pub mod Faults
+pub mod Turns
+pub mod Inboxes
+pub mod SeatEvents
+pub mod SeatTurns
+pub mod Starts
+pub mod Kinds
+pub mod Shown

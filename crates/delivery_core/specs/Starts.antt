@@ -1,0 +1,46 @@
+-- How the agents of a core state start.
+use Rattle.std.specs.Prelude.{◌≡◌, ℕ, ◌<◌, false, List, [], ◌++◌, map, take, drop, length, Option, Some, None, nat_lt, if◌then◌else◌, slice_get}
+use Rattle.dcop_base.specs.Problem.{Dcop}
+use Rattle.dcop_base.specs.Graph.{neighbours}
+use Rattle.protocol_steps.specs.declared.message.Message.{Message}
+use Rattle.protocol_steps.specs.View.{View, private_of, started_of}
+use Rattle.protocol_steps.specs.Step.{start_of}
+use Rattle.protocol_steps.specs.Network.{messages_to}
+use Rattle.delivery_core.specs.State.{LinkView, SeatView, waiting_from, last_taken, inbox_at, views_of}
+use Rattle.delivery_core.specs.NetworkState.{letters_of}
+use Rattle.delivery_core.specs.Inboxes.{senders}
+
+-- a link on which nothing was sent
+abbrev pub new_link : ℕ → LinkView
+new_link j = record { from = j; taken = None; waiting = [] }
+
+-- an agent as it is made
+abbrev pub new_seat : View → SeatView
+new_seat v = record { view = v; inbox = map new_link (private_of v).neighbours }
+
+abbrev pub sends_in : Option View → List (ℕ × Message)
+sends_in None = []
+sends_in (Some v) = (start_of v).sends
+
+-- what agent j sends at its start
+abbrev pub first_sends : List View → ℕ → List (ℕ × Message)
+first_sends made j = sends_in (slice_get made j)
+
+-- an agent of this problem as it is made
+pub record IsFresh (p : Dcop) (i : ℕ) (v : View) : Type 0 where
+  pub near : (private_of v).neighbours ≡ neighbours p i
+  pub fresh : started_of v ≡ false
+
+-- the first k of these agents have started
+pub record Begun (p : Dcop) (made : List View) (k : ℕ) (seats : List SeatView) : Type 0 where
+  pub size : length seats ≡ length made
+  pub count : length made ≡ length p.sizes
+  pub new : (i : ℕ) (v : View) → slice_get made i ≡ Some v → IsFresh p i v
+  pub views : views_of seats ≡ map (λ v. (start_of v).view) (take k made) ++ drop k made
+  pub links : (i : ℕ) → i < length seats → senders (inbox_at seats i) ≡ neighbours p i
+  pub waits : (i j : ℕ) → i < length seats → waiting_from (inbox_at seats i) j ≡ letters_of j (if nat_lt j k then messages_to i (first_sends made j) else [])
+  pub last : (i j : ℕ) → i < length seats → last_taken (inbox_at seats i) j ≡ None
+
+-- the start of agent k, after those before it
+abbrev pub Starts : ℕ → List SeatView → ℕ → List SeatView → Type 0
+Starts k old next new = (p : Dcop) (made : List View) → Begun p made k old → Begun p made next new

@@ -1,0 +1,78 @@
+-- What a core state holds: each agent's view, what waits for it and what it took last, and a count of deliveries.
+use Rattle.std.specs.Prelude.{ℕ, List, [], ◌∷◌, map, Option, Some, None, ◌==◌, slice_get}
+use Rattle.std.specs.List.{find, last_or}
+use Rattle.dcop_base.specs.Table.{CostTable}
+use Rattle.pseudotree.specs.declared.agent.Place.{Place}
+use Rattle.protocol_steps.specs.declared.message.Message.{Message}
+use Rattle.protocol_steps.specs.View.{View, place_of, table_of}
+
+-- what one sender sent to an agent: the last letter that was taken, and the letters that wait
+pub record LinkView : Type 0 where
+  pub from : ℕ
+  pub taken : Option (ℕ × Message)
+  pub waiting : List (ℕ × Message)
+
+-- an agent: its view, and what it was sent, by sender
+pub record SeatView : Type 0 where
+  pub view : View
+  pub inbox : List LinkView
+
+-- all agents, and how many messages were taken
+pub record CoreView : Type 0 where
+  pub seats : List SeatView
+  pub delivered : ℕ
+
+-- what an inbox holds of one sender
+abbrev pub link_from : ℕ → List LinkView → Option LinkView
+link_from j inbox = find (λ l. l.from == j) inbox
+
+abbrev pub waiting_on : Option LinkView → List (ℕ × Message)
+waiting_on None = []
+waiting_on (Some l) = l.waiting
+
+abbrev pub taken_on : Option LinkView → Option (ℕ × Message)
+taken_on None = None
+taken_on (Some l) = l.taken
+
+-- the letters of one sender that wait, and the last one that was taken
+abbrev pub waiting_from : List LinkView → ℕ → List (ℕ × Message)
+waiting_from inbox j = waiting_on (link_from j inbox)
+
+abbrev pub last_taken : List LinkView → ℕ → Option (ℕ × Message)
+last_taken inbox j = taken_on (link_from j inbox)
+
+-- the last letter of one sender: the last one that waits, else the last one that was taken
+abbrev pub last_letter : List LinkView → ℕ → Option (ℕ × Message)
+last_letter inbox j = last_or (last_taken inbox j) (waiting_from inbox j)
+
+abbrev pub inbox_of : Option SeatView → List LinkView
+inbox_of None = []
+inbox_of (Some x) = x.inbox
+
+-- what agent i was sent
+abbrev pub inbox_at : List SeatView → ℕ → List LinkView
+inbox_at seats i = inbox_of (slice_get seats i)
+
+abbrev pub message_of : Option (ℕ × Message) → Option Message
+message_of None = None
+message_of (Some l) = Some l.1
+
+-- the last message on a link, where one was sent
+abbrev pub last_sent : CoreView → ℕ → ℕ → Option Message
+last_sent s from to = message_of (last_letter (inbox_at s.seats to) from)
+
+-- each agent's view
+abbrev pub views_of : List SeatView → List View
+views_of seats = map (λ x. x.view) seats
+
+-- the view of agent i
+abbrev pub view_at : CoreView → ℕ → Option View
+view_at s i = slice_get (views_of s.seats) i
+
+abbrev pub place_in : Option View → Option Place
+place_in None = None
+place_in (Some v) = place_of v
+
+abbrev pub table_in : Option View → Option CostTable
+table_in None = None
+table_in (Some v) = table_of v

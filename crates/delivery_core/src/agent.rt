@@ -1,0 +1,120 @@
+//! Agents of any kind.
+
+ghost use Rattle.std.specs.Prelude.{◌≡◌, [], IfOk, OnOk, OnErr, MatchOption, Some, None};
+ghost use Rattle.std.specs.List.{All};
+ghost use Rattle.protocol_steps.specs.Token.{new_token};
+ghost use Rattle.protocol_steps.specs.View.{TokenKind, made_of, ended_of, value_of, standing_of, table_of, place_of};
+ghost use Rattle.dfs_agent.specs.Knowledge.{IsKnowledge};
+ghost use Rattle.protocol_steps.specs.Machine.{MayStart, MayReact, IsBatch, IsStart, IsStep, IsToNeighbour};
+
+use dcop_base::{NoMemory, Private, Table, Val};
+use dfs_agent::TokenAgent;
+use protocol_steps::{Batch, Machine, Outbox, Standing};
+use pseudotree::Place;
+use std::alloc::Global;
+use std::marker::Model;
+
+/// The kinds of agents.
+#[derive(Drop)]
+pub(crate) enum Kind {
+    Token(TokenAgent),
+}
+
+/// An agent of any kind. Contracts see its view.
+#[derive(Drop)]
+pub(crate) struct Agent {
+    kind: Kind,
+}
+
+impl Model for Agent {
+    ghost use Rattle.protocol_steps.specs.View.{View};
+
+    ghost Value = { View };
+
+    ghost use Rattle.delivery_core.specs.Kinds.{view_of};
+
+    ghost view = { λ a. view_of a.kind };
+}
+
+impl Agent {
+    /// A token agent that knows this.
+    pub(crate) fn token(alloc: Global, own: Private) -> Result<Agent, NoMemory>
+        requires { IsKnowledge own }
+        ensures { IfOk result (λ agent. agent ≡ TokenKind (new_token own)) }
+    {
+        let agent = TokenAgent::new(alloc, own)?;
+        Ok(Agent {
+            kind: Kind::Token(agent),
+        })
+    }
+
+    /// Starts the agent. `out` gets what it sends.
+    pub(crate) fn start(&mut self, out: &mut Outbox) -> Result<(), NoMemory>
+        requires ready { MayStart self.old }
+        requires empty { out.old ≡ [] }
+        ensures ok { OnOk result (IsStart self.old self.new out.new) }
+        ensures receivers { All (IsToNeighbour self.old) out.new }
+    {
+        match &mut self.kind {
+            Kind::Token(agent) => agent.start(out),
+        }
+    }
+
+    /// One activation on a whole batch. `out` gets what the agent sends.
+    pub(crate) fn react(&mut self, batch: &Batch, out: &mut Outbox) -> Result<(), NoMemory>
+        requires ready { MayReact self.old }
+        requires empty { out.old ≡ [] }
+        requires batch { IsBatch self.old batch.now }
+        ensures ok { OnOk result (IsStep self.old batch.now self.new out.new) }
+        ensures receivers { All (IsToNeighbour self.old) out.new }
+    {
+        match &mut self.kind {
+            Kind::Token(agent) => agent.react(batch, out),
+        }
+    }
+
+    /// Whether the agent has ended.
+    pub(crate) fn ended(&self) -> bool
+        ensures { result ≡ ended_of self.now }
+    {
+        match &self.kind {
+            Kind::Token(agent) => agent.ended(),
+        }
+    }
+
+    /// The agent's value.
+    pub(crate) fn value(&self) -> Val
+        ensures { result ≡ value_of self.now }
+    {
+        match &self.kind {
+            Kind::Token(agent) => agent.value(),
+        }
+    }
+
+    /// The agent's bounds and threshold.
+    pub(crate) fn standing(&self) -> Standing
+        ensures { result ≡ standing_of self.now }
+    {
+        match &self.kind {
+            Kind::Token(agent) => agent.standing(),
+        }
+    }
+
+    /// The place of a token agent that has ended.
+    pub(crate) fn place(&self) -> Option<&Place>
+        ensures { MatchOption result (place_of self.now ≡ None) (λ p. place_of self.now ≡ Some p.now) }
+    {
+        match &self.kind {
+            Kind::Token(agent) => agent.place(),
+        }
+    }
+
+    /// The UTIL table that a DPOP agent made.
+    pub(crate) fn table(&self) -> Option<&Table>
+        ensures { MatchOption result (table_of self.now ≡ None) (λ t. table_of self.now ≡ Some t.now) }
+    {
+        match &self.kind {
+            Kind::Token(agent) => agent.table(),
+        }
+    }
+}

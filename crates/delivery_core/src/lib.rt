@@ -1,0 +1,24 @@
+//! The network of agents as a machine that one thread runs, one event after another.
+//!
+//! [`replay`] runs a list of events, and refuses the first one that is not lawful; [`play`] makes
+//! the events itself, in rounds, until all agents have ended or a budget of deliveries is spent.
+//! Both end in a [`CoreState`], which is the network state at the end of that run.
+#![tactic(auto)]
+
+mod agent;
+mod deliver;
+mod inbox;
+mod lawful;
+mod link;
+mod replaying;
+mod seat;
+mod start;
+mod state;
+#[cfg(test)]
+mod tests;
+mod turn;
+
+pub use replaying::{ReplayFault, replay};
+pub use start::Start;
+pub use state::CoreState;
+pub use turn::{Played, play};

@@ -1,0 +1,95 @@
+//! What one sender sent to an agent.
+
+ghost use Rattle.std.specs.Prelude.{◌≡◌, ◌++◌, [], ◌∷◌, take, drop, length, OnOk, MatchOption, Some, None};
+ghost use Rattle.std.specs.List.{last_or};
+ghost use Rattle.delivery_core.specs.Inboxes.{with_letter, without_next, with_last};
+
+use dcop_base::{NoMemory, VarId};
+use protocol_steps::Letter;
+use std::alloc::Global;
+use std::collections::VecDeque;
+use std::marker::Model;
+
+/// What one sender sent to an agent: the last letter that was taken, and the letters that wait.
+#[derive(Drop)]
+pub(crate) struct Link {
+    from: VarId,
+    taken: Option<Letter>,
+    waiting: VecDeque<Letter>,
+}
+
+impl Model for Link {
+    ghost use Rattle.delivery_core.specs.State.{LinkView};
+
+    ghost Value = { LinkView };
+
+    ghost view = { λ l. record { from = l.from; taken = l.taken; waiting = l.waiting.items } };
+}
+
+impl Link {
+    ghost use Rattle.delivery_core.specs.Starts.{new_link};
+
+    /// A link on which nothing was sent.
+    pub(crate) fn new(alloc: Global, from: VarId) -> Link
+        ensures { result ≡ new_link from }
+    {
+        Link {
+            from,
+            taken: None,
+            waiting: VecDeque::new(alloc),
+        }
+    }
+
+    /// The sender.
+    pub(crate) fn from(&self) -> VarId
+        ensures { result ≡ self.now.from }
+    {
+        self.from
+    }
+
+    /// How many letters wait.
+    pub(crate) fn count(&self) -> usize
+        ensures { result ≡ length self.now.waiting }
+    {
+        self.waiting.len()
+    }
+
+    /// A letter comes.
+    pub(crate) fn add(&mut self, letter: Letter) -> Result<(), NoMemory>
+        ensures { OnOk result (self.new ≡ with_letter letter self.old) }
+    {
+        self.waiting.push_back(letter)?;
+        Ok(())
+    }
+
+    /// Takes off the next letters, and puts them behind those of the batch.
+    pub(crate) fn take_off(&mut self, count: u32, batch: &mut Vec<Letter>) -> Result<(), NoMemory>
+        ensures batch { OnOk result (batch.new.items ≡ batch.old.items ++ take count self.old.waiting) }
+        ensures rest { OnOk result (self.new ≡ without_next count self.old) }
+    {
+        for _ in 0..count {
+            if let Some(letter) = self.waiting.pop_front() {
+                batch.push(letter)?;
+            }
+        }
+        Ok(())
+    }
+
+    /// Keeps a letter as the last one that was taken.
+    pub(crate) fn keep(&mut self, letter: Letter)
+        ensures { self.new ≡ with_last letter self.old }
+    {
+        self.taken = Some(letter);
+    }
+
+    /// The last letter, where one was sent.
+    pub(crate) fn last(&self) -> Option<&Letter>
+        ensures { MatchOption result (last_or self.now.taken self.now.waiting ≡ None)
+            (λ l. last_or self.now.taken self.now.waiting ≡ Some l.now) }
+    {
+        match self.waiting.back() {
+            Some(letter) => Some(letter),
+            None => self.taken.as_ref(),
+        }
+    }
+}

@@ -1,0 +1,78 @@
+//! Replaying a list of events.
+
+ghost use Rattle.std.specs.Prelude.{◌≡◌, ◌≤◌, length, IfOk};
+ghost use Rattle.delivery_core.specs.Agents.{network_of};
+ghost use Rattle.delivery_core.specs.Shown.{IsCore};
+ghost use Rattle.delivery_core.specs.Faults.{Replays};
+
+use crate::start::{Start, make, start_all};
+use crate::state::CoreState;
+use dcop_base::{MAX_VARIABLES, NoMemory, Problem};
+use protocol_steps::{EventFault, EventList};
+use std::alloc::Global;
+
+/// Why events are no run.
+#[derive(Clone, Copy, Debug, PartialEq, Eq)]
+pub enum ReplayFault {
+    /// An event is not lawful; those before it are.
+    BadEvent {
+        /// Its number, counted from 1.
+        at: u64,
+        /// Why.
+        fault: EventFault,
+    },
+    /// Memory was wanted and not had.
+    NoMemory,
+}
+
+impl From<NoMemory> for ReplayFault {
+    ghost use Rattle.std.specs.Prelude.{◌≡◌};
+    ghost use Rattle.delivery_core.specs.declared.replaying.ReplayFault.TheVariants.{NoMemory as no_memory};
+
+    ghost from_gives = { λ _ e. e ≡ no_memory };
+
+    fn from(_refused: NoMemory) -> Self {
+        ReplayFault::NoMemory
+    }
+}
+
+/// The state where all agents of a start have started, and nothing is taken.
+pub(crate) fn begin(alloc: Global, problem: &Problem, start: Start) -> Result<CoreState, NoMemory>
+    ensures core { IfOk result (λ state. IsCore problem.now (network_of problem.now start) state) }
+    ensures few { IfOk result (λ state. length state.seats ≤ MAX_VARIABLES) }
+{
+    let mut seats = make(alloc, problem, start)?;
+    start_all(alloc, seats.as_mut_slice())?;
+    Ok(CoreState {
+        seats,
+        delivered: 0,
+    })
+}
+
+/// Runs these events from the start state, and gives the network state at their end.
+///
+/// # Errors
+///
+/// [`ReplayFault::BadEvent`] exactly where they are no run: the first event that is not lawful, by
+/// its number, counted from 1, and its first fault. [`ReplayFault::NoMemory`] where memory was
+/// wanted and not had.
+pub fn replay(
+    alloc: Global,
+    problem: &Problem,
+    start: Start,
+    events: &EventList,
+) -> Result<CoreState, ReplayFault>
+    ensures end { Replays (network_of problem.now start) events.now result }
+    ensures size { IfOk result (λ state. length state.seats ≡ length problem.now.sizes) }
+{
+    let mut state = begin(alloc, problem, start)?;
+    for (at, event) in events.as_slice().iter().enumerate() {
+        if let Some(fault) = state.happen(alloc, event)? {
+            return Err(ReplayFault::BadEvent {
+                at: at as u64 + 1,
+                fault,
+            });
+        }
+    }
+    Ok(state)
+}

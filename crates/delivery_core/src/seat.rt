@@ -1,0 +1,90 @@
+//! One agent with what it was sent.
+
+ghost use Rattle.std.specs.Prelude.{◌≡◌, IfOk, OnOk};
+ghost use Rattle.std.specs.List.{All};
+ghost use Rattle.protocol_steps.specs.Step.{start_of};
+ghost use Rattle.protocol_steps.specs.Machine.{MayStart, MayReact, IsBatch, IsToNeighbour};
+ghost use Rattle.delivery_core.specs.Inboxes.{edit_link, with_letter, letters_by, inbox_after};
+ghost use Rattle.delivery_core.specs.SeatEvents.{seat_after, seat_sends};
+
+use crate::agent::Agent;
+use crate::inbox;
+use crate::link::Link;
+use dcop_base::{NoMemory, Sequence, VarId};
+use protocol_steps::{Letter, Outbox, Take};
+use std::alloc::Global;
+use std::marker::Model;
+
+/// An agent, and what it was sent, by sender.
+#[derive(Drop)]
+pub(crate) struct Seat {
+    agent: Agent,
+    links: Vec<Link>,
+}
+
+impl Model for Seat {
+    ghost use Rattle.delivery_core.specs.State.{SeatView};
+
+    ghost Value = { SeatView };
+
+    ghost view = { λ s. record { view = s.agent; inbox = s.links.items } };
+}
+
+impl Seat {
+    /// An agent with these links.
+    pub(crate) fn new(agent: Agent, links: Vec<Link>) -> Seat
+        ensures { result ≡ record { view = agent; inbox = links.items } }
+    {
+        Seat { agent, links }
+    }
+
+    /// The agent.
+    pub(crate) fn agent(&self) -> &Agent
+        ensures { result.now ≡ self.now.view }
+    {
+        &self.agent
+    }
+
+    /// What it was sent.
+    pub(crate) fn links(&self) -> &[Link]
+        ensures { result.now ≡ self.now.inbox }
+    {
+        self.links.as_slice()
+    }
+
+    /// A letter comes from this sender.
+    pub(crate) fn add(&mut self, from: VarId, letter: Letter) -> Result<(), NoMemory>
+        ensures { OnOk result (self.new
+            ≡ record self.old { inbox = edit_link from (with_letter letter) self.old.inbox }) }
+    {
+        inbox::add(self.links.as_mut_slice(), from, letter)
+    }
+
+    /// Starts the agent, and gives what it sends.
+    pub(crate) fn begin(&mut self, alloc: Global) -> Result<Outbox, NoMemory>
+        requires { MayStart self.old.view }
+        ensures view { OnOk result (self.new ≡ record self.old { view = (start_of self.old.view).view }) }
+        ensures sends { IfOk result (λ out. out ≡ (start_of self.old.view).sends) }
+        ensures receivers { IfOk result (λ out. All (IsToNeighbour self.old.view) out) }
+    {
+        let mut out = Sequence::from_vec(Vec::new(alloc));
+        self.agent.start(&mut out)?;
+        Ok(out)
+    }
+
+    /// One activation of the agent on what these takes say, and gives what it sends.
+    pub(crate) fn react(&mut self, alloc: Global, takes: &[Take]) -> Result<Outbox, NoMemory>
+        requires ready { MayReact self.old.view }
+        requires batch { IsBatch self.old.view (letters_by self.old.inbox takes.now) }
+        ensures after { OnOk result (self.new ≡ seat_after self.old takes.now) }
+        ensures sends { IfOk result (λ out. out ≡ seat_sends self.old takes.now) }
+        ensures receivers { IfOk result (λ out. All (IsToNeighbour self.old.view) out) }
+    {
+        let letters = inbox::gather(alloc, self.links.as_mut_slice(), takes)?;
+        let batch = Sequence::from_vec(letters);
+        let mut out = Sequence::from_vec(Vec::new(alloc));
+        self.agent.react(&batch, &mut out)?;
+        inbox::keep_all(self.links.as_mut_slice(), batch.into_vec());
+        Ok(out)
+    }
+}

@@ -1,0 +1,84 @@
+//! Which agents are run, and their start.
+
+ghost use Rattle.std.specs.Prelude.{◌≡◌, ℕ, ◌+◌, ◌<◌, ◌≤◌, List, length, map, IfOk, OnOk};
+ghost use Rattle.dcop_base.specs.Problem.{Dcop};
+ghost use Rattle.dcop_base.specs.Whole.{IsProblem};
+ghost use Rattle.dcop_base.specs.Knowledge.{private_of};
+ghost use Rattle.protocol_steps.specs.Token.{new_token};
+ghost use Rattle.protocol_steps.specs.View.{View, TokenKind};
+ghost use Rattle.delivery_core.specs.Agents.{agents_of};
+ghost use Rattle.delivery_core.specs.Starts.{new_seat, Begun, Starts};
+
+use crate::agent::Agent;
+use crate::deliver::post;
+use crate::inbox::new_links;
+use crate::seat::Seat;
+use dcop_base::{MAX_VARIABLES, NoMemory, Problem, VarId, private};
+use dfs_agent::private_is_knowledge;
+use std::alloc::Global;
+
+/// What a run starts with: the kind of its agents, and what they are made from besides the
+/// problem.
+#[derive(Debug, Drop)]
+pub enum Start {
+    /// Token agents, which search the problem's depth-first tree.
+    Token,
+}
+
+/// The token agent of a variable.
+fn token_seat(alloc: Global, problem: &Problem, me: VarId) -> Result<Seat, NoMemory>
+    requires whole { IsProblem problem.now }
+    requires inside { me < length problem.now.sizes }
+    ensures { IfOk result (λ seat. seat ≡ new_seat (TokenKind (new_token (private_of problem.now me)))) }
+{
+    private_is_knowledge();
+    let own = private(alloc, problem, me)?;
+    let links = new_links(alloc, own.neighbours.as_slice())?;
+    let agent = Agent::token(alloc, own)?;
+    Ok(Seat::new(agent, links))
+}
+
+/// The token agents of a problem.
+fn token_seats(alloc: Global, problem: &Problem) -> Result<Vec<Seat>, NoMemory>
+    ensures made { IfOk result (λ seats. seats.items ≡ map new_seat (agents_of problem.now Start.Token)) }
+    ensures few { IfOk result (λ seats. length seats.items ≤ MAX_VARIABLES) }
+{
+    let mut seats = Vec::new(alloc);
+    for me in 0..problem.sizes.as_slice().len() {
+        seats.push(token_seat(alloc, problem, VarId(me as u32))?)?;
+    }
+    Ok(seats)
+}
+
+/// The agents of a start.
+pub(crate) fn make(alloc: Global, problem: &Problem, start: Start) -> Result<Vec<Seat>, NoMemory>
+    ensures made { IfOk result (λ seats. seats.items ≡ map new_seat (agents_of problem.now start)) }
+    ensures few { IfOk result (λ seats. length seats.items ≤ MAX_VARIABLES) }
+{
+    match start {
+        Start::Token => token_seats(alloc, problem),
+    }
+}
+
+/// An agent starts, after those before it.
+fn start_one(alloc: Global, seats: &mut [Seat], me: usize) -> Result<(), NoMemory>
+    requires begun { (p : Dcop) × (made : List View) × Begun p made me seats.old }
+    requires inside { me < length seats.old }
+    requires few { length seats.old ≤ MAX_VARIABLES }
+    ensures { OnOk result (Starts me seats.old (me + 1) seats.new) }
+{
+    let out = seats[me].begin(alloc)?;
+    post(seats, VarId(me as u32), out)
+}
+
+/// All agents start, in ascending order.
+pub(crate) fn start_all(alloc: Global, seats: &mut [Seat]) -> Result<(), NoMemory>
+    requires begun { (p : Dcop) × (made : List View) × Begun p made 0 seats.old }
+    requires few { length seats.old ≤ MAX_VARIABLES }
+    ensures { OnOk result (Starts 0 seats.old (length seats.old) seats.new) }
+{
+    for me in 0..seats.len() {
+        start_one(alloc, seats, me)?;
+    }
+    Ok(())
+}

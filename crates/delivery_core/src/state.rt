@@ -1,0 +1,158 @@
+//! The state of a core, and its readers.
+
+ghost use Rattle.std.specs.Prelude.{◌≡◌, ◌<◌, length, slice_index_or, MatchOption, IfOk, OnOk, Some, None};
+ghost use Rattle.std.specs.Option.{option_map};
+ghost use Rattle.std.specs.List.{list_all};
+ghost use Rattle.protocol_steps.specs.View.{ended_of, value_of, standing_of};
+ghost use Rattle.delivery_core.specs.State.{SeatView, view_at, place_in, table_in, last_sent, views_of};
+ghost use Rattle.delivery_core.specs.SeatEvents.{core_fault};
+ghost use Rattle.delivery_core.specs.Shown.{IsSomeCore, Advances, Refuses};
+
+use crate::deliver::{act, count_of};
+use crate::inbox::last_of;
+use crate::lawful::fault_of;
+use crate::seat::Seat;
+use dcop_base::{NoMemory, Table, Val, VarId};
+use protocol_steps::{Event, EventFault, Message, Standing};
+use pseudotree::Place;
+use std::alloc::Global;
+use std::marker::Model;
+
+/// A network state: what each agent is, and what stands on each link.
+#[derive(Drop)]
+pub struct CoreState {
+    pub(crate) seats: Vec<Seat>,
+    pub(crate) delivered: u64,
+}
+
+impl Model for CoreState {
+    ghost use Rattle.delivery_core.specs.State.{CoreView};
+
+    ghost Value = { CoreView };
+
+    ghost view = { λ s. record { seats = s.seats.items; delivered = s.delivered } };
+}
+
+/// Whether these agents have ended.
+fn have_ended(seats: &[Seat]) -> bool
+    ensures { result ≡ list_all (λ x. ended_of x.view) seats.now }
+{
+    seats.iter().all(|seat| seat.agent().ended())
+}
+
+impl CoreState {
+    /// The value of an agent; 0 until it takes one.
+    pub fn value(&self, me: VarId) -> Val
+        requires { me < length self.now.seats }
+        ensures { option_map value_of (view_at self.now me) ≡ Some result }
+    {
+        self.seats[me.0 as usize].agent().value()
+    }
+
+    /// The bounds and the threshold of an ADOPT agent; 0, none and 0 of another kind.
+    pub fn standing(&self, me: VarId) -> Standing
+        requires { me < length self.now.seats }
+        ensures { option_map standing_of (view_at self.now me) ≡ Some result }
+    {
+        self.seats[me.0 as usize].agent().standing()
+    }
+
+    /// Whether an agent has ended.
+    pub fn ended(&self, me: VarId) -> bool
+        requires { me < length self.now.seats }
+        ensures { option_map ended_of (view_at self.now me) ≡ Some result }
+    {
+        self.seats[me.0 as usize].agent().ended()
+    }
+
+    /// Whether all agents have ended.
+    pub fn all_ended(&self) -> bool
+        ensures { result ≡ list_all ended_of (views_of self.now.seats) }
+    {
+        have_ended(self.seats.as_slice())
+    }
+
+    /// How many messages were taken, or `u64::MAX` where they are more.
+    pub fn deliveries(&self) -> u64
+        ensures { result ≡ self.now.delivered }
+    {
+        self.delivered
+    }
+
+    /// The last message that `from` has sent to `to`; `None` exactly where it has sent none.
+    pub fn last_sent(&self, from: VarId, to: VarId) -> Option<&Message>
+        requires from { from < length self.now.seats }
+        requires to { to < length self.now.seats }
+        ensures { MatchOption result (last_sent self.now from to ≡ None)
+            (λ m. last_sent self.now from to ≡ Some m.now) }
+    {
+        match last_of(self.seats[to.0 as usize].links(), from) {
+            Some(letter) => Some(&letter.message),
+            None => None,
+        }
+    }
+
+    /// The place of a token agent that has ended, without the path's sizes; `None` exactly before
+    /// that, and for other kinds.
+    pub fn place(&self, me: VarId) -> Option<&Place>
+        requires { me < length self.now.seats }
+        ensures { MatchOption result (place_in (view_at self.now me) ≡ None)
+            (λ p. place_in (view_at self.now me) ≡ Some p.now) }
+    {
+        self.seats[me.0 as usize].agent().place()
+    }
+
+    /// The UTIL table that a DPOP agent made; `None` exactly before it has joined, and for other
+    /// kinds.
+    pub fn table(&self, me: VarId) -> Option<&Table>
+        requires { me < length self.now.seats }
+        ensures { MatchOption result (table_in (view_at self.now me) ≡ None)
+            (λ t. table_in (view_at self.now me) ≡ Some t.now) }
+    {
+        self.seats[me.0 as usize].agent().table()
+    }
+
+    /// How many agents there are.
+    pub(crate) fn count(&self) -> usize
+        ensures { result ≡ length self.now.seats }
+    {
+        self.seats.len()
+    }
+
+    /// An agent, and what it was sent.
+    pub(crate) fn seat(&self, me: usize) -> &Seat
+        requires { me < length self.now.seats }
+        ensures { (d : SeatView) → slice_index_or self.now.seats me d ≡ result.now }
+    {
+        &self.seats[me]
+    }
+
+    /// A lawful event.
+    pub(crate) fn follow(&mut self, alloc: Global, event: &Event) -> Result<(), NoMemory>
+        requires core { IsSomeCore self.old }
+        requires lawful { core_fault self.old.seats event.now ≡ None }
+        ensures { OnOk result (Advances self.old event.now self.new) }
+    {
+        act(alloc, self.seats.as_mut_slice(), event)?;
+        let taken = count_of(event.takes.as_slice());
+        self.delivered = self.delivered.saturating_add(taken);
+        Ok(())
+    }
+
+    /// One event, or what makes it unlawful; nothing then changes.
+    pub(crate) fn happen(
+        &mut self,
+        alloc: Global,
+        event: &Event,
+    ) -> Result<Option<EventFault>, NoMemory>
+        requires { IsSomeCore self.old }
+        ensures { IfOk result (λ found. MatchOption found (Advances self.old event.now self.new)
+            (λ fault. Refuses self.old event.now fault)) }
+    {
+        if let Some(fault) = fault_of(self.seats.as_slice(), event) {
+            return Ok(Some(fault));
+        }
+        self.follow(alloc, event)?;
+        Ok(None)
+    }
+}

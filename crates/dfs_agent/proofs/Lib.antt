@@ -1,0 +1,4 @@
+mod VisitLaws
+mod AgentLaws
+mod PrivateLaws
+mod StartedLaws

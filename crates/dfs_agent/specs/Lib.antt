@@ -1,0 +1,4 @@
+pub mod Knowledge
+pub mod Stage
+pub mod Sound
+pub mod Search

@@ -1,0 +1,131 @@
+//! The lists that an agent makes of its path and its kept subtrees, and what it sends of them.
+
+ghost use Rattle.std.specs.Prelude.{◌≡◌, ◌<◌, ◌≤◌, [], ◌∷◌, ◌++◌, not, length, take, IfOk};
+ghost use Rattle.std.specs.List.{All, concat, filter, flat_map};
+ghost use Rattle.dcop_base.specs.Table.{has};
+ghost use Rattle.protocol_steps.specs.Agent.{last_of};
+ghost use Rattle.protocol_steps.specs.TokenStep.{done_for};
+ghost use Rattle.protocol_steps.specs.declared.message.Message.TheVariants.{Token};
+ghost use Rattle.dfs_agent.specs.Search.{sent};
+ghost use Rattle.dfs_agent.specs.Sound.{AreOthers};
+
+use crate::visited::lower_of;
+use dcop_base::{MAX_VARIABLES, NoMemory, Private, SizeList, VarId, VarList};
+use protocol_steps::{Message, Parcel};
+use pseudotree::Place;
+use std::alloc::Global;
+
+/// How many variables these lists have together.
+pub(crate) fn count_of(lists: &[VarList]) -> usize
+    requires { length (concat lists.now) ≤ MAX_VARIABLES }
+    ensures { result ≡ length (concat lists.now) }
+{
+    let mut count = 0;
+    for vars in lists {
+        count += vars.as_slice().len();
+    }
+    count
+}
+
+/// The first variable of each subtree.
+fn children_of(alloc: Global, kept: &[VarList]) -> Result<VarList, NoMemory>
+    ensures { IfOk result (λ children. children ≡ flat_map (λ subtree. take 1 subtree) kept.now) }
+{
+    let mut children = Vec::new(alloc);
+    for subtree in kept {
+        if let Some(child) = subtree.as_slice().first() {
+            children.push(*child)?;
+        }
+    }
+    Ok(VarList::from_vec(children))
+}
+
+/// The agent, and then the subtrees of its children.
+#[tactic(auto, using(crate::proofs::VisitLaws::concat_more))]
+fn subtree_of(alloc: Global, me: VarId, kept: &[VarList]) -> Result<VarList, NoMemory>
+    ensures { IfOk result (λ subtree. subtree ≡ me ∷ concat kept.now) }
+{
+    let mut subtree = Vec::new(alloc);
+    subtree.push(me)?;
+    for vars in kept {
+        subtree.extend_from_slice(vars.as_slice())?;
+    }
+    Ok(VarList::from_vec(subtree))
+}
+
+/// A copy of these variables.
+pub(crate) fn copy_of(alloc: Global, vars: &[VarId]) -> Result<VarList, NoMemory>
+    ensures { IfOk result (λ list. list ≡ vars.now) }
+{
+    Ok(VarList::from_vec(Vec::from_slice(alloc, vars)?))
+}
+
+/// The place of an agent whose subtree is searched, without the sizes of its path.
+pub(crate) fn place_of(
+    alloc: Global,
+    own: &Private,
+    path: &[VarId],
+    kept: &[VarList],
+) -> Result<Place, NoMemory>
+    requires neighbours { All (λ v. v < MAX_VARIABLES) own.now.neighbours }
+    requires path { All (λ v. v < MAX_VARIABLES) path.now }
+    ensures { IfOk result (λ place. place ≡ (record {
+      me = own.now.me;
+      path = path.now;
+      path_sizes = [];
+      children = flat_map (λ subtree. take 1 subtree) kept.now;
+      lower = filter (λ u. not (has path.now u)) own.now.neighbours;
+    })) }
+{
+    Ok(Place {
+        me: own.me,
+        path: copy_of(alloc, path)?,
+        path_sizes: SizeList::from_vec(Vec::new(alloc)),
+        children: children_of(alloc, kept)?,
+        lower: lower_of(alloc, own.neighbours.as_slice(), path)?,
+    })
+}
+
+/// The token for a child, with the path that ends in the agent.
+pub(crate) fn token_for(
+    alloc: Global,
+    child: VarId,
+    path: &[VarId],
+    me: VarId,
+) -> Result<Parcel, NoMemory>
+    requires path { AreOthers path.now }
+    requires me { me < MAX_VARIABLES }
+    ensures { IfOk result (λ parcel. parcel ≡ (child, Token (path.now ++ (me ∷ [])))) }
+{
+    let mut through = Vec::from_slice(alloc, path)?;
+    through.push(me)?;
+    Ok(Parcel {
+        to: child,
+        message: Message::Token {
+            path: VarList::from_vec(through),
+        },
+    })
+}
+
+/// The searched subtree for the parent; `None` exactly where the path is empty.
+pub(crate) fn done_for(
+    alloc: Global,
+    me: VarId,
+    path: &[VarId],
+    kept: &[VarList],
+) -> Result<Option<Parcel>, NoMemory>
+    requires kept { AreOthers (concat kept.now) }
+    requires me { me < MAX_VARIABLES }
+    ensures { IfOk result (λ parcel. sent parcel
+        ≡ done_for (last_of path.now) (me ∷ concat kept.now)) }
+{
+    match path.last() {
+        None => Ok(None),
+        Some(parent) => Ok(Some(Parcel {
+            to: *parent,
+            message: Message::Done {
+                visited: subtree_of(alloc, me, kept)?,
+            },
+        })),
+    }
+}

@@ -1,0 +1,43 @@
+-- What the command `tree` gives on a file.
+use Rattle.std.specs.Prelude.{◌≡◌, ℕ, ◌-◌, ◌*◌, List, map, length}
+use Rattle.dcop_base.specs.Problem.{Dcop}
+use Rattle.dcop_base.specs.Whole.{IsProblem}
+use Rattle.pseudotree.specs.Tree.{parent_of}
+use Rattle.pseudotree.specs.Preorder.{preorder_of}
+use Rattle.pseudotree.specs.Pseudotree.{separator_of}
+use Rattle.pseudotree.specs.DepthFirst.{dfs}
+use Rattle.problem_text.specs.File.{TextFile}
+use Rattle.problem_text.specs.Declarations.{Declared}
+use Rattle.problem_text.specs.Steps.{declared_by}
+use Rattle.solve_report.specs.declared.tree.NodeRow.{NodeRow}
+use Rattle.solve_report.specs.declared.answer.Answer.{Answer}
+use Rattle.solve_report.specs.declared.answer.Answer.TheVariants as answers
+
+-- the node of a variable of a tree: its parent, and what this gives as its separator
+abbrev pub row_with : (ℕ → List ℕ) → List (List ℕ) → ℕ → NodeRow
+row_with separator paths v = record { var = v; parent = parent_of paths v; separator = separator v }
+
+-- the nodes of a tree in preorder, with these separators
+abbrev pub rows_with : (ℕ → List ℕ) → List (List ℕ) → List NodeRow
+rows_with separator paths = map (row_with separator paths) (preorder_of paths)
+
+-- the nodes of a tree of a problem in preorder, each with its parent and its separator from the root down
+abbrev pub rows_of : Dcop → List (List ℕ) → List NodeRow
+rows_of p paths = rows_with (separator_of p paths) paths
+
+-- how many messages a search by tokens takes: one TOKEN to each variable but the root, and one DONE from it
+abbrev pub token_deliveries : Dcop → ℕ
+token_deliveries p = 2 * (length p.sizes - 1)
+
+-- the answer of `tree` on a file: the depth-first tree of its problem, and what the search for it takes
+abbrev pub IsTreeAnswer : TextFile → Answer → Type 0
+IsTreeAnswer file (answers.Tree deliveries nodes names) =
+    (deliveries ≡ token_deliveries file.problem) × (nodes ≡ rows_of file.problem (dfs file.problem)) × (names ≡ file.names)
+IsTreeAnswer file answer = ⊥
+
+-- the answer of `tree` on a text that declares this: that on its file, whose joints follow from the tables
+pub record AnswersTree (d : Declared) (answer : Answer) : Type 0 where
+  pub file : TextFile
+  pub whole : IsProblem file.problem
+  pub declared : declared_by file ≡ d
+  pub is : IsTreeAnswer file answer

@@ -1,0 +1,4 @@
+pub mod RowLaws
+pub mod BlockLaws
+pub mod StrideLaws
+pub mod JoinLaws

@@ -1,0 +1,26 @@
+-- Joined tables: how they start, which tables can be added to them, and what they are then.
+use Rattle.std.specs.Prelude.{◌≡◌, ℕ, ◌<◌, ◌≤◌, List, map, min, replicate, true, Result, Ok, Err, slice_index}
+use Rattle.std.specs.List.{All}
+use Rattle.dcop_base.specs.Table.{CostTable, IsTableOfParts, AreWithin, product, has}
+use Rattle.cost_table.specs.Cells.{cell_of, place_in}
+use Rattle.util_kernel.specs.Lanes.{plus}
+use Rattle.util_join.specs.declared.joined.JoinFault.{JoinFault}
+use Rattle.util_join.specs.declared.joined.JoinFault.TheVariants.{TooWide, NoMemory}
+use Rattle.util_join.specs.declared.joined.TheConstants.{MAX_JOINED_CELLS}
+
+-- variables with these sizes have a joined table of zeros, or exactly above the limit are too wide, with the number of cells; want of memory may come at any
+abbrev pub MakesJoined : List ℕ → List ℕ → Result CostTable JoinFault → Type 0
+MakesJoined over sizes (Ok t) = (product sizes ≤ MAX_JOINED_CELLS) × IsTableOfParts over sizes (replicate (product sizes) 0) t
+MakesJoined over sizes (Err (TooWide cells)) = (MAX_JOINED_CELLS < product sizes) × (cells ≡ min (product sizes) 18446744073709551615)
+MakesJoined over sizes (Err NoMemory) = Unit {0}
+
+-- the table's variables are among these, and have the sizes that these have
+pub record LiesIn (over sizes : List ℕ) (t : CostTable) : Type 0 where
+  pub among : All (λ v. has over v ≡ true) t.scope
+  pub sized : t.sizes ≡ map (λ v. slice_index sizes (place_in over v)) t.scope
+
+-- a joined table to which a table was added: each cell gained, by the capped sum, the one that the same values name
+pub record IsSum (old t new : CostTable) : Type 0 where
+  pub same_scope : new.scope ≡ old.scope
+  pub same_sizes : new.sizes ≡ old.sizes
+  pub cells : (value : ℕ → ℕ) → AreWithin old.sizes (map value old.scope) → cell_of new (map value old.scope) ≡ plus (cell_of old (map value old.scope)) (cell_of t (map value t.scope))

@@ -1,0 +1,62 @@
+//! The sum of a table into the cells of a joined one.
+
+ghost use Rattle.std.specs.Prelude.{◌≡◌, ℕ, ◌+◌, ◌*◌, ◌-◌, ◌<◌, ◌≤◌, length, None};
+ghost use Rattle.std.specs.List.{All};
+ghost use Rattle.dcop_base.specs.Table.{product, table_fault};
+ghost use Rattle.util_join.specs.Join.{LiesIn, IsSum};
+ghost use Rattle.util_join.specs.Strides.{strides, offset, last_values, IsBlockSum};
+
+use crate::row::{Row, add_row, row_of};
+use crate::stride::{product_of, stride_of};
+use dcop_base::{CAP, Table, VarId};
+
+/// Adds a table to a joined table over these variables with these sizes and cells: to each cell the
+/// table's cell at the same values; a sum above [`CAP`] becomes [`CAP`].
+pub(crate) fn add_cells(cells: &mut [u64], over: &[VarId], sizes: &[u16], table: &Table)
+    requires whole { table_fault over.now sizes.now cells.old ≡ None }
+    requires lies { LiesIn over.now sizes.now table.now }
+    ensures whole { table_fault over.now sizes.now cells.new ≡ None }
+    ensures sum { IsSum (record { scope = over.now; sizes = sizes.now; cells = cells.old }) table.now
+        (record { scope = over.now; sizes = sizes.now; cells = cells.new }) }
+{
+    let from = table.cells.as_slice();
+    let row = row_of(table, over, sizes);
+    let start = row.start;
+    add_block(cells, from, table, &over[..start], &sizes[..start], row);
+}
+
+/// Adds cells of a table, `from`, to the rows of a block, one for each choice of values of these
+/// variables, by the strides of the table.
+fn add_block(
+    cells: &mut [u64],
+    from: &[u64],
+    table: &Table,
+    over: &[VarId],
+    sizes: &[u16],
+    row: Row,
+)
+    requires sized { length sizes.now ≡ length over.now }
+    requires full { length cells.old ≡ product sizes.now * row.width }
+    requires some { 1 ≤ row.width }
+    requires inside { offset (strides table.now over.now) (last_values sizes.now)
+        + row.step * (row.width - 1) < length from.now }
+    requires table { product table.now.sizes ≤ usize.MAX }
+    requires cells { All (λ n. n ≤ CAP) cells.old }
+    requires from { All (λ n. n ≤ CAP) from.now }
+    ensures { IsBlockSum from.now (strides table.now over.now) sizes.now row.width row.step
+        cells.old cells.new }
+{
+    let Some((var, over)) = over.split_first() else {
+        return add_row(cells, from, row.step);
+    };
+    let Some((size, sizes)) = sizes.split_first() else {
+        return;
+    };
+    let stride = stride_of(table, *var);
+    let block = product_of(sizes).saturating_mul(row.width);
+    for k in 0..usize::from(*size) {
+        let at = k * block;
+        let (_, from) = from.split_at(stride * k);
+        add_block(&mut cells[at..at + block], from, table, over, sizes, row);
+    }
+}

@@ -1,0 +1,113 @@
+//! Rows of cells, along which the place in a table moves evenly.
+
+ghost use Rattle.std.specs.Prelude.{◌≡◌, ℕ, ◌*◌, ◌-◌, ◌<◌, ◌≤◌, length, List, ◌∷◌};
+ghost use Rattle.std.specs.List.{All};
+ghost use Rattle.dcop_base.specs.Table.{product};
+ghost use Rattle.util_join.specs.Strides.{IsRow, IsRowSum, strides};
+
+use crate::stride::stride_of;
+use dcop_base::{CAP, Table, VarId};
+use util_kernel::{add_lanes, add_one_lanes};
+
+/// The last variables of a joined table, along whose cells the place in a table moves by one step
+/// from each to the next.
+#[derive(Clone, Copy)]
+pub(crate) struct Row {
+    /// How many variables stand before them.
+    pub start: usize,
+    /// How many cells they have.
+    pub width: usize,
+    /// How far the place in the table moves from each cell to the next.
+    pub step: usize,
+}
+
+/// The longest row of the variables with these sizes, in a table. It has the last variable.
+pub(crate) fn row_of(table: &Table, over: &[VarId], sizes: &[u16]) -> Row
+    requires sized { length sizes.now ≡ length over.now }
+    requires positive { All (λ s. 1 ≤ s) sizes.now }
+    requires few { product sizes.now ≤ usize.MAX }
+    requires table { product table.now.sizes ≤ usize.MAX }
+    ensures { IsRow (strides table.now over.now) sizes.now result.start result.width result.step }
+{
+    let Some((var, over)) = over.split_first() else {
+        return Row {
+            start: 0,
+            width: 1,
+            step: 0,
+        };
+    };
+    let Some((size, sizes)) = sizes.split_first() else {
+        return Row {
+            start: 0,
+            width: 1,
+            step: 0,
+        };
+    };
+    let row = row_of(table, over, sizes);
+    if row.start > 0 {
+        return Row {
+            start: row.start + 1,
+            ..row
+        };
+    }
+    extended(row, usize::from(*size), stride_of(table, *var))
+}
+
+/// The longest row of all variables, where this is the row of all but the first, which has this size
+/// and stride.
+fn extended(row: Row, size: usize, stride: usize) -> Row
+    requires all { row.start ≡ 0 }
+    requires few { size * row.width ≤ usize.MAX }
+    ensures { (ds sizes : List ℕ) → IsRow ds sizes row.start row.width row.step
+        → IsRow (stride ∷ ds) (size ∷ sizes) result.start result.width result.step }
+{
+    if row.width == 1 {
+        return Row {
+            start: 0,
+            width: size,
+            step: stride,
+        };
+    }
+    if size == 1 {
+        return row;
+    }
+    match row.step.checked_mul(row.width) {
+        Some(whole) if whole == stride => Row {
+            start: 0,
+            width: size * row.width,
+            step: row.step,
+        },
+        _ => Row { start: 1, ..row },
+    }
+}
+
+/// Adds to each cell of a row the amount of `from` that stands `step` behind the one before, from
+/// the first on; a sum above [`CAP`] becomes [`CAP`].
+pub(crate) fn add_row(cells: &mut [u64], from: &[u64], step: usize)
+    requires some { 1 ≤ length cells.old }
+    requires inside { step * (length cells.old - 1) < length from.now }
+    requires cells { All (λ n. n ≤ CAP) cells.old }
+    requires from { All (λ n. n ≤ CAP) from.now }
+    ensures { IsRowSum from.now step cells.old cells.new }
+{
+    match step {
+        0 => add_one_lanes(cells, from[0]),
+        1 => {
+            let count = cells.len();
+            add_lanes(cells, &from[..count]);
+        }
+        _ => add_strided(cells, from, step),
+    }
+}
+
+/// [`add_row`], one cell after the other.
+fn add_strided(cells: &mut [u64], from: &[u64], step: usize)
+    requires inside { step * (length cells.old - 1) < length from.now }
+    requires cells { All (λ n. n ≤ CAP) cells.old }
+    requires from { All (λ n. n ≤ CAP) from.now }
+    ensures { IsRowSum from.now step cells.old cells.new }
+{
+    for k in 0..cells.len() {
+        cells[k] = (cells[k] + from[step * k]).min(CAP);
+    }
+}

@@ -1,0 +1,44 @@
+//! Strides: how far the place of a table's cell moves with one more of a variable.
+
+ghost use Rattle.std.specs.Prelude.{◌≡◌, ◌≤◌, min};
+ghost use Rattle.dcop_base.specs.Table.{product};
+ghost use Rattle.util_join.specs.Strides.{stride};
+
+use dcop_base::{Table, VarId};
+
+/// The stride of a variable in a table; 0 where the table does not name it.
+pub(crate) fn stride_of(table: &Table, var: VarId) -> usize
+    requires { product table.now.sizes ≤ usize.MAX }
+    ensures { result ≡ stride table.now.scope table.now.sizes var }
+{
+    stride_in(table.scope.as_slice(), table.sizes.as_slice(), var)
+}
+
+/// The stride of a variable in a table of this scope with these sizes, or `usize::MAX` where it is
+/// more.
+fn stride_in(scope: &[VarId], sizes: &[u16], var: VarId) -> usize
+    ensures { result ≡ min (stride scope.now sizes.now var) usize.MAX }
+{
+    let Some((first, scope)) = scope.split_first() else {
+        return 0;
+    };
+    let Some((_, sizes)) = sizes.split_first() else {
+        return 0;
+    };
+    if var == *first {
+        product_of(sizes)
+    } else {
+        stride_in(scope, sizes, var)
+    }
+}
+
+/// The product of the sizes, or `usize::MAX` where it is more.
+pub(crate) fn product_of(sizes: &[u16]) -> usize
+    ensures { result ≡ min (product sizes.now) usize.MAX }
+{
+    let mut product: usize = 1;
+    for size in sizes {
+        product = product.saturating_mul(usize::from(*size));
+    }
+    product
+}

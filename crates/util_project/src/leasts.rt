@@ -1,0 +1,115 @@
+//! Leasts over the runs of blocks of cells.
+
+ghost use Rattle.std.specs.Prelude.{◌≡◌, ℕ, ◌+◌, ◌*◌, ◌<◌, ◌≤◌, length, slice_index, OnOk, IfOk};
+ghost use Rattle.util_project.specs.Projection.{IsLeast};
+ghost use Rattle.util_project.specs.Leasts.{AppendsLeasts, AreLeastRuns};
+
+use dcop_base::NoMemory;
+use std::alloc::Global;
+use util_kernel::least_lanes;
+
+/// The shortest run that is taken eight cells at a time.
+const LANES: usize = 8;
+
+/// Of so many blocks of cells, each of `size` runs of `inner` cells, the least of the runs of each
+/// block, cell by cell.
+pub(crate) fn least_runs(
+    alloc: Global,
+    cells: &[u64],
+    blocks: usize,
+    size: usize,
+    inner: usize,
+) -> Result<Vec<u64>, NoMemory>
+    requires full { length cells.now ≡ blocks * (size * inner) }
+    requires runs { 1 ≤ size }
+    ensures { IfOk result (λ kept. AreLeastRuns cells.now blocks size inner kept.items) }
+{
+    let mut kept = Vec::with_capacity(alloc, blocks * inner)?;
+    for block in 0..blocks {
+        let start = block * (size * inner);
+        append_leasts(&mut kept, &cells[start..start + size * inner], size, inner)?;
+    }
+    Ok(kept)
+}
+
+/// Appends the least of the runs of a block.
+fn append_leasts(
+    kept: &mut Vec<u64>,
+    block: &[u64],
+    size: usize,
+    inner: usize,
+) -> Result<(), NoMemory>
+    requires full { length block.now ≡ size * inner }
+    requires runs { 1 ≤ size }
+    ensures { OnOk result (AppendsLeasts block.now size inner inner kept.old.items kept.new.items) }
+{
+    if inner < LANES {
+        append_by_cell(kept, block, size, inner)
+    } else {
+        append_by_lanes(kept, block, size, inner)
+    }
+}
+
+/// Appends the least of the runs of a block, one cell after the other.
+fn append_by_cell(
+    kept: &mut Vec<u64>,
+    block: &[u64],
+    size: usize,
+    inner: usize,
+) -> Result<(), NoMemory>
+    requires full { length block.now ≡ size * inner }
+    requires runs { 1 ≤ size }
+    ensures { OnOk result (AppendsLeasts block.now size inner inner kept.old.items kept.new.items) }
+{
+    for place in 0..inner {
+        kept.push(least_at(block, size, inner, place))?;
+    }
+    Ok(())
+}
+
+/// The least of the cells at one place of the runs of a block.
+fn least_at(block: &[u64], size: usize, inner: usize, place: usize) -> u64
+    requires full { length block.now ≡ size * inner }
+    requires runs { 1 ≤ size }
+    requires inside { place < inner }
+    ensures { IsLeast (λ d. slice_index block.now (d * inner + place)) size result }
+{
+    let mut least = block[place];
+    for number in 1..size {
+        least = least.min(block[number * inner + place]);
+    }
+    least
+}
+
+/// Appends the first run of a block, and lowers it to the least of all runs.
+fn append_by_lanes(
+    kept: &mut Vec<u64>,
+    block: &[u64],
+    size: usize,
+    inner: usize,
+) -> Result<(), NoMemory>
+    requires full { length block.now ≡ size * inner }
+    requires runs { 1 ≤ size }
+    ensures { OnOk result (AppendsLeasts block.now size inner inner kept.old.items kept.new.items) }
+{
+    let start = kept.len();
+    kept.extend_from_slice(&block[..inner])?;
+    lower(&mut kept[start..], block, size);
+    Ok(())
+}
+
+/// Lowers the first run of a block to the least of all runs, cell by cell.
+fn lower(run: &mut [u64], block: &[u64], size: usize)
+    requires full { length block.now ≡ size * length run.old }
+    requires runs { 1 ≤ size }
+    requires first { (i : ℕ) → i < length run.old →
+        slice_index run.old i ≡ slice_index block.now i }
+    ensures long { length run.new ≡ length run.old }
+    ensures least { (i : ℕ) → i < length run.old →
+        IsLeast (λ d. slice_index block.now (d * length run.old + i)) size (slice_index run.new i) }
+{
+    let inner = run.len();
+    for number in 1..size {
+        least_lanes(run, &block[number * inner..number * inner + inner]);
+    }
+}

@@ -1,0 +1,76 @@
+//! The least over one variable.
+
+ghost use Rattle.std.specs.Prelude.{◌≡◌, ◌<◌, ◌≤◌, true, None, length, IfOk};
+ghost use Rattle.std.specs.List.{All};
+ghost use Rattle.dcop_base.specs.Table.{has, product, table_fault};
+ghost use Rattle.util_project.specs.Projection.{IsProjection};
+ghost use Rattle.util_project.specs.Leasts.{AreLeastsAt};
+
+use crate::leasts::least_runs;
+use cost_table::{place_in, product_of, scope_without, sizes_without};
+use dcop_base::{CellList, NoMemory, SizeList, Table, VarId, VarList};
+use std::alloc::Global;
+
+/// The projection of a table by a variable of its scope: the table without the variable, of which
+/// each cell is the least over the variable's values. The other variables keep their order.
+///
+/// This is the projection of DPOP (Petcu, Faltings, IJCAI 2005).
+///
+/// # Errors
+///
+/// [`NoMemory`] where memory was wanted and not had.
+pub fn project(alloc: Global, table: &Table, var: VarId) -> Result<Table, NoMemory>
+    requires { has table.now.scope var ≡ true }
+    ensures { IfOk result (λ less. IsProjection table.now var less) }
+{
+    project_of(
+        alloc,
+        table.scope.as_slice(),
+        table.sizes.as_slice(),
+        table.cells.as_slice(),
+        var,
+    )
+}
+
+/// The projection of the table of these parts.
+fn project_of(
+    alloc: Global,
+    scope: &[VarId],
+    sizes: &[u16],
+    cells: &[u64],
+    var: VarId,
+) -> Result<Table, NoMemory>
+    requires whole { table_fault scope.now sizes.now cells.now ≡ None }
+    requires stands { has scope.now var ≡ true }
+    ensures { IfOk result (λ less. IsProjection
+        (record { scope = scope.now; sizes = sizes.now; cells = cells.now }) var less) }
+{
+    let place = place_in(scope, var);
+    let kept = leasts_at(alloc, sizes, cells, place)?;
+    let scope = scope_without(alloc, scope, place)?;
+    let sizes = sizes_without(alloc, sizes, place)?;
+    Ok(Table {
+        scope: VarList::from_vec(scope),
+        sizes: SizeList::from_vec(sizes),
+        cells: CellList::from_vec(kept),
+    })
+}
+
+/// The leasts of the cells of a table of these sizes over the variable at this place.
+fn leasts_at(
+    alloc: Global,
+    sizes: &[u16],
+    cells: &[u64],
+    place: usize,
+) -> Result<Vec<u64>, NoMemory>
+    requires inside { place < length sizes.now }
+    requires full { length cells.now ≡ product sizes.now }
+    requires some { All (λ s. 1 ≤ s) sizes.now }
+    ensures { IfOk result (λ kept. AreLeastsAt sizes.now cells.now place kept.items) }
+{
+    let (before, _) = sizes.split_at(place);
+    let (_, behind) = sizes.split_at(place + 1);
+    let blocks = product_of(before);
+    let inner = product_of(behind);
+    least_runs(alloc, cells, blocks, usize::from(sizes[place]), inner)
+}
