@@ -43,6 +43,10 @@ form_all n ended ts h =
     let d = not_then (not (ascends_from 0 ts)) Order None c.1 in
     (a.0, c.0, not-false (ascends_from 0 ts) d.0)
 
+-- what comes at the end in two steps
+one_after_another : {X : Type 0} (last mid first some more : List X) → last ≡ mid ++ more → mid ≡ first ++ some → last ≡ first ++ (some ++ more)
+one_after_another last mid first some more h k = h ∙ ap (λ ms. ms ++ more) k ∙ append_assoc first some more
+
 module _ (p : Dcop) (paths : List (List ℕ)) (problem : IsProblem p) (pseudo : IsPseudotree p paths) (linked : IsLinked p paths) (narrow : IsNarrow p paths) (plan : Plan p paths) where
   -- what a batch changes: agent i has taken the next messages
   pub record IsBatched (s : Marks) (i : ℕ) (x : Stepped DpopView) (ls : List (ℕ × Message)) (ts : List Take) : Type 0 where
@@ -87,6 +91,44 @@ module _ (p : Dcop) (paths : List (List ℕ)) (problem : IsProblem p) (pseudo : 
                   ∙ ap (λ (ms : List Message). map (λ m. (t.from, m)) (take 1 ms)) (same ∙ next.is);
             }
       ]
+
+  -- one take, and then the others
+  continued : (s : Marks) (ds : List Desk) (i : ℕ) (t : Take) (ts : List Take) (x : Stepped DpopView) (one : IsOne s ds i t) → x.view ≡ view plan s i
+      → IsBatched one.next.taken_is.next i (next_letter dpop_message x (t.from, one.next.message)) (batch ds i ts) ts → IsBatched s i x (batch ds i (t ∷ ts)) (t ∷ ts)
+  continued s ds i t ts x one is rest = record {
+    next = rest.next;
+    fit = rest.fit;
+    more = (dpop_message (view plan s i) t.from one.next.message).sends ++ rest.more;
+    view_is = ap (λ (z : Stepped DpopView). z.view) whole ∙ rest.view_is;
+    sends_are = ap (λ (z : Stepped DpopView). z.sends) whole ∙ one_after_another _ _ _ _ _ rest.sends_are (ap (λ (v : DpopView). x.sends ++ (dpop_message v t.from one.next.message).sends) is);
+    sent_is = λ u.
+        one_after_another _ _ _ _ _ (rest.sent_is u) (now.sent_is u)
+        ∙ ap (λ (ms : List Message). sent plan s i u ++ ms) (sym (flat_map-append (message_to u) (dpop_message (view plan s i) t.from one.next.message).sends rest.more));
+    other_view = λ k ne. rest.other_view k ne ∙ now.other_view k ne;
+    other_sent = λ k u ne. rest.other_sent k u ne ∙ now.other_sent k u ne;
+    here = λ j.
+        let all = sum_by-cons (λ (t : Take). if t.from == j then t.count else 0) t ts in
+        let tail = rest.here j in
+        elim (cases_eq t.from j) [
+          | inl same ↦
+              let first : cond (t.from == j) t.count 0 ≡ t.count = ap (λ (b : Bool). cond b t.count 0) (eq-eqb t.from j same) in
+              let more : length (past plan now.next i j) ≡ length (past plan s i j) + 1 = subst (λ (k : ℕ). length (past plan now.next i k) ≡ length (past plan s i k) + 1) same now.here in
+              omega (arith, all, tail, first, more, one.one)
+          | inr other ↦
+              let first : cond (t.from == j) t.count 0 ≡ 0 = ap (λ (b : Bool). cond b t.count 0) (ne_eqb t.from j other) in
+              let kept : length (past plan now.next i j) ≡ length (past plan s i j) = ap (λ (ms : List Message). length ms) (now.elsewhere i j (λ q. other (sym q.1))) in
+              omega (arith, all, tail, first, kept)
+        ];
+    other_past = λ k j ne. rest.other_past k j ne ∙ now.elsewhere k j (λ q. ne q.0);
+    count =
+        let all = sum_by-cons (λ (t : Take). t.count) t ts in
+        omega (arith, all, rest.count, now.count, one.one);
+  } where
+    now : IsTaken p paths problem pseudo linked narrow plan s i t.from (dpop_message (view plan s i) t.from one.next.message)
+    now = one.next.taken_is
+
+    whole : fold (next_letter dpop_message) x (batch ds i (t ∷ ts)) ≡ fold (next_letter dpop_message) (next_letter dpop_message x (t.from, one.next.message)) (batch ds i ts)
+    whole = ap (λ (ls : List (ℕ × Message)). fold (next_letter dpop_message) x (ls ++ batch ds i ts)) one.letters
 
   -- nothing waits for an agent from itself
   waits_self : (s : Marks) (i j : ℕ) → j ≡ i → waits plan s i j ≡ []
@@ -136,40 +178,4 @@ module _ (p : Dcop) (paths : List (List ℕ)) (problem : IsProblem p) (pseudo : 
             ap₂ (λ (k : ℕ) (ms : List Message). drop k ms) (ap (λ (ms : List Message). length ms) (now.elsewhere i j (λ q. ne q.1))) (now.other_sent j i other)
       ]) in
       let rest = batched ds i lt ts (t.from + 1) now.next y now.fit (ap (λ (v : DpopView). (dpop_message v t.from m).view) is ∙ now.view_is) later all_known.1 all_some.1 up.1 short.1 in
-      let whole : fold (next_letter dpop_message) x (batch ds i (t ∷ ts)) ≡ fold (next_letter dpop_message) y (batch ds i ts) =
-      ap (λ (ls : List (ℕ × Message)). fold (next_letter dpop_message) x (ls ++ batch ds i ts)) one.letters in
-      let S : List (ℕ × Message) = (dpop_message (view plan s i) t.from m).sends in
-      let per : ℕ → ℕ → ℕ = λ j k. cond (k == j) t.count 0 in
-      record {
-        next = rest.next;
-        fit = rest.fit;
-        more = S ++ rest.more;
-        view_is = ap (λ (z : Stepped DpopView). z.view) whole ∙ rest.view_is;
-        sends_are =
-            ap (λ (z : Stepped DpopView). z.sends) whole ∙ rest.sends_are
-            ∙ ap (λ (v : DpopView). (x.sends ++ (dpop_message v t.from m).sends) ++ rest.more) is
-            ∙ append_assoc x.sends S rest.more;
-        sent_is = λ u.
-            rest.sent_is u ∙ ap (λ (ms : List Message). ms ++ messages_to u rest.more) (now.sent_is u)
-            ∙ append_assoc (sent plan s i u) (messages_to u S) (messages_to u rest.more)
-            ∙ ap (λ (ms : List Message). sent plan s i u ++ ms) (sym (flat_map-append (message_to u) S rest.more));
-        other_view = λ k ne. rest.other_view k ne ∙ now.other_view k ne;
-        other_sent = λ k u ne. rest.other_sent k u ne ∙ now.other_sent k u ne;
-        here = λ j.
-            let all = sum_by-cons (λ (t : Take). if t.from == j then t.count else 0) t ts in
-            let tail = rest.here j in
-            elim (cases_eq t.from j) [
-              | inl same ↦
-                  let first : per j t.from ≡ t.count = ap (λ (b : Bool). cond b t.count 0) (eq-eqb t.from j same) in
-                  let more : length (past plan now.next i j) ≡ length (past plan s i j) + 1 = subst (λ (k : ℕ). length (past plan now.next i k) ≡ length (past plan s i k) + 1) same now.here in
-                  omega (arith, all, tail, first, more, one.one)
-              | inr other ↦
-                  let first : per j t.from ≡ 0 = ap (λ (b : Bool). cond b t.count 0) (ne_eqb t.from j other) in
-                  let kept : length (past plan now.next i j) ≡ length (past plan s i j) = ap (λ (ms : List Message). length ms) (now.elsewhere i j (λ q. other (sym q.1))) in
-                  omega (arith, all, tail, first, kept)
-            ];
-        other_past = λ k j ne. rest.other_past k j ne ∙ now.elsewhere k j (λ q. ne q.0);
-        count =
-            let all = sum_by-cons (λ (t : Take). t.count) t ts in
-            omega (arith, all, rest.count, now.count, one.one);
-      }
+      continued s ds i t ts x one is rest
