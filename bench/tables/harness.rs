@@ -1,4 +1,4 @@
-//! Times `bench_join` and `bench_project` of `src/lib.rt` against plain Rust loops, in one run.
+//! Times `bench_join` and `bench_project` of `lib.rt.txt` against plain Rust loops, in one run.
 
 use std::hint::black_box;
 use std::time::Instant;

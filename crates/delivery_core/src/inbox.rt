@@ -6,11 +6,15 @@ ghost use Rattle.std.specs.List.Sorted.{IsStrictlyIncreasing};
 ghost use Rattle.delivery_core.specs.State.{LinkView, waiting_from, last_letter};
 ghost use Rattle.delivery_core.specs.Inboxes.{edit_link, with_letter, with_last, take_off, keep_last, letters_by, short_in};
 ghost use Rattle.delivery_core.specs.Starts.{new_link};
+ghost use Rattle.delivery_core.specs.SeatTurns.{inbox_takes};
 
 use crate::link::Link;
 use dcop_base::{NoMemory, VarId};
 use protocol_steps::{EventFault, Letter, Take};
 use std::alloc::Global;
+
+/// The most messages of one link that are taken in a turn.
+const MOST_TAKEN: usize = 64;
 
 /// A link of each of these senders, on which nothing was sent.
 pub(crate) fn new_links(alloc: Global, senders: &[VarId]) -> Result<Vec<Link>, NoMemory>
@@ -130,4 +134,21 @@ pub(crate) fn keep_all(links: &mut [Link], letters: Vec<Letter>)
         let from = sender_of(&letter);
         keep_one(links, from, letter);
     }
+}
+
+/// A take of each link on which something waits.
+pub(crate) fn takes_of(alloc: Global, links: &[Link]) -> Result<Vec<Take>, NoMemory>
+    ensures { IfOk result (λ takes. takes.items ≡ inbox_takes links.now) }
+{
+    let mut takes = Vec::new(alloc);
+    for link in links {
+        let count = link.count();
+        if count != 0 {
+            takes.push(Take {
+                from: link.from(),
+                count: count.min(MOST_TAKEN) as u32,
+            })?;
+        }
+    }
+    Ok(takes)
 }

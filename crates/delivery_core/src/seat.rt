@@ -6,6 +6,7 @@ ghost use Rattle.protocol_steps.specs.Step.{start_of};
 ghost use Rattle.protocol_steps.specs.Machine.{MayStart, MayReact, IsBatch, IsToNeighbour};
 ghost use Rattle.delivery_core.specs.Inboxes.{edit_link, with_letter, letters_by, inbox_after};
 ghost use Rattle.delivery_core.specs.SeatEvents.{seat_after, seat_sends};
+ghost use Rattle.delivery_core.specs.SeatTurns.{seat_takes};
 
 use crate::agent::Agent;
 use crate::inbox;
@@ -20,6 +21,8 @@ use std::marker::Model;
 pub(crate) struct Seat {
     agent: Agent,
     links: Vec<Link>,
+    // Nothing waits. It may be false where nothing does.
+    idle: bool,
 }
 
 impl Model for Seat {
@@ -28,6 +31,11 @@ impl Model for Seat {
     ghost Value = { SeatView };
 
     ghost view = { λ s. record { view = s.agent; inbox = s.links.items } };
+
+    ghost use Rattle.std.specs.Prelude.{◌≡◌, true, []};
+    ghost use Rattle.delivery_core.specs.SeatTurns.{inbox_takes};
+
+    ghost invariant = { λ s. s.idle ≡ true → inbox_takes s.links.items ≡ [] };
 }
 
 impl Seat {
@@ -35,7 +43,11 @@ impl Seat {
     pub(crate) fn new(agent: Agent, links: Vec<Link>) -> Seat
         ensures { result ≡ record { view = agent; inbox = links.items } }
     {
-        Seat { agent, links }
+        Seat {
+            agent,
+            links,
+            idle: false,
+        }
     }
 
     /// The agent.
@@ -57,6 +69,7 @@ impl Seat {
         ensures { OnOk result (self.new
             ≡ record self.old { inbox = edit_link from (with_letter letter) self.old.inbox }) }
     {
+        self.idle = false;
         inbox::add(self.links.as_mut_slice(), from, letter)
     }
 
@@ -80,11 +93,26 @@ impl Seat {
         ensures sends { IfOk result (λ out. out ≡ seat_sends self.old takes.now) }
         ensures receivers { IfOk result (λ out. All (IsToNeighbour self.old.view) out) }
     {
+        self.idle = false;
         let letters = inbox::gather(alloc, self.links.as_mut_slice(), takes)?;
         let batch = Sequence::from_vec(letters);
         let mut out = Sequence::from_vec(Vec::new(alloc));
         self.agent.react(&batch, &mut out)?;
         inbox::keep_all(self.links.as_mut_slice(), batch.into_vec());
         Ok(out)
+    }
+
+    /// What the agent takes in its turn: what is pending, at most 64 messages of each sender. An
+    /// agent for which nothing came since it was last found idle is not looked at again.
+    pub(crate) fn takes(&mut self, alloc: Global) -> Result<Vec<Take>, NoMemory>
+        ensures same { self.new ≡ self.old }
+        ensures takes { IfOk result (λ takes. takes.items ≡ seat_takes self.old) }
+    {
+        if self.idle || self.agent.ended() {
+            return Ok(Vec::new(alloc));
+        }
+        let takes = inbox::takes_of(alloc, self.links.as_slice())?;
+        self.idle = takes.is_empty();
+        Ok(takes)
     }
 }

@@ -6,6 +6,7 @@ ghost use Rattle.std.specs.List.{list_all};
 ghost use Rattle.protocol_steps.specs.View.{ended_of, value_of, standing_of};
 ghost use Rattle.delivery_core.specs.State.{SeatView, view_at, place_in, table_in, last_sent, views_of};
 ghost use Rattle.delivery_core.specs.SeatEvents.{core_fault};
+ghost use Rattle.delivery_core.specs.SeatTurns.{seat_takes};
 ghost use Rattle.delivery_core.specs.Shown.{IsSomeCore, Advances, Refuses};
 
 use crate::deliver::{act, count_of};
@@ -13,7 +14,7 @@ use crate::inbox::last_of;
 use crate::lawful::fault_of;
 use crate::seat::Seat;
 use dcop_base::{NoMemory, Table, Val, VarId};
-use protocol_steps::{Event, EventFault, Message, Standing};
+use protocol_steps::{Event, EventFault, Message, Standing, Take};
 use pseudotree::Place;
 use std::alloc::Global;
 use std::marker::Model;
@@ -119,12 +120,14 @@ impl CoreState {
         self.seats.len()
     }
 
-    /// An agent, and what it was sent.
-    pub(crate) fn seat(&self, me: usize) -> &Seat
-        requires { me < length self.now.seats }
-        ensures { (d : SeatView) → slice_index_or self.now.seats me d ≡ result.now }
+    /// What an agent takes in its turn.
+    pub(crate) fn takes(&mut self, alloc: Global, me: usize) -> Result<Vec<Take>, NoMemory>
+        requires { me < length self.old.seats }
+        ensures same { self.new ≡ self.old }
+        ensures takes { IfOk result (λ takes. (d : SeatView) →
+            takes.items ≡ seat_takes (slice_index_or self.old.seats me d)) }
     {
-        &self.seats[me]
+        self.seats[me].takes(alloc)
     }
 
     /// A lawful event.

@@ -4,19 +4,14 @@ ghost use Rattle.std.specs.Prelude.{◌≡◌, ◌<◌, ◌≤◌, [], length, I
 ghost use Rattle.delivery_core.specs.Agents.{network_of};
 ghost use Rattle.delivery_core.specs.Turns.{IsPlayed};
 ghost use Rattle.delivery_core.specs.Shown.{IsSomeCore};
-ghost use Rattle.delivery_core.specs.SeatTurns.{inbox_takes, seat_takes, is_over, TakesTurn, PlaysRound, PlaysOut};
+ghost use Rattle.delivery_core.specs.SeatTurns.{is_over, TakesTurn, PlaysRound, PlaysOut};
 
-use crate::link::Link;
 use crate::replaying::begin;
-use crate::seat::Seat;
 use crate::start::Start;
 use crate::state::CoreState;
 use dcop_base::{MAX_VARIABLES, NoMemory, Problem, Sequence, VarId};
-use protocol_steps::{Event, EventList, Take};
+use protocol_steps::{Event, EventList};
 use std::alloc::Global;
-
-/// The most messages of one link that an event takes.
-const MOST_TAKEN: usize = 64;
 
 /// What was played.
 #[derive(Drop)]
@@ -25,33 +20,6 @@ pub struct Played {
     pub state: CoreState,
     /// What happened, in order.
     pub events: EventList,
-}
-
-/// A take of each link on which something waits.
-fn takes_of(alloc: Global, links: &[Link]) -> Result<Vec<Take>, NoMemory>
-    ensures { IfOk result (λ takes. takes.items ≡ inbox_takes links.now) }
-{
-    let mut takes = Vec::new(alloc);
-    for link in links {
-        let count = link.count();
-        if count != 0 {
-            takes.push(Take {
-                from: link.from(),
-                count: count.min(MOST_TAKEN) as u32,
-            })?;
-        }
-    }
-    Ok(takes)
-}
-
-/// What an agent takes in its turn.
-fn turn_of(alloc: Global, seat: &Seat) -> Result<Vec<Take>, NoMemory>
-    ensures { IfOk result (λ takes. takes.items ≡ seat_takes seat.now) }
-{
-    if seat.agent().ended() {
-        return Ok(Vec::new(alloc));
-    }
-    takes_of(alloc, seat.links())
 }
 
 /// The turn of one agent: it takes what is pending, and the event is added.
@@ -66,7 +34,7 @@ fn take_turn(
     requires few { length state.old.seats ≤ MAX_VARIABLES }
     ensures { OnOk result (TakesTurn me state.old events.old.items state.new events.new.items) }
 {
-    let takes = turn_of(alloc, state.seat(me))?;
+    let takes = state.takes(alloc, me)?;
     if takes.is_empty() {
         return Ok(());
     }
