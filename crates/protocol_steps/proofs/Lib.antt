@@ -8,4 +8,6 @@ pub mod Rows
 pub mod NetworkRows
 pub mod JournalStampLaws
 pub mod LinkLaws
+pub mod TallyLaws
+pub mod DeliveredLaws
 pub mod StampRows

@@ -4,9 +4,8 @@ use Rattle.protocol_steps.specs.declared.message.Message.{Message}
 use Rattle.protocol_steps.specs.declared.message.Message.TheVariants.{Value, Cost, Threshold, Terminate}
 use Rattle.protocol_steps.specs.declared.event.Take.{Take}
 use Rattle.protocol_steps.specs.declared.event.Entry.{Entry}
-use Rattle.protocol_steps.specs.View.{View}
 use Rattle.protocol_steps.specs.Step.{start_of, step_of}
-use Rattle.protocol_steps.specs.Stamps.{Deed, Account, account_of, do_one}
+use Rattle.protocol_steps.specs.Stamps.{Deed, account_of, do_one}
 use Rattle.protocol_steps.specs.Deeds.{AreDeeds, posted_to}
 use Rattle.protocol_steps.specs.JournalStamps.{deeds_from}
 use Rattle.protocol_steps.proofs.NetworkRows.{pair_x, pair_y}

@@ -1,5 +1,5 @@
 -- What an event does to a network, and what is pending in it.
-use Rattle.std.specs.Prelude.{ℕ, Bool, List, [], ◌++◌, Option, Some, None, if◌then◌else◌, slice_get}
+use Rattle.std.specs.Prelude.{◌≡◌, ℕ, ◌<◌, Bool, List, [], ◌++◌, length, Option, Some, None, if◌then◌else◌, slice_get}
 use Rattle.std.specs.List.{list_all, sum_by, slice_set}
 use Rattle.protocol_steps.specs.declared.message.Message.{Message}
 use Rattle.protocol_steps.specs.declared.event.Take.{Take}
@@ -37,6 +37,14 @@ pending_at net i j (Some v) = if ended_of v then [] else waiting net.desks i j
 -- what is pending at agent i from agent j
 abbrev pub pending : Network → ℕ → ℕ → List Message
 pending net i j = pending_at net i j (slice_get net.views i)
+
+-- a message is pending at some agent
+pub record SomePending (net : Network) : Type 0 where
+  pub to : ℕ
+  pub from : ℕ
+  pub to_agent : to < length net.views
+  pub from_agent : from < length net.views
+  pub some : pending net to from ≡ [] → ⊥
 
 -- ended: every view says so
 abbrev pub has_ended : Network → Bool

@@ -25,3 +25,4 @@ pub mod StampLaw
 pub mod Rounds
 pub mod JournalStamps
 pub mod Links
+pub mod Delivered

@@ -5,7 +5,6 @@ pub mod Visits
 pub mod VisitLaws
 pub mod CallLaws
 pub mod SearchRuns
-pub mod TallyLaws
 pub mod NetworkLaws
 pub mod RunSteps
 pub mod StartLaws

@@ -18,17 +18,14 @@ use Rattle.protocol_steps.specs.Effect.{desk_after, deliveries}
 use Rattle.protocol_steps.proofs.EventLaws.{get_same, get_other}
 use Rattle.token_runs.specs.TokenRun.{is_token, is_done}
 use Rattle.token_runs.proofs.Serial.{Flight, Serial, put, flight_of, one_if, tick_at}
-use Rattle.token_runs.proofs.TallyLaws.{tally, tally_pair, sum-set}
+use Rattle.protocol_steps.proofs.TallyLaws.{tally_pair, sum-set}
+use Rattle.protocol_steps.proofs.DeliveredLaws.{total}
 use Rattle.token_runs.proofs.CallLaws.{put_same, put_other}
 
 -- the message under way, on the link from j to i
 abbrev pub message_on : Option Flight → ℕ → ℕ → List Message
 message_on None j i = []
 message_on (Some f) j i = if f.from == j && f.to == i then f.message ∷ [] else []
-
--- how many messages pass a test, of all that were taken
-abbrev pub total : (Message → Bool) → ℕ → (ℕ → ℕ → List Message) → ℕ
-total test n past = tally (λ i. tally (λ j. count_by test (past i j)) n) n
 
 -- a network of n token agents with one message under way
 pub record IsSerial (n : ℕ) (net : Network) (s : Serial) : Type 0 where
@@ -204,5 +201,5 @@ module _ (n : ℕ) (net : Network) (s : Serial) (is : IsSerial n net s) (f : Fli
 
   pub delivered_now : deliveries net_now ≡ deliveries net + 1
   delivered_now =
-      sum-set (λ (x : Desk). sum_by (λ (t : Take). t.count) x.takes) net.desks f.to (is.desk f.to) desk_now (is.desks f.to to)
+      sum-set (λ (x : Desk). sum_by (λ (t : Take). t.count) x.takes) net.desks f.to 1 (is.desk f.to) desk_now (is.desks f.to to)
       (sum_by-append (λ (t : Take). t.count) (is.desk f.to).takes (one_take ∷ []))

@@ -14,10 +14,10 @@ use Rattle.protocol_steps.specs.declared.event.Event.{Event}
 use Rattle.protocol_steps.specs.Token.{TokenView}
 use Rattle.protocol_steps.specs.View.{View, TokenKind, OfToken, ended_of}
 use Rattle.protocol_steps.specs.Network.{Network, start_state, waiting}
-use Rattle.protocol_steps.specs.Effect.{pending_at, pending, has_ended, deliveries}
+use Rattle.protocol_steps.specs.Effect.{pending_at, pending, SomePending, has_ended, deliveries}
 use Rattle.token_runs.specs.TokenRun.{token_agents, IsTokenRun, is_token, is_done, tokens, dones}
 use Rattle.token_runs.specs.Agents.{AreAgents, FoundPlaces}
-use Rattle.token_runs.specs.Laws.{SomePending, HoldsOfTokens, TokenRuns}
+use Rattle.token_runs.specs.Laws.{HoldsOfTokens, TokenRuns}
 use Rattle.token_runs.proofs.Serial.{Flight, Serial, ticks, IsLive, Leads}
 use Rattle.token_runs.proofs.SerialLaws.{ticks_add, Counted, counted}
 use Rattle.token_runs.proofs.MemberLaws.{either_way, only, or_none, at_most}
@@ -29,7 +29,8 @@ use Rattle.token_runs.proofs.RunSteps.{RunsOn, runs_on, waits_for}
 use Rattle.token_runs.proofs.StartLaws.{first_state, starts, none_delivered}
 use Rattle.token_runs.proofs.PlaceLaws.{tree, linked, all_seen, place_is}
 use Rattle.token_runs.proofs.SoundLaws.{IsSound, sound_ticks, sound_first}
-use Rattle.token_runs.proofs.DeliveredLaws.{told, all_pass, one_passes}
+use Rattle.protocol_steps.proofs.DeliveredLaws.{all_pass, one_passes}
+use Rattle.token_runs.proofs.DeliveredLaws.{told}
 
 module _ (p : Dcop) (problem : IsProblem p) where
   abbrev first_seen : List Visit

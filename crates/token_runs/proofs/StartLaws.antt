@@ -19,7 +19,7 @@ use Rattle.protocol_steps.specs.Effect.{deliveries}
 use Rattle.token_runs.specs.TokenRun.{token_agents}
 use Rattle.token_runs.proofs.Serial.{Serial, stepped}
 use Rattle.token_runs.proofs.Visits.{fresh, open_view}
-use Rattle.token_runs.proofs.TallyLaws.{tally}
+use Rattle.protocol_steps.proofs.TallyLaws.{tally}
 use Rattle.token_runs.proofs.NetworkLaws.{message_on, IsSerial, one_parcel, no_parcel, look_few}
 
 get-range : (a n k : ℕ) → k < n → slice_get (range_with_len a n) k ≡ Some (a + k)

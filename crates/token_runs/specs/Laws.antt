@@ -1,22 +1,14 @@
 -- The law on runs of token agents.
-use Rattle.std.specs.Prelude.{◌≡◌, ℕ, ◌+◌, ◌-◌, ◌*◌, ◌<◌, ◌≤◌, true, false, List, [], length}
+use Rattle.std.specs.Prelude.{◌≡◌, ◌+◌, ◌-◌, ◌*◌, ◌<◌, ◌≤◌, true, false, List, length}
 use Rattle.dcop_base.specs.Problem.{Dcop}
 use Rattle.dcop_base.specs.Whole.{IsProblem}
 use Rattle.pseudotree.specs.DepthFirst.{dfs}
 use Rattle.pseudotree.specs.Pseudotree.{IsPseudotree, IsLinked}
 use Rattle.protocol_steps.specs.declared.event.Event.{Event}
 use Rattle.protocol_steps.specs.Network.{Network}
-use Rattle.protocol_steps.specs.Effect.{pending, has_ended, deliveries}
+use Rattle.protocol_steps.specs.Effect.{SomePending, has_ended, deliveries}
 use Rattle.token_runs.specs.TokenRun.{IsTokenRun, tokens, dones}
 use Rattle.token_runs.specs.Agents.{AreAgents, FoundPlaces}
-
--- a message is pending at some agent
-pub record SomePending (net : Network) : Type 0 where
-  pub to : ℕ
-  pub from : ℕ
-  pub to_agent : to < length net.views
-  pub from_agent : from < length net.views
-  pub some : pending net to from ≡ [] → ⊥
 
 -- a run of tokens in which all agents have ended: one TOKEN and one DONE for each variable but the root, and the depth-first tree was found
 pub record IsWhole (p : Dcop) (end : Network) : Type 0 where

@@ -49,11 +49,11 @@ module _ {X : Type 0} (test : X → Bool) where
       ∙ sum_by-append (λ (x : X). if test x then 1 else 0) (flat_map f (range_with_len 0 n)) (f n ++ [])
       ∙ ap₂ (λ (a : ℕ) (b : ℕ). a + b) (count-flat f n) (ap (λ (xs : List X). count_by test xs) (append-nil (f n)))
 
--- one element of a list was set, and counts one more
-pub sum-set : {X : Type 0} (f : X → ℕ) (xs : List X) (k : ℕ) (x y : X) → slice_get xs k ≡ Some x → f y ≡ f x + 1 → sum_by f (slice_set xs k y) ≡ sum_by f xs + 1
-sum-set f [] k x y h more = absurd (none-some x h)
-sum-set f (z ∷ xs) zero x y h more =
+-- one element of a list was set, and counts more
+pub sum-set : {X : Type 0} (f : X → ℕ) (xs : List X) (k c : ℕ) (x y : X) → slice_get xs k ≡ Some x → f y ≡ f x + c → sum_by f (slice_set xs k y) ≡ sum_by f xs + c
+sum-set f [] k c x y h more = absurd (none-some x h)
+sum-set f (z ∷ xs) zero c x y h more =
     let same : f z ≡ f x = ap f (same_Some z x h) in
     omega (arith, sum_by-cons f y xs, sum_by-cons f z xs, same, more)
-sum-set f (z ∷ xs) (suc k) x y h more =
-    omega (arith, sum_by-cons f z (slice_set xs k y), sum_by-cons f z xs, sum-set f xs k x y h more)
+sum-set f (z ∷ xs) (suc k) c x y h more =
+    omega (arith, sum_by-cons f z (slice_set xs k y), sum_by-cons f z xs, sum-set f xs k c x y h more)

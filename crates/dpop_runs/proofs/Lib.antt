@@ -1,0 +1,15 @@
+pub mod ValueLaws
+pub mod ListLaws
+pub mod Plan
+pub mod FullLaws
+pub mod SomePlan
+pub mod AgentLaws
+pub mod Marks
+pub mod LetterLaws
+pub mod BatchLaws
+pub mod RunSteps
+pub mod StartLaws
+pub mod CountLaws
+pub mod PendingLaws
+pub mod TableLaws
+pub mod RunLaws

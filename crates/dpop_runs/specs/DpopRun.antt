@@ -1,0 +1,53 @@
+-- Runs of DPOP agents on a tree, and the messages that were delivered in them.
+use Rattle.std.specs.Prelude.{◌≡◌, ℕ, Bool, true, false, List, map, length, Some}
+use Rattle.std.specs.List.{count_by, range_with_len}
+use Rattle.dcop_base.specs.Problem.{Dcop}
+use Rattle.dcop_base.specs.Knowledge.{private_of}
+use Rattle.pseudotree.specs.Tree.{path_of, children_of}
+use Rattle.pseudotree.specs.Pseudotree.{lower_of}
+use Rattle.pseudotree.specs.Place.{sizes_of}
+use Rattle.pseudotree.specs.declared.agent.Place.{Place}
+use Rattle.protocol_steps.specs.declared.message.Message.{Message}
+use Rattle.protocol_steps.specs.declared.message.Message.TheVariants.{Util, ValueAll}
+use Rattle.protocol_steps.specs.declared.event.Event.{Event}
+use Rattle.protocol_steps.specs.Dpop.{new_dpop}
+use Rattle.protocol_steps.specs.View.{View, DpopKind}
+use Rattle.protocol_steps.specs.Network.{Network, start_state}
+use Rattle.protocol_steps.specs.Delivered.{delivered}
+use Rattle.protocol_steps.specs.Run.{run}
+
+-- the place of variable i in a tree
+abbrev pub place_at : Dcop → List (List ℕ) → ℕ → Place
+place_at p paths i = record {
+  me = i;
+  path = path_of paths i;
+  path_sizes = sizes_of p (path_of paths i);
+  children = children_of paths i;
+  lower = lower_of p paths i;
+}
+
+-- the DPOP agents of all variables of a problem on a tree, as they are made
+abbrev pub dpop_agents : Dcop → List (List ℕ) → List View
+dpop_agents p paths = map (λ i. DpopKind (new_dpop (private_of p i) (place_at p paths i))) (range_with_len 0 (length p.sizes))
+
+-- a run of the DPOP agents of a problem on a tree, which ends in this network
+abbrev pub IsDpopRun : Dcop → List (List ℕ) → List Event → Network → Type 0
+IsDpopRun p paths es end = run (start_state (dpop_agents p paths)) es ≡ Some end
+
+-- whether a message is a UTIL
+abbrev pub is_util : Message → Bool
+is_util (Util scope cells) = true
+is_util message = false
+
+-- whether a message is a VALUE of DPOP
+abbrev pub is_value_all : Message → Bool
+is_value_all (ValueAll values) = true
+is_value_all message = false
+
+-- how many UTIL messages were delivered
+abbrev pub utils : Network → ℕ
+utils net = count_by is_util (delivered net)
+
+-- how many VALUE messages were delivered
+abbrev pub values : Network → ℕ
+values net = count_by is_value_all (delivered net)

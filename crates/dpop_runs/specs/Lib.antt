@@ -1,0 +1,3 @@
+pub mod DpopRun
+pub mod Agents
+pub mod Laws

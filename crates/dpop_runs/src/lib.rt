@@ -1,0 +1,9 @@
+//! Runs of DPOP agents: what holds of every run in which tables go up a tree and values come down.
+//!
+//! The law is about definitions alone. It is the contract of a call that does nothing: who needs
+//! the law calls it.
+#![tactic(auto)]
+
+mod law;
+
+pub use law::dpop_runs;
