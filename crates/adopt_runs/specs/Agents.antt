@@ -1,0 +1,40 @@
+-- The agents in a run of ADOPT, and what they send.
+use Rattle.std.specs.Prelude.{◌≡◌, ℕ, ◌+◌, ◌<◌, ◌≤◌, true, List, length, Some, slice_get, slice_index}
+use Rattle.dcop_base.specs.Problem.{Dcop}
+use Rattle.dcop_base.specs.Knowledge.{private_of}
+use Rattle.pseudotree.specs.Tree.{children_of, IsRoot}
+use Rattle.adopt_context.specs.Context.{value_in, put, names_all}
+use Rattle.adopt_context.specs.Bounds.{Entry, row_at, entry_at}
+use Rattle.adopt_context.specs.Allot.{share_sum}
+use Rattle.protocol_steps.specs.declared.message.Message.{Message}
+use Rattle.protocol_steps.specs.declared.message.Message.TheVariants.{Cost}
+use Rattle.protocol_steps.specs.Adopt.{AdoptView, higher}
+use Rattle.protocol_steps.specs.AdoptBounds.{delta, lower_bound, upper_bound}
+use Rattle.protocol_steps.specs.View.{View, AdoptKind, OfAdopt, made_of}
+use Rattle.dcop_optimum.specs.Optimum.{IsOptimum}
+use Rattle.dcop_optimum.specs.Enclosing.{IsAtMost, Encloses}
+use Rattle.adopt_runs.specs.AdoptRun.{place_at}
+use Rattle.adopt_runs.specs.Laws.{EntriesHold}
+
+-- the bounds of an entry enclose its child, under the entry's context with variable i at the entry's value
+abbrev pub EntryEncloses : Dcop → List (List ℕ) → ℕ → ℕ → ℕ → Entry → Type 0
+EntryEncloses p paths i d k e = Encloses p paths (slice_index (children_of paths i) k) (value_in (put e.context i d)) e.lower e.upper
+
+-- what holds of the agent of variable i: it was made from what variable i knows, its place and the error; its bounds enclose it under what it knows, and each entry its child; and where it knows all higher neighbours, its threshold is what its value costs and the shares of its children
+pub record IsAgentOf (p : Dcop) (paths : List (List ℕ)) (error i : ℕ) (v : AdoptView) : Type 0 where
+  pub made : made_of (AdoptKind v) ≡ OfAdopt (private_of p i) (place_at p paths i) error
+  pub value_below : v.value < slice_index p.sizes i
+  pub bounds : Encloses p paths i (value_in v.known) (lower_bound v) (upper_bound v)
+  pub entries : (d k : ℕ) → k < length (children_of paths i) → EntryEncloses p paths i d k (entry_at v.rows d k)
+  pub hold : EntriesHold v
+  pub whole : names_all v.known (higher v) ≡ true → v.threshold ≡ delta v v.value + share_sum (row_at v.rows v.value)
+  pub at_root : IsRoot paths i → (m : ℕ) → IsOptimum p m → (lower_bound v ≤ m) × IsAtMost m (upper_bound v)
+
+-- the agents of all variables
+abbrev pub AreAgents : Dcop → List (List ℕ) → ℕ → List View → Type 0
+AreAgents p paths error views = (i : ℕ) → i < length p.sizes → (v : AdoptView) × (slice_get views i ≡ Some (AdoptKind v)) × IsAgentOf p paths error i v
+
+-- what variable i may send: a COST encloses it under its context
+abbrev pub IsSent : Dcop → List (List ℕ) → ℕ → Message → Type 0
+IsSent p paths i (Cost context lower upper) = Encloses p paths i (value_in context) lower upper
+IsSent p paths i message = Unit {0}

@@ -1,0 +1,36 @@
+-- Laws on ADOPT agents.
+use Rattle.std.specs.Prelude.{◌≡◌, ℕ, ◌+◌, ◌≤◌, true, List}
+use Rattle.std.specs.List.{fold}
+use Rattle.dcop_base.specs.declared.knowledge.Private.{Private}
+use Rattle.dcop_base.specs.declared.number.TheConstants.{CAP}
+use Rattle.pseudotree.specs.declared.agent.Place.{Place}
+use Rattle.adopt_context.specs.Context.{Context, part_of, names_all}
+use Rattle.adopt_context.specs.Bounds.{Entry, row_at, entry_at, lower_sum}
+use Rattle.adopt_context.specs.Allot.{share_sum}
+use Rattle.protocol_steps.specs.declared.message.Message.{Message}
+use Rattle.protocol_steps.specs.Adopt.{AdoptView, new_adopt, higher}
+use Rattle.protocol_steps.specs.AdoptBounds.{delta, lower_bound, upper_bound}
+use Rattle.protocol_steps.specs.AdoptStep.{adopt_start, adopt_step}
+use Rattle.dcop_optimum.specs.Enclosing.{IsAtMost}
+
+-- an entry rests on a part of what is known, and its share lies between its bounds
+pub record EntryHolds (known : Context) (e : Entry) : Type 0 where
+  pub part : part_of e.context known ≡ true
+  pub low : e.lower ≤ e.share
+  pub high : IsAtMost e.share e.upper
+
+-- the entries of an agent: each one holds, the threshold lies between the bounds, and it is the cost of the value and what is allotted to the children, where all higher neighbours are known and the lower bounds' sum is not cut
+pub record EntriesHold (v : AdoptView) : Type 0 where
+  pub entries : (d k : ℕ) → EntryHolds v.known (entry_at v.rows d k)
+  pub low : lower_bound v ≤ v.threshold
+  pub high : IsAtMost v.threshold (upper_bound v)
+  pub whole : names_all v.known (higher v) ≡ true → delta v v.value + lower_sum (row_at v.rows v.value) ≤ CAP
+      → v.threshold ≡ delta v v.value + share_sum (row_at v.rows v.value)
+
+-- an agent after its start and activations on these batches
+abbrev pub after_batches : AdoptView → List (List (ℕ × Message)) → AdoptView
+after_batches made batches = fold (λ v ls. (adopt_step v ls).view) (adopt_start made).view batches
+
+-- the entries of every agent hold after its start and every activation, whatever it receives
+abbrev pub AdoptEntries : Type 0
+AdoptEntries = (own : Private) (place : Place) (error : ℕ) (batches : List (List (ℕ × Message))) → EntriesHold (after_batches (new_adopt own place error) batches)
