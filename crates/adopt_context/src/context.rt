@@ -43,6 +43,13 @@ impl AgentContext {
         value_in(self.pairs.as_slice(), var)
     }
 
+    /// The pairs of a variable and its value, by ascending variables.
+    pub fn pairs(&self) -> &[(VarId, Val)]
+        ensures { result.now ≡ self.now }
+    {
+        self.pairs.as_slice()
+    }
+
     /// Whether no variable has different values in the two contexts.
     pub fn compatible(&self, other: &AgentContext) -> bool
         ensures { result ≡ compatible self.now other.now }

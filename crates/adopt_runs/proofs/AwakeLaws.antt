@@ -19,7 +19,7 @@ use Rattle.protocol_steps.specs.Network.{Network, start_state, link, waiting}
 use Rattle.protocol_steps.specs.Effect.{SomePending, has_ended}
 use Rattle.protocol_steps.specs.Links.{taken_at}
 use Rattle.dcop_optimum.proofs.JoinLaws.{children_parent}
-use Rattle.adopt_runs.specs.AdoptRun.{place_at, adopt_agents}
+use Rattle.protocol_steps.specs.TreeAgents.{place_at, adopt_agents}
 use Rattle.adopt_runs.specs.PendingLaw.{AdoptPending}
 use Rattle.adopt_runs.proofs.DigestLaws.{Digest, Open, Ending, digest_by, digest, digest_step}
 use Rattle.adopt_runs.proofs.PairLaws.{whole_digest}

@@ -18,7 +18,7 @@ use Rattle.protocol_steps.specs.AdoptCost.{merged, with_entry, may_store, stored
 use Rattle.protocol_steps.specs.AdoptMessage.{take_threshold, take_end, takes_value, takes_from_parent, adopt_message}
 use Rattle.dcop_base.specs.Knowledge.{private_of}
 use Rattle.pseudotree.specs.declared.agent.Place.{Place}
-use Rattle.adopt_runs.specs.AdoptRun.{place_at}
+use Rattle.protocol_steps.specs.TreeAgents.{place_at}
 use Rattle.adopt_runs.proofs.Every.{Every}
 use Rattle.adopt_runs.proofs.DigestLaws.{handled, message_still}
 use Rattle.adopt_runs.proofs.AgentLaws.{place_of, Brings, batch_mid, restored_mid}

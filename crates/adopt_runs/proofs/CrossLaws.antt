@@ -24,7 +24,7 @@ use Rattle.protocol_steps.specs.View.{View, AdoptKind}
 use Rattle.dcop_optimum.specs.Enclosing.{IsAtMost}
 use Rattle.dcop_optimum.proofs.LineLaws.{within_self, within_above}
 use Rattle.dcop_optimum.proofs.JoinLaws.{children_parent}
-use Rattle.adopt_runs.specs.AdoptRun.{place_at, adopt_agents}
+use Rattle.protocol_steps.specs.TreeAgents.{place_at, adopt_agents}
 use Rattle.adopt_runs.specs.RunLaws.{DoesNotCross, NoBoundsCross}
 use Rattle.adopt_runs.proofs.KnownLaws.{part_gives, union_part}
 use Rattle.adopt_runs.proofs.Every.{Every, every_split, every_then}

@@ -11,7 +11,7 @@ use Rattle.protocol_steps.specs.declared.message.Message.{Message}
 use Rattle.protocol_steps.specs.declared.message.Message.TheVariants.{Token, Done, Util, ValueAll, Value, Cost, Threshold, Terminate}
 use Rattle.protocol_steps.specs.Adopt.{AdoptView}
 use Rattle.protocol_steps.specs.AdoptStep.{share_of}
-use Rattle.adopt_runs.specs.AdoptRun.{place_at}
+use Rattle.protocol_steps.specs.TreeAgents.{place_at}
 use Rattle.adopt_runs.proofs.DigestLaws.{Digest, Open, Ending, digest_by, digest, heard, ended_with, fits_place, digest_step}
 use Rattle.adopt_runs.proofs.SendLaws.{is_value_message, is_cost, is_terminate, some_fresh, none_more, last_words, more_words}
 

@@ -20,7 +20,7 @@ use Rattle.protocol_steps.specs.Network.{Network, messages_to, link, waiting, ta
 use Rattle.protocol_steps.specs.Run.{form_fault, ascends_from, too_many, run}
 use Rattle.protocol_steps.specs.Links.{taken_at, step_in, IsEffect}
 use Rattle.protocol_steps.proofs.EventLaws.{Happens, begins}
-use Rattle.adopt_runs.specs.AdoptRun.{place_at}
+use Rattle.protocol_steps.specs.TreeAgents.{place_at}
 use Rattle.adopt_runs.proofs.DigestLaws.{digest, digest_step, handled, batch_still, batch_digest, closed_digest, batch_from}
 use Rattle.adopt_runs.proofs.SendLaws.{closed_ended}
 use Rattle.adopt_runs.proofs.PairLaws.{parent_moves, child_moves}

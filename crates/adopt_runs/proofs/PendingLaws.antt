@@ -26,7 +26,7 @@ use Rattle.protocol_steps.specs.Network.{Network, start_state, messages_to, link
 use Rattle.protocol_steps.specs.Effect.{pending_at, SomePending}
 use Rattle.protocol_steps.specs.Links.{taken_at}
 use Rattle.dcop_optimum.specs.Enclosing.{IsAtMost}
-use Rattle.adopt_runs.specs.AdoptRun.{place_at, adopt_agents}
+use Rattle.protocol_steps.specs.TreeAgents.{place_at, adopt_agents}
 use Rattle.adopt_runs.proofs.BoundLaws.{lowest_within, lowest_over}
 use Rattle.adopt_runs.proofs.OwnLaws.{list_all_at, list_all_from}
 use Rattle.adopt_runs.proofs.DigestLaws.{Open, digest, closed_digest}

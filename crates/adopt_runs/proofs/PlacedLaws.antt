@@ -26,7 +26,7 @@ use Rattle.protocol_steps.specs.AdoptRange.{in_range, is_within as is_below_size
 use Rattle.dcop_optimum.proofs.LineLaws.{within_self, within_above, not_both}
 use Rattle.dcop_optimum.proofs.OwnerLaws.{cost_split}
 use Rattle.dcop_optimum.proofs.JoinLaws.{value_below, listed, listed_at, listed_is, size_some, own_here, own_else, children_parent, IsPiece, joined, above_in_problem, joined_is, joined_agrees, joined_split}
-use Rattle.adopt_runs.specs.AdoptRun.{place_at}
+use Rattle.protocol_steps.specs.TreeAgents.{place_at}
 use Rattle.adopt_runs.specs.Laws.{EntryHolds}
 use Rattle.adopt_runs.proofs.BoundLaws.{lowest_within, lowest_least}
 use Rattle.adopt_runs.proofs.KnownLaws.{each_pair, part_gives, union_gives_left, union_gives_right}

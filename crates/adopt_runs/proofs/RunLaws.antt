@@ -12,7 +12,7 @@ use Rattle.protocol_steps.specs.AdoptBounds.{lower_bound, upper_bound}
 use Rattle.protocol_steps.specs.Network.{Network, start_state, link}
 use Rattle.protocol_steps.specs.View.{OfAdopt}
 use Rattle.dcop_optimum.proofs.DecompositionLaws.{root_bounds_enclose_optima}
-use Rattle.adopt_runs.specs.AdoptRun.{place_at, adopt_agents}
+use Rattle.protocol_steps.specs.TreeAgents.{place_at, adopt_agents}
 use Rattle.adopt_runs.specs.Agents.{IsAgentOf, IsSent}
 use Rattle.adopt_runs.specs.RunLaws.{HoldsOfAdopt, AdoptBoundsEnclose}
 use Rattle.adopt_runs.proofs.Every.{every_then, all_every}

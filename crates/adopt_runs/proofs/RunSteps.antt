@@ -23,7 +23,7 @@ use Rattle.protocol_steps.specs.Run.{run}
 use Rattle.protocol_steps.specs.Links.{step_in, IsEffect, IsBegun}
 use Rattle.protocol_steps.proofs.EventLaws.{Happens, happens_to, begins}
 use Rattle.protocol_steps.proofs.LinkLaws.{links_grow}
-use Rattle.adopt_runs.specs.AdoptRun.{place_at, adopt_agents}
+use Rattle.protocol_steps.specs.TreeAgents.{place_at, adopt_agents}
 use Rattle.adopt_runs.proofs.Every.{Every, every_append, every_take, every_drop, every_if, every_map, every_flat_map, every_from, every_then}
 use Rattle.adopt_runs.proofs.AgentLaws.{Brings}
 use Rattle.adopt_runs.proofs.StepLaws.{IsDone, step_done, start_done}

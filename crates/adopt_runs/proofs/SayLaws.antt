@@ -22,7 +22,7 @@ use Rattle.protocol_steps.specs.AdoptStep.{messages_to_child, messages_for, adop
 use Rattle.protocol_steps.specs.Network.{message_to, messages_to}
 use Rattle.dcop_optimum.proofs.LineLaws.{within_cases, within_self, within_above, not_both}
 use Rattle.dcop_optimum.proofs.JoinLaws.{children_parent}
-use Rattle.adopt_runs.specs.AdoptRun.{place_at}
+use Rattle.protocol_steps.specs.TreeAgents.{place_at}
 use Rattle.adopt_runs.specs.Agents.{EntryEncloses, IsSent}
 use Rattle.adopt_runs.proofs.KnownLaws.{value_without, put_here, put_else}
 use Rattle.adopt_runs.proofs.Every.{Every, every_append, every_if, every_map, every_flat_map, every_from}

@@ -13,7 +13,7 @@ use Rattle.protocol_steps.specs.AdoptBounds.{delta, lower_bound, upper_bound}
 use Rattle.protocol_steps.specs.View.{View, AdoptKind, OfAdopt, made_of}
 use Rattle.dcop_optimum.specs.Optimum.{IsOptimum}
 use Rattle.dcop_optimum.specs.Enclosing.{IsAtMost, Encloses}
-use Rattle.adopt_runs.specs.AdoptRun.{place_at}
+use Rattle.protocol_steps.specs.TreeAgents.{place_at}
 use Rattle.adopt_runs.specs.Laws.{EntriesHold}
 
 -- the bounds of an entry enclose its child, under the entry's context with variable i at the entry's value

@@ -4,7 +4,7 @@ ghost use Rattle.std.specs.Prelude.{◌≡◌, [], IfOk, OnOk, OnErr, MatchOptio
 ghost use Rattle.std.specs.List.{All};
 ghost use Rattle.protocol_steps.specs.Token.{new_token};
 ghost use Rattle.protocol_steps.specs.View.{TokenKind, made_of, ended_of, value_of, standing_of, table_of, place_of};
-ghost use Rattle.dfs_agent.specs.Knowledge.{IsKnowledge};
+ghost use Rattle.protocol_steps.specs.Knowledge.{IsKnowledge};
 ghost use Rattle.protocol_steps.specs.Machine.{MayStart, MayReact, IsBatch, IsStart, IsStep, IsToNeighbour};
 
 use dcop_base::{NoMemory, Private, Table, Val};

@@ -14,7 +14,7 @@ use crate::deliver::post;
 use crate::inbox::new_links;
 use crate::seat::Seat;
 use dcop_base::{MAX_VARIABLES, NoMemory, Problem, VarId, private};
-use dfs_agent::private_is_knowledge;
+use protocol_steps::private_is_knowledge;
 use std::alloc::Global;
 
 /// What a run starts with: the kind of its agents, and what they are made from besides the

@@ -1,4 +1,3 @@
 mod VisitLaws
 mod AgentLaws
-mod PrivateLaws
 mod StartedLaws

@@ -1,4 +1,3 @@
-pub mod Knowledge
 pub mod Stage
 pub mod Sound
 pub mod Search

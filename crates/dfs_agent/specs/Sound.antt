@@ -7,7 +7,7 @@ use Rattle.protocol_steps.specs.Token.{token_place}
 use Rattle.protocol_steps.specs.TokenStep.{most_others}
 use Rattle.protocol_steps.specs.Laws.{IsParentBeside}
 use Rattle.dfs_agent.specs.declared.stage.Stage.{Stage}
-use Rattle.dfs_agent.specs.Knowledge.{IsKnowledge}
+use Rattle.protocol_steps.specs.Knowledge.{IsKnowledge}
 use Rattle.dfs_agent.specs.Stage.{view_at, place_at}
 
 -- variables that a token names besides the agent

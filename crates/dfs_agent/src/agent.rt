@@ -8,7 +8,7 @@ ghost use Rattle.protocol_steps.specs.Token.{new_token};
 ghost use Rattle.protocol_steps.specs.TokenStep.{look, pass_on, takes_token, takes_done, token_message, token_start, token_step};
 ghost use Rattle.protocol_steps.specs.View.{TokenKind};
 ghost use Rattle.protocol_steps.specs.Laws.{IsParentBeside};
-ghost use Rattle.dfs_agent.specs.Knowledge.{IsKnowledge};
+ghost use Rattle.protocol_steps.specs.Knowledge.{IsKnowledge};
 ghost use Rattle.dfs_agent.specs.Stage.{searching};
 ghost use Rattle.dfs_agent.specs.Sound.{AreOthers};
 ghost use Rattle.dfs_agent.specs.Search.{Gives, IsNew, IsRunning};

@@ -8,7 +8,6 @@
 #![tactic(auto)]
 
 mod agent;
-mod law;
 mod parts;
 mod stage;
 #[cfg(test)]
@@ -16,4 +15,3 @@ mod tests;
 mod visited;
 
 pub use agent::TokenAgent;
-pub use law::private_is_knowledge;

@@ -2,7 +2,7 @@
 
 ghost use Rattle.std.specs.Prelude.{◌≡◌, ◌==◌, ◌||◌, ◌∷◌, [], true, false, IfOk};
 ghost use Rattle.protocol_steps.specs.Ranges.{IsInRange};
-ghost use Rattle.dfs_agent.specs.Knowledge.{IsKnowledge};
+ghost use Rattle.protocol_steps.specs.Knowledge.{IsKnowledge};
 
 use crate::TokenAgent;
 use dcop_base::{Private, SizeList, TableList, Val, VarId, VarList};

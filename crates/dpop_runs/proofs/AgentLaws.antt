@@ -33,7 +33,7 @@ use Rattle.protocol_steps.specs.DpopJoin.{values_for, decide, send_up, can_join,
 use Rattle.protocol_steps.specs.DpopStep.{is_below_size, is_open, takes_util, with_table, take_util, takes_values, dpop_message}
 use Rattle.dcop_optimum.proofs.LineLaws.{within_above, within_self}
 use Rattle.dcop_optimum.proofs.JoinLaws.{size_some, child_named, above_in_problem, separator_above}
-use Rattle.dpop_runs.proofs.ValueLaws.{value_in-zip, value_in-context_of, all-context_of, context_of_same}
+use Rattle.protocol_steps.proofs.ValueLaws.{value_in-zip, value_in-context_of, all-context_of, context_of_same}
 use Rattle.dpop_runs.proofs.ListLaws.{same_truth, has_at, product_le, filter_distinct, map_alike, placed, set_map, all_from, all_at, any_where, mark, mark_here, mark_else}
 use Rattle.dpop_runs.proofs.Plan.{view_with, kept_if, full, Plan, util_of_plan, values_for_child, decided, joins}
 use Rattle.dpop_runs.proofs.FullLaws.{scopes_of, any_map, child_is, size_is, sizes_are, near_is, separator_within, child_scope, scope_is, full_separator, sizes_is, cells_full, best_reads, best_below}

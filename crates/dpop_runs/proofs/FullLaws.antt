@@ -34,7 +34,7 @@ use Rattle.dcop_optimum.proofs.DecompositionLaws.{decomposes}
 use Rattle.dcop_optimum.proofs.CertificateLaws.{tables_on_paths_are_own}
 use Rattle.dcop_optimum.proofs.OptimumTableLaws.{costs_are_within_cap}
 use Rattle.dcop_optimum.proofs.SeparatorLaws.{separators_decompose}
-use Rattle.dpop_runs.proofs.ValueLaws.{value_in-zip, length-choices, made_cell}
+use Rattle.protocol_steps.proofs.ValueLaws.{value_in-zip, length-choices, made_cell}
 use Rattle.dpop_runs.proofs.ListLaws.{filter_twice, filter_range_has, map_alike, has_head, has_tail, from_leaves}
 use Rattle.dpop_runs.proofs.Plan.{view_with, full}
 

@@ -1,4 +1,3 @@
-pub mod ValueLaws
 pub mod ListLaws
 pub mod Plan
 pub mod FullLaws

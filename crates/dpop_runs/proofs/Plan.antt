@@ -10,7 +10,7 @@ use Rattle.protocol_steps.specs.declared.message.Message.TheVariants.{Util, Valu
 use Rattle.protocol_steps.specs.Agent.{Phase, Stepped}
 use Rattle.protocol_steps.specs.Values.{context_of}
 use Rattle.protocol_steps.specs.Dpop.{DpopView, util_table, best_value}
-use Rattle.dpop_runs.specs.DpopRun.{place_at}
+use Rattle.protocol_steps.specs.TreeAgents.{place_at}
 
 -- an agent that has started, and has ended or not
 abbrev pub phase_with : Bool → Phase

@@ -26,7 +26,7 @@ use Rattle.protocol_steps.specs.Network.{Desk, Network, start_state, messages_to
 use Rattle.protocol_steps.specs.Links.{IsBegun}
 use Rattle.protocol_steps.proofs.LinkLaws.{links_grow}
 use Rattle.protocol_steps.proofs.TallyLaws.{tally}
-use Rattle.dpop_runs.specs.DpopRun.{place_at, dpop_agents}
+use Rattle.protocol_steps.specs.TreeAgents.{place_at, dpop_agents}
 use Rattle.dpop_runs.proofs.Plan.{view_with, kept_if, Plan, util_of_plan, values_for_child}
 use Rattle.dpop_runs.proofs.Marks.{Marks, ended_by, joined, past}
 use Rattle.dpop_runs.proofs.AgentLaws.{join_is}

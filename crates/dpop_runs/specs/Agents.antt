@@ -11,7 +11,7 @@ use Rattle.protocol_steps.specs.declared.message.Message.TheVariants.{Util, Valu
 use Rattle.protocol_steps.specs.View.{View, OfDpop, made_of, started_of, failed_of, table_of}
 use Rattle.protocol_steps.specs.Laws.{IsBeside}
 use Rattle.dcop_optimum.specs.Subtree.{AreValuesAbove, IsSubtreeOptimum}
-use Rattle.dpop_runs.specs.DpopRun.{place_at}
+use Rattle.protocol_steps.specs.TreeAgents.{place_at}
 
 -- a table over the separator of variable i, from the root down, with a cell for each choice of values: the subtree optimum of i, whatever the other ancestors' values
 pub record IsOptimumTable (p : Dcop) (paths : List (List ℕ)) (i : ℕ) (t : CostTable) : Type 0 where

@@ -12,23 +12,10 @@ use Rattle.protocol_steps.specs.declared.message.Message.TheVariants.{Util, Valu
 use Rattle.protocol_steps.specs.declared.event.Event.{Event}
 use Rattle.protocol_steps.specs.Dpop.{new_dpop}
 use Rattle.protocol_steps.specs.View.{View, DpopKind}
+use Rattle.protocol_steps.specs.TreeAgents.{dpop_agents}
 use Rattle.protocol_steps.specs.Network.{Network, start_state}
 use Rattle.protocol_steps.specs.Delivered.{delivered}
 use Rattle.protocol_steps.specs.Run.{run}
-
--- the place of variable i in a tree
-abbrev pub place_at : Dcop → List (List ℕ) → ℕ → Place
-place_at p paths i = record {
-  me = i;
-  path = path_of paths i;
-  path_sizes = sizes_of p (path_of paths i);
-  children = children_of paths i;
-  lower = lower_of p paths i;
-}
-
--- the DPOP agents of all variables of a problem on a tree, as they are made
-abbrev pub dpop_agents : Dcop → List (List ℕ) → List View
-dpop_agents p paths = map (λ i. DpopKind (new_dpop (private_of p i) (place_at p paths i))) (range_with_len 0 (length p.sizes))
 
 -- a run of the DPOP agents of a problem on a tree, which ends in this network
 abbrev pub IsDpopRun : Dcop → List (List ℕ) → List Event → Network → Type 0

@@ -11,3 +11,5 @@ pub mod LinkLaws
 pub mod TallyLaws
 pub mod DeliveredLaws
 pub mod StampRows
+pub mod PrivateLaws
+pub mod ValueLaws

@@ -18,7 +18,10 @@ pub mod Machine
 pub mod Network
 pub mod Effect
 pub mod Run
+pub mod Knowledge
 pub mod Laws
+pub mod Placing
+pub mod TreeAgents
 pub mod Stamps
 pub mod Deeds
 pub mod StampLaw

@@ -1,10 +1,16 @@
 //! Laws that follow from the definitions alone. Each is the contract of a call that does nothing:
 //! who needs the law calls it.
 
+ghost use Rattle.protocol_steps.specs.Knowledge.{PrivatesAreKnowledge};
 ghost use Rattle.protocol_steps.specs.Laws.{OriginsStay, ParcelsGoToNeighbours, JournalsDecide};
 ghost use Rattle.protocol_steps.specs.Links.{LinksGrow};
 ghost use Rattle.protocol_steps.specs.StampLaw.{StampsOrder};
 ghost use Rattle.protocol_steps.specs.JournalStamps.{StartsShow, JournalsOrder};
+
+/// What an agent is given of a problem is what an agent may be made from.
+pub fn private_is_knowledge()
+    ensures { PrivatesAreKnowledge }
+{}
 
 /// What an agent was made from never changes, by its start and by each step.
 pub fn origins_stay()

@@ -1,6 +1,6 @@
 use Rattle.std.proofs.Common.{sym, subst}
 use Rattle.dcop_base.specs.declared.knowledge.Private.{Private}
-use Rattle.dfs_agent.specs.Knowledge.{IsKnowledge}
+use Rattle.protocol_steps.specs.Knowledge.{IsKnowledge}
 use Rattle.delivery_core.proofs.start.token_seat.Goals as goal
 
 pub token-requires : goal.token-requires

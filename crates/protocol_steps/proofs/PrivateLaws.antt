@@ -19,7 +19,7 @@ use Rattle.dcop_base.proofs.KnowledgeLaws.{All-filter-range}
 use Rattle.pseudotree.proofs.NestLaws.{filter_has}
 use Rattle.pseudotree.proofs.SpreadLaws.{any_in_range}
 use Rattle.adopt_context.specs.Context.{value_in}
-use Rattle.dfs_agent.specs.Knowledge.{IsSize, known_sizes, IsKnownTable, IsKnowledge, PrivatesAreKnowledge}
+use Rattle.protocol_steps.specs.Knowledge.{IsSize, known_sizes, IsKnownTable, IsKnowledge, PrivatesAreKnowledge}
 
 -- a number that stands in a list is one of its elements, and each element stands in it
 contains_from_has : (xs : List ℕ) (x : ℕ) → has xs x ≡ true → Contains xs x

@@ -1,5 +1,0 @@
-use Rattle.dfs_agent.proofs.PrivateLaws.{privates_are_knowledge}
-use Rattle.dfs_agent.proofs.law.private_is_knowledge.Goals as goal
-
-pub returns : goal.returns
-returns c = privates_are_knowledge
