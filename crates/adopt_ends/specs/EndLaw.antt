@@ -1,0 +1,44 @@
+-- The law on the end of a run of ADOPT agents.
+use Rattle.std.specs.Prelude.{◌≡◌, ℕ, ◌+◌, ◌<◌, ◌≤◌, true, List, map, length, Option, Some, None, if◌then◌else◌, slice_get, slice_index}
+use Rattle.dcop_base.specs.Problem.{Dcop, IsAssignment, cost}
+use Rattle.dcop_base.specs.Whole.{IsProblem}
+use Rattle.pseudotree.specs.Tree.{is_above, IsRoot}
+use Rattle.pseudotree.specs.Pseudotree.{IsPseudotree, IsLinked}
+use Rattle.adopt_context.specs.Context.{value_in}
+use Rattle.adopt_context.specs.Bounds.{cap}
+use Rattle.protocol_steps.specs.declared.event.Event.{Event}
+use Rattle.protocol_steps.specs.Network.{Network}
+use Rattle.protocol_steps.specs.Effect.{has_ended}
+use Rattle.protocol_steps.specs.Adopt.{AdoptView}
+use Rattle.protocol_steps.specs.AdoptBounds.{lower_bound}
+use Rattle.protocol_steps.specs.View.{AdoptKind, value_of}
+use Rattle.dcop_optimum.specs.Optimum.{IsOptimum}
+use Rattle.adopt_runs.specs.AdoptRun.{IsAdoptRun}
+
+-- the values that the agents of a network have
+abbrev pub values_of : Network → List ℕ
+values_of end = map value_of end.views
+
+-- the value of variable u, where it is a proper ancestor of variable i
+abbrev pub ancestor_value : List (List ℕ) → List ℕ → ℕ → ℕ → Option ℕ
+ancestor_value paths values i u = if is_above paths u i then Some (slice_index values u) else None
+
+-- an agent knows exactly the values of the proper ancestors of its variable i
+abbrev pub KnowsAncestors : List (List ℕ) → List ℕ → ℕ → AdoptView → Type 0
+KnowsAncestors paths values i v = (u : ℕ) → value_in v.known u ≡ ancestor_value paths values i u
+
+-- the root's threshold is at least what the values cost, and at most its lower bound plus the error
+abbrev pub IsRootThreshold : Dcop → ℕ → List ℕ → AdoptView → Type 0
+IsRootThreshold p error values v = (cost p values ≤ v.threshold) × (v.threshold ≤ cap (lower_bound v + error))
+
+-- what holds where all ADOPT agents of a run have ended
+pub record HoldsAtEnd (p : Dcop) (paths : List (List ℕ)) (error : ℕ) (end : Network) : Type 0 where
+  pub assignment : IsAssignment p (values_of end)
+  pub known : (i : ℕ) → i < length p.sizes → (v : AdoptView) × (slice_get end.views i ≡ Some (AdoptKind v)) × KnowsAncestors paths (values_of end) i v
+  pub threshold : (root : ℕ) → IsRoot paths root → (v : AdoptView) × (slice_get end.views root ≡ Some (AdoptKind v)) × IsRootThreshold p error (values_of end) v
+  pub near : (m : ℕ) → IsOptimum p m → cost p (values_of end) ≤ m + error
+
+-- the end of every run of ADOPT on a linked pseudotree, for every requested error, where all agents have ended
+abbrev pub AdoptEnds : Type 0
+AdoptEnds = (p : Dcop) (paths : List (List ℕ)) (error : ℕ) → IsProblem p → IsPseudotree p paths → IsLinked p paths
+    → (es : List Event) (end : Network) → IsAdoptRun p paths error es end → has_ended end ≡ true → HoldsAtEnd p paths error end

@@ -1,0 +1,11 @@
+//! The law on the end of a run of ADOPT agents.
+
+ghost use Rattle.adopt_ends.specs.EndLaw.{AdoptEnds};
+
+/// Where all ADOPT agents of a run on a linked pseudotree have ended, for every requested error,
+/// their values are an assignment, what each agent knows is exactly its proper ancestors' values, and
+/// the cost of the values is at most the root's threshold, which is at most the root's lower bound
+/// plus the error, cut off at the cap. So the cost is at most the optimum plus the error.
+pub fn adopt_ends()
+    ensures { AdoptEnds }
+{}
