@@ -21,5 +21,3 @@ pub mod PairRuns
 pub mod PairSteps
 pub mod PendingLaws
 pub mod AwakeLaws
-pub mod EndLaws
-pub mod CeilingLaws

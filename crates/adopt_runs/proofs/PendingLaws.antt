@@ -1,10 +1,9 @@
 -- In a run of ADOPT a message is pending until all agents have ended.
 use Rattle.std.proofs.Common.{◌≡◌, ℕ, ◌+◌, ◌-◌, ◌≤◌, ◌<◌, Bool, true, false, cond, nat_lt, List, [], ◌∷◌, length, get_or, Option, Some, None, refl, sym, ap, subst, ◌∙◌, inl, inr, arith}
 use Rattle.std.specs.List.{list_any, filter, slice_get}
-use Rattle.std.specs.Option.{option_map}
 use Rattle.std.specs.Prelude.{is_some}
 use Rattle.std.proofs.lemmas.Bool.{cases_Bool, or_cases, eq-eqb, false≢true}
-use Rattle.std.proofs.lemmas.Option.{slice_get-map, slice_get_within}
+use Rattle.std.proofs.lemmas.Option.{slice_get_within}
 use Rattle.dcop_base.specs.Table.{has}
 use Rattle.dcop_base.specs.Problem.{Dcop}
 use Rattle.dcop_base.specs.Whole.{IsProblem}
@@ -21,7 +20,6 @@ use Rattle.protocol_steps.specs.Adopt.{AdoptView, higher}
 use Rattle.protocol_steps.specs.AdoptBounds.{delta, lower_of, upper_of, best_lower, best_upper, lower_bound, upper_bound}
 use Rattle.protocol_steps.specs.AdoptStep.{may_end, adopt_sends, adopt_start}
 use Rattle.protocol_steps.specs.View.{View, AdoptKind}
-use Rattle.protocol_steps.specs.Step.{start_of}
 use Rattle.protocol_steps.specs.Network.{Network, start_state, messages_to, link, waiting}
 use Rattle.protocol_steps.specs.Effect.{pending_at, SomePending}
 use Rattle.protocol_steps.specs.Links.{taken_at}
@@ -32,7 +30,7 @@ use Rattle.adopt_runs.proofs.OwnLaws.{list_all_at, list_all_from}
 use Rattle.adopt_runs.proofs.DigestLaws.{Open, digest, closed_digest}
 use Rattle.adopt_runs.proofs.SendLaws.{is_value_message, is_cost, closed_ended}
 use Rattle.adopt_runs.proofs.PairLaws.{told_took, both_start}
-use Rattle.adopt_runs.proofs.RunSteps.{Settled, starts, new_one, made_at, started, begun, one_start}
+use Rattle.adopt_runs.proofs.RunSteps.{Settled, starts, new_one, made_at, started, begun, one_start, first_at}
 use Rattle.adopt_runs.proofs.PairRuns.{same_view, IsEnder, PairOf, IsRun, IsPlaced, placed, placed_at, parent_in, child_in, parent_words, child_told, pair_same}
 
 none_in : (q : Message → Bool) (ms : List Message) → list_any q ms ≡ true → ms ≡ [] → ⊥
@@ -44,12 +42,6 @@ module _ (p : Dcop) (paths : List (List ℕ)) (problem : IsProblem p) (pseudo : 
 
   abbrev first : ℕ → AdoptView
   first i = (adopt_start (new_one p paths problem pseudo error i)).view
-
-  first_at : (i : ℕ) → i < length p.sizes → slice_get start.views i ≡ Some (AdoptKind (first i))
-  first_at i lt =
-      slice_get-map (λ (v : View). (start_of v).view) (adopt_agents p paths error) i
-      ∙ ap (option_map (λ (v : View). (start_of v).view)) (made_at p paths problem pseudo error i lt)
-      ∙ ap (λ (s : Stepped View). Some s.view) (one_start (new_one p paths problem pseudo error i))
 
   first_digest : (i : ℕ) → digest (first i) ≡ Open 0
   first_digest i =
@@ -78,7 +70,7 @@ module _ (p : Dcop) (paths : List (List ℕ)) (problem : IsProblem p) (pseudo : 
       let within = slice_get_within start.views i (AdoptKind v) at in
       let count = (starts p paths problem pseudo error).count in
       let lt : i < length p.sizes = omega (arith, within, count) in
-      (lt, same_view (slice_get start.views i) (first i) v (first_at i lt) at)
+      (lt, same_view (slice_get start.views i) (first i) v (first_at p paths problem pseudo error i lt) at)
 
   pub run_starts : IsRun p paths problem pseudo linked error start
   run_starts = record {

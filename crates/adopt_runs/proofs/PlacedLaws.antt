@@ -36,7 +36,7 @@ use Rattle.adopt_runs.proofs.EncloseLaws.{below, GivenAbove, IsReached, IsBounde
 use Rattle.adopt_runs.proofs.OwnLaws.{counted_cost, counted_low, counted_high, below_cap}
 
 -- a bound that was cut off at the cap
-capped_parts : (o : Option ℕ) (u : ℕ) → capped o ≡ Some u → (x : ℕ) × (o ≡ Some x) × (cap x ≡ u)
+pub capped_parts : (o : Option ℕ) (u : ℕ) → capped o ≡ Some u → (x : ℕ) × (o ≡ Some x) × (cap x ≡ u)
 capped_parts None u h = absurd (none-some u h)
 capped_parts (Some x) u h = (x, refl, same_Some (cap x) u h)
 
@@ -118,16 +118,16 @@ module _ (p : Dcop) (paths : List (List ℕ)) (problem : IsProblem p) (pseudo : 
         ∙ own_else i d (λ v. get_or values v 0) v (λ (same : v ≡ i). not_both paths pseudo.tree i i (subst (λ (u : ℕ). is_above paths u i ≡ true) same h) (within_self paths i))
 
   module _ (v : AdoptView) (mid : Mid v) where
-    abbrev size : ℕ
+    abbrev pub size : ℕ
     size = get_or p.sizes i 0
 
     size_here : v.own.size ≡ size
     size_here = ap (λ (o : Private). o.size) mid.own_is
 
-    delta_is : (d : ℕ) → delta v d ≡ cap (counted_cost p paths problem pseudo i v.known d)
+    pub delta_is : (d : ℕ) → delta v d ≡ cap (counted_cost p paths problem pseudo i v.known d)
     delta_is d = ap (λ (o : Private). delta_of o v.place v.known d) mid.own_is ∙ ap (λ (q : Place). delta_of (private_of p i) q v.known d) mid.place_is
 
-    row_long : (d : ℕ) → d < size → length (row_at v.rows d) ≡ length (children_of paths i)
+    pub row_long : (d : ℕ) → d < size → length (row_at v.rows d) ≡ length (children_of paths i)
     row_long d lt = mid.wide d (subst (λ (n : ℕ). d < n) (sym size_here) lt) ∙ ap (λ (q : Place). length q.children) mid.place_is
 
     within_last : (d : ℕ) → d < size → d ≤ v.own.size - 1
@@ -137,7 +137,7 @@ module _ (p : Dcop) (paths : List (List ℕ)) (problem : IsProblem p) (pseudo : 
     last_within d le = let at = size_here in let some = size_some p problem i in_tree in omega (arith, le, at, some)
 
     -- what is known is what an entry rests on
-    rests : (d k : ℕ) (values : List ℕ) → get_or values i 0 ≡ d → GivenAbove p paths i (value_in v.known) values → Under d (entry_at v.rows d k).context values
+    pub rests : (d k : ℕ) (values : List ℕ) → get_or values i 0 ≡ d → GivenAbove p paths i (value_in v.known) values → Under d (entry_at v.rows d k).context values
     rests d k values here given = (here, λ u x above e. given u x above (part_gives (entry_at v.rows d k).context v.known (mid.entries d k).holds.part u x e))
 
     -- the lower bounds, without a cap

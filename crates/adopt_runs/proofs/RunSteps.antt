@@ -78,7 +78,7 @@ module _ (p : Dcop) (paths : List (List ℕ)) (problem : IsProblem p) (pseudo : 
     letters_said : Every (λ l. Says p paths l.0 l.1) letters
     letters_said = batch_said net.desks e.agent e.takes (λ j. is.said e.agent j)
 
-    brought : (lt : e.agent < length p.sizes) → Every (λ l. Brings (IsBrought p paths problem pseudo error e.agent lt) (private_of p e.agent) (place_at p paths e.agent) l.0 l.1) letters
+    pub brought : (lt : e.agent < length p.sizes) → Every (λ l. Brings (IsBrought p paths problem pseudo error e.agent lt) (private_of p e.agent) (place_at p paths e.agent) l.0 l.1) letters
     brought lt =
         every_then (λ (l : ℕ × Message). Says p paths l.0 l.1) (λ l. Brings (IsBrought p paths problem pseudo error e.agent lt) (private_of p e.agent) (place_at p paths e.agent) l.0 l.1) letters
         (λ l. says_brings p paths problem pseudo error e.agent lt l.0 l.1) letters_said
@@ -163,6 +163,13 @@ module _ (p : Dcop) (paths : List (List ℕ)) (problem : IsProblem p) (pseudo : 
   pub begun : IsBegun (adopt_agents p paths error)
   begun = links_grow.begun (adopt_agents p paths error)
 
+  -- each agent after its start
+  pub first_at : (i : ℕ) → i < length p.sizes → slice_get (start_state (adopt_agents p paths error)).views i ≡ Some (AdoptKind (adopt_start (new_one i)).view)
+  first_at i lt =
+      slice_get-map (λ (v : View). (start_of v).view) (adopt_agents p paths error) i
+      ∙ ap (option_map (λ (v : View). (start_of v).view)) (made_at i lt)
+      ∙ ap (λ (s : Stepped View). Some s.view) (one_start (new_one i))
+
   said_first : (i j : ℕ) → Every (Says p paths j) (link (start_state (adopt_agents p paths error)).desks j i)
   said_first i j = elim (cases_lt j (length p.sizes)) [
     | inl lt ↦
@@ -179,10 +186,7 @@ module _ (p : Dcop) (paths : List (List ℕ)) (problem : IsProblem p) (pseudo : 
     count = length-map (adopt_agents p paths error) (λ (v : View). (start_of v).view) ∙ agents_long;
     agents = λ i lt. record {
       view = (adopt_start (new_one i)).view;
-      at =
-          slice_get-map (λ (v : View). (start_of v).view) (adopt_agents p paths error) i
-          ∙ ap (option_map (λ (v : View). (start_of v).view)) (made_at i lt)
-          ∙ ap (λ (s : Stepped View). Some s.view) (one_start (new_one i));
+      at = first_at i lt;
       settled = started i lt;
     };
     said = said_first;

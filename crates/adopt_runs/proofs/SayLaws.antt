@@ -55,7 +55,7 @@ module _ (p : Dcop) (paths : List (List ℕ)) (problem : IsProblem p) (pseudo : 
   here v = Mid p paths problem pseudo error i in_tree v
 
   -- what stands above a child is i, or above i
-  above_cases : (c v : ℕ) → parent_of paths c ≡ Some i → is_above paths v c ≡ true → (v ≡ i) ⊎ ((v ≡ i → ⊥) × (is_above paths v i ≡ true))
+  pub above_cases : (c v : ℕ) → parent_of paths c ≡ Some i → is_above paths v c ≡ true → (v ≡ i) ⊎ ((v ≡ i → ⊥) × (is_above paths v i ≡ true))
   above_cases c v parent h =
       elim (within_cases paths v i (above_parent paths pseudo.tree c i v parent h)) [
         | inl same ↦ inl (sym same)

@@ -1,5 +1,5 @@
 -- What an ADOPT agent that ends hands to its children.
-use Rattle.std.proofs.Common.{◌≡◌, ℕ, zero, suc, ◌+◌, ◌≤◌, ◌<◌, true, cond, List, [], ◌∷◌, length, get_or, Option, Some, None, refl, sym, ap, subst, ◌∙◌, arith}
+use Rattle.std.proofs.Common.{◌≡◌, ℕ, zero, suc, ◌+◌, ◌≤◌, ◌<◌, true, List, [], ◌∷◌, length, get_or, Option, Some, None, sym, ap, subst, ◌∙◌, arith}
 use Rattle.std.proofs.lemmas.Bool.{cond-true}
 use Rattle.std.proofs.lemmas.Option.{same_Some}
 use Rattle.std.proofs.lemmas.List.Sums.{sum_by-cons}
@@ -8,7 +8,7 @@ use Rattle.adopt_context.specs.Context.{names_all}
 use Rattle.adopt_context.specs.Bounds.{Entry, blank, cap, capped, row_at, plus_bound, lower_sum, upper_sum}
 use Rattle.adopt_context.specs.Allot.{share_sum}
 use Rattle.protocol_steps.specs.Adopt.{AdoptView, higher}
-use Rattle.protocol_steps.specs.AdoptBounds.{delta, whole_delta, upper_bound, upper_of}
+use Rattle.protocol_steps.specs.AdoptBounds.{delta, upper_bound, upper_of}
 use Rattle.dcop_optimum.specs.Enclosing.{IsAtMost}
 use Rattle.adopt_runs.proofs.RowLaws.{InRange, shares_over}
 use Rattle.adopt_runs.proofs.EncloseLaws.{IsSum, plus_parts}
