@@ -1,15 +1,7 @@
 -- Runs of ADOPT agents on a tree.
-use Rattle.std.specs.Prelude.{◌≡◌, ℕ, List, map, length, Some}
-use Rattle.std.specs.List.{range_with_len}
+use Rattle.std.specs.Prelude.{◌≡◌, ℕ, List, Some}
 use Rattle.dcop_base.specs.Problem.{Dcop}
-use Rattle.dcop_base.specs.Knowledge.{private_of}
-use Rattle.pseudotree.specs.Tree.{path_of, children_of}
-use Rattle.pseudotree.specs.Pseudotree.{lower_of}
-use Rattle.pseudotree.specs.Place.{sizes_of}
-use Rattle.pseudotree.specs.declared.agent.Place.{Place}
 use Rattle.protocol_steps.specs.declared.event.Event.{Event}
-use Rattle.protocol_steps.specs.Adopt.{new_adopt}
-use Rattle.protocol_steps.specs.View.{View, AdoptKind}
 use Rattle.protocol_steps.specs.TreeAgents.{adopt_agents}
 use Rattle.protocol_steps.specs.Network.{Network, start_state}
 use Rattle.protocol_steps.specs.Run.{run}
