@@ -4,3 +4,4 @@ pub mod CeilingRuns
 pub mod EndedLaws
 pub mod SharesLaws
 pub mod WholeLaws
+pub mod Rows
