@@ -20,10 +20,11 @@ use Rattle.adopt_runs.specs.Laws.{EntriesHold}
 abbrev pub EntryEncloses : Dcop → List (List ℕ) → ℕ → ℕ → ℕ → Entry → Type 0
 EntryEncloses p paths i d k e = Encloses p paths (slice_index (children_of paths i) k) (value_in (put e.context i d)) e.lower e.upper
 
--- what holds of the agent of variable i: it was made from what variable i knows, its place and the error; its bounds enclose it under what it knows, and each entry its child; and where it knows all higher neighbours, its threshold is what its value costs and the shares of its children
+-- what holds of the agent of variable i: it was made from what variable i knows, its place and the error; it has for each own value a row of one entry for each child; its bounds enclose it under what it knows, and each entry its child; and where it knows all higher neighbours, its threshold is what its value costs and the shares of its children
 pub record IsAgentOf (p : Dcop) (paths : List (List ℕ)) (error i : ℕ) (v : AdoptView) : Type 0 where
   pub made : made_of (AdoptKind v) ≡ OfAdopt (private_of p i) (place_at p paths i) error
   pub value_below : v.value < slice_index p.sizes i
+  pub wide : (d : ℕ) → d < slice_index p.sizes i → length (row_at v.rows d) ≡ length (children_of paths i)
   pub bounds : Encloses p paths i (value_in v.known) (lower_bound v) (upper_bound v)
   pub entries : (d k : ℕ) → k < length (children_of paths i) → EntryEncloses p paths i d k (entry_at v.rows d k)
   pub hold : EntriesHold v
