@@ -1,1 +1,4 @@
 pub mod ReportLaws
+mod UtilLineLaws
+mod LineAgainLaws
+mod AgainLaws

@@ -1,3 +1,11 @@
 pub mod Named
 pub mod CertificateText
 pub mod ReportText
+pub mod Told
+pub mod HeadLines
+pub mod ValueLine
+pub mod UtilLine
+pub mod UtilWords
+pub mod ReportReading
+pub mod Fits
+pub mod Again

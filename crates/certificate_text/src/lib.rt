@@ -5,11 +5,22 @@
 #![tactic(auto)]
 
 mod certificate;
+mod draft;
+mod head_line;
+mod line_end;
+mod reader;
+#[cfg(test)]
+mod reader_tests;
 mod report;
 #[cfg(test)]
 mod tests;
+mod util_line;
+mod value_line;
+mod verdict;
 mod writer;
 
 pub use certificate::{Certificate, Util, UtilList};
+pub use reader::read_report;
 pub use report::{Ending, Method, Report};
+pub use verdict::{Differs, Verdict};
 pub use writer::{parent_word, write_report};

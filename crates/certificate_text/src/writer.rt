@@ -7,6 +7,7 @@ ghost use Rattle.std.specs.String.{string_bytes};
 ghost use Rattle.problem_text.specs.Canonical.{line, goal_lines};
 ghost use Rattle.certificate_text.specs.CertificateText.{parent_word, util_words, table_lines, certificate_lines, evidence_lines};
 ghost use Rattle.certificate_text.specs.Named.{HasWord, IsNamedUtil, IsNamedCertificate, CanTell};
+ghost use Rattle.certificate_text.specs.Again.{IsReadBack};
 ghost use Rattle.certificate_text.specs.ReportText.{ending_word, method_word, head_lines, bound_lines, value_words, value_lines, report_text};
 
 use crate::certificate::{Certificate, Util};
@@ -20,10 +21,12 @@ use std::alloc::Global;
 /// Its lines are `status`, `method`, `goal max` where the goal is max, `error`, `deliveries`,
 /// `cost`, `lower`, `upper`, a line `value NAME V` for each variable in order, the certificate
 /// where there is one, and `end`. V is the value's name where the variable has value names, and
-/// the value as a number otherwise.
+/// the value as a number otherwise. [`read_report`](crate::read_report) of it gives the report
+/// again, where that has a certificate and fits the file.
 pub fn write_report(alloc: Global, report: &Report, file: &ProblemFile) -> Result<Bytes, NoMemory>
     requires { CanTell report.now file.now }
-    ensures { IfOk result (λ bytes. bytes ≡ report_text report.now file.now) }
+    ensures text { IfOk result (λ bytes. bytes ≡ report_text report.now file.now) }
+    ensures again { IfOk result (λ bytes. IsReadBack bytes file.now report.now) }
 {
     let mut text = String::new(alloc);
     write_head(&mut text, report)?;

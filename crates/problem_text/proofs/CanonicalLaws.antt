@@ -43,7 +43,7 @@ bytes-plain (b ∷ bs) h =
     rw (byte-plain b parts.0, bytes-plain bs parts.1) refl
 
 -- a name is a plain word
-name-word : (word : List ℕ) → is_name word ≡ true → is_word word ≡ true
+pub name-word : (word : List ℕ) → is_name word ≡ true → is_word word ≡ true
 name-word [] h = h
 name-word (b ∷ bs) h =
     let parts = and_parts (is_name_start b && list_all is_name_byte bs) (nat_le (length (b ∷ bs)) 32) h in
@@ -68,12 +68,12 @@ variables-plain (n ∷ ns) (s ∷ ss) (l ∷ ls) named small fit =
     let parts = and_parts (is_name n) (list_all is_name ns) named in
     rw (name-word n parts.0, values-words s l (All-head (λ s. s < 2 ^ 64) s ss small) fit.0.names, variables-plain ns ss ls parts.1 (All-tail (λ s. s < 2 ^ 64) s ss small) fit.1) refl
 
-scope-words : (names : List (List ℕ)) (scope : List ℕ) → list_all is_name names ≡ true → All (λ v. v < length names) scope → list_all is_word (map (λ v. get_or names v []) scope) ≡ true
+pub scope-words : (names : List (List ℕ)) (scope : List ℕ) → list_all is_name names ≡ true → All (λ v. v < length names) scope → list_all is_word (map (λ v. get_or names v []) scope) ≡ true
 scope-words names [] named within = refl
 scope-words names (v ∷ vs) named within =
     rw (name-word (get_or names v []) (name-at names v named (All-head (λ v. v < length names) v vs within)), scope-words names vs named (All-tail (λ v. v < length names) v vs within)) refl
 
-cells-words : (cells : List ℕ) → All (λ c. c < 2 ^ 64) cells → list_all is_word (map decimal cells) ≡ true
+pub cells-words : (cells : List ℕ) → All (λ c. c < 2 ^ 64) cells → list_all is_word (map decimal cells) ≡ true
 cells-words [] small = refl
 cells-words (c ∷ cs) small = rw (decimal-word c (All-head (λ c. c < 2 ^ 64) c cs small), cells-words cs (All-tail (λ c. c < 2 ^ 64) c cs small)) refl
 

@@ -4,15 +4,15 @@ pub mod NumberedLaws
 pub mod PlainLaws
 mod SplitLaws
 mod WordLaws
-mod NameLaws
-mod CellLaws
-mod ScopeLaws
-mod TableLineLaws
+pub mod NameLaws
+pub mod CellLaws
+pub mod ScopeLaws
+pub mod TableLineLaws
 mod DraftLaws
 mod ReadingLaws
-mod RoundTripLaws
-mod DecimalLaws
+pub mod RoundTripLaws
+pub mod DecimalLaws
 mod WalkLaws
 mod FileLaws
-mod TableTextLaws
-mod CanonicalLaws
+pub mod TableTextLaws
+pub mod CanonicalLaws

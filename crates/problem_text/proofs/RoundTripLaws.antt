@@ -5,6 +5,7 @@ use Rattle.std.proofs.lemmas.Bool.{and_parts, false≢true}
 use Rattle.std.proofs.lemmas.List.Folds.{list_all-append}
 use Rattle.problem_text.specs.Lines.{has_some, lines, without_last, content, before_comment, is_blank, between_blanks, words, Line, numbered, with_words}
 use Rattle.problem_text.specs.Canonical.{line}
+use Rattle.problem_text.specs.PlainLines.{Plain, plain_content, plain_lines}
 use Rattle.problem_text.proofs.SplitLaws.{without_last-there}
 
 -- a byte that neither ends a line nor a word nor begins a comment
@@ -132,3 +133,21 @@ lines-of-words number used (ws ∷ later) h =
     let own = and_parts (has_some ws) (list_all is_word ws) parts.0 in
     let inner = join-inner ws own.1 in
     rw (lines-first (join_with_byte 32 ws) (flat_map line later) inner, content-line (join_with_byte 32 ws) inner, words-join ws own.1, own.0, lines-of-words (number + 1) (used + length (line ws)) later parts.1) refl
+
+-- what a line of such bytes says where no byte begins a comment
+plain_content-line : (bs : List ℕ) → list_all is_inner bs ≡ true → plain_content (bs ++ (10 ∷ [])) ≡ bs
+plain_content-line bs h = rw (without_last-there 10 10 bs refl) (no-cr bs h)
+
+-- lines of words in a text without comments, numbered from here on
+abbrev pub plain_worded : ℕ → List (List (List ℕ)) → List Plain
+plain_worded number [] = []
+plain_worded number (ws ∷ later) = record { number = number; words = ws } ∷ plain_worded (number + 1) later
+
+-- a text of such lines is those lines
+pub plain-lines-of-words : (number : ℕ) (wss : List (List (List ℕ))) → list_all is_line wss ≡ true → plain_lines number (flat_map line wss) ≡ plain_worded number wss
+plain-lines-of-words number [] h = refl
+plain-lines-of-words number (ws ∷ later) h =
+    let parts = and_parts (is_line ws) (list_all is_line later) h in
+    let own = and_parts (has_some ws) (list_all is_word ws) parts.0 in
+    let inner = join-inner ws own.1 in
+    rw (lines-first (join_with_byte 32 ws) (flat_map line later) inner, plain_content-line (join_with_byte 32 ws) inner, words-join ws own.1, own.0, plain-lines-of-words (number + 1) later parts.1) refl

@@ -26,21 +26,21 @@ use Rattle.problem_text.proofs.DraftLaws.{first-none}
 use Rattle.problem_text.proofs.WalkLaws.{Walks}
 
 -- what stands around the first `:`
-before-colon : (xs : List (List ℕ)) (ys : List (List ℕ)) → list_any is_colon xs ≡ false → before_first is_colon (xs ++ (codes ":" ∷ ys)) ≡ xs
+pub before-colon : (xs : List (List ℕ)) (ys : List (List ℕ)) → list_any is_colon xs ≡ false → before_first is_colon (xs ++ (codes ":" ∷ ys)) ≡ xs
 before-colon [] ys h = refl
 before-colon (x ∷ xs) ys h =
     let parts = or_parts (is_colon x) (list_any is_colon xs) h in
     let e : 1 + position_or_len is_colon (xs ++ (codes ":" ∷ ys)) ≡ suc (position_or_len is_colon (xs ++ (codes ":" ∷ ys))) = omega arith in
     rw (parts.0, e, before-colon xs ys parts.1) refl
 
-after-colon : (xs : List (List ℕ)) (ys : List (List ℕ)) → list_any is_colon xs ≡ false → after_first is_colon (xs ++ (codes ":" ∷ ys)) ≡ ys
+pub after-colon : (xs : List (List ℕ)) (ys : List (List ℕ)) → list_any is_colon xs ≡ false → after_first is_colon (xs ++ (codes ":" ∷ ys)) ≡ ys
 after-colon [] ys h = refl
 after-colon (x ∷ xs) ys h =
     let parts = or_parts (is_colon x) (list_any is_colon xs) h in
     let e : (1 + position_or_len is_colon (xs ++ (codes ":" ∷ ys))) + 1 ≡ suc (position_or_len is_colon (xs ++ (codes ":" ∷ ys)) + 1) = omega arith in
     rw (parts.0, e) (after-colon xs ys parts.1)
 
-any-colon : (xs : List (List ℕ)) (ys : List (List ℕ)) → list_any is_colon xs ≡ false → list_any is_colon (xs ++ (codes ":" ∷ ys)) ≡ true
+pub any-colon : (xs : List (List ℕ)) (ys : List (List ℕ)) → list_any is_colon xs ≡ false → list_any is_colon (xs ++ (codes ":" ∷ ys)) ≡ true
 any-colon xs ys h = rw (list_any-append is_colon xs (codes ":" ∷ ys), h) refl
 
 name-start : (b : ℕ) (bs : List ℕ) → is_name (b ∷ bs) ≡ true → nat_eq b 58 ≡ false
@@ -62,7 +62,7 @@ name-at [] v all h = absurd (omega arith)
 name-at (n ∷ ns) zero all h = (and_parts (is_name n) (list_all is_name ns) all).0
 name-at (n ∷ ns) (suc v) all h = name-at ns v (and_parts (is_name n) (list_all is_name ns) all).1 (omega arith)
 
-scope-names : (names : List (List ℕ)) (scope : List ℕ) → list_all is_name names ≡ true → All (λ v. v < length names) scope → list_any is_colon (map (λ v. get_or names v []) scope) ≡ false
+pub scope-names : (names : List (List ℕ)) (scope : List ℕ) → list_all is_name names ≡ true → All (λ v. v < length names) scope → list_any is_colon (map (λ v. get_or names v []) scope) ≡ false
 scope-names names [] all within = refl
 scope-names names (v ∷ vs) all within =
     rw (name-colon (get_or names v []) (name-at names v all (All-head (λ v. v < length names) v vs within)), scope-names names vs all (All-tail (λ v. v < length names) v vs within)) refl
@@ -71,14 +71,14 @@ place-step : (p n : ℕ) → p < n → cond (nat_lt p n) (Some p) None ≡ Some 
 place-step p n h = let below : nat_lt p n ≡ true = grind (arith, nat_tests) in rw below refl
 
 -- a name is found at its place
-own-place : (names : List (List ℕ)) (v : ℕ) → IsDistinct bytes_eq names → v < length names → position (bytes_eq (get_or names v [])) names ≡ Some v
+pub own-place : (names : List (List ℕ)) (v : ℕ) → IsDistinct bytes_eq names → v < length names → position (bytes_eq (get_or names v [])) names ≡ Some v
 own-place names v apart h =
     let own = get_or names v [] in
     let place : position_or_len (bytes_eq own) names ≡ v = position_or_len_is (bytes_eq own) names v [] (omega arith) (λ k lt. nat_list_eq_equiv.symm own (get_or names k []) ∙ apart_from_distinct bytes_eq names k v [] apart lt h) (λ lt. nat_list_eq_equiv.refl own) in
     rw place (place-step v (length names) h)
 
 -- the names of a scope's variables name them
-scope-named : (names : List (List ℕ)) (scope : List ℕ) → IsDistinct bytes_eq names → All (λ v. v < length names) scope → named_by names (map (λ v. get_or names v []) scope) ≡ Some scope
+pub scope-named : (names : List (List ℕ)) (scope : List ℕ) → IsDistinct bytes_eq names → All (λ v. v < length names) scope → named_by names (map (λ v. get_or names v []) scope) ≡ Some scope
 scope-named names [] apart within = refl
 scope-named names (v ∷ vs) apart within =
     rw (own-place names v apart (All-head (λ v. v < length names) v vs within), scope-named names vs apart (All-tail (λ v. v < length names) v vs within)) refl

@@ -13,3 +13,4 @@ pub mod LineEnds
 pub mod Cells
 pub mod Steps
 pub mod WordLines
+pub mod PlainLines

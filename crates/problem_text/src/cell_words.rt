@@ -65,7 +65,7 @@ pub fn fault_of(draft: &Draft, sizes: &[u16], cells: &Summary) -> Option<TextKin
 }
 
 /// The product of the sizes, or `u64::MAX` where it is more.
-fn product_of(sizes: &[u16]) -> u64
+pub fn product_of(sizes: &[u16]) -> u64
     ensures { result ≡ min (product sizes.now) u64.MAX }
 {
     let mut product: u64 = 1;

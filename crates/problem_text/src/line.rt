@@ -3,6 +3,7 @@
 ghost use Rattle.std.specs.Prelude.{◌≡◌, length, ◌∷◌, ◌<◌, ◌+◌, ◌==◌, count_by};
 ghost use Rattle.std.specs.List.{position, position_or_len};
 ghost use Rattle.problem_text.specs.Lines.{before_comment, without_last, content, lines};
+ghost use Rattle.problem_text.specs.PlainLines.{plain_content};
 
 /// The byte that ends a line.
 pub const LF: u8 = b'\n';
@@ -32,7 +33,14 @@ pub fn first_line(text: &[u8]) -> (&[u8], &[u8])
 pub fn content_of(line: &[u8]) -> &[u8]
     ensures { result.now ≡ content line.now }
 {
-    uncommented(stripped(stripped(line, LF), CR))
+    uncommented(plain_content_of(line))
+}
+
+/// What a line says where no byte begins a comment: it is without its LF and one CR at its end.
+pub fn plain_content_of(line: &[u8]) -> &[u8]
+    ensures { result.now ≡ plain_content line.now }
+{
+    stripped(stripped(line, LF), CR)
 }
 
 fn stripped(bytes: &[u8], last: u8) -> &[u8]

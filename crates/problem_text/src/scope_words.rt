@@ -69,7 +69,7 @@ pub fn scope_of(alloc: Global, names: &Names, text: &[u8]) -> Result<Vec<VarId>,
 }
 
 /// The variable that a word names; `None` exactly where no variable has that name.
-fn variable_of_word(names: &Names, word: &[u8]) -> Option<VarId>
+pub fn variable_of_word(names: &Names, word: &[u8]) -> Option<VarId>
     requires { list_all is_name_of names.now ≡ true }
     ensures { result ≡ position (bytes_eq word.now) names.now }
 {

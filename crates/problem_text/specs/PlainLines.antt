@@ -1,0 +1,30 @@
+-- A text as lines in which no byte begins a comment.
+use Rattle.std.specs.Prelude.{◌≡◌, ℕ, ◌+◌, List, [], ◌∷◌, Option, Some, None}
+use Rattle.std.specs.List.{filter}
+use Rattle.problem_text.specs.declared.line.TheConstants.{LF, CR}
+use Rattle.problem_text.specs.declared.plain_line.PlainLine.{PlainLine}
+use Rattle.problem_text.specs.Lines.{has_some, lines, without_last, words}
+
+-- what a line says: its LF, then one CR at its end are dropped
+abbrev pub plain_content : List ℕ → List ℕ
+plain_content line = without_last CR (without_last LF line)
+
+-- a line: its number and its words
+pub record Plain : Type 0 where
+  pub number : ℕ
+  pub words : List (List ℕ)
+
+-- lines as numbers and words, from this number on
+abbrev pub plain_numbered : ℕ → List (List ℕ) → List Plain
+plain_numbered number [] = []
+plain_numbered number (line ∷ later) =
+    record { number = number; words = words (plain_content line) } ∷ plain_numbered (number + 1) later
+
+-- the lines of a text that have words, of which the first line has this number
+abbrev pub plain_lines : ℕ → List ℕ → List Plain
+plain_lines number text = filter (λ line. has_some line.words) (plain_numbered number (lines text))
+
+-- the first of these lines, with the text behind it, where there is one
+abbrev pub IsFirstPlain : List Plain → Option PlainLine → Type 0
+IsFirstPlain ls None = ls ≡ []
+IsFirstPlain ls (Some l) = ls ≡ record { number = l.number; words = words l.text.now } ∷ plain_lines (l.number + 1) l.after.now
