@@ -10,7 +10,7 @@ use Rattle.std.proofs.lemmas.List.Elements.{All-head, All-tail}
 use Rattle.std.proofs.lemmas.List.Folds.{list_all-append}
 use Rattle.std.proofs.lemmas.Slice.Zip.{AllZip-long}
 use Rattle.std.proofs.lemmas.Bool.Decides.{nat_tests}
-use Rattle.std.proofs.lemmas.Bool.{and_parts, le-ltb, lt-ltb, eq-eqb, not-false}
+use Rattle.std.proofs.lemmas.Bool.{and_parts, lt-ltb, eq-eqb, false≢true}
 use Rattle.dcop_base.specs.Whole.{IsProblem}
 use Rattle.problem_text.specs.declared.file.Goal.{Goal}
 use Rattle.problem_text.specs.declared.file.Goal.TheVariants.{Min, Max}
@@ -55,12 +55,12 @@ walk-read over number f d last [] walk ends = rw (walk, ends) refl
 walk-read over number f d last (ws ∷ wss) walk ends = rw walk.1 (walk-read over (number + 1) f walk.0 last wss walk.2 ends)
 
 -- the numbers of a report are at most CAP
-record IsSmall (error deliveries cost lower upper : ℕ) : Type 0 where
-  error : error ≤ 4611686018427387904
-  deliveries : deliveries ≤ 4611686018427387904
-  cost : cost ≤ 4611686018427387904
-  lower : lower ≤ 4611686018427387904
-  upper : upper ≤ 4611686018427387904
+record IsSmall (e d c l u : ℕ) : Type 0 where
+  error : e ≤ 4611686018427387904
+  deliveries : d ≤ 4611686018427387904
+  cost : c ≤ 4611686018427387904
+  lower : l ≤ 4611686018427387904
+  upper : u ≤ 4611686018427387904
 
 -- what the lines above the values tell
 abbrev head_told : Ending → Method → ℕ → ℕ → ℕ → ℕ → ℕ → Draft
@@ -123,10 +123,10 @@ value-tells : (f : TextFile) (d : Draft) (name : List ℕ) (labels : List (List 
 value-tells f d name labels size value stage more is-name is-labels is-size again = rw (stage, more, is-name, is-labels, is-size, again) refl
 
 -- where the values are: behind so many names, value names and sizes
-record IsBehind (f : TextFile) (k : ℕ) (names : List (List ℕ)) (labels : List (List (List ℕ))) (sizes : List ℕ) (pn : List (List ℕ)) (pl : List (List (List ℕ))) (ps : List ℕ) : Type 0 where
-  names : f.names ≡ pn ++ names
-  labels : f.labels ≡ pl ++ labels
-  sizes : f.problem.sizes ≡ ps ++ sizes
+record IsBehind (f : TextFile) (k : ℕ) (ns : List (List ℕ)) (ls : List (List (List ℕ))) (ss : List ℕ) (pn : List (List ℕ)) (pl : List (List (List ℕ))) (ps : List ℕ) : Type 0 where
+  names : f.names ≡ pn ++ ns
+  labels : f.labels ≡ pl ++ ls
+  sizes : f.problem.sizes ≡ ps ++ ss
   in-names : k ≡ length pn
   in-labels : k ≡ length pl
   in-sizes : k ≡ length ps
@@ -294,7 +294,7 @@ walk-report r f utils file p fits method tables =
     let small = λ (k d : ℕ) (h : k < length f.problem.sizes). let s = p.sizes k d h in let b : get_or f.problem.sizes k d ≤ 1024 = s.1 in b in
     let start : IsBehind f 0 f.names f.labels f.problem.sizes [] [] [] = record { names = refl; labels = refl; sizes = refl; in-names = refl; in-labels = refl; in-sizes = refl } in
     let values : Walks f headed (value_lines f.names f.labels r.values) valued = walk-values f headed f.names f.labels f.problem.sizes r.values [] [] [] start refl file.named file.labels fits.values small in
-    let many : length r.values ≡ length f.names = AllZip-long (λ v s. v < s) r.values f.problem.sizes fits.values ∙ sym file.named in
+    let many : length r.values ≡ length f.names = sym (AllZip-long (λ v s. v < s) r.values f.problem.sizes fits.values) ∙ sym file.named in
     let own : Walks f certified (map (util_words f.names) utils) full = walk-utils f certified utils file refl tables.each tables.one in
     let certificate : Walks f valued (table_lines f.names utils) full = (certified, certificate-tells f valued refl method many, own) in
     let ends = end-tells f full refl (whole-utils f utils file.named tables) in
@@ -329,7 +329,7 @@ tables-again r f utils file p fits certificate method tables =
     ap (λ (bytes : List ℕ). report_read bytes f) text ∙ whole ∙ ap (λ (r : Report). Ok r) told
 
 certificate-again : (r : Report) (f : TextFile) (certificate : Option Certificate) → r.certificate ≡ certificate → IsTrue (is_some certificate) → IfSome certificate (FitsCertificate f.problem.sizes r.method) → IsFile f → IsProblem f.problem → Fits r f → report_read (report_text r f) f ≡ Ok r
-certificate-again r f None e some fit file p fits = absurd some
+certificate-again r f None e some fit file p fits = absurd (false≢true some)
 certificate-again r f (Some (Tables utils)) e some fit file p fits = tables-again r f utils file p fits e fit.0 fit.1
 
 -- what is written of a report that has a certificate and fits its file is read as that report

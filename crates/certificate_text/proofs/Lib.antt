@@ -1,4 +1,5 @@
 pub mod ReportLaws
 mod UtilLineLaws
+mod ValueLineLaws
 mod LineAgainLaws
 mod AgainLaws

@@ -111,7 +111,7 @@ count-there var (x ∷ xs) u later h =
 
 fresh-step : (t : Bool) (before rest : ℕ) (any : Bool) → cond t 1 0 + rest ≡ 1 → 1 ≤ rest → (rest ≡ 1 → any ≡ false) → t || any ≡ false
 fresh-step true before rest any e some ih = absurd (omega (arith, e, some))
-fresh-step false before rest any e some ih = ih e
+fresh-step false before rest any e some ih = let same : 0 + rest ≡ 1 = e in ih (omega (arith, same))
 
 -- a variable that has one table has none before that
 pub fresh-before : (var : ℕ) (done : List Util) (u : Util) (later : List Util) → nat_eq u.var var ≡ true → count_by (λ u. nat_eq u.var var) (done ++ (u ∷ later)) ≡ 1 → has_util done var ≡ false
@@ -122,7 +122,7 @@ fresh-before var (x ∷ xs) u later h e =
 
 has-step : (t : Bool) (rest : ℕ) (any : Bool) → cond t 1 0 + rest ≡ 1 → (rest ≡ 1 → any ≡ true) → t || any ≡ true
 has-step true rest any e ih = refl
-has-step false rest any e ih = ih e
+has-step false rest any e ih = let same : 0 + rest ≡ 1 = e in ih (omega (arith, same))
 
 -- a variable that has one table has a table
 pub has-one : (var : ℕ) (utils : List Util) → count_by (λ u. nat_eq u.var var) utils ≡ 1 → has_util utils var ≡ true

@@ -250,6 +250,7 @@ fn value_among(
 ) -> Result<Val, LineEnd>
     requires within { place < length names.now }
     requires many { length names.now ≡ length sizes.now }
+    requires few { length sizes.now ≤ MAX_VARIABLES }
     requires labelled { AllZip AreLabels sizes.now labels.now }
     requires small { All (λ size. size ≤ MAX_SIZE) sizes.now }
     ensures { Reads result (value_line (slice_index_or names.now place [])
