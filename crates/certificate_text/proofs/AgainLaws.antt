@@ -1,10 +1,9 @@
 -- What is written of a report that fits its file is read as that report.
-use Rattle.std.proofs.Common.{◌≡◌, ℕ, ◌+◌, ◌^◌, ◌<◌, ◌≤◌, zero, suc, Bool, true, false, not, List, [], ◌∷◌, ◌++◌, length, map, get_or, Option, Some, None, Ok, Err, Result, nat_eq, nat_lt, ◌&&◌, ◌||◌, refl, sym, ap, ◌∙◌, subst, arith, append_assoc, length-append}
-use Rattle.std.specs.List.{list_all, All, AllZip, IsDistinct, flat_map, count_by}
+use Rattle.std.proofs.Common.{◌≡◌, ℕ, ◌+◌, ◌^◌, ◌<◌, ◌≤◌, suc, true, false, List, [], ◌∷◌, ◌++◌, length, map, get_or, Option, Some, None, Ok, nat_eq, nat_lt, refl, sym, ap, ◌∙◌, subst, arith, append_assoc, length-append}
+use Rattle.std.specs.List.{list_all, All, AllZip, flat_map, count_by}
 use Rattle.std.specs.Prelude.{codes, IfSome, IsTrue, is_some, ◌⊎◌}
 use Rattle.std.proofs.Common.{inl, inr}
 use Rattle.std.specs.Fmt.{decimal}
-use Rattle.std.specs.Str.{bytes_eq}
 use Rattle.std.proofs.lemmas.List.{append-nil}
 use Rattle.std.proofs.lemmas.List.Elements.{All-head, All-tail}
 use Rattle.std.proofs.lemmas.List.Folds.{list_all-append}
@@ -31,11 +30,11 @@ use Rattle.certificate_text.specs.declared.report.Method.TheVariants.{Plain, Dpo
 use Rattle.certificate_text.specs.declared.report.Report.{Report}
 use Rattle.certificate_text.specs.declared.draft.Draft.{Draft}
 use Rattle.certificate_text.specs.declared.draft.Stage.TheVariants as stages
-use Rattle.certificate_text.specs.CertificateText.{parent_word, util_words, table_lines, evidence_lines}
+use Rattle.certificate_text.specs.CertificateText.{parent_word, util_words, table_lines}
 use Rattle.certificate_text.specs.ReportText.{ending_word, method_word, head_lines, bound_lines, value_words, value_lines, report_lines, report_text}
 use Rattle.certificate_text.specs.ValueLine.{value_line}
 use Rattle.certificate_text.specs.UtilLine.{has_util, lacks_util}
-use Rattle.certificate_text.specs.ReportReading.{Fault, nothing_told, line_at, lines_read, report_told, report_read}
+use Rattle.certificate_text.specs.ReportReading.{nothing_told, line_at, lines_read, report_told, report_read}
 use Rattle.certificate_text.specs.Fits.{Fits, FitsUtil, FitsTables, FitsCertificate}
 use Rattle.certificate_text.proofs.LineAgainLaws.{status-again, method-again, number-again, value-again, util-again, fresh-before, has-one, range-all}
 

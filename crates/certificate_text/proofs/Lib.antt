@@ -3,3 +3,4 @@ mod UtilLineLaws
 mod ValueLineLaws
 mod LineAgainLaws
 mod AgainLaws
+mod FitsLaws

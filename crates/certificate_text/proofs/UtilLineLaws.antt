@@ -1,5 +1,5 @@
 -- The line of a UTIL table, word by word.
-use Rattle.std.proofs.Common.{◌≡◌, ℕ, ◌+◌, ◌-◌, ◌<◌, ◌≤◌, suc, Bool, true, false, not, List, [], ◌∷◌, ◌++◌, length, Option, Some, None, position, refl, sym, ap, ◌∙◌, append_assoc, arith, subst}
+use Rattle.std.proofs.Common.{◌≡◌, ℕ, ◌+◌, ◌-◌, ◌<◌, ◌≤◌, suc, Bool, true, false, List, [], ◌∷◌, ◌++◌, length, Option, Some, None, position, refl, sym, ap, ◌∙◌, append_assoc, arith, subst}
 use Rattle.std.specs.List.{before_first, list_all, range_with_len, All}
 use Rattle.std.specs.Str.{bytes_eq}
 use Rattle.std.proofs.lemmas.List.{append-nil}
@@ -8,7 +8,7 @@ use Rattle.problem_text.proofs.CellLaws.{behind, behind-push}
 use Rattle.problem_text.proofs.ScopeLaws.{before_colon-cons}
 use Rattle.problem_text.proofs.TableLineLaws.{named-within}
 use Rattle.std.proofs.lemmas.Bool.{false≢true}
-use Rattle.certificate_text.specs.UtilLine.{and_known, known_among}
+use Rattle.certificate_text.specs.UtilLine.{known_among}
 use Rattle.certificate_text.specs.UtilWords.{where_whole}
 
 -- a scope whose first variables were read, where each word so far named one

@@ -1,4 +1,4 @@
-use Rattle.std.proofs.Common.{◌≡◌, ◌<◌, length, arith, [], sym, get_or}
+use Rattle.std.proofs.Common.{◌<◌, length, arith, []}
 use Rattle.std.proofs.lemmas.Slice.Zip.{AllZip-long}
 use Rattle.std.proofs.lemmas.Option.{get_or_from_slice_get}
 use Rattle.problem_text.specs.File.{AreLabels}
