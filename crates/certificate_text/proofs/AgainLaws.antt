@@ -1,16 +1,15 @@
 -- What is written of a report that fits its file is read as that report.
-use Rattle.std.proofs.Common.{◌≡◌, ℕ, ◌+◌, ◌^◌, ◌<◌, ◌≤◌, zero, suc, Bool, true, false, not, List, [], ◌∷◌, ◌++◌, length, map, get_or, Option, Some, None, Ok, Err, Result, nat_eq, nat_lt, ◌&&◌, ◌||◌, refl, sym, ap, ◌∙◌, subst, arith, append_assoc, length-append}
-use Rattle.std.specs.List.{list_all, All, AllZip, IsDistinct, flat_map, count_by}
+use Rattle.std.proofs.Common.{◌≡◌, ℕ, ◌+◌, ◌^◌, ◌<◌, ◌≤◌, suc, true, false, List, [], ◌∷◌, ◌++◌, length, map, get_or, Option, Some, None, Ok, nat_eq, nat_lt, refl, sym, ap, ◌∙◌, subst, arith, append_assoc, length-append}
+use Rattle.std.specs.List.{list_all, All, AllZip, flat_map, count_by}
 use Rattle.std.specs.Prelude.{codes, IfSome, IsTrue, is_some, ◌⊎◌}
 use Rattle.std.proofs.Common.{inl, inr}
 use Rattle.std.specs.Fmt.{decimal}
-use Rattle.std.specs.Str.{bytes_eq}
 use Rattle.std.proofs.lemmas.List.{append-nil}
 use Rattle.std.proofs.lemmas.List.Elements.{All-head, All-tail}
 use Rattle.std.proofs.lemmas.List.Folds.{list_all-append}
 use Rattle.std.proofs.lemmas.Slice.Zip.{AllZip-long}
 use Rattle.std.proofs.lemmas.Bool.Decides.{nat_tests}
-use Rattle.std.proofs.lemmas.Bool.{and_parts, le-ltb, lt-ltb, eq-eqb, not-false}
+use Rattle.std.proofs.lemmas.Bool.{and_parts, lt-ltb, eq-eqb, false≢true}
 use Rattle.dcop_base.specs.Whole.{IsProblem}
 use Rattle.problem_text.specs.declared.file.Goal.{Goal}
 use Rattle.problem_text.specs.declared.file.Goal.TheVariants.{Min, Max}
@@ -31,11 +30,11 @@ use Rattle.certificate_text.specs.declared.report.Method.TheVariants.{Plain, Dpo
 use Rattle.certificate_text.specs.declared.report.Report.{Report}
 use Rattle.certificate_text.specs.declared.draft.Draft.{Draft}
 use Rattle.certificate_text.specs.declared.draft.Stage.TheVariants as stages
-use Rattle.certificate_text.specs.CertificateText.{parent_word, util_words, table_lines, evidence_lines}
+use Rattle.certificate_text.specs.CertificateText.{parent_word, util_words, table_lines}
 use Rattle.certificate_text.specs.ReportText.{ending_word, method_word, head_lines, bound_lines, value_words, value_lines, report_lines, report_text}
 use Rattle.certificate_text.specs.ValueLine.{value_line}
 use Rattle.certificate_text.specs.UtilLine.{has_util, lacks_util}
-use Rattle.certificate_text.specs.ReportReading.{Fault, nothing_told, line_at, lines_read, report_told, report_read}
+use Rattle.certificate_text.specs.ReportReading.{nothing_told, line_at, lines_read, report_told, report_read}
 use Rattle.certificate_text.specs.Fits.{Fits, FitsUtil, FitsTables, FitsCertificate}
 use Rattle.certificate_text.proofs.LineAgainLaws.{status-again, method-again, number-again, value-again, util-again, fresh-before, has-one, range-all}
 
@@ -55,12 +54,12 @@ walk-read over number f d last [] walk ends = rw (walk, ends) refl
 walk-read over number f d last (ws ∷ wss) walk ends = rw walk.1 (walk-read over (number + 1) f walk.0 last wss walk.2 ends)
 
 -- the numbers of a report are at most CAP
-record IsSmall (error deliveries cost lower upper : ℕ) : Type 0 where
-  error : error ≤ 4611686018427387904
-  deliveries : deliveries ≤ 4611686018427387904
-  cost : cost ≤ 4611686018427387904
-  lower : lower ≤ 4611686018427387904
-  upper : upper ≤ 4611686018427387904
+record IsSmall (e d c l u : ℕ) : Type 0 where
+  error : e ≤ 4611686018427387904
+  deliveries : d ≤ 4611686018427387904
+  cost : c ≤ 4611686018427387904
+  lower : l ≤ 4611686018427387904
+  upper : u ≤ 4611686018427387904
 
 -- what the lines above the values tell
 abbrev head_told : Ending → Method → ℕ → ℕ → ℕ → ℕ → ℕ → Draft
@@ -123,10 +122,10 @@ value-tells : (f : TextFile) (d : Draft) (name : List ℕ) (labels : List (List 
 value-tells f d name labels size value stage more is-name is-labels is-size again = rw (stage, more, is-name, is-labels, is-size, again) refl
 
 -- where the values are: behind so many names, value names and sizes
-record IsBehind (f : TextFile) (k : ℕ) (names : List (List ℕ)) (labels : List (List (List ℕ))) (sizes : List ℕ) (pn : List (List ℕ)) (pl : List (List (List ℕ))) (ps : List ℕ) : Type 0 where
-  names : f.names ≡ pn ++ names
-  labels : f.labels ≡ pl ++ labels
-  sizes : f.problem.sizes ≡ ps ++ sizes
+record IsBehind (f : TextFile) (k : ℕ) (ns : List (List ℕ)) (ls : List (List (List ℕ))) (ss : List ℕ) (pn : List (List ℕ)) (pl : List (List (List ℕ))) (ps : List ℕ) : Type 0 where
+  names : f.names ≡ pn ++ ns
+  labels : f.labels ≡ pl ++ ls
+  sizes : f.problem.sizes ≡ ps ++ ss
   in-names : k ≡ length pn
   in-labels : k ≡ length pl
   in-sizes : k ≡ length ps
@@ -294,7 +293,7 @@ walk-report r f utils file p fits method tables =
     let small = λ (k d : ℕ) (h : k < length f.problem.sizes). let s = p.sizes k d h in let b : get_or f.problem.sizes k d ≤ 1024 = s.1 in b in
     let start : IsBehind f 0 f.names f.labels f.problem.sizes [] [] [] = record { names = refl; labels = refl; sizes = refl; in-names = refl; in-labels = refl; in-sizes = refl } in
     let values : Walks f headed (value_lines f.names f.labels r.values) valued = walk-values f headed f.names f.labels f.problem.sizes r.values [] [] [] start refl file.named file.labels fits.values small in
-    let many : length r.values ≡ length f.names = AllZip-long (λ v s. v < s) r.values f.problem.sizes fits.values ∙ sym file.named in
+    let many : length r.values ≡ length f.names = sym (AllZip-long (λ v s. v < s) r.values f.problem.sizes fits.values) ∙ sym file.named in
     let own : Walks f certified (map (util_words f.names) utils) full = walk-utils f certified utils file refl tables.each tables.one in
     let certificate : Walks f valued (table_lines f.names utils) full = (certified, certificate-tells f valued refl method many, own) in
     let ends = end-tells f full refl (whole-utils f utils file.named tables) in
@@ -329,7 +328,7 @@ tables-again r f utils file p fits certificate method tables =
     ap (λ (bytes : List ℕ). report_read bytes f) text ∙ whole ∙ ap (λ (r : Report). Ok r) told
 
 certificate-again : (r : Report) (f : TextFile) (certificate : Option Certificate) → r.certificate ≡ certificate → IsTrue (is_some certificate) → IfSome certificate (FitsCertificate f.problem.sizes r.method) → IsFile f → IsProblem f.problem → Fits r f → report_read (report_text r f) f ≡ Ok r
-certificate-again r f None e some fit file p fits = absurd some
+certificate-again r f None e some fit file p fits = absurd (false≢true some)
 certificate-again r f (Some (Tables utils)) e some fit file p fits = tables-again r f utils file p fits e fit.0 fit.1
 
 -- what is written of a report that has a certificate and fits its file is read as that report

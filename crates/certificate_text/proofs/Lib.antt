@@ -1,4 +1,6 @@
 pub mod ReportLaws
 mod UtilLineLaws
+mod ValueLineLaws
 mod LineAgainLaws
 mod AgainLaws
+mod FitsLaws

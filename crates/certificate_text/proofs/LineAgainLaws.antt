@@ -1,20 +1,18 @@
 -- Lines of a report as they are written, read again one by one.
-use Rattle.std.proofs.Common.{◌≡◌, ℕ, ◌+◌, ◌^◌, ◌<◌, ◌≤◌, zero, suc, Bool, true, false, not, cond, List, [], ◌∷◌, ◌++◌, length, map, get_or, Option, Some, None, Ok, Err, position, nat_eq, nat_lt, nat_le, ◌&&◌, ◌||◌, refl, sym, ap, ◌∙◌, subst, arith, append_assoc}
-use Rattle.std.specs.List.{list_all, list_any, All, IsDistinct, count_by, sum_by, range_with_len}
+use Rattle.std.proofs.Common.{◌≡◌, ℕ, ◌+◌, ◌<◌, ◌≤◌, zero, suc, Bool, true, false, cond, List, [], ◌∷◌, ◌++◌, length, map, get_or, Option, Some, None, Ok, nat_eq, nat_le, ◌&&◌, ◌||◌, refl, sym, ◌∙◌, subst, arith}
+use Rattle.std.specs.List.{list_all, All, IsDistinct, count_by, range_with_len}
 use Rattle.std.specs.Prelude.{codes, IfSome, ◌⊎◌}
 use Rattle.std.proofs.Common.{inl, inr}
-use Rattle.std.specs.Option.{option_map}
 use Rattle.std.specs.Fmt.{decimal}
 use Rattle.std.specs.Str.{bytes_eq}
 use Rattle.std.specs.Cmp.Lexicographic.{nat_list_eq_equiv}
 use Rattle.std.proofs.lemmas.List.Elements.{All-head, All-tail}
 use Rattle.std.proofs.lemmas.List.Sums.{sum_by-cons}
 use Rattle.std.proofs.lemmas.Bool.Decides.{nat_tests}
-use Rattle.std.proofs.lemmas.Bool.{and_parts, le-ltb, lt-ltb, eq-eqb, ltb-true, false≢true}
-use Rattle.dcop_base.specs.Table.{product, has_repeat}
+use Rattle.std.proofs.lemmas.Bool.{and_parts, le-ltb, lt-ltb, eq-eqb}
+use Rattle.dcop_base.specs.Table.{product}
 use Rattle.problem_text.specs.Name.{is_name, is_name_start, is_name_byte}
 use Rattle.problem_text.specs.File.{AreLabels}
-use Rattle.problem_text.specs.Tables.{is_colon, named_by}
 use Rattle.problem_text.proofs.DecimalLaws.{number-decimal}
 use Rattle.problem_text.proofs.TableTextLaws.{before-colon, after-colon, any-colon, name-at, scope-names, own-place, scope-named}
 use Rattle.certificate_text.specs.declared.certificate.Util.{Util}
@@ -111,7 +109,7 @@ count-there var (x ∷ xs) u later h =
 
 fresh-step : (t : Bool) (before rest : ℕ) (any : Bool) → cond t 1 0 + rest ≡ 1 → 1 ≤ rest → (rest ≡ 1 → any ≡ false) → t || any ≡ false
 fresh-step true before rest any e some ih = absurd (omega (arith, e, some))
-fresh-step false before rest any e some ih = ih e
+fresh-step false before rest any e some ih = let same : 0 + rest ≡ 1 = e in ih (omega (arith, same))
 
 -- a variable that has one table has none before that
 pub fresh-before : (var : ℕ) (done : List Util) (u : Util) (later : List Util) → nat_eq u.var var ≡ true → count_by (λ u. nat_eq u.var var) (done ++ (u ∷ later)) ≡ 1 → has_util done var ≡ false
@@ -122,7 +120,7 @@ fresh-before var (x ∷ xs) u later h e =
 
 has-step : (t : Bool) (rest : ℕ) (any : Bool) → cond t 1 0 + rest ≡ 1 → (rest ≡ 1 → any ≡ true) → t || any ≡ true
 has-step true rest any e ih = refl
-has-step false rest any e ih = ih e
+has-step false rest any e ih = let same : 0 + rest ≡ 1 = e in ih (omega (arith, same))
 
 -- a variable that has one table has a table
 pub has-one : (var : ℕ) (utils : List Util) → count_by (λ u. nat_eq u.var var) utils ≡ 1 → has_util utils var ≡ true

@@ -1,12 +1,14 @@
 -- The line of a UTIL table, word by word.
-use Rattle.std.proofs.Common.{◌≡◌, ℕ, ◌+◌, ◌<◌, suc, Bool, true, false, not, List, [], ◌∷◌, ◌++◌, length, Option, Some, None, position, refl, sym, ap, ◌∙◌, append_assoc, arith, subst}
-use Rattle.std.specs.List.{before_first, list_all, range_with_len}
+use Rattle.std.proofs.Common.{◌≡◌, ℕ, ◌+◌, ◌-◌, ◌<◌, ◌≤◌, suc, Bool, true, false, List, [], ◌∷◌, ◌++◌, length, Option, Some, None, position, refl, sym, ap, ◌∙◌, append_assoc, arith, subst}
+use Rattle.std.specs.List.{before_first, list_all, range_with_len, All}
 use Rattle.std.specs.Str.{bytes_eq}
 use Rattle.std.proofs.lemmas.List.{append-nil}
 use Rattle.problem_text.specs.Tables.{onto, named_by, is_colon}
 use Rattle.problem_text.proofs.CellLaws.{behind, behind-push}
 use Rattle.problem_text.proofs.ScopeLaws.{before_colon-cons}
-use Rattle.certificate_text.specs.UtilLine.{and_known, known_among}
+use Rattle.problem_text.proofs.TableLineLaws.{named-within}
+use Rattle.std.proofs.lemmas.Bool.{false≢true}
+use Rattle.certificate_text.specs.UtilLine.{known_among}
 use Rattle.certificate_text.specs.UtilWords.{where_whole}
 
 -- a scope whose first variables were read, where each word so far named one
@@ -67,3 +69,23 @@ counted count None = None
 pub counted-more : (count n : ℕ) (later : Option (List ℕ)) → counted (count + 1) later ≡ counted count (onto (Some n) later)
 counted-more count n None = refl
 counted-more count n (Some ns) = let e : (count + 1) + length ns ≡ count + suc (length ns) = omega arith in rw e refl
+
+range-first : (a n : ℕ) → a < n → range_with_len a (n - a) ≡ a ∷ range_with_len (a + 1) (n - (a + 1))
+range-first a n h = let e : n - a ≡ suc (n - (a + 1)) = omega (arith, h) in rw e refl
+
+-- numbers from here on, of which the first fails
+pub range-fails : (p : ℕ → Bool) (a n : ℕ) (all : Bool) → a < n → p a ≡ false → list_all p (range_with_len a (n - a)) ≡ all → all ≡ false
+range-fails p a n all h none e = sym e ∙ rw (range-first a n h, none) refl
+
+-- numbers from here on, of which the first passes
+pub range-passes : (p : ℕ → Bool) (a n : ℕ) (all : Bool) → a < n → p a ≡ true → list_all p (range_with_len a (n - a)) ≡ all → list_all p (range_with_len (a + 1) (n - (a + 1))) ≡ all
+range-passes p a n all h one e = rw (range-first a n h, one) at e
+
+-- no numbers
+pub range-end : (p : ℕ → Bool) (a n : ℕ) (all : Bool) → n ≤ a → list_all p (range_with_len a (n - a)) ≡ all → all ≡ true
+range-end p a n all h e = let z : n - a ≡ 0 = omega (arith, h) in sym (rw z at e)
+
+-- a whole scope names variables that are there
+pub whole-within : (names ws : List (List ℕ)) (whole : Bool) (known : List ℕ) (n : ℕ) → named_by names ws ≡ where_whole whole known → whole ≡ true → length names ≡ n → All (λ v. v < n) known
+whole-within names ws true known n e is many = subst (λ (n : ℕ). All (λ v. v < n) known) many (named-within names ws known e)
+whole-within names ws false known n e is many = absurd (false≢true is)

@@ -1,9 +1,8 @@
 -- What the reader of reports gives beside what the text says.
-use Rattle.std.specs.Prelude.{◌≡◌, ℕ, List, Some, Result, Ok, Err, IsTrue, is_some}
+use Rattle.std.specs.Prelude.{◌≡◌, ℕ, List, Result, Ok, Err, IsTrue, is_some}
 use Rattle.problem_text.specs.File.{TextFile}
 use Rattle.problem_text.specs.declared.fault.ReportFault.{ReportFault}
 use Rattle.problem_text.specs.declared.fault.ReportFault.TheVariants.{Bad, NoMemory}
-use Rattle.certificate_text.specs.declared.draft.Draft.{Draft}
 use Rattle.certificate_text.specs.declared.report.Report.{Report}
 use Rattle.certificate_text.specs.Fits.{Fits}
 use Rattle.certificate_text.specs.ReportReading.{Fault, report_read}
@@ -21,3 +20,11 @@ ReadsReport bytes f result = IsReading (report_read bytes f) result
 -- a text is read as this report, where the report has a certificate and fits the file
 abbrev pub IsReadBack : List ℕ → TextFile → Report → Type 0
 IsReadBack bytes f report = IsTrue (is_some report.certificate) → Fits report f → report_read bytes f ≡ Ok report
+
+-- a report with a certificate that fits the file
+abbrev pub HasFit : TextFile → Report → Type 0
+HasFit f report = IsTrue (is_some report.certificate) × Fits report f
+
+-- each report as which a text is read fits the file
+abbrev pub TellsFitting : List ℕ → TextFile → Type 0
+TellsFitting bytes f = (report : Report) → report_read bytes f ≡ Ok report → HasFit f report

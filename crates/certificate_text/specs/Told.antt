@@ -2,7 +2,6 @@
 use Rattle.std.specs.Prelude.{◌≡◌, ℕ, Bool, false, List, [], ◌∷◌, Option, Some, None, Result, Ok, Err, nat_lt, if◌then◌else◌}
 use Rattle.std.specs.Str.{bytes_eq}
 use Rattle.problem_text.specs.declared.fault.ReportKind.{ReportKind}
-use Rattle.problem_text.specs.declared.fault.ReportKind.TheVariants.{BadNumber}
 use Rattle.problem_text.specs.Tables.{onto}
 use Rattle.dcop_base.specs.NumberWord.{number_of}
 use Rattle.dcop_base.specs.declared.number.TheConstants.{CAP}

@@ -1,6 +1,6 @@
 //! The reader of reports: their lines in order, up to the first fault.
 
-ghost use Rattle.std.specs.Prelude.{◌≡◌, ◌<◌, ◌≤◌, [], length, slice_index, codes, Ok, Err, if◌then◌else◌};
+ghost use Rattle.std.specs.Prelude.{◌≡◌, ◌<◌, ◌≤◌, [], length, slice_index, codes, Ok, Err, IfOk, if◌then◌else◌};
 ghost use Rattle.std.specs.List.{All, AllZip, slice_index_or};
 ghost use Rattle.problem_text.specs.Lines.{words};
 ghost use Rattle.problem_text.specs.File.{AreLabels};
@@ -11,7 +11,7 @@ ghost use Rattle.certificate_text.specs.UtilLine.{util_line, lacks_util as lacks
 ghost use Rattle.certificate_text.specs.declared.draft.Stage.TheVariants as stages;
 ghost use Rattle.certificate_text.specs.ValueLine.{value_line};
 ghost use Rattle.certificate_text.specs.ReportReading as lines;
-ghost use Rattle.certificate_text.specs.Again.{ReadsReport, IsReading};
+ghost use Rattle.certificate_text.specs.Again.{ReadsReport, IsReading, HasFit, TellsFitting};
 
 use crate::certificate::{Certificate, Util};
 use crate::draft::{Draft, Stage};
@@ -27,13 +27,30 @@ use problem_text::{
 };
 use std::alloc::Global;
 
-/// Reads the text of a report on a file.
+/// Reads the text of a report on a file. The report that it gives has a certificate and fits the
+/// file.
 ///
 /// # Errors
 ///
 /// [`ReportFault::Bad`] with the line and the kind of the first fault, of all kinds but 9; lines
 /// count from 1 at the first byte. [`ReportFault::NoMemory`] where memory was wanted and not had.
 pub fn read_report(alloc: Global, bytes: &[u8], file: &ProblemFile) -> Result<Report, ReportFault>
+    ensures reads { ReadsReport bytes.now file.now result }
+    ensures fits { IfOk result (HasFit file.now) }
+{
+    tells_fitting(bytes, file);
+    read_lines(alloc, bytes, file)
+}
+
+/// A law: each report as which a text is read has a certificate and fits the file.
+fn tells_fitting(bytes: &[u8], file: &ProblemFile)
+    ensures { TellsFitting bytes.now file.now }
+{
+    let _goal = file.goal;
+}
+
+/// The report that the lines of a text tell.
+fn read_lines(alloc: Global, bytes: &[u8], file: &ProblemFile) -> Result<Report, ReportFault>
     ensures { ReadsReport bytes.now file.now result }
 {
     let mut draft = Draft::new(alloc);
@@ -250,6 +267,7 @@ fn value_among(
 ) -> Result<Val, LineEnd>
     requires within { place < length names.now }
     requires many { length names.now ≡ length sizes.now }
+    requires few { length sizes.now ≤ MAX_VARIABLES }
     requires labelled { AllZip AreLabels sizes.now labels.now }
     requires small { All (λ size. size ≤ MAX_SIZE) sizes.now }
     ensures { Reads result (value_line (slice_index_or names.now place [])

@@ -138,6 +138,12 @@ fn file_of(alloc: Global, text: &[u8]) -> Result<ProblemFile, Fail> {
     Ok(read_problem(alloc, text)?.file)
 }
 
+/// The report of a text, on the file of a problem text.
+fn report_of(alloc: Global, problem: &[u8], text: &[u8]) -> Result<Report, Fail> {
+    let file = file_of(alloc, problem)?;
+    Ok(read_report(alloc, text, &file)?)
+}
+
 /// The line and the kind of the first fault, where the text is refused.
 fn fault_of(alloc: Global, text: &[u8], file: &ProblemFile) -> Option<(u64, ReportKind)> {
     match read_report(alloc, text, file) {
@@ -175,7 +181,7 @@ fn places_of(alloc: Global, report: &Report) -> Result<Vec<VarId>, Fail> {
 #[test]
 fn certificate_of_paw_is_read(rt: HostRuntime) -> Result<(), Fail> {
     let alloc = rt.alloc();
-    let report = read_report(alloc, PAW_REPORT, &file_of(alloc, PAW)?)?;
+    let report = report_of(alloc, PAW, PAW_REPORT)?;
     assert_eq!(rt; report.status, Ending::Solved);
     assert_eq!(rt; report.method, Method::Dpop);
     assert_eq!(rt; report.goal, Goal::Min);
@@ -198,7 +204,7 @@ fn certificate_of_paw_is_read(rt: HostRuntime) -> Result<(), Fail> {
 #[test]
 fn certificate_of_triple_is_read(rt: HostRuntime) -> Result<(), Fail> {
     let alloc = rt.alloc();
-    let report = read_report(alloc, TRIPLE_REPORT, &file_of(alloc, TRIPLE)?)?;
+    let report = report_of(alloc, TRIPLE, TRIPLE_REPORT)?;
     assert_eq!(rt;
         report.values.as_slice(),
         [Val(0), Val(0), Val(1)].as_slice()
@@ -213,7 +219,7 @@ fn certificate_of_triple_is_read(rt: HostRuntime) -> Result<(), Fail> {
 #[test]
 fn certificate_of_gain_is_read(rt: HostRuntime) -> Result<(), Fail> {
     let alloc = rt.alloc();
-    let report = read_report(alloc, GAIN_REPORT, &file_of(alloc, GAIN)?)?;
+    let report = report_of(alloc, GAIN, GAIN_REPORT)?;
     assert_eq!(rt; report.goal, Goal::Max);
     assert_eq!(rt; report.values.as_slice(), [Val(1), Val(1)].as_slice());
     assert_eq!(rt; cells_of(alloc, &report)?.as_slice(), [0, 2, 0].as_slice());

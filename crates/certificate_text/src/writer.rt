@@ -28,6 +28,7 @@ pub fn write_report(alloc: Global, report: &Report, file: &ProblemFile) -> Resul
     ensures text { IfOk result (λ bytes. bytes ≡ report_text report.now file.now) }
     ensures again { IfOk result (λ bytes. IsReadBack bytes file.now report.now) }
 {
+    is_read_again(report, file);
     let mut text = String::new(alloc);
     write_head(&mut text, report)?;
     write_bounds(&mut text, report)?;
@@ -40,6 +41,14 @@ pub fn write_report(alloc: Global, report: &Report, file: &ProblemFile) -> Resul
     write_evidence(&mut text, &file.names, &report.certificate)?;
     text.push_str("end\n")?;
     Ok(Bytes::from_vec(text.into_bytes()))
+}
+
+/// A law: the text of a report that has a certificate and fits the file is read as that report.
+fn is_read_again(report: &Report, file: &ProblemFile)
+    ensures { IsReadBack (report_text report.now file.now) file.now report.now }
+{
+    let problem = &file.problem;
+    let _sizes = problem.sizes.as_slice();
 }
 
 impl Ending {

@@ -6,5 +6,5 @@ use Rattle.certificate_text.proofs.util_line.lacks_util.Given as goal
 -- the variables that are left decide
 abbrev pub invariant-loop-var : goal.invariant-loop-var
 invariant-loop-var l =
-    list_all (λ var. has_util l.utils var) (range_with_len l.var-counter (l.count - l.var-counter))
+    list_all (λ var. has_util l.utils var) (range_with_len l.var (l.count - l.var))
     ≡ list_all (λ var. has_util l.utils var) (range_with_len 0 l.count)

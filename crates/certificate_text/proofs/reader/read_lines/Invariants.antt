@@ -2,7 +2,7 @@ use Rattle.std.proofs.Common.{◌≡◌, ◌+◌, ◌≤◌, length, nat_eq}
 use Rattle.std.specs.Prelude.{count_by}
 use Rattle.problem_text.specs.PlainLines.{plain_lines}
 use Rattle.certificate_text.specs.ReportReading.{lines_read, report_read}
-use Rattle.certificate_text.proofs.reader.read_report.Given as goal
+use Rattle.certificate_text.proofs.reader.read_lines.Given as goal
 
 -- what is left, read behind what was told, is the whole text read
 abbrev pub invariant-loop-line : goal.invariant-loop-line
