@@ -1,0 +1,54 @@
+//! The totals of a row of bounds.
+
+ghost use Rattle.std.specs.Prelude.{◌≡◌, ◌+◌, ◌≤◌, replicate};
+ghost use Rattle.adopt_context.specs.Bounds.{blank};
+ghost use Rattle.adopt_context.specs.Context.{or_zero};
+
+use crate::interval::Interval;
+
+/// What the bounds of a row are together.
+#[derive(Clone, Copy, Debug)]
+pub(crate) struct Totals {
+    /// The sum of the lower bounds.
+    pub lower: u128,
+    /// The sum of the upper bounds that are there.
+    pub upper: u128,
+    /// How many upper bounds are none.
+    pub missing: usize,
+}
+
+impl Totals {
+    ghost use Rattle.adopt_bounds.specs.Totals.{missing_of, totals_of, with_bounds};
+
+    /// The totals of a row of so many entries of which nothing is known.
+    pub(crate) fn of_blank(width: usize) -> Totals
+        ensures { result ≡ totals_of (replicate width blank) }
+    {
+        Totals {
+            lower: 0,
+            upper: 0,
+            missing: width,
+        }
+    }
+
+    /// An entry of the row gets other bounds in place of those that it had.
+    pub(crate) fn exchange(&mut self, old: Interval, new: Interval)
+        requires lower { old.lower ≤ self.old.lower }
+        requires upper { or_zero old.upper ≤ self.old.upper }
+        requires missing { missing_of old.upper ≤ self.old.missing }
+        requires lower_fits { self.old.lower + new.lower ≤ u128.MAX }
+        requires upper_fits { self.old.upper + or_zero new.upper ≤ u128.MAX }
+        requires missing_fits { self.old.missing + missing_of new.upper ≤ usize.MAX }
+        ensures { with_bounds self.new old.lower old.upper ≡ with_bounds self.old new.lower new.upper }
+    {
+        self.lower = self.lower + u128::from(new.lower) - u128::from(old.lower);
+        match old.upper {
+            Some(bound) => self.upper -= u128::from(bound),
+            None => self.missing -= 1,
+        }
+        match new.upper {
+            Some(bound) => self.upper += u128::from(bound),
+            None => self.missing += 1,
+        }
+    }
+}
