@@ -1,7 +1,7 @@
 //! Allotting a goal to the children of an own value.
 
-ghost use Rattle.std.specs.Prelude.{◌≡◌, ℕ, ◌+◌, ◌*◌, ◌≤◌, List, Option, length, sum};
-ghost use Rattle.std.specs.List.{All};
+ghost use Rattle.std.specs.Prelude.{◌≡◌, ℕ, ◌+◌, ◌*◌, ◌≤◌, List, Option, length};
+ghost use Rattle.std.specs.List.{All, sum_by};
 ghost use Rattle.adopt_context.specs.Allot.{allot, cut, raise};
 ghost use Rattle.adopt_context.specs.Context.{Context};
 ghost use Rattle.adopt_bounds.specs.Rows.{entries_of};
@@ -34,7 +34,7 @@ pub(crate) fn allot_row(share: &mut [u64], lower: &[u64], upper: &[Option<u64>],
 /// The sum of the shares.
 fn sum_of(share: &[u64]) -> u128
     requires { All (λ s. s ≤ CAP) share.now }
-    ensures { result ≡ sum share.now }
+    ensures { result ≡ sum_by (λ s. s) share.now }
 {
     let mut sum: u128 = 0;
     for amount in share {
@@ -46,7 +46,7 @@ fn sum_of(share: &[u64]) -> u128
 /// Raises the shares of a row, each to its upper bound at most and in order, by what is lacking.
 fn raise(share: &mut [u64], upper: &[Option<u64>], mut lack: u64)
     requires upper { length upper.now ≡ length share.old }
-    requires fits { sum share.old + lack ≤ CAP }
+    requires fits { sum_by (λ s. s) share.old + lack ≤ CAP }
     ensures entries { (lower : List ℕ) (contexts : List Context) → length lower ≡ length share.old
         → length contexts ≡ length share.old → entries_of lower upper.now share.new contexts
         ≡ raise lack (entries_of lower upper.now share.old contexts) }

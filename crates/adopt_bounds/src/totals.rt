@@ -18,7 +18,7 @@ pub(crate) struct Totals {
 }
 
 impl Totals {
-    ghost use Rattle.adopt_bounds.specs.Totals.{missing_of, totals_of, with_bounds};
+    ghost use Rattle.adopt_bounds.specs.Totals.{missing_of, totals_of};
 
     /// The totals of a row of so many entries of which nothing is known.
     pub(crate) fn of_blank(width: usize) -> Totals
@@ -39,7 +39,10 @@ impl Totals {
         requires lower_fits { self.old.lower + new.lower ≤ u128.MAX }
         requires upper_fits { self.old.upper + or_zero new.upper ≤ u128.MAX }
         requires missing_fits { self.old.missing + missing_of new.upper ≤ usize.MAX }
-        ensures { with_bounds self.new old.lower old.upper ≡ with_bounds self.old new.lower new.upper }
+        ensures lower { self.new.lower + old.lower ≡ self.old.lower + new.lower }
+        ensures upper { self.new.upper + or_zero old.upper ≡ self.old.upper + or_zero new.upper }
+        ensures missing { self.new.missing + missing_of old.upper ≡
+            self.old.missing + missing_of new.upper }
     {
         self.lower = self.lower + u128::from(new.lower) - u128::from(old.lower);
         match old.upper {

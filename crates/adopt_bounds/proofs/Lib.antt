@@ -1,0 +1,6 @@
+mod EntryLaws
+mod RowLaws
+mod TotalLaws
+mod ShareLaws
+mod ForgetLaws
+mod BoundsLaws
