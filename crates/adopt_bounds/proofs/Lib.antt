@@ -4,3 +4,4 @@ mod TotalLaws
 mod ShareLaws
 mod ForgetLaws
 mod BoundsLaws
+mod PlaceLaws

@@ -1,9 +1,16 @@
 -- Rows that a list of entries is cut into.
-use Rattle.std.proofs.Common.{◌≡◌, ℕ, zero, suc, ◌+◌, ◌*◌, ◌-◌, ◌<◌, ◌≤◌, List, [], ◌∷◌, length, get_or, set, take, drop, replicate, refl, sym, ap, ◌∙◌, arith}
+use Rattle.std.proofs.Common.{◌≡◌, ℕ, zero, suc, ◌+◌, ◌*◌, ◌-◌, ◌<◌, ◌≤◌, List, [], ◌∷◌, Bool, true, false, Option, Some, None, ◌==◌, length, get_or, set, take, drop, replicate, refl, sym, ap, ◌∙◌, arith}
+use Rattle.std.specs.List.{All, position}
+use Rattle.std.proofs.lemmas.Bool.{false≢true}
 use Rattle.std.proofs.lemmas.List.{drop-drop, take-take, drop-take, get_or-take, get_or-drop, take-set-le, drop-set-lt, drop-set-add, take_all, take-replicate, drop-replicate}
+use Rattle.std.proofs.lemmas.List.Elements.{All-head, All-tail}
+use Rattle.std.proofs.lemmas.List.Quantifiers.{position-Some}
+use Rattle.dcop_base.specs.Table.{has}
+use Rattle.dcop_base.proofs.FaultLaws.{position-none}
+use Rattle.adopt_context.specs.Context.{or_zero}
 use Rattle.adopt_context.specs.Bounds.{Entry, blank, row_at, entry_at}
 use Rattle.adopt_context.specs.Merge.{put_entry}
-use Rattle.adopt_bounds.specs.Rows.{rows_of}
+use Rattle.adopt_bounds.specs.Rows.{place_of, rows_of}
 
 pub rows_length : (n w : ℕ) (es : List Entry) → length (rows_of n w es) ≡ n
 rows_length zero w es = refl
@@ -79,3 +86,17 @@ rows_same (suc n) w count e h =
     ap (λ (row : List Entry). row ∷ rows_of n w (drop w (replicate count e))) (take-replicate w count e enough)
     ∙ ap (λ (xs : List Entry). replicate w e ∷ rows_of n w xs) (drop-replicate w count e)
     ∙ ap (λ (rs : List (List Entry)). replicate w e ∷ rs) (rows_same n w (count - w) e left)
+
+-- no child is this one
+any_of_none : (j : ℕ) (xs : List ℕ) → All (λ x. (x == j) ≡ false) xs → has xs j ≡ false
+any_of_none j [] all = refl
+any_of_none j (x ∷ xs) all =
+    rw (All-head (λ y. (y == j) ≡ false) x xs all, any_of_none j xs (All-tail (λ y. (y == j) ≡ false) x xs all)) refl
+
+-- a child's place is one of a row's
+pub place_within : (children : List ℕ) (j : ℕ) → has children j ≡ true → place_of children j < length children
+place_within children j h = go (position (λ child. child == j) children) refl
+  where
+    go : (o : Option ℕ) → position (λ child. child == j) children ≡ o → or_zero o < length children
+    go None e = absurd (false≢true (sym (any_of_none j children (position-none (λ child. child == j) children e)) ∙ h))
+    go (Some k) e = (position-Some (λ child. child == j) children k 0 e).0

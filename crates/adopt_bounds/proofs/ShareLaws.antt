@@ -1,10 +1,11 @@
 -- Shares of a row, raised or lowered one after the other.
 use Rattle.std.proofs.Common.{◌≡◌, ℕ, zero, suc, ◌+◌, ◌-◌, ◌*◌, ◌<◌, ◌≤◌, List, [], ◌∷◌, ◌++◌, Option, Some, None, length, get_or, set, take, drop, max, refl, sym, ap, ◌∙◌, arith}
 use Rattle.std.specs.List.{All, sum_by}
+use Rattle.std.proofs.lemmas.Bool.{lt-ltb, le-ltb}
 use Rattle.std.proofs.lemmas.List.{take_all, drop_all, append-nil}
 use Rattle.std.proofs.lemmas.List.Elements.{All-nil, All-cons}
 use Rattle.std.proofs.lemmas.List.Sums.{sum_by-cons}
-use Rattle.adopt_context.specs.Allot.{lower_to, share_sum, raised, raise, lowered, cut}
+use Rattle.adopt_context.specs.Allot.{lower_to, share_sum, raised, raise, lowered, cut, allot}
 use Rattle.adopt_context.specs.Bounds.{Entry, blank}
 use Rattle.adopt_context.specs.Context.{Context}
 use Rattle.adopt_bounds.specs.Rows.{entries_of}
@@ -95,3 +96,18 @@ cut_next ls us ss cs k excess share left a b c h is rest =
     ∙ ap (λ m. take (k + 1) (set es k (record e { share = lowered excess e })) ++ cut m (drop (k + 1) (set es k (record e { share = lowered excess e })))) less
     ∙ ap (λ j. take j (set es k (record e { share = lowered excess e })) ++ cut (excess + lowered excess e - e.share) (drop j (set es k (record e { share = lowered excess e })))) more
     ∙ cut_step es k excess inside
+
+-- whether the goal is allotted by raising, by lowering or not at all
+pub allot_raises : (goal : ℕ) (row : List Entry) (total lack : ℕ) → share_sum row ≡ total → total < goal → lack ≡ goal - total → allot goal row ≡ raise lack row
+allot_raises goal row total lack is h e =
+    let less : share_sum row < goal = omega (arith, is, h) in
+    rw (lt-ltb (share_sum row) goal less) (ap (λ n. raise n row) (omega (arith, is, e)))
+
+pub allot_cuts : (goal : ℕ) (row : List Entry) (total excess : ℕ) → share_sum row ≡ total → goal < total → excess ≡ total - goal → allot goal row ≡ cut excess row
+allot_cuts goal row total excess is h e =
+    let less : goal < share_sum row = omega (arith, is, h) in
+    rw (le-ltb (share_sum row) goal (omega (arith, less)), lt-ltb goal (share_sum row) less) (ap (λ n. cut n row) (omega (arith, is, e)))
+
+pub allot_keeps : (goal : ℕ) (row : List Entry) (total : ℕ) → share_sum row ≡ total → goal ≤ total → total ≤ goal → allot goal row ≡ row
+allot_keeps goal row total is h e =
+    rw (le-ltb (share_sum row) goal (omega (arith, is, h)), le-ltb goal (share_sum row) (omega (arith, is, e))) refl

@@ -1,14 +1,14 @@
 -- Totals of rows, and the bounds that they give.
-use Rattle.std.proofs.Common.{◌≡◌, ℕ, zero, suc, ◌+◌, ◌*◌, ◌<◌, ◌≤◌, List, [], ◌∷◌, Option, Some, None, length, get_or, set, map, replicate, refl, sym, ap, subst, ◌∙◌, arith}
+use Rattle.std.proofs.Common.{◌≡◌, ℕ, zero, suc, ◌+◌, ◌*◌, ◌<◌, ◌≤◌, List, [], ◌∷◌, Option, Some, None, length, get_or, set, map, replicate, refl, sym, ap, subst, ◌∙◌, inl, inr, arith}
 use Rattle.std.specs.Prelude.{IfSome}
 use Rattle.std.specs.List.{All, sum_by}
-use Rattle.std.proofs.lemmas.List.{length-replicate}
+use Rattle.std.proofs.lemmas.Bool.{cases_eq, ne_eqb, eq-eqb}
 use Rattle.std.proofs.lemmas.List.Elements.{All-nil, All-cons, All-head, All-tail}
 use Rattle.std.proofs.lemmas.List.Sums.{sum_by-cons, sum_by-set, get_or-le-sum_by, sum_by-le}
 use Rattle.adopt_context.specs.Context.{Context, or_zero}
 use Rattle.adopt_context.specs.Bounds.{Entry, blank, plus_bound, lower_sum, upper_sum}
 use Rattle.adopt_bounds.specs.Rows.{entries_of}
-use Rattle.adopt_bounds.specs.Totals.{missing_of, totals_of}
+use Rattle.adopt_bounds.specs.Totals.{missing_of, totals_of, upper_of}
 use Rattle.adopt_bounds.specs.declared.totals.Totals.{Totals}
 
 -- totals with the same parts are the same
@@ -129,3 +129,10 @@ totals_blank n t is = is ∙ same_totals (record { lower = 0; upper = 0; missing
     missings : (n : ℕ) → n ≡ sum_by (λ (x : Entry). missing_of x.upper) (replicate n blank)
     missings zero = refl
     missings (suc n) = omega (arith, missings n, sum_by-cons (λ (x : Entry). missing_of x.upper) blank (replicate n blank))
+
+-- the sum of upper bounds, by the totals
+pub upper_of_is : (t : Totals) (es : List Entry) → t ≡ totals_of es → upper_of t ≡ upper_sum es
+upper_of_is t es is = ap (λ (s : Totals). upper_of s) is ∙ elim (cases_eq (sum_by (λ (e : Entry). missing_of e.upper) es) 0) [
+  | inl none ↦ rw (eq-eqb (sum_by (λ (e : Entry). missing_of e.upper) es) 0 none) (sym (upper_sum_some es none))
+  | inr some ↦ rw (ne_eqb (sum_by (λ (e : Entry). missing_of e.upper) es) 0 some) (sym (upper_sum_none es (omega (arith, some))))
+]

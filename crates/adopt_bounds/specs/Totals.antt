@@ -1,5 +1,5 @@
 -- The totals of a row, and what the flat lists of bounds keep.
-use Rattle.std.specs.Prelude.{◌≡◌, ℕ, ◌+◌, ◌*◌, ◌≤◌, List, [], ◌∷◌, map, length, Option, Some, None, IfSome}
+use Rattle.std.specs.Prelude.{◌≡◌, ℕ, ◌+◌, ◌*◌, ◌≤◌, List, [], ◌∷◌, map, length, Option, Some, None, IfSome, ◌==◌, if◌then◌else◌}
 use Rattle.std.specs.List.{All, sum_by}
 use Rattle.dcop_base.specs.declared.number.TheConstants.{CAP}
 use Rattle.adopt_context.specs.Context.{Context, or_zero}
@@ -19,6 +19,10 @@ totals_of es = record {
   upper = sum_by (λ e. or_zero e.upper) es;
   missing = sum_by (λ e. missing_of e.upper) es;
 }
+
+-- the sum of the upper bounds, by the totals; none where one is none
+abbrev pub upper_of : Totals → Option ℕ
+upper_of t = if t.missing == 0 then Some t.upper else None
 
 -- as many bounds, shares and contexts as there are entries, and amounts within the cap
 pub record AreParts (count : ℕ) (lower : List ℕ) (upper : List (Option ℕ)) (share : List ℕ) (contexts : List Context) : Type 0 where

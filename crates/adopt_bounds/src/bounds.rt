@@ -1,6 +1,7 @@
 //! The bounds of an agent, for each own value and child.
 
-ghost use Rattle.std.specs.Prelude.{◌≡◌, ◌+◌, ◌*◌, ◌<◌, ◌≤◌, true, length, replicate, IfOk, IfSome, OnErr, slice_set, if◌then◌else◌};
+ghost use Rattle.std.specs.Prelude.{◌≡◌, ◌+◌, ◌*◌, ◌<◌, ◌≤◌, ◌==◌, true, length, replicate, IfOk, IfSome, OnErr, slice_set, if◌then◌else◌};
+ghost use Rattle.std.specs.List.{position};
 ghost use Rattle.dcop_base.specs.Table.{has};
 ghost use Rattle.adopt_context.specs.Allot.{reset, allot};
 ghost use Rattle.adopt_context.specs.Bounds.{blank, capped, lower_at, row_at, upper_at, upper_sum};
@@ -88,8 +89,7 @@ impl Bounds {
         requires value { d < length self.now.rows }
         ensures { result ≡ lower_at (λ e. own) self.now.rows d }
     {
-        let sum = self.totals[usize::from(d.0)].lower + u128::from(own);
-        sum.min(u128::from(CAP)) as u64
+        self.totals[usize::from(d.0)].lower_with(own)
     }
 
     /// UB(d): the same with upper bounds, at most [`CAP`]; `None` where the cost is not there or an
@@ -98,12 +98,7 @@ impl Bounds {
         requires value { d < length self.now.rows }
         ensures { result ≡ upper_at (λ e. own) self.now.rows d }
     {
-        let totals = &self.totals[usize::from(d.0)];
-        if totals.missing > 0 {
-            return None;
-        }
-        let sum = totals.upper + u128::from(own?);
-        Some(sum.min(u128::from(CAP)) as u64)
+        self.totals[usize::from(d.0)].upper_with(own)
     }
 
     /// The sum of the upper bounds of an own value, at most [`CAP`]; `None` where one is not there.
@@ -212,6 +207,13 @@ fn index_of(children: &[VarId], d: Val, child: VarId) -> usize
     ensures place { place_of children.now child < length children.now }
     ensures index { result ≡ d * length children.now + place_of children.now child }
 {
-    let place = children.iter().position(|one| *one == child).unwrap_or(0);
+    let place = position_of(children, child).unwrap_or(0);
     usize::from(d.0) * children.len() + place
+}
+
+/// The place of a child among the children.
+fn position_of(children: &[VarId], child: VarId) -> Option<usize>
+    ensures { result ≡ position (λ one. one == child) children.now }
+{
+    children.iter().position(|one| *one == child)
 }
