@@ -1,6 +1,6 @@
 //! The bounds of an agent, for each own value and child.
 
-ghost use Rattle.std.specs.Prelude.{◌≡◌, ◌+◌, ◌*◌, ◌<◌, ◌≤◌, ◌==◌, true, length, replicate, IfOk, IfSome, OnErr, slice_set, if◌then◌else◌};
+ghost use Rattle.std.specs.Prelude.{◌≡◌, ◌+◌, ◌*◌, ◌<◌, ◌≤◌, ◌==◌, true, length, replicate, None, IfOk, IfSome, OnErr, slice_set, if◌then◌else◌};
 ghost use Rattle.std.specs.List.{position};
 ghost use Rattle.dcop_base.specs.Table.{has};
 ghost use Rattle.adopt_context.specs.Allot.{reset, allot};
@@ -9,7 +9,7 @@ ghost use Rattle.adopt_context.specs.Context.{compatible};
 ghost use Rattle.adopt_context.specs.Merge.{may_merge};
 ghost use Rattle.adopt_bounds.specs.Rows.{entry_of, place_of, with_merged};
 
-use crate::allot::allot_row;
+use crate::allot::allot_at;
 use crate::forget::forget_rows;
 use crate::interval::Interval;
 use crate::totals::Totals;
@@ -65,11 +65,11 @@ impl Bounds {
     {
         let size = usize::from(size);
         let width = children.as_slice().len();
-        let count = size.checked_mul(width).ok_or(NoMemory)?;
+        let count = count_of(size, width)?;
         Ok(Bounds {
             children,
             lower: vec![in alloc; 0; count]?,
-            upper: vec![in alloc; None; count]?,
+            upper: none_yet(alloc, count)?,
             share: vec![in alloc; 0; count]?,
             contexts: vec![in alloc; AgentContext::new(alloc); count]?,
             totals: vec![in alloc; Totals::of_blank(width); size]?,
@@ -147,12 +147,12 @@ impl Bounds {
         } }
     {
         let width = self.children.as_slice().len();
-        let start = usize::from(d.0) * width;
-        let end = start + width;
-        allot_row(
-            &mut self.share[start..end],
-            &self.lower[start..end],
-            &self.upper[start..end],
+        allot_at(
+            self.share.as_mut_slice(),
+            self.lower.as_slice(),
+            self.upper.as_slice(),
+            usize::from(d.0) * width,
+            width,
             goal,
         );
     }
@@ -198,6 +198,27 @@ impl Bounds {
         self.share[index] = new.nearest(self.share[index]);
         Ok(true)
     }
+}
+
+/// How many entries there are in so many rows of so many.
+fn count_of(size: usize, width: usize) -> Result<usize, NoMemory>
+    ensures { IfOk result (λ count. count ≡ size * width) }
+{
+    match size.checked_mul(width) {
+        Some(count) => Ok(count),
+        None => Err(NoMemory),
+    }
+}
+
+/// So many upper bounds that are not there yet.
+fn none_yet(alloc: Global, count: usize) -> Result<Vec<Option<u64>>, NoMemory>
+    ensures { IfOk result (λ upper. upper.items ≡ replicate count None) }
+{
+    let mut upper = Vec::with_capacity(alloc, count)?;
+    for _ in 0..count {
+        upper.push(None)?;
+    }
+    Ok(upper)
 }
 
 /// The index of the entry of an own value and a child in the flat lists.
