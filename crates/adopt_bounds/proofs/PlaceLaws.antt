@@ -33,7 +33,7 @@ pub row_parts : (n w d : ℕ) (ls : List ℕ) (us : List (Option ℕ)) (ss : Lis
 row_parts n w d ls us ss cs p h =
     let most = row_fits n w d h in
     parts_take (n * w - d * w) w (drop (d * w) ls) (drop (d * w) us) (drop (d * w) ss) (drop (d * w) cs)
-      (parts_drop (n * w) (d * w) (n * w - d * w) ls us ss cs p (omega (arith, most))) (omega (arith, most))
+    (parts_drop (n * w) (d * w) (n * w - d * w) ls us ss cs p (omega (arith, most))) (omega (arith, most))
 
 -- the entries of a row
 pub row_entries : (n w d : ℕ) (ls : List ℕ) (us : List (Option ℕ)) (ss : List ℕ) (cs : List Context) → d < n
@@ -55,8 +55,8 @@ row_totals w d ls us ss cs ts t b h =
 pub row_room : (w d : ℕ) (ls : List ℕ) (us : List (Option ℕ)) (ss : List ℕ) (cs : List Context) (ts : List Totals) (t : Totals) → AreBounds w ls us ss cs ts → d < length ts → HasRoom (get_or ts d t) w
 row_room w d ls us ss cs ts t b h =
     room_of w (take w (drop (d * w) ls)) (take w (drop (d * w) us)) (take w (drop (d * w) ss)) (take w (drop (d * w) cs)) (get_or ts d t)
-      (row_parts (length ts) w d ls us ss cs b.parts h)
-      (row_totals w d ls us ss cs ts t b h ∙ ap (λ (es : List Entry). totals_of es) (row_entries (length ts) w d ls us ss cs h))
+    (row_parts (length ts) w d ls us ss cs b.parts h)
+    (row_totals w d ls us ss cs ts t b h ∙ ap (λ (es : List Entry). totals_of es) (row_entries (length ts) w d ls us ss cs h))
 
 -- there are as many entries in a row as there are children
 pub row_width : (w d : ℕ) (ls : List ℕ) (us : List (Option ℕ)) (ss : List ℕ) (cs : List Context) (ts : List Totals) → AreBounds w ls us ss cs ts → d < length ts
@@ -94,11 +94,11 @@ put_bounds w d k i ls us ss cs ts e t b h inside is low high share right =
     record {
       parts = subst (λ m. AreParts (m * w) (set ls i e.lower) (set us i e.upper) (set ss i e.share) (set cs i e.context)) (sym long) (parts_set (n * w) ls us ss cs i e.lower e.upper e.share e.context b.parts low high share);
       right =
-        ap (λ (xs : List Totals). set xs d t) b.right
-        ∙ ap (λ (x : Totals). set (map totals_of rows) d x) right
-        ∙ sym (map-set totals_of rows d (set (row_at rows d) k e))
-        ∙ ap (λ (rs : List (List Entry)). map totals_of rs) (sym (put_rows n w d k i ls us ss cs e h inside is))
-        ∙ ap (λ m. map totals_of (rows_of m w (entries_of (set ls i e.lower) (set us i e.upper) (set ss i e.share) (set cs i e.context)))) (sym long);
+          ap (λ (xs : List Totals). set xs d t) b.right
+          ∙ ap (λ (x : Totals). set (map totals_of rows) d x) right
+          ∙ sym (map-set totals_of rows d (set (row_at rows d) k e))
+          ∙ ap (λ (rs : List (List Entry)). map totals_of rs) (sym (put_rows n w d k i ls us ss cs e h inside is))
+          ∙ ap (λ m. map totals_of (rows_of m w (entries_of (set ls i e.lower) (set us i e.upper) (set ss i e.share) (set cs i e.context)))) (sym long);
     }
 
 -- what does not rest on the shares of entries sums to the same
@@ -122,9 +122,9 @@ sum_same f same (l ∷ ls) (u ∷ us) (s ∷ ss) (s' ∷ ss') (c ∷ cs) h =
 totals_same : (ls : List ℕ) (us : List (Option ℕ)) (ss ss' : List ℕ) (cs : List Context) → length ss ≡ length ss' → totals_of (entries_of ls us ss cs) ≡ totals_of (entries_of ls us ss' cs)
 totals_same ls us ss ss' cs h =
     same_totals (totals_of (entries_of ls us ss cs)) (totals_of (entries_of ls us ss' cs))
-      (sum_same (λ e. e.lower) (λ l u s s' c. refl) ls us ss ss' cs h)
-      (sum_same (λ e. or_zero e.upper) (λ l u s s' c. refl) ls us ss ss' cs h)
-      (sum_same (λ e. missing_of e.upper) (λ l u s s' c. refl) ls us ss ss' cs h)
+    (sum_same (λ e. e.lower) (λ l u s s' c. refl) ls us ss ss' cs h)
+    (sum_same (λ e. or_zero e.upper) (λ l u s s' c. refl) ls us ss ss' cs h)
+    (sum_same (λ e. missing_of e.upper) (λ l u s s' c. refl) ls us ss ss' cs h)
 
 -- and no more do those of rows
 rows_totals_same : (n w : ℕ) (ls : List ℕ) (us : List (Option ℕ)) (ss ss' : List ℕ) (cs : List Context) → length ss ≡ length ss'
@@ -134,13 +134,13 @@ rows_totals_same (suc n) w ls us ss ss' cs h =
     let front : length (take w ss) ≡ length (take w ss') = omega (arith, length-take w ss, length-take w ss', h) in
     let rest : length (drop w ss) ≡ length (drop w ss') = omega (arith, length-drop w ss, length-drop w ss', h) in
     let first : totals_of (take w (entries_of ls us ss cs)) ≡ totals_of (take w (entries_of ls us ss' cs)) =
-        ap (λ (es : List Entry). totals_of es) (entries_take w ls us ss cs)
-        ∙ totals_same (take w ls) (take w us) (take w ss) (take w ss') (take w cs) front
-        ∙ ap (λ (es : List Entry). totals_of es) (sym (entries_take w ls us ss' cs)) in
+    ap (λ (es : List Entry). totals_of es) (entries_take w ls us ss cs)
+    ∙ totals_same (take w ls) (take w us) (take w ss) (take w ss') (take w cs) front
+    ∙ ap (λ (es : List Entry). totals_of es) (sym (entries_take w ls us ss' cs)) in
     let others : map totals_of (rows_of n w (drop w (entries_of ls us ss cs))) ≡ map totals_of (rows_of n w (drop w (entries_of ls us ss' cs))) =
-        ap (λ (es : List Entry). map totals_of (rows_of n w es)) (entries_drop w ls us ss cs)
-        ∙ rows_totals_same n w (drop w ls) (drop w us) (drop w ss) (drop w ss') (drop w cs) rest
-        ∙ ap (λ (es : List Entry). map totals_of (rows_of n w es)) (sym (entries_drop w ls us ss' cs)) in
+    ap (λ (es : List Entry). map totals_of (rows_of n w es)) (entries_drop w ls us ss cs)
+    ∙ rows_totals_same n w (drop w ls) (drop w us) (drop w ss) (drop w ss') (drop w cs) rest
+    ∙ ap (λ (es : List Entry). map totals_of (rows_of n w es)) (sym (entries_drop w ls us ss' cs)) in
     ap (λ (x : Totals). x ∷ map totals_of (rows_of n w (drop w (entries_of ls us ss cs)))) first
     ∙ ap (λ (xs : List Totals). totals_of (take w (entries_of ls us ss' cs)) ∷ xs) others
 
@@ -163,7 +163,7 @@ share_bounds w ls us ss ss' cs ts b long within = record {
 -- the rows, with the shares of one allotted
 pub allot_rows : (n w d goal : ℕ) (ls : List ℕ) (us : List (Option ℕ)) (ss ss' : List ℕ) (cs : List Context) → d < n → take (d * w) ss' ≡ take (d * w) ss → drop (d * w + w) ss' ≡ drop (d * w + w) ss
     → entries_of (take w (drop (d * w) ls)) (take w (drop (d * w) us)) (take w (drop (d * w) ss')) (take w (drop (d * w) cs))
-      ≡ allot goal (entries_of (take w (drop (d * w) ls)) (take w (drop (d * w) us)) (take w (drop (d * w) ss)) (take w (drop (d * w) cs)))
+    ≡ allot goal (entries_of (take w (drop (d * w) ls)) (take w (drop (d * w) us)) (take w (drop (d * w) ss)) (take w (drop (d * w) cs)))
     → rows_of n w (entries_of ls us ss' cs) ≡ set (rows_of n w (entries_of ls us ss cs)) d (allot goal (row_at (rows_of n w (entries_of ls us ss cs)) d))
 allot_rows n w d goal ls us ss ss' cs h before behind row =
     let old = entries_of ls us ss cs in
@@ -171,9 +171,9 @@ allot_rows n w d goal ls us ss ss' cs h before behind row =
     let i = d * w in
     let j = d * w + w in
     rows_with n w d old new (allot goal (row_at (rows_of n w old) d)) h
-      (entries_take i ls us ss' cs ∙ ap (λ (xs : List ℕ). entries_of (take i ls) (take i us) xs (take i cs)) before ∙ sym (entries_take i ls us ss cs))
-      (sym (row_is n w d new h) ∙ row_entries n w d ls us ss' cs h ∙ row ∙ ap (λ (es : List Entry). allot goal es) (sym (row_entries n w d ls us ss cs h)))
-      (entries_drop j ls us ss' cs ∙ ap (λ (xs : List ℕ). entries_of (drop j ls) (drop j us) xs (drop j cs)) behind ∙ sym (entries_drop j ls us ss cs))
+    (entries_take i ls us ss' cs ∙ ap (λ (xs : List ℕ). entries_of (take i ls) (take i us) xs (take i cs)) before ∙ sym (entries_take i ls us ss cs))
+    (sym (row_is n w d new h) ∙ row_entries n w d ls us ss' cs h ∙ row ∙ ap (λ (es : List Entry). allot goal es) (sym (row_entries n w d ls us ss cs h)))
+    (entries_drop j ls us ss' cs ∙ ap (λ (xs : List ℕ). entries_of (drop j ls) (drop j us) xs (drop j cs)) behind ∙ sym (entries_drop j ls us ss cs))
 
 -- a value of the rows that contracts see has a row in the lists
 pub seen_value : (n w d : ℕ) (es : List Entry) (rows : List (List Entry)) → rows_of n w es ≡ rows → d < length rows → d < n
@@ -228,11 +228,11 @@ pub seen_allot : (n w d i goal : ℕ) (ls : List ℕ) (us : List (Option ℕ)) (
     → rows_of n w (entries_of ls us ss' cs) ≡ set rows d (allot goal (row_at rows d))
 seen_allot n w d i goal ls us ss ss' cs rows is h at =
     subst (λ j. take j ss' ≡ take j ss → drop (j + w) ss' ≡ drop (j + w) ss
-      → entries_of (take w (drop j ls)) (take w (drop j us)) (take w (drop j ss')) (take w (drop j cs)) ≡ allot goal (entries_of (take w (drop j ls)) (take w (drop j us)) (take w (drop j ss)) (take w (drop j cs)))
-      → rows_of n w (entries_of ls us ss' cs) ≡ set rows d (allot goal (row_at rows d))) (sym at)
-      (λ before behind row.
-        allot_rows n w d goal ls us ss ss' cs (seen_value n w d (entries_of ls us ss cs) rows is h) before behind row
-        ∙ ap (λ (rs : List (List Entry)). set rs d (allot goal (row_at rs d))) is)
+    → entries_of (take w (drop j ls)) (take w (drop j us)) (take w (drop j ss')) (take w (drop j cs)) ≡ allot goal (entries_of (take w (drop j ls)) (take w (drop j us)) (take w (drop j ss)) (take w (drop j cs)))
+    → rows_of n w (entries_of ls us ss' cs) ≡ set rows d (allot goal (row_at rows d))) (sym at)
+    (λ before behind row.
+    allot_rows n w d goal ls us ss ss' cs (seen_value n w d (entries_of ls us ss cs) rows is h) before behind row
+    ∙ ap (λ (rs : List (List Entry)). set rs d (allot goal (row_at rs d))) is)
 
 -- a map over equal elements
 map_replicate : {X Y : Type 0} (f : X → Y) (n : ℕ) (x : X) → map f (replicate n x) ≡ replicate n (f x)
@@ -259,10 +259,10 @@ blank_bounds n w count t is right =
         share_within = All-replicate (λ x. x ≤ 4611686018427387904) count 0 (omega arith);
       };
       right =
-        ap (λ (x : Totals). replicate n x) right
-        ∙ sym (map_replicate totals_of n (replicate w blank))
-        ∙ ap (λ (rs : List (List Entry)). map totals_of rs) (sym (blank_rows n w count is))
-        ∙ ap (λ m. map totals_of (rows_of m w (entries_of (replicate count 0) (replicate count None) (replicate count 0) (replicate count [])))) (sym long);
+          ap (λ (x : Totals). replicate n x) right
+          ∙ sym (map_replicate totals_of n (replicate w blank))
+          ∙ ap (λ (rs : List (List Entry)). map totals_of rs) (sym (blank_rows n w count is))
+          ∙ ap (λ m. map totals_of (rows_of m w (entries_of (replicate count 0) (replicate count None) (replicate count 0) (replicate count [])))) (sym long);
     }
 
 -- the lesser of two bounds within the cap
@@ -294,8 +294,8 @@ seen_put w d i k ls us ss cs ts rows e j old new b is h inside at same right low
     rw (ap (λ (rs : List (List Entry)). length (row_at rs d)) (sym is) ∙ row_width w d ls us ss cs ts b value) inside in
     let after : new ≡ totals_of (set (row_at rows d) k e) = totals_after old new (row_at rows d) k e width right lower upper missing in
     subst (λ m. AreBounds w (set ls i e.lower) (set us i e.upper) (set ss i e.share) (set cs i e.context) (set ts m new)) (sym same)
-      (put_bounds w d k i ls us ss cs ts e new b value inside at low high share
-        (after ∙ ap (λ (rs : List (List Entry)). totals_of (set (row_at rs d) k e)) (sym is)))
+    (put_bounds w d k i ls us ss cs ts e new b value inside at low high share
+    (after ∙ ap (λ (rs : List (List Entry)). totals_of (set (row_at rs d) k e)) (sym is)))
 
 -- and the rows that contracts see have it
 pub seen_put_rows : (w d i k : ℕ) (ls : List ℕ) (us : List (Option ℕ)) (ss : List ℕ) (cs : List Context) (ts : List Totals) (rows : List (List Entry)) (e : Entry) (j : ℕ) (new : Totals)

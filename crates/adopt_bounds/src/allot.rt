@@ -28,9 +28,9 @@ pub(crate) fn allot_at(
     ensures behind { drop (start + width) share.new ≡ drop (start + width) share.old }
     ensures row { (contexts : List Context) → length contexts ≡ width
         → entries_of (take width (drop start lower.now)) (take width (drop start upper.now))
-            (take width (drop start share.new)) contexts
+        (take width (drop start share.new)) contexts
         ≡ allot goal (entries_of (take width (drop start lower.now)) (take width (drop start upper.now))
-            (take width (drop start share.old)) contexts) }
+        (take width (drop start share.old)) contexts) }
     ensures share_within { All (λ s. s ≤ CAP) share.new }
 {
     let (_, share) = share.split_at_mut(start);

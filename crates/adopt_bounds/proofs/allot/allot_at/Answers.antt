@@ -25,5 +25,5 @@ returns-clause-share_within c =
     let front : All (λ s. s ≤ 4611686018427387904) a = subst (λ (xs : List ℕ). All (λ s. s ≤ 4611686018427387904) xs) (sym c.split_at_mut-share.ensures.front) (All-take (λ s. s ≤ 4611686018427387904) c.args.start c.args.share.now c.requires.share_within) in
     let behind : All (λ s. s ≤ 4611686018427387904) rest =
     subst (λ (xs : List ℕ). All (λ s. s ≤ 4611686018427387904) xs) (sym (c.split_at_mut-row.ensures.back ∙ ap (λ (xs : List ℕ). drop c.args.width xs) c.split_at_mut-share.ensures.back))
-      (All-drop (λ s. s ≤ 4611686018427387904) c.args.width (drop c.args.start c.args.share.now) (All-drop (λ s. s ≤ 4611686018427387904) c.args.start c.args.share.now c.requires.share_within)) in
+    (All-drop (λ s. s ≤ 4611686018427387904) c.args.width (drop c.args.start c.args.share.now) (All-drop (λ s. s ≤ 4611686018427387904) c.args.start c.args.share.now c.requires.share_within)) in
     All-append (λ s. s ≤ 4611686018427387904) a (row ++ rest) front (All-append (λ s. s ≤ 4611686018427387904) row rest c.allot_row.ensures.share_within behind)

@@ -15,7 +15,7 @@ invariant_of-self c =
     let long : length new ≡ length b.share.items = c.allot_at.auto.share ∙ ap (λ (xs : List ℕ). length xs) c.as_mut_slice.ensures.value in
     let same : take b.share.len (new ++ drop (length new) b.share.items) ≡ new = take_at new (drop (length new) b.share.items) b.share.len (long ∙ sym b.share.ok.0) in
     subst (λ (xs : List ℕ). AreBounds (length b.children) b.lower.items b.upper.items xs b.contexts.items b.totals.items) (sym same)
-      (share_bounds (length b.children) b.lower.items b.upper.items b.share.items new b.contexts.items b.totals.items c.self.invariant long c.allot_at.ensures.share_within)
+    (share_bounds (length b.children) b.lower.items b.upper.items b.share.items new b.contexts.items b.totals.items c.self.invariant long c.allot_at.ensures.share_within)
 
 pub returns : goal.returns
 returns c =
@@ -40,7 +40,7 @@ returns c =
     let parts = row_parts n w c.args.d b.lower.items b.upper.items b.share.items b.contexts.items c.self.invariant.parts inside in
     let count : length contexts ≡ w = ap (λ j. length (take w (drop j b.contexts.items))) at ∙ parts.context_count in
     let row = row_seen i m w c.args.goal c.as_slice.result.now b.lower.items c.as_slice-2.result.now b.upper.items c.as_mut_slice.result.now b.share.items new contexts wide c.as_slice.ensures.value c.as_slice-2.ensures.value c.as_mut_slice.ensures.value
-      (c.allot_at.ensures.row contexts (count ∙ sym wide)) in
+    (c.allot_at.ensures.row contexts (count ∙ sym wide)) in
     let rows = seen_allot n w c.args.d i c.args.goal b.lower.items b.upper.items b.share.items new b.contexts.items c.args.self.now.rows seen c.requires.value at before behind row in
     ap (λ (xs : List ℕ). view_of b.children (rows_of n w (entries_of b.lower.items b.upper.items xs b.contexts.items))) items
     ∙ ap (λ (rs : List (List Entry)). view_of b.children rs) rows

@@ -252,11 +252,11 @@ invariant_of-self-2 c =
     ∙ ap (λ x. lower_to (max e.share x) c.in-Some.new.upper) new_low ∙ ap (λ (u : Option ℕ). lower_to (max e.share m.lower) u) new_high in
     let new_context : c.union.new.self ≡ m.context = c.in_ok-union.ensures.joined ∙ ap (λ (x : Context). union x c.args.context.now) (sym context) in
     rw (new_low, new_high, new_share, new_context)
-      (seen_put w d i k b.lower.items b.upper.items b.share.items b.contexts.items b.totals.items rows m c.from.result t c.exchange.new.self c.self.invariant seen c.requires.value place index (c.from.ensures ∙ c.d.view_is) right
-        within.lower within.upper within.share
-        (omega (arith, c.exchange.ensures.lower, low, new_low))
-        (omega (arith, c.exchange.ensures.upper, ap (λ (u : Option ℕ). or_zero u) high, ap (λ (u : Option ℕ). or_zero u) new_high))
-        (omega (arith, c.exchange.ensures.missing, ap (λ (u : Option ℕ). missing_of u) high, ap (λ (u : Option ℕ). missing_of u) new_high)))
+    (seen_put w d i k b.lower.items b.upper.items b.share.items b.contexts.items b.totals.items rows m c.from.result t c.exchange.new.self c.self.invariant seen c.requires.value place index (c.from.ensures ∙ c.d.view_is) right
+    within.lower within.upper within.share
+    (omega (arith, c.exchange.ensures.lower, low, new_low))
+    (omega (arith, c.exchange.ensures.upper, ap (λ (u : Option ℕ). or_zero u) high, ap (λ (u : Option ℕ). or_zero u) new_high))
+    (omega (arith, c.exchange.ensures.missing, ap (λ (u : Option ℕ). missing_of u) high, ap (λ (u : Option ℕ). missing_of u) new_high)))
 
 pub returns-clause-stored : goal.returns-clause-stored
 returns-clause-stored c =
@@ -316,6 +316,6 @@ returns-clause-merged c =
     let new_context : c.union.new.self ≡ m.context = c.in_ok-union.ensures.joined ∙ ap (λ (x : Context). union x c.args.context.now) (sym context) in
     let put = seen_put_rows w d i k b.lower.items b.upper.items b.share.items b.contexts.items b.totals.items rows m c.from.result c.exchange.new.self seen c.requires.value place index in
     let written : rows_of (length (set b.totals.items c.from.result c.exchange.new.self)) w
-      (entries_of (set b.lower.items i c.in-Some.new.lower) (set b.upper.items i c.in-Some.new.upper) (set b.share.items i c.nearest.result) (set b.contexts.items i c.union.new.self))
-      ≡ put_entry rows d k m = rw (new_low, new_high, new_share, new_context) put in
+    (entries_of (set b.lower.items i c.in-Some.new.lower) (set b.upper.items i c.in-Some.new.upper) (set b.share.items i c.nearest.result) (set b.contexts.items i c.union.new.self))
+    ≡ put_entry rows d k m = rw (new_low, new_high, new_share, new_context) put in
     ap (λ (rs : List (List Entry)). view_of b.children rs) written ∙ ap (λ (xs : List ℕ). view_of xs (put_entry rows d k m)) same

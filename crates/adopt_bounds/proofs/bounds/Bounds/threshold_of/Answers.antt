@@ -16,5 +16,5 @@ returns-clause-share c =
     let index : c.index_of.result ≡ c.args.d * w + k =
     c.index_of.ensures.index ∙ ap (λ (xs : List ℕ). c.args.d * length xs + place_of xs c.args.child) children ∙ ap (λ (xs : List ℕ). c.args.d * w + place_of xs c.args.child) seen in
     let entry = seen_entry (length b.totals.items) w c.args.d k c.index_of.result b.lower.items b.upper.items b.share.items b.contexts.items c.args.self.now.rows 0 None c.index.result.now [] c.self.invariant.parts
-      (ap (λ (v : BoundsView). v.rows) c.self.view_is) c.requires.value place index in
+    (ap (λ (v : BoundsView). v.rows) c.self.view_is) c.requires.value place index in
     c.index.ensures ∙ sym (ap (λ (e : Entry). e.share) entry)

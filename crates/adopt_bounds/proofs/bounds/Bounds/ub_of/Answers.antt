@@ -12,7 +12,7 @@ upper_with-requires c =
     let b = c.self.inside in
     let short : length b.lower.items < 9223372036854775808 = omega (arith, b.lower.ok.0, b.lower.ok.1, b.lower.small) in
     let small = seen_small (length b.children) c.args.d c.from.result b.lower.items b.upper.items b.share.items b.contexts.items b.totals.items c.args.self.now.rows c.index.result.now c.self.invariant
-      (ap (λ (v : BoundsView). v.rows) c.self.view_is) c.requires.value (c.from.ensures ∙ c.d.view_is) c.index.ensures short in
+    (ap (λ (v : BoundsView). v.rows) c.self.view_is) c.requires.value (c.from.ensures ∙ c.d.view_is) c.index.ensures short in
     omega (arith, small.upper)
 
 pub returns : goal.returns
@@ -20,5 +20,5 @@ returns c =
     let b = c.self.inside in
     let is : c.index.result.now ≡ totals_of (row_at c.args.self.now.rows c.args.d) =
     seen_totals (length b.children) c.args.d c.from.result b.lower.items b.upper.items b.share.items b.contexts.items b.totals.items c.args.self.now.rows c.index.result.now c.self.invariant
-      (ap (λ (v : BoundsView). v.rows) c.self.view_is) c.requires.value (c.from.ensures ∙ c.d.view_is) c.index.ensures in
+    (ap (λ (v : BoundsView). v.rows) c.self.view_is) c.requires.value (c.from.ensures ∙ c.d.view_is) c.index.ensures in
     c.upper_with.ensures ∙ ap (λ (u : Option ℕ). capped (plus_bound c.args.own u)) (upper_of_is c.index.result.now (row_at c.args.self.now.rows c.args.d) is)
