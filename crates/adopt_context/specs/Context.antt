@@ -16,6 +16,11 @@ abbrev pub value_in : Context → ℕ → Option ℕ
 value_in [] v = None
 value_in (p ∷ ps) v = if p.0 == v then Some p.1 else value_in ps v
 
+-- the number that is there, or 0
+abbrev pub or_zero : Option ℕ → ℕ
+or_zero None = 0
+or_zero (Some x) = x
+
 -- the context that gives the variable v the value a, and is as before elsewhere
 abbrev pub put : Context → ℕ → ℕ → Context
 put [] v a = (v, a) ∷ []

@@ -1,3 +1,4 @@
 pub mod Context
 pub mod Bounds
 pub mod Allot
+pub mod Merge

@@ -83,6 +83,13 @@ impl AgentContext {
         put(&mut self.pairs, var, value)
     }
 
+    /// Forgets all pairs. The memory stays with the context.
+    pub fn clear(&mut self)
+        ensures { self.new ≡ [] }
+    {
+        self.pairs.clear();
+    }
+
     /// Adds the pairs of a compatible context.
     ///
     /// # Errors

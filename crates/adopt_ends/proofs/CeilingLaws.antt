@@ -14,7 +14,8 @@ use Rattle.protocol_steps.specs.AdoptBounds.{lower_of, best_lower, best_upper, l
 use Rattle.protocol_steps.specs.declared.message.Message.{Message}
 use Rattle.protocol_steps.specs.declared.message.Message.TheVariants.{Token, Done, Util, ValueAll, Value, Cost, Threshold, Terminate}
 use Rattle.protocol_steps.specs.AdoptRange.{in_range, fits, is_parent}
-use Rattle.protocol_steps.specs.AdoptCost.{merged, with_entry, may_store, stored, learned, learn, take_cost, without}
+use Rattle.protocol_steps.specs.AdoptCost.{with_entry, may_store, stored, learned, learn, take_cost, without}
+use Rattle.adopt_context.specs.Merge.{merged}
 use Rattle.protocol_steps.specs.AdoptMessage.{take_threshold, take_end, takes_value, takes_from_parent, adopt_message}
 use Rattle.dcop_base.specs.Knowledge.{private_of}
 use Rattle.pseudotree.specs.declared.agent.Place.{Place}

@@ -16,7 +16,8 @@ use Rattle.protocol_steps.specs.Agent.{last_of}
 use Rattle.protocol_steps.specs.Adopt.{AdoptView, new_adopt}
 use Rattle.protocol_steps.specs.AdoptBounds.{lower_of, upper_of, best_lower, best_upper, upper_bound, restore, at_context}
 use Rattle.protocol_steps.specs.AdoptRange.{in_range, fits}
-use Rattle.protocol_steps.specs.AdoptCost.{lesser, is_at_most, merged, with_entry, may_store, stored, learned, learn, take_cost, without}
+use Rattle.protocol_steps.specs.AdoptCost.{with_entry, may_store, stored, learned, learn, take_cost, without}
+use Rattle.adopt_context.specs.Merge.{lesser, is_at_most, merged}
 use Rattle.protocol_steps.specs.AdoptMessage.{take_threshold, take_end, takes_value, takes_from_parent, adopt_message}
 use Rattle.protocol_steps.specs.AdoptStep.{choose, to_allot, allotted, may_end, settle, closed}
 use Rattle.dcop_optimum.specs.Enclosing.{IsAtMost}

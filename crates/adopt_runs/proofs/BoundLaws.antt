@@ -4,7 +4,7 @@ use Rattle.std.proofs.lemmas.Bool.{cases_lt, cond_both, ltb-true, ltb-false, leb
 use Rattle.std.proofs.lemmas.Option.{same_Some}
 use Rattle.adopt_context.specs.Bounds.{cap, plus_bound, capped, is_below, lowest}
 use Rattle.adopt_context.specs.Allot.{lower_to}
-use Rattle.protocol_steps.specs.AdoptCost.{lesser, is_at_most}
+use Rattle.adopt_context.specs.Merge.{lesser, is_at_most}
 use Rattle.dcop_optimum.specs.Enclosing.{IsAtMost}
 
 pub at_most_below : (x y : ℕ) (u : Option ℕ) → x ≤ y → IsAtMost y u → IsAtMost x u

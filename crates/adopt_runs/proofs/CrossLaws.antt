@@ -17,7 +17,8 @@ use Rattle.adopt_context.specs.Bounds.{Entry, entry_at}
 use Rattle.protocol_steps.specs.declared.message.Message.{Message}
 use Rattle.protocol_steps.specs.declared.message.Message.TheVariants.{Cost}
 use Rattle.protocol_steps.specs.Adopt.{AdoptView}
-use Rattle.protocol_steps.specs.AdoptCost.{without, learn, lesser, is_at_most, may_store}
+use Rattle.protocol_steps.specs.AdoptCost.{without, learn, may_store}
+use Rattle.adopt_context.specs.Merge.{lesser, is_at_most}
 use Rattle.protocol_steps.specs.AdoptMessage.{adopt_message}
 use Rattle.protocol_steps.specs.Network.{start_state}
 use Rattle.protocol_steps.specs.View.{View, AdoptKind}

@@ -16,7 +16,8 @@ use Rattle.protocol_steps.specs.Agent.{last_of}
 use Rattle.protocol_steps.specs.Adopt.{AdoptView}
 use Rattle.protocol_steps.specs.AdoptBounds.{lower_of, best_lower, best_upper, upper_bound, restore, at_context}
 use Rattle.protocol_steps.specs.AdoptRange.{is_within, in_range, fits, is_parent}
-use Rattle.protocol_steps.specs.AdoptCost.{merged, with_entry, may_store, stored, learned, learn, take_cost, without}
+use Rattle.protocol_steps.specs.AdoptCost.{with_entry, may_store, stored, learned, learn, take_cost, without}
+use Rattle.adopt_context.specs.Merge.{merged}
 use Rattle.protocol_steps.specs.AdoptMessage.{take_threshold, take_end, takes_value, takes_from_parent, adopt_message}
 use Rattle.protocol_steps.specs.AdoptStep.{choose, allotted, may_end, closed}
 use Rattle.protocol_steps.specs.Network.{Desk, message_to, messages_to, taken_from, waiting, next_letters, batch}

@@ -11,7 +11,7 @@ use Rattle.dcop_base.specs.Values.{cost_with}
 use Rattle.pseudotree.specs.Tree.{is_above}
 use Rattle.pseudotree.proofs.NestLaws.{has_filter}
 use Rattle.adopt_context.specs.Bounds.{Entry, blank, plus_bound, lower_sum, upper_sum}
-use Rattle.protocol_steps.specs.AdoptCost.{lesser}
+use Rattle.adopt_context.specs.Merge.{lesser}
 use Rattle.dcop_optimum.specs.Subtree.{subtree_tables_of, AgreesAbove, IsSubtreeOptimum}
 use Rattle.dcop_optimum.specs.Enclosing.{IsAtMost, AreGivenAbove, Encloses}
 use Rattle.dcop_optimum.proofs.SumLaws.{sum_same}

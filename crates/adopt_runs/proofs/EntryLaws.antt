@@ -8,7 +8,7 @@ use Rattle.adopt_context.specs.Bounds.{Entry}
 use Rattle.protocol_steps.specs.declared.message.Message.{Message}
 use Rattle.protocol_steps.specs.declared.message.Message.TheVariants.{Token, Done, Util, ValueAll, Value, Cost, Threshold, Terminate}
 use Rattle.protocol_steps.specs.Adopt.{AdoptView, new_adopt}
-use Rattle.protocol_steps.specs.AdoptCost.{lesser, is_at_most, merged}
+use Rattle.adopt_context.specs.Merge.{lesser, is_at_most, merged}
 use Rattle.protocol_steps.specs.AdoptStep.{adopt_start, adopt_step}
 use Rattle.adopt_runs.specs.Laws.{EntryHolds, EntriesHold, after_batches, AdoptEntries}
 use Rattle.adopt_runs.proofs.BoundLaws.{lowered_over, lowered_at_most, at_most_from}

@@ -14,8 +14,8 @@ use Rattle.pseudotree.specs.Tree.{path_of, is_above}
 use Rattle.pseudotree.specs.Pseudotree.{IsPseudotree, is_within}
 use Rattle.pseudotree.proofs.SpreadLaws.{any_in_range}
 use Rattle.pseudotree.proofs.NestLaws.{filter_has}
-use Rattle.adopt_context.specs.Context.{Context, value_in, names_all}
-use Rattle.protocol_steps.specs.Values.{or_zero, valued}
+use Rattle.adopt_context.specs.Context.{Context, value_in, names_all, or_zero}
+use Rattle.protocol_steps.specs.Values.{valued}
 use Rattle.dcop_optimum.specs.Subtree.{own_tables_of, is_owner_within}
 use Rattle.dcop_optimum.specs.Certificate.{is_on_path}
 use Rattle.dcop_optimum.proofs.CertificateLaws.{tables_on_paths_are_own}

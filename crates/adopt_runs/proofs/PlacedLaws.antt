@@ -16,12 +16,12 @@ use Rattle.pseudotree.specs.declared.agent.Place.{Place}
 use Rattle.pseudotree.specs.Tree.{path_of, parent_of, children_of, is_above, is_variable}
 use Rattle.pseudotree.specs.Pseudotree.{IsPseudotree}
 use Rattle.pseudotree.proofs.SpreadLaws.{above_child}
-use Rattle.adopt_context.specs.Context.{Context, value_in, part_of, union, names_all}
+use Rattle.adopt_context.specs.Context.{Context, value_in, part_of, union, names_all, or_zero}
 use Rattle.adopt_context.specs.Bounds.{Entry, cap, capped, row_at, entry_at, plus_bound, lower_sum, upper_sum, is_below}
-use Rattle.protocol_steps.specs.Values.{or_zero, valued}
+use Rattle.protocol_steps.specs.Values.{valued}
 use Rattle.protocol_steps.specs.Adopt.{AdoptView, higher}
 use Rattle.protocol_steps.specs.AdoptBounds.{delta, whole_delta, lower_of, upper_of, best_upper, lower_bound, upper_bound}
-use Rattle.protocol_steps.specs.AdoptCost.{lesser}
+use Rattle.adopt_context.specs.Merge.{lesser}
 use Rattle.protocol_steps.specs.AdoptRange.{in_range, is_within as is_below_size}
 use Rattle.dcop_optimum.proofs.LineLaws.{within_self, within_above, not_both}
 use Rattle.dcop_optimum.proofs.OwnerLaws.{cost_split}

@@ -23,11 +23,11 @@ use Rattle.pseudotree.proofs.TreeLaws.{last_there}
 use Rattle.pseudotree.proofs.CheckLaws.{within_tree}
 use Rattle.pseudotree.proofs.SpreadLaws.{any_in_range, above_child, above_parent, filter_same}
 use Rattle.pseudotree.proofs.NestLaws.{has_filter, filter_has, separators_nest, above_shorter}
-use Rattle.adopt_context.specs.Context.{Context, value_in, is_value}
+use Rattle.adopt_context.specs.Context.{Context, value_in, is_value, or_zero}
 use Rattle.protocol_steps.specs.declared.message.Message.{Message}
 use Rattle.protocol_steps.specs.declared.message.Message.TheVariants.{ValueAll}
 use Rattle.protocol_steps.specs.Agent.{Stepped, quiet}
-use Rattle.protocol_steps.specs.Values.{or_zero, valued, context_of}
+use Rattle.protocol_steps.specs.Values.{valued, context_of}
 use Rattle.protocol_steps.specs.Dpop.{DpopView, there, kept_scopes, size_of, separator, joined_cells_with, best_value, util_table}
 use Rattle.protocol_steps.specs.DpopJoin.{values_for, decide, send_up, can_join, join}
 use Rattle.protocol_steps.specs.DpopStep.{is_below_size, is_open, takes_util, with_table, take_util, takes_values, dpop_message}

@@ -19,9 +19,9 @@ use Rattle.pseudotree.proofs.CheckLaws.{within_tree}
 use Rattle.pseudotree.proofs.GatherLaws.{variable_is}
 use Rattle.pseudotree.proofs.SpreadLaws.{above_parent, filter_same}
 use Rattle.pseudotree.proofs.NestLaws.{has_filter, separators_nest}
-use Rattle.adopt_context.specs.Context.{value_in}
+use Rattle.adopt_context.specs.Context.{value_in, or_zero}
 use Rattle.adopt_context.specs.Bounds.{cap, lowest}
-use Rattle.protocol_steps.specs.Values.{or_zero, valued, choices}
+use Rattle.protocol_steps.specs.Values.{valued, choices}
 use Rattle.protocol_steps.specs.Dpop.{there, own_tables, kept_tables, size_of, separator, joined_cost, best_value, util_cell, util_table}
 use Rattle.dcop_optimum.specs.Subtree.{own_tables_of, AreValuesAbove, IsSubtreeOptimum}
 use Rattle.dcop_optimum.specs.Decomposition.{AreChildOptima, best_cost_at}

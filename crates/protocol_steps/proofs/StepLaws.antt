@@ -16,7 +16,8 @@ use Rattle.protocol_steps.specs.DpopJoin.{can_join, join, decide, send_up}
 use Rattle.protocol_steps.specs.Adopt.{AdoptView}
 use Rattle.protocol_steps.specs.AdoptBounds.{restore, at_context, best_lower, best_upper, lower_of, upper_bound}
 use Rattle.protocol_steps.specs.AdoptMessage.{adopt_message, takes_value, takes_from_parent, take_threshold, take_end}
-use Rattle.protocol_steps.specs.AdoptCost.{may_store, take_cost, stored, learn, learned, with_entry, merged, without}
+use Rattle.protocol_steps.specs.AdoptCost.{may_store, take_cost, stored, learn, learned, with_entry, without}
+use Rattle.adopt_context.specs.Merge.{merged}
 use Rattle.protocol_steps.specs.AdoptRange.{fits}
 use Rattle.protocol_steps.specs.AdoptStep.{closed, choose, allotted, may_end}
 use Rattle.protocol_steps.specs.View.{View, Origin, OfToken, OfDpop, OfAdopt, TokenKind, DpopKind, AdoptKind, made_of}

@@ -1,10 +1,10 @@
 -- How an ADOPT agent takes the bounds of a child.
-use Rattle.std.specs.Prelude.{ℕ, Bool, true, not, ◌&&◌, ◌||◌, Option, Some, None, is_some, ◌==◌, nat_lt, nat_le, if◌then◌else◌, max}
-use Rattle.std.specs.List.{filter, fold, slice_set}
+use Rattle.std.specs.Prelude.{ℕ, Bool, true, not, ◌&&◌, ◌||◌, Option, Some, None, is_some, ◌==◌, nat_lt, if◌then◌else◌}
+use Rattle.std.specs.List.{filter, fold}
 use Rattle.dcop_base.specs.Table.{has}
-use Rattle.adopt_context.specs.Context.{Context, value_in, put, part_of, union}
-use Rattle.adopt_context.specs.Bounds.{Entry, entry_at, row_at}
-use Rattle.adopt_context.specs.Allot.{lower_to}
+use Rattle.adopt_context.specs.Context.{Context, value_in, put, part_of}
+use Rattle.adopt_context.specs.Bounds.{Entry, entry_at}
+use Rattle.adopt_context.specs.Merge.{may_merge, merged, put_entry}
 use Rattle.protocol_steps.specs.Adopt.{AdoptView}
 use Rattle.protocol_steps.specs.AdoptBounds.{restore, at_context}
 use Rattle.protocol_steps.specs.AdoptRange.{fits}
@@ -13,32 +13,13 @@ use Rattle.protocol_steps.specs.AdoptRange.{fits}
 abbrev pub without : ℕ → Context → Context
 without u c = filter (λ p. not (p.0 == u)) c
 
--- the lesser of two bounds; none is the largest
-abbrev pub lesser : Option ℕ → Option ℕ → Option ℕ
-lesser None y = y
-lesser (Some x) y = Some (lower_to x y)
-
--- whether a lower bound does not exceed an upper one
-abbrev pub is_at_most : ℕ → Option ℕ → Bool
-is_at_most l None = true
-is_at_most l (Some u) = nat_le l u
-
--- an entry with what a COST brings: the better of both bounds, both contexts, and a share between the bounds
-abbrev pub merged : Entry → Context → ℕ → Option ℕ → Entry
-merged e r l u = record {
-  lower = max e.lower l;
-  upper = lesser e.upper u;
-  share = lower_to (max e.share (max e.lower l)) (lesser e.upper u);
-  context = union e.context r;
-}
-
 -- an entry is written at own value d and the child at place k
 abbrev pub with_entry : AdoptView → ℕ → ℕ → Entry → AdoptView
-with_entry v d k e = record v { rows = slice_set v.rows d (slice_set (row_at v.rows d) k e) }
+with_entry v d k e = record v { rows = put_entry v.rows d k e }
 
 -- whether bounds from a child may be stored: they rest on what is known, and do not cross those that are there
 abbrev pub may_store : AdoptView → ℕ → ℕ → Context → ℕ → Option ℕ → Bool
-may_store v d k r l u = part_of r v.known && is_at_most (max (entry_at v.rows d k).lower l) (lesser (entry_at v.rows d k).upper u)
+may_store v d k r l u = part_of r v.known && may_merge (entry_at v.rows d k) l u
 
 -- what a COST brings is stored where it rests on what is known and the bounds do not cross
 abbrev pub stored : AdoptView → ℕ → ℕ → Context → ℕ → Option ℕ → AdoptView

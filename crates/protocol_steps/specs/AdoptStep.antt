@@ -2,13 +2,12 @@
 use Rattle.std.specs.Prelude.{ℕ, ◌-◌, Bool, true, ◌&&◌, ◌||◌, not, List, [], ◌∷◌, ◌++◌, map, ◌==◌, nat_lt, if◌then◌else◌}
 use Rattle.std.specs.List.{fold, flat_map, position, slice_set}
 use Rattle.dcop_base.specs.Table.{has}
-use Rattle.adopt_context.specs.Context.{put, is_value}
+use Rattle.adopt_context.specs.Context.{put, is_value, or_zero}
 use Rattle.adopt_context.specs.Bounds.{row_at, entry_at, upper_sum, capped}
 use Rattle.adopt_context.specs.Allot.{lower_to, allot}
 use Rattle.protocol_steps.specs.declared.message.Message.{Message}
 use Rattle.protocol_steps.specs.declared.message.Message.TheVariants.{Value, Cost, Threshold, Terminate}
 use Rattle.protocol_steps.specs.Agent.{Stepped}
-use Rattle.protocol_steps.specs.Values.{or_zero}
 use Rattle.protocol_steps.specs.Adopt.{AdoptView, is_root}
 use Rattle.protocol_steps.specs.AdoptBounds.{delta, lower_of, best_lower, best_upper, lower_bound, upper_bound, restore}
 use Rattle.protocol_steps.specs.AdoptMessage.{adopt_message}

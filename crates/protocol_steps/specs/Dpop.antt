@@ -4,11 +4,11 @@ use Rattle.std.specs.List.{list_all, list_any, filter, flat_map, zip}
 use Rattle.dcop_base.specs.Table.{CostTable, has, product}
 use Rattle.dcop_base.specs.declared.knowledge.Private.{Private}
 use Rattle.pseudotree.specs.declared.agent.Place.{Place}
-use Rattle.adopt_context.specs.Context.{value_in}
+use Rattle.adopt_context.specs.Context.{value_in, or_zero}
 use Rattle.adopt_context.specs.Bounds.{cap, lowest}
 use Rattle.protocol_steps.specs.Agent.{Phase, not_started}
 use Rattle.dcop_base.specs.Values.{with_own, cost_with}
-use Rattle.protocol_steps.specs.Values.{or_zero, valued, choices}
+use Rattle.protocol_steps.specs.Values.{valued, choices}
 
 -- a DPOP agent: what it knows of the problem and its place, the children's tables that it keeps, in their order, the UTIL table that it made, and its value
 pub record DpopView : Type 0 where

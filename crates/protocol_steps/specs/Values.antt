@@ -1,12 +1,7 @@
 -- Values: those that a context gives, and all choices of values.
-use Rattle.std.specs.Prelude.{ℕ, List, [], ◌∷◌, map, Option, Some, None}
+use Rattle.std.specs.Prelude.{ℕ, List, [], ◌∷◌, map}
 use Rattle.std.specs.List.{flat_map, fold, range_with_len}
-use Rattle.adopt_context.specs.Context.{Context, value_in, put}
-
--- the number that is there, or 0
-abbrev pub or_zero : Option ℕ → ℕ
-or_zero None = 0
-or_zero (Some x) = x
+use Rattle.adopt_context.specs.Context.{Context, value_in, put, or_zero}
 
 -- the values that a context gives; 0 where it names none
 abbrev pub valued : Context → ℕ → ℕ

@@ -1,0 +1,240 @@
+//! The bounds of an agent, for each own value and child.
+
+ghost use Rattle.std.specs.Prelude.{◌≡◌, ◌+◌, ◌*◌, ◌<◌, ◌≤◌, ◌==◌, true, length, replicate, None, IfOk, IfSome, OnErr, slice_set, if◌then◌else◌};
+ghost use Rattle.std.specs.List.{position};
+ghost use Rattle.dcop_base.specs.Table.{has};
+ghost use Rattle.adopt_context.specs.Allot.{reset, allot};
+ghost use Rattle.adopt_context.specs.Bounds.{blank, capped, lower_at, row_at, upper_at, upper_sum};
+ghost use Rattle.adopt_context.specs.Context.{compatible};
+ghost use Rattle.adopt_context.specs.Merge.{may_merge};
+ghost use Rattle.adopt_bounds.specs.Rows.{entry_of, place_of, with_merged};
+
+use crate::allot::allot_at;
+use crate::forget::forget_rows;
+use crate::interval::Interval;
+use crate::totals::Totals;
+use adopt_context::AgentContext;
+use dcop_base::{CAP, NoMemory, Val, VarId, VarList};
+use std::alloc::Global;
+use std::marker::Model;
+
+/// What an ADOPT agent holds of each own value and child: a lower bound, an upper bound, which is
+/// `None` where there is none yet, the share of its threshold that is allotted to the child, and the
+/// context that the bounds rest on. All amounts are at most [`CAP`].
+///
+/// Contracts see the children and the rows of entries, one row for each own value and in it one
+/// entry for each child, in the order of the children.
+#[derive(Debug, Drop)]
+pub struct Bounds {
+    children: VarList,
+    lower: Vec<u64>,
+    upper: Vec<Option<u64>>,
+    share: Vec<u64>,
+    contexts: Vec<AgentContext>,
+    totals: Vec<Totals>,
+}
+
+impl Model for Bounds {
+    ghost use Rattle.std.specs.Prelude.{◌≡◌, ◌*◌, length, map};
+    ghost use Rattle.adopt_bounds.specs.Rows.{BoundsView, entries_of, rows_of};
+    ghost use Rattle.adopt_bounds.specs.Totals.{AreBounds};
+
+    ghost Value = { BoundsView };
+
+    ghost view = { λ b. record {
+      children = b.children;
+      rows = rows_of (length b.totals.items) (length b.children)
+          (entries_of b.lower.items b.upper.items b.share.items b.contexts.items);
+    } };
+
+    ghost invariant = { λ b. AreBounds (length b.children) b.lower.items b.upper.items b.share.items
+        b.contexts.items b.totals.items };
+}
+
+impl Bounds {
+    /// Bounds of which nothing is known: all lower bounds and shares are 0, no upper bound is there,
+    /// and all contexts are empty.
+    ///
+    /// # Errors
+    ///
+    /// [`NoMemory`] where memory was wanted and not had. The list is gone then too.
+    pub fn new(alloc: Global, size: u16, children: VarList) -> Result<Bounds, NoMemory>
+        ensures children { IfOk result (λ bounds. bounds.children ≡ children) }
+        ensures rows { IfOk result (λ bounds.
+            bounds.rows ≡ replicate size (replicate (length children) blank)) }
+    {
+        let size = usize::from(size);
+        let width = children.as_slice().len();
+        let count = count_of(size, width)?;
+        Ok(Bounds {
+            children,
+            lower: vec![in alloc; 0; count]?,
+            upper: none_yet(alloc, count)?,
+            share: vec![in alloc; 0; count]?,
+            contexts: vec![in alloc; AgentContext::new(alloc); count]?,
+            totals: vec![in alloc; Totals::of_blank(width); size]?,
+        })
+    }
+
+    /// The children, in the order of the entries of a row.
+    pub fn children(&self) -> &VarList
+        ensures { result.now ≡ self.now.children }
+    {
+        &self.children
+    }
+
+    /// LB(d): the cost of an own value by the agent's own tables and its lower bounds, at most
+    /// [`CAP`].
+    pub fn lb_of(&self, own: u64, d: Val) -> u64
+        requires value { d < length self.now.rows }
+        ensures { result ≡ lower_at (λ e. own) self.now.rows d }
+    {
+        self.totals[usize::from(d.0)].lower_with(own)
+    }
+
+    /// UB(d): the same with upper bounds, at most [`CAP`]; `None` where the cost is not there or an
+    /// upper bound is not.
+    pub fn ub_of(&self, own: Option<u64>, d: Val) -> Option<u64>
+        requires value { d < length self.now.rows }
+        ensures { result ≡ upper_at (λ e. own) self.now.rows d }
+    {
+        self.totals[usize::from(d.0)].upper_with(own)
+    }
+
+    /// The sum of the upper bounds of an own value, at most [`CAP`]; `None` where one is not there.
+    pub fn upper_sum_of(&self, d: Val) -> Option<u64>
+        requires value { d < length self.now.rows }
+        ensures { result ≡ capped (upper_sum (row_at self.now.rows d)) }
+    {
+        self.ub_of(Some(0), d)
+    }
+
+    /// The share of the threshold that is allotted to a child for an own value.
+    pub fn threshold_of(&self, d: Val, child: VarId) -> u64
+        requires value { d < length self.now.rows }
+        requires child { has self.now.children child ≡ true }
+        ensures share { result ≡ (entry_of self.now d child).share }
+        ensures within { result ≤ CAP }
+    {
+        self.share[index_of(self.children.as_slice(), d, child)]
+    }
+
+    /// Forgets the entries whose context is not part of what is known: each becomes 0, none, 0 and
+    /// empty.
+    pub fn reset(&mut self, known: &AgentContext)
+        ensures { self.new ≡ record self.old { rows = reset known.now self.old.rows } }
+    {
+        let width = self.children.as_slice().len();
+        forget_rows(
+            self.totals.as_mut_slice(),
+            self.lower.as_mut_slice(),
+            self.upper.as_mut_slice(),
+            self.share.as_mut_slice(),
+            self.contexts.as_mut_slice(),
+            width,
+            known,
+        );
+    }
+
+    /// Allots the goal to the children, for an own value: their shares are raised, each to its upper
+    /// bound at most, or lowered, each to its lower bound at least, in order of the children, until
+    /// they are the goal together.
+    pub fn allot(&mut self, d: Val, goal: u64)
+        requires value { d < length self.old.rows }
+        requires goal { goal ≤ CAP }
+        ensures { self.new ≡ record self.old {
+          rows = slice_set self.old.rows d (allot goal (row_at self.old.rows d));
+        } }
+    {
+        let width = self.children.as_slice().len();
+        allot_at(
+            self.share.as_mut_slice(),
+            self.lower.as_slice(),
+            self.upper.as_slice(),
+            usize::from(d.0) * width,
+            width,
+            goal,
+        );
+    }
+
+    /// Merges the bounds that a child sends into the entry of an own value: the larger lower bound
+    /// and the smaller upper one, of which `None` is the largest, the pairs of both contexts, and the
+    /// share raised to the lower bound and lowered to the upper one. Answers `false` exactly where
+    /// that lower bound would exceed the upper one; nothing changes then.
+    ///
+    /// # Errors
+    ///
+    /// [`NoMemory`] where memory was wanted and not had. Nothing has changed then.
+    pub fn store(
+        &mut self,
+        d: Val,
+        child: VarId,
+        context: &AgentContext,
+        lower: u64,
+        upper: Option<u64>,
+    ) -> Result<bool, NoMemory>
+        requires value { d < length self.old.rows }
+        requires child { has self.old.children child ≡ true }
+        requires compatible { compatible (entry_of self.old d child).context context.now ≡ true }
+        requires lower { lower ≤ CAP }
+        requires upper { IfSome upper (λ u. u ≤ CAP) }
+        ensures stored { IfOk result (λ stored. stored ≡ may_merge (entry_of self.old d child) lower upper) }
+        ensures merged { IfOk result (λ stored. self.new ≡
+            if stored then with_merged self.old d child context.now lower upper else self.old) }
+        ensures kept { OnErr result (self.new ≡ self.old) }
+    {
+        let index = index_of(self.children.as_slice(), d, child);
+        let old = Interval {
+            lower: self.lower[index],
+            upper: self.upper[index],
+        };
+        let Some(new) = old.merged(Interval { lower, upper }) else {
+            return Ok(false);
+        };
+        self.contexts[index].union(context)?;
+        self.totals[usize::from(d.0)].exchange(old, new);
+        self.lower[index] = new.lower;
+        self.upper[index] = new.upper;
+        self.share[index] = new.nearest(self.share[index]);
+        Ok(true)
+    }
+}
+
+/// How many entries there are in so many rows of so many.
+fn count_of(size: usize, width: usize) -> Result<usize, NoMemory>
+    ensures { IfOk result (λ count. count ≡ size * width) }
+{
+    match size.checked_mul(width) {
+        Some(count) => Ok(count),
+        None => Err(NoMemory),
+    }
+}
+
+/// So many upper bounds that are not there yet.
+fn none_yet(alloc: Global, count: usize) -> Result<Vec<Option<u64>>, NoMemory>
+    ensures { IfOk result (λ upper. upper.items ≡ replicate count None) }
+{
+    let mut upper = Vec::with_capacity(alloc, count)?;
+    for _ in 0..count {
+        upper.push(None)?;
+    }
+    Ok(upper)
+}
+
+/// The index of the entry of an own value and a child in the flat lists.
+fn index_of(children: &[VarId], d: Val, child: VarId) -> usize
+    requires child { has children.now child ≡ true }
+    requires within { (d + 1) * length children.now ≤ usize.MAX }
+    ensures place { place_of children.now child < length children.now }
+    ensures index { result ≡ d * length children.now + place_of children.now child }
+{
+    let place = position_of(children, child).unwrap_or(0);
+    usize::from(d.0) * children.len() + place
+}
+
+/// The place of a child among the children.
+fn position_of(children: &[VarId], child: VarId) -> Option<usize>
+    ensures { result ≡ position (λ one. one == child) children.now }
+{
+    children.iter().position(|one| *one == child)
+}
