@@ -16,9 +16,8 @@ use Rattle.pseudotree.specs.declared.agent.Place.{Place}
 use Rattle.pseudotree.specs.Tree.{path_of, parent_of, children_of, is_variable, is_above}
 use Rattle.pseudotree.specs.Pseudotree.{IsPseudotree, IsLinked}
 use Rattle.pseudotree.proofs.TreeLaws.{longer}
-use Rattle.adopt_context.specs.Context.{Context, value_in, put, is_value, names_all}
+use Rattle.adopt_context.specs.Context.{Context, value_in, put, is_value, names_all, or_zero}
 use Rattle.adopt_context.specs.Bounds.{Entry, blank, cap, row_at, entry_at, plus_bound, upper_sum}
-use Rattle.protocol_steps.specs.Values.{or_zero}
 use Rattle.protocol_steps.specs.Adopt.{AdoptView, is_root, higher}
 use Rattle.protocol_steps.specs.AdoptBounds.{delta, whole_delta, upper_of, upper_bound}
 use Rattle.protocol_steps.specs.AdoptStep.{share_of}
