@@ -1,0 +1,8 @@
+pub mod JointLaws
+pub mod SizeLaws
+pub mod SumLaws
+pub mod OverLaws
+pub mod CellLaws
+pub mod ParcelLaws
+pub mod AgentLaws
+pub mod RangeLaws

@@ -1,0 +1,5 @@
+pub mod Keeping
+pub mod Joint
+pub mod Stage
+pub mod Sound
+pub mod Deed
