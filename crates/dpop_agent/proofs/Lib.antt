@@ -6,3 +6,5 @@ pub mod CellLaws
 pub mod ParcelLaws
 pub mod AgentLaws
 pub mod RangeLaws
+pub mod BatchLaws
+mod StartedLaws

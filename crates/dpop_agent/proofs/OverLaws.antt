@@ -109,7 +109,7 @@ found_there (v ∷ vs) (t ∷ ss) u s e = elim (cases_Bool (eqb v u)) [
   | inr other ↦ or_right (eqb v u) (has vs u) (found_there vs ss u s (sym (cond-false (eqb v u) (Some t) (value_in (zip vs ss) u) other) ∙ e))
 ]
 
-had_of : (P : ℕ → Type 0) (xs : List ℕ) (u : ℕ) → All P xs → has xs u ≡ true → P u
+pub had_of : (P : ℕ → Type 0) (xs : List ℕ) (u : ℕ) → All P xs → has xs u ≡ true → P u
 had_of P [] u all h = absurd (true≢false (sym h))
 had_of P (x ∷ xs) u all h = elim (or_cases (eqb x u) (has xs u) h) [
   | inl here ↦ subst P (eqb-true x u here) (All-head P x xs all)

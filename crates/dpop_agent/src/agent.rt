@@ -1,6 +1,7 @@
 //! The DPOP agent.
 
-ghost use Rattle.std.specs.Prelude.{◌≡◌, true, map, replicate, None, is_some, IfOk};
+ghost use Rattle.std.specs.Prelude.{◌≡◌, true, [], ◌↔◌, map, replicate, Some, None, is_some, IfOk, OnOk, OnErr, IsErr, MatchOption};
+ghost use Rattle.std.specs.List.{All};
 ghost use Rattle.dcop_base.specs.Table.{AreWithin};
 ghost use Rattle.protocol_steps.specs.declared.message.Message.TheVariants.{Util, ValueAll};
 ghost use Rattle.protocol_steps.specs.Agent.{not_started};
@@ -10,7 +11,8 @@ ghost use Rattle.protocol_steps.specs.Knowledge.{IsKnowledge};
 ghost use Rattle.protocol_steps.specs.Placing.{IsPlaceFor};
 ghost use Rattle.protocol_steps.specs.Dpop.{new_dpop, separator, size_of};
 ghost use Rattle.protocol_steps.specs.DpopJoin.{decide, join};
-ghost use Rattle.protocol_steps.specs.DpopStep.{dpop_message, dpop_start, takes_values};
+ghost use Rattle.protocol_steps.specs.DpopStep.{dpop_message, dpop_start, dpop_step, takes_values};
+ghost use Rattle.protocol_steps.specs.View.{DpopKind};
 ghost use Rattle.dpop_agent.specs.Stage.{working};
 ghost use Rattle.dpop_agent.specs.Deed.{Gives, IsRunning};
 
@@ -22,7 +24,7 @@ use crate::util::{best_of, util_of};
 use crate::values::values_for;
 use adopt_context::AgentContext;
 use dcop_base::{NoMemory, Private, Table, Val, VarId};
-use protocol_steps::{Letter, Message, Parcel};
+use protocol_steps::{Batch, Letter, Machine, Message, Outbox, Parcel, Standing};
 use pseudotree::Place;
 use std::alloc::Global;
 use std::marker::Model;
@@ -204,6 +206,22 @@ impl DpopAgent {
         }
     }
 
+    /// Handles all messages of a batch, in order.
+    #[tactic(auto, using(crate::proofs::BatchLaws::leads_on, crate::proofs::BatchLaws::led_to))]
+    fn handle_all(&mut self, letters: &[Letter]) -> Result<Vec<Parcel>, NoMemory>
+        requires { IsRunning self.old }
+        ensures own { (self.new.own ≡ self.old.own) × (self.new.place ≡ self.old.place) }
+        ensures viewed { IfOk result (λ _. self.new ≡ (dpop_step self.old letters.now).view) }
+        ensures sent { IfOk result (λ ps. ps.items ≡ (dpop_step self.old letters.now).sends) }
+    {
+        let mut parcels = Vec::new(self.alloc);
+        for letter in letters {
+            let mut more = self.handle(letter)?;
+            parcels.append(&mut more)?;
+        }
+        Ok(parcels)
+    }
+
     /// Fails for good.
     fn fail(&mut self) -> NoMemory
         ensures own { (self.new.own ≡ self.old.own) × (self.new.place ≡ self.old.place) }
@@ -221,6 +239,56 @@ impl DpopAgent {
     {
         self.stage = Stage::Working;
         self.join()
+    }
+}
+
+impl Machine for DpopAgent {
+    ghost meaning = { λ a. DpopKind a };
+
+    fn start(&mut self, out: &mut Outbox) -> Result<(), NoMemory> {
+        if matches!(self.stage, Stage::Failed) {
+            return Err(NoMemory);
+        }
+        let Ok(parcels) = self.begin() else {
+            return Err(self.fail());
+        };
+        *out = Outbox::from_vec(parcels);
+        Ok(())
+    }
+
+    fn react(&mut self, batch: &Batch, out: &mut Outbox) -> Result<(), NoMemory> {
+        if matches!(self.stage, Stage::Failed) {
+            return Err(NoMemory);
+        }
+        let Ok(parcels) = self.handle_all(batch.as_slice()) else {
+            return Err(self.fail());
+        };
+        *out = Outbox::from_vec(parcels);
+        Ok(())
+    }
+
+    fn ended(&self) -> bool {
+        matches!(self.stage, Stage::Ended)
+    }
+
+    fn value(&self) -> Val {
+        self.value
+    }
+
+    fn standing(&self) -> Standing {
+        Standing {
+            lower: 0,
+            upper: None,
+            threshold: 0,
+        }
+    }
+
+    fn table(&self) -> Option<&Table> {
+        self.made.as_ref()
+    }
+
+    fn place(&self) -> Option<&Place> {
+        None
     }
 }
 
