@@ -8,3 +8,4 @@ pub mod AgentLaws
 pub mod RangeLaws
 pub mod BatchLaws
 mod StartedLaws
+pub mod RemakeLaws

@@ -23,7 +23,7 @@ use Rattle.protocol_steps.specs.Values.{or_zero, valued}
 use Rattle.protocol_steps.specs.Dpop.{DpopView, there, joined_cost, best_value, size_of, separator, kept_scopes, kept_tables, joined_cells_with}
 use Rattle.protocol_steps.specs.Knowledge.{IsSize, known_sizes, IsKnownTable}
 use Rattle.dpop_agent.specs.Keeping.{keeping, IsChildTable, MayKeep}
-use Rattle.dpop_agent.specs.Joint.{IsCostOf, over_of, over_sizes}
+use Rattle.dpop_agent.specs.Joint.{IsCostOf, IsZeroOver, IsZeroWhereNarrow, over_of, over_sizes}
 use Rattle.dpop_agent.specs.Sound.{IsKeeper}
 
 or_none : (a b : Bool) → a ≡ false → b ≡ false → (a || b) ≡ false
@@ -302,6 +302,21 @@ module _ (own : Private) (place : Place) (kept : List (Option CostTable)) (keepe
               | inr never ↦ absurd (true≢false (sym never))
             ]
       ]) child.sizes
+
+  -- zeros over these variables are the agent's joined table of zeros
+  pub zero_where_narrow : (over : List ℕ) (zero : Option CostTable) → over ≡ over_of view → IsZeroOver over (map (size_of view) over) zero → IsZeroWhereNarrow view zero
+  zero_where_narrow over None is zeros =
+      let count = over_count in
+      let long = ap (λ (vs : List ℕ). product (map (size_of view) vs)) is in
+      omega (arith, zeros, count, long)
+  zero_where_narrow over (Some t) is zeros =
+      let count = over_count in
+      let long = ap (λ (vs : List ℕ). product (map (size_of view) vs)) is in
+      let narrow = zeros.0 in
+      (omega (arith, narrow, count, long), subst (λ (vs : List ℕ). IsCostOf vs (map (size_of view) vs) (λ value. 0) t) is zeros.1)
+
+  pub zero_some : (over : List ℕ) (t : CostTable) → over ≡ over_of view → IsZeroOver over (map (size_of view) over) (Some t) → IsCostOf (over_of view) (over_sizes view) (λ value. 0) t
+  zero_some over t is zeros = subst (λ (vs : List ℕ). IsCostOf vs (map (size_of view) vs) (λ value. 0) t) is zeros.1
 
   -- what may be added to a table over these variables
   pub may_add : (f : (ℕ → ℕ) → ℕ) (joined t : CostTable) → IsCostOf (over_of view) (over_sizes view) f joined → LiesIn (over_of view) (over_sizes view) t → LiesIn joined.scope joined.sizes t

@@ -1,6 +1,6 @@
 -- Joined tables of an agent.
 use Rattle.std.specs.Prelude.{◌≡◌, ℕ, ◌+◌, ◌<◌, ◌≤◌, true, false, List, [], ◌∷◌, ◌++◌, map, Option, Some, None}
-use Rattle.dcop_base.specs.Table.{CostTable, AreWithin}
+use Rattle.dcop_base.specs.Table.{CostTable, AreWithin, product}
 use Rattle.dcop_base.specs.Values.{cell_with, cost_with}
 use Rattle.adopt_context.specs.Bounds.{cap}
 use Rattle.protocol_steps.specs.Dpop.{DpopView, own_tables, kept_tables, kept_scopes, joined_cells_with, size_of, separator}
@@ -27,7 +27,12 @@ over_of v = separator v ++ (v.own.me ∷ [])
 abbrev pub over_sizes : DpopView → List ℕ
 over_sizes v = map (size_of v) (over_of v)
 
--- a joined table of zeros exactly where it is not too wide
+-- a joined table of zeros over these variables exactly where it is not too wide
+abbrev pub IsZeroOver : List ℕ → List ℕ → Option CostTable → Type 0
+IsZeroOver over sizes None = MAX_JOINED_CELLS < product sizes
+IsZeroOver over sizes (Some t) = (product sizes ≤ MAX_JOINED_CELLS) × IsCostOf over sizes (λ value. 0) t
+
+-- an agent's joined table of zeros exactly where it is not too wide
 abbrev pub IsZeroWhereNarrow : DpopView → Option CostTable → Type 0
 IsZeroWhereNarrow v None = MAX_JOINED_CELLS < joined_cells_with v (kept_scopes v)
 IsZeroWhereNarrow v (Some t) = (joined_cells_with v (kept_scopes v) ≤ MAX_JOINED_CELLS) × IsCostOf (over_of v) (over_sizes v) (λ value. 0) t

@@ -3,3 +3,4 @@ pub mod Joint
 pub mod Stage
 pub mod Sound
 pub mod Deed
+pub mod Remade

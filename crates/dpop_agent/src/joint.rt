@@ -1,12 +1,12 @@
 //! Joined tables.
 
-ghost use Rattle.std.specs.Prelude.{◌≡◌, ◌==◌, ◌||◌, true, IfOk};
+ghost use Rattle.std.specs.Prelude.{◌≡◌, ◌==◌, ◌||◌, ◌≤◌, [], true, false, length, map, IfOk};
 ghost use Rattle.std.specs.List.{All, list_all, filter, flat_map};
-ghost use Rattle.dcop_base.specs.Table.{has};
-ghost use Rattle.protocol_steps.specs.Dpop.{there};
+ghost use Rattle.dcop_base.specs.Table.{has, has_repeat};
+ghost use Rattle.protocol_steps.specs.Dpop.{size_of, there};
 ghost use Rattle.util_join.specs.Join.{LiesIn};
 ghost use Rattle.dpop_agent.specs.Keeping.{keeping};
-ghost use Rattle.dpop_agent.specs.Joint.{HasGained, IsZeroWhereNarrow, IsJointWhereMay};
+ghost use Rattle.dpop_agent.specs.Joint.{HasGained, IsZeroOver, IsZeroWhereNarrow, IsJointWhereMay};
 ghost use Rattle.dpop_agent.specs.Sound.{IsKeeper};
 
 use crate::kept::{are_all_there, stands_in};
@@ -31,7 +31,7 @@ fn are_above(scope: &[VarId], me: VarId, path: &[VarId]) -> bool
 }
 
 /// Adds the tables that name the agent and otherwise only variables of its path.
-fn add_own(joined: &mut Joined, tables: &[Table], me: VarId, path: &[VarId])
+pub(crate) fn add_own(joined: &mut Joined, tables: &[Table], me: VarId, path: &[VarId])
     requires { All (λ t. list_all (λ u. u == me || has path.now u) t.scope ≡ true
         → LiesIn joined.old.scope joined.old.sizes t) tables.now }
     ensures { HasGained (filter (λ t. list_all (λ u. u == me || has path.now u) t.scope) tables.now)
@@ -56,6 +56,28 @@ fn add_kept(joined: &mut Joined, kept: &[Option<Table>])
     }
 }
 
+/// A joined table of zeros over these variables; `None` exactly where it is too wide.
+pub(crate) fn zeros_over(
+    alloc: Global,
+    own: &Private,
+    place: &Place,
+    over: Vec<VarId>,
+) -> Result<Option<Joined>, NoMemory>
+    requires sized { length place.now.path_sizes ≡ length place.now.path }
+    requires distinct { has_repeat over.items ≡ false }
+    requires positive { All (λ s. 1 ≤ s)
+        (map (size_of (keeping own.now place.now [])) over.items) }
+    ensures { IfOk result (IsZeroOver over.items
+        (map (size_of (keeping own.now place.now [])) over.items)) }
+{
+    let sizes = sizes_of(alloc, own, place, over.as_slice())?;
+    match Joined::new(alloc, VarList::from_vec(over), SizeList::from_vec(sizes)) {
+        Ok(joined) => Ok(Some(joined)),
+        Err(JoinFault::TooWide { .. }) => Ok(None),
+        Err(JoinFault::NoMemory) => Err(NoMemory),
+    }
+}
+
 /// The joined table of zeros that an agent starts from; `None` exactly where it is too wide.
 fn zeros(alloc: Global, own: &Private, place: &Place, kept: &[Option<Table>])
 -> Result<Option<Joined>, NoMemory>
@@ -63,12 +85,7 @@ fn zeros(alloc: Global, own: &Private, place: &Place, kept: &[Option<Table>])
     ensures { IfOk result (IsZeroWhereNarrow (keeping own.now place.now kept.now)) }
 {
     let over = variables_with(alloc, own, place, kept, &[])?;
-    let sizes = sizes_of(alloc, own, place, over.as_slice())?;
-    match Joined::new(alloc, VarList::from_vec(over), SizeList::from_vec(sizes)) {
-        Ok(joined) => Ok(Some(joined)),
-        Err(JoinFault::TooWide { .. }) => Ok(None),
-        Err(JoinFault::NoMemory) => Err(NoMemory),
-    }
+    zeros_over(alloc, own, place, over)
 }
 
 /// The joined table of the agent's own tables and all its children's tables; `None` exactly where

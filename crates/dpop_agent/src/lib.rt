@@ -12,7 +12,11 @@ mod stage;
 mod agent;
 mod child;
 mod joint;
+mod made;
+mod steps;
 mod util;
 mod values;
 
 pub use agent::DpopAgent;
+pub use made::{KeptList, Made, remake};
+pub use steps::Steps;
