@@ -6,3 +6,4 @@ pub mod CellLaws
 pub mod ParcelLaws
 pub mod AgentLaws
 pub mod RangeLaws
+pub mod TakeLaws
