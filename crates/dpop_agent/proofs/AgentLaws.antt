@@ -102,6 +102,7 @@ joined_sound own place stage kept now before made j m sound phase same joint is 
       joint = λ t e. subst (λ (u : CostTable). IsJoint (keeping own place kept) u) (same_table j t e) here.1;
       util = λ t e. record { is = sym (same_table m t e) ∙ util; all = all };
       waits = λ well. sym (ap (λ (p : Phase). true && not p.ended) phase);
+      ended = λ _. refl;
     }
 
 -- a copied option is there exactly where the option is

@@ -9,3 +9,4 @@ pub mod RangeLaws
 pub mod BatchLaws
 mod StartedLaws
 pub mod RemakeLaws
+pub mod TakeLaws

@@ -31,7 +31,7 @@ or_none true b p q = p
 or_none false b p q = q
 
 -- a filter keeps different numbers different
-filter_apart : (q : ℕ → Bool) (xs : List ℕ) → has_repeat xs ≡ false → has_repeat (filter q xs) ≡ false
+pub filter_apart : (q : ℕ → Bool) (xs : List ℕ) → has_repeat xs ≡ false → has_repeat (filter q xs) ≡ false
 filter_apart q [] h = refl
 filter_apart q (x ∷ xs) h =
     let parts = or_parts (has xs x) (has_repeat xs) h in
@@ -44,11 +44,11 @@ filter_apart q (x ∷ xs) h =
     (λ _. or_none (has (filter q xs) x) (has_repeat (filter q xs)) none rest)
     (λ _. rest)
 
-has_end : (xs : List ℕ) (m u : ℕ) → has (xs ++ (m ∷ [])) u ≡ (has xs u || (eqb m u || false))
+pub has_end : (xs : List ℕ) (m u : ℕ) → has (xs ++ (m ∷ [])) u ≡ (has xs u || (eqb m u || false))
 has_end xs m u = list_any-append (λ y. eqb y u) xs (m ∷ [])
 
 -- one more number that is not there
-apart_end : (xs : List ℕ) (m : ℕ) → has_repeat xs ≡ false → has xs m ≡ false → has_repeat (xs ++ (m ∷ [])) ≡ false
+pub apart_end : (xs : List ℕ) (m : ℕ) → has_repeat xs ≡ false → has xs m ≡ false → has_repeat (xs ++ (m ∷ [])) ≡ false
 apart_end [] m h none = refl
 apart_end (x ∷ xs) m h none =
     let parts = or_parts (has xs x) (has_repeat xs) h in
@@ -60,7 +60,7 @@ apart_end (x ∷ xs) m h none =
     let last : has (xs ++ (m ∷ [])) x ≡ false = has_end xs m x ∙ or_none (has xs x) (eqb m x || false) parts.0 (or_none (eqb m x) false turned refl) in
     or_none (has (xs ++ (m ∷ [])) x) (has_repeat (xs ++ (m ∷ []))) last (apart_end xs m parts.1 other.1)
 
-product_end : (f : ℕ → ℕ) (xs : List ℕ) (m : ℕ) → product (map f (xs ++ (m ∷ []))) ≡ f m * product (map f xs)
+pub product_end : (f : ℕ → ℕ) (xs : List ℕ) (m : ℕ) → product (map f (xs ++ (m ∷ []))) ≡ f m * product (map f xs)
 product_end f [] m = omega arith
 product_end f (x ∷ xs) m = let rest = product_end f xs m in ap (λ (k : ℕ). f x * k) rest ∙ turned (f x) (f m) (product (map f xs))
   where
@@ -74,7 +74,7 @@ has_later : (x : ℕ) (xs : List ℕ) (u : ℕ) → has xs u ≡ true → has (x
 has_later x xs u h = or_right (eqb x u) (has xs u) h
 
 -- what holds of each number that stands in a list
-all_had : (P : ℕ → Type 0) (xs : List ℕ) → ((u : ℕ) → has xs u ≡ true → P u) → All P xs
+pub all_had : (P : ℕ → Type 0) (xs : List ℕ) → ((u : ℕ) → has xs u ≡ true → P u) → All P xs
 all_had P [] each = All-nil P
 all_had P (x ∷ xs) each = All-cons P x xs (each x (has_first x xs)) (all_had P xs (λ u h. each u (has_later x xs u h)))
 

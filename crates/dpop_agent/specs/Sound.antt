@@ -24,9 +24,10 @@ pub record IsMade (own : Private) (place : Place) (kept : List (Option CostTable
   pub is : t ≡ util_table (keeping own place kept)
   pub all : list_all is_some kept ≡ true
 
--- an agent with the joined table that waits for values, from joining until the value is taken, and the table that it made
+-- an agent with the joined table that waits for values, from joining until the value is taken, and the table that it made; one that has ended has made it
 pub record IsSound (own : Private) (place : Place) (stage : Stage) (kept : List (Option CostTable)) (joined made : Option CostTable) : Type 0 where
   pub keeper : IsKeeper own place kept
   pub joint : (t : CostTable) → joined ≡ Some t → IsJoint (keeping own place kept) t
   pub util : (t : CostTable) → made ≡ Some t → IsMade own place kept t
   pub waits : (phase_at stage).failed ≡ false → is_some joined ≡ (is_some made && not (phase_at stage).ended)
+  pub ended : (phase_at stage).ended ≡ true → is_some made ≡ true
