@@ -1,6 +1,6 @@
 -- A child's table that is taken: it may be kept, and an agent that keeps it stays sound.
-use Rattle.std.proofs.Common.{◌≡◌, ℕ, ◌*◌, ◌<◌, ◌≤◌, Bool, true, false, cond, not, ◌&&◌, ◌||◌, eqb, ltb, nat_le, List, [], ◌∷◌, ◌++◌, map, length, Option, Some, None, is_some, refl, sym, ap, ap₂, subst, ◌∙◌, inl, inr, arith}
-use Rattle.std.specs.List.{All, filter, list_all, position, slice_get, slice_set, zip}
+use Rattle.std.proofs.Common.{◌≡◌, ℕ, ◌*◌, ◌≤◌, Bool, true, false, cond, not, ◌&&◌, ◌||◌, eqb, ltb, nat_le, List, [], ◌∷◌, ◌++◌, map, length, Option, Some, None, is_some, refl, sym, ap, subst, ◌∙◌, inl, inr}
+use Rattle.std.specs.List.{filter, list_all, position, slice_get, slice_set, zip}
 use Rattle.std.specs.Cmp.Lexicographic.{pointwise}
 use Rattle.std.proofs.lemmas.Bool.{both_ways, cases_Bool, cases_lt, cond-true, eq-eqb, eqb-true, le-leb, le-ltb, lt-leb, lt-ltb, or_cases, true≢false, false≢true}
 use Rattle.std.proofs.lemmas.List.{length-map, length-set}
@@ -10,7 +10,6 @@ use Rattle.std.proofs.lemmas.Option.{slice_get_within, get_or_from_slice_get}
 use Rattle.dcop_base.specs.Table.{CostTable, IsTableOfParts, has, has_repeat, product, table_fault}
 use Rattle.dcop_base.specs.declared.knowledge.Private.{Private}
 use Rattle.dcop_base.proofs.FaultLaws.{pointwise-true}
-use Rattle.dcop_base.proofs.TableLaws.{AreParts}
 use Rattle.pseudotree.specs.declared.agent.Place.{Place}
 use Rattle.pseudotree.specs.declared.width.TheConstants.{MAX_JOINED_CELLS}
 use Rattle.pseudotree.proofs.NestLaws.{has_filter}
@@ -19,7 +18,7 @@ use Rattle.protocol_steps.specs.declared.message.Message.{Message}
 use Rattle.protocol_steps.specs.declared.message.Message.TheVariants.{Util}
 use Rattle.adopt_context.specs.Context.{value_in}
 use Rattle.protocol_steps.specs.Values.{or_zero}
-use Rattle.protocol_steps.specs.Agent.{Phase, quiet}
+use Rattle.protocol_steps.specs.Agent.{quiet}
 use Rattle.protocol_steps.specs.Ranges.{AreCells}
 use Rattle.protocol_steps.specs.Dpop.{DpopView, size_of, separator_with, kept_scopes, joined_cells_with}
 use Rattle.protocol_steps.specs.DpopJoin.{join}

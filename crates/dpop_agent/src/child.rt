@@ -23,11 +23,7 @@ use pseudotree::{MAX_JOINED_CELLS, Place};
 use std::alloc::Global;
 
 /// UTIL for the parent, with the table that was made; the root, whose path is empty, sends none.
-pub(crate) fn util_for(
-    alloc: Global,
-    path: &[VarId],
-    made: &Table,
-) -> Result<Vec<Parcel>, NoMemory>
+pub(crate) fn util_for(alloc: Global, path: &[VarId], made: &Table) -> Result<Vec<Parcel>, NoMemory>
     requires scope { AreVariables made.now.scope }
     requires cells { AreCells made.now.cells }
     ensures { IfOk result (λ parcels. parcels.items ≡ parcels_up (last_of path.now) made.now) }
@@ -138,7 +134,7 @@ fn is_narrow(
     requires { length place.now.path_sizes ≡ length place.now.path }
     ensures { IfOk result (λ holds. holds
         ≡ nat_le (joined_cells_with (keeping own.now place.now kept.now)
-            (scope.now ∷ kept_scopes (keeping own.now place.now kept.now))) MAX_JOINED_CELLS) }
+        (scope.now ∷ kept_scopes (keeping own.now place.now kept.now))) MAX_JOINED_CELLS) }
 {
     let over = variables_with(alloc, own, place, kept, scope)?;
     let sizes = sizes_of(alloc, own, place, over.as_slice())?;

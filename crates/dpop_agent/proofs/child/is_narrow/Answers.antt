@@ -1,4 +1,4 @@
-use Rattle.std.proofs.Common.{◌≡◌, ℕ, ◌∷◌, List, Option, is_some, nat_le, ap, ◌∙◌}
+use Rattle.std.proofs.Common.{ℕ, ◌∷◌, Option, is_some, nat_le, ap, ◌∙◌}
 use Rattle.dcop_base.specs.Table.{product}
 use Rattle.pseudotree.specs.declared.width.TheConstants.{MAX_JOINED_CELLS}
 use Rattle.protocol_steps.specs.Dpop.{DpopView, kept_scopes}

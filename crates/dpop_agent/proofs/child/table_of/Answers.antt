@@ -1,4 +1,4 @@
-use Rattle.std.proofs.Common.{◌≡◌, ℕ, List, [], map, sym, ap, ◌∙◌}
+use Rattle.std.proofs.Common.{ℕ, List, [], map, sym, ap, ◌∙◌}
 use Rattle.dcop_base.specs.Table.{table_fault}
 use Rattle.protocol_steps.specs.Dpop.{size_of}
 use Rattle.dpop_agent.specs.Keeping.{keeping}
