@@ -1,30 +1,28 @@
 -- How the parts of a DPOP agent's work make up its steps.
-use Rattle.std.proofs.Common.{◌≡◌, ℕ, ◌<◌, Bool, true, false, cond, not, ◌&&◌, eqb, nat_le, List, [], ◌∷◌, map, Option, Some, None, is_some, refl, sym, ap, ap₂, subst, ◌∙◌, inl, inr, arith}
+use Rattle.std.proofs.Common.{◌≡◌, ℕ, Bool, true, false, cond, not, ◌&&◌, nat_le, List, [], Option, Some, None, is_some, refl, sym, ap, ap₂, subst, ◌∙◌}
 use Rattle.std.specs.Borrow.{Bor}
 use Rattle.std.specs.Option.{option_copied}
-use Rattle.std.specs.List.{list_all, zip}
-use Rattle.std.proofs.lemmas.Bool.{cases_Bool, cond-true, cond-false, and_parts, eqb-true, false≢true, ltb-true}
-use Rattle.dcop_base.specs.Table.{CostTable, AreWithin, has}
+use Rattle.std.specs.List.{list_all}
+use Rattle.std.proofs.lemmas.Bool.{and_parts, false≢true}
+use Rattle.dcop_base.specs.Table.{CostTable}
 use Rattle.dcop_base.specs.Values.{with_own}
 use Rattle.dcop_base.specs.declared.knowledge.Private.{Private}
 use Rattle.pseudotree.specs.declared.agent.Place.{Place}
-use Rattle.adopt_context.specs.Context.{Context, value_in, names_all}
+use Rattle.adopt_context.specs.Context.{Context}
 use Rattle.protocol_steps.specs.declared.message.Message.{Message}
 use Rattle.protocol_steps.specs.Agent.{Phase, quiet, last_of}
-use Rattle.protocol_steps.specs.Values.{or_zero, valued}
-use Rattle.protocol_steps.specs.Dpop.{DpopView, joined_cells_with, kept_scopes, size_of, separator, best_value, util_table}
+use Rattle.protocol_steps.specs.Values.{valued}
+use Rattle.protocol_steps.specs.Dpop.{DpopView, joined_cells_with, kept_scopes, best_value, util_table}
 use Rattle.protocol_steps.specs.DpopJoin.{decide, send_up, can_join, join}
-use Rattle.protocol_steps.specs.DpopStep.{is_below_size}
 use Rattle.dpop_agent.specs.declared.stage.Stage.{Stage}
 use Rattle.dpop_agent.specs.declared.stage.Stage.TheVariants.{Ended}
 use Rattle.dpop_agent.specs.Stage.{phase_at, view_at, working}
 use Rattle.dpop_agent.specs.Keeping.{keeping}
 use Rattle.pseudotree.specs.declared.width.TheConstants.{MAX_JOINED_CELLS}
 use Rattle.dpop_agent.specs.Joint.{IsJoint, IsJointWhereMay}
-use Rattle.dpop_agent.specs.Sound.{IsSound, IsMade}
+use Rattle.dpop_agent.specs.Sound.{IsSound}
 use Rattle.dpop_agent.specs.Deed.{Gives, parcels_up}
 use Rattle.dpop_agent.proofs.ParcelLaws.{values_sent}
-
 
 decided_at : (own : Private) (place : Place) (stage : Stage) (kept : List (Option CostTable)) (made : Option CostTable) (value : ℕ) (values : Context) (best : ℕ) (parcels : List (ℕ × Message))
     → phase_at stage ≡ working → best ≡ best_value (keeping own place kept) (valued values) → parcels ≡ values_sent (with_own own.me best (valued values)) place.children kept

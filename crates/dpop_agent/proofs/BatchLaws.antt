@@ -1,14 +1,12 @@
 -- How the messages of a batch make up a step of a DPOP agent, and how starts and steps are those of a machine.
-use Rattle.std.proofs.Common.{◌≡◌, ℕ, ◌+◌, ◌<◌, ◌≤◌, Bool, true, false, List, [], ◌∷◌, ◌++◌, length, drop, get_or, refl, sym, ap, subst, ◌∙◌}
+use Rattle.std.proofs.Common.{◌≡◌, ℕ, ◌+◌, ◌<◌, ◌≤◌, true, false, List, ◌∷◌, ◌++◌, length, drop, get_or, refl, sym, ap, ◌∙◌}
 use Rattle.std.specs.List.{All, Contains, fold}
 use Rattle.std.proofs.lemmas.Bool.{true≢false}
 use Rattle.std.proofs.lemmas.List.{at_drop_more, at_drop_all}
 use Rattle.std.proofs.lemmas.List.Elements.{All-same, All-weaker, All-contains_itself}
 use Rattle.dcop_base.specs.Table.{has}
-use Rattle.dcop_base.specs.declared.knowledge.Private.{Private}
-use Rattle.pseudotree.specs.declared.agent.Place.{Place}
 use Rattle.protocol_steps.specs.declared.message.Message.{Message}
-use Rattle.protocol_steps.specs.Agent.{Stepped, Phase, next_letter, not_started}
+use Rattle.protocol_steps.specs.Agent.{Stepped, next_letter, not_started}
 use Rattle.protocol_steps.specs.Dpop.{DpopView}
 use Rattle.protocol_steps.specs.DpopStep.{dpop_message, dpop_start, dpop_step}
 use Rattle.protocol_steps.specs.View.{DpopKind}

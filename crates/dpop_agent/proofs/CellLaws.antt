@@ -1,17 +1,15 @@
 -- What the cells of an agent's joined table say: the table that is sent up, and the value that is taken.
-use Rattle.std.proofs.Common.{◌≡◌, ℕ, zero, suc, ◌+◌, ◌-◌, ◌<◌, ◌≤◌, Bool, true, false, cond, ltb, eqb, List, [], ◌∷◌, ◌++◌, map, length, get_or, Option, Some, None, refl, sym, ap, ap₂, subst, ◌∙◌, inl, inr, arith}
+use Rattle.std.proofs.Common.{◌≡◌, ℕ, ◌<◌, true, false, eqb, List, [], ◌∷◌, ◌++◌, map, length, get_or, Option, Some, refl, sym, ap, ap₂, subst, ◌∙◌, inl, inr, arith}
 use Rattle.std.specs.List.{zip, remove, insert}
-use Rattle.std.proofs.lemmas.Bool.{cases_Bool, cond-true, cond-false, eqb-true, eq-eqb, or_parts, or_left, or_right, both_ways, true≢false}
+use Rattle.std.proofs.lemmas.Bool.{cases_Bool, cond-true, cond-false, eqb-true, eq-eqb, or_parts, both_ways}
 use Rattle.std.proofs.lemmas.List.{length-map}
 use Rattle.dcop_base.specs.Table.{CostTable, AreWithin, has, has_repeat}
-use Rattle.dcop_base.specs.Values.{cell_with, cost_with, with_own}
+use Rattle.dcop_base.specs.Values.{with_own}
 use Rattle.dcop_base.specs.declared.knowledge.Private.{Private}
 use Rattle.dcop_base.proofs.TableLaws.{parts-of}
 use Rattle.pseudotree.specs.declared.agent.Place.{Place}
-use Rattle.pseudotree.proofs.NestLaws.{has_filter}
 use Rattle.cost_table.specs.Cells.{cell_of, place_in}
 use Rattle.util_project.specs.Projection.{IsLeast, IsLowestLeast, IsProjection, cell_at_value, size_in}
-use Rattle.adopt_context.specs.Bounds.{lowest}
 use Rattle.protocol_steps.specs.Values.{or_zero, valued, choices}
 use Rattle.adopt_context.specs.Context.{value_in}
 use Rattle.protocol_steps.specs.Dpop.{DpopView, size_of, separator, joined_cost, best_value, util_cell, util_table}
@@ -141,4 +139,4 @@ module _ (own : Private) (place : Place) (kept : List (Option CostTable)) (keepe
       (subst (λ (n : ℕ). IsLeast (cell_at_value t own.me xs) n (cell_of less xs)) joint_size (is.cells xs there))) in
       ap₂ (λ (vs : List ℕ) (ss : List ℕ). let u : CostTable = record { scope = vs; sizes = ss; cells = less.cells } in u) scope sizes
       ∙ ap (λ (cs : List ℕ). let u : CostTable = record { scope = before; sizes = map (size_of v) before; cells = cs } in u)
-        (cells ∙ ap (λ (ss : List ℕ). map (util_cell v) (choices ss)) sizes)
+      (cells ∙ ap (λ (ss : List ℕ). map (util_cell v) (choices ss)) sizes)

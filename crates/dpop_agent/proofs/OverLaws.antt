@@ -1,5 +1,5 @@
 -- The variables of an agent's joined table: distinct, of known sizes, and those of all tables that are added.
-use Rattle.std.proofs.Common.{◌≡◌, ℕ, zero, suc, ◌+◌, ◌-◌, ◌*◌, ◌<◌, ◌≤◌, Bool, true, false, cond, ◌||◌, eqb, ltb, List, [], ◌∷◌, ◌++◌, map, length, get_or, replicate, Option, Some, None, is_some, refl, sym, ap, subst, ◌∙◌, inl, inr, arith}
+use Rattle.std.proofs.Common.{◌≡◌, ℕ, ◌-◌, ◌*◌, ◌<◌, ◌≤◌, Bool, true, false, ◌||◌, eqb, ltb, List, [], ◌∷◌, ◌++◌, map, length, get_or, replicate, Option, Some, None, is_some, refl, sym, ap, subst, ◌∙◌, inl, inr, arith}
 use Rattle.std.specs.List.{All, AllZip, filter, flat_map, list_all, list_any, zip}
 use Rattle.std.proofs.lemmas.Bool.{cases_Bool, cond-true, cond-false, cond_both, eqb-true, eq-eqb, and_parts, or_cases, or_parts, or_left, or_right, both_ways, true≢false, ltb-true}
 use Rattle.std.proofs.lemmas.List.{length-map, get_or-map, get_or-replicate}
@@ -7,21 +7,20 @@ use Rattle.std.proofs.lemmas.List.Folds.{list_any_at, list_any-append}
 use Rattle.std.proofs.lemmas.List.Elements.{All-nil, All-cons, All-head, All-tail, All-map}
 use Rattle.dcop_base.specs.Table.{CostTable, IsTableOfParts, AreWithin, has, has_repeat, product, cell_place}
 use Rattle.dcop_base.specs.declared.knowledge.Private.{Private}
-use Rattle.dcop_base.specs.Values.{cell_with}
 use Rattle.dcop_base.specs.declared.problem.TheConstants.{MAX_VARIABLES, MAX_SIZE}
 use Rattle.dpop_agent.proofs.JointLaws.{lowest_is}
 use Rattle.dcop_base.proofs.TableLaws.{cell_place-lt}
 use Rattle.pseudotree.specs.declared.agent.Place.{Place}
 use Rattle.pseudotree.proofs.NestLaws.{has_filter, filter_has}
-use Rattle.cost_table.specs.Cells.{cell_of, place_in}
+use Rattle.cost_table.specs.Cells.{place_in}
 use Rattle.cost_table.proofs.PlaceLaws.{place_in-lt}
 use Rattle.cost_table.proofs.ProblemCutLaws.{at-place}
 use Rattle.util_join.specs.Join.{LiesIn}
 use Rattle.adopt_context.specs.Context.{Context, value_in, names_all}
 use Rattle.protocol_steps.specs.DpopStep.{is_below_size}
 use Rattle.protocol_steps.specs.Values.{or_zero, valued}
-use Rattle.protocol_steps.specs.Dpop.{DpopView, there, joined_cost, best_value, size_of, separator, kept_scopes, kept_tables, joined_cells_with}
-use Rattle.protocol_steps.specs.Knowledge.{IsSize, known_sizes, IsKnownTable}
+use Rattle.protocol_steps.specs.Dpop.{DpopView, there, joined_cost, best_value, size_of, separator, kept_scopes, joined_cells_with}
+use Rattle.protocol_steps.specs.Knowledge.{IsSize, known_sizes}
 use Rattle.dpop_agent.specs.Keeping.{keeping, IsChildTable, MayKeep}
 use Rattle.dpop_agent.specs.Joint.{IsCostOf, IsZeroOver, IsZeroWhereNarrow, over_of, over_sizes}
 use Rattle.dpop_agent.specs.Sound.{IsKeeper}
@@ -264,9 +263,10 @@ module _ (own : Private) (place : Place) (kept : List (Option CostTable)) (keepe
           | inr differs ↦ differs
         ] in
         let known = sym (cond-false (eqb own.me u) (Some own.size) (value_in (zip own.neighbours own.neighbour_sizes) u) turned) ∙ e in
-        let near = found_there own.neighbours own.neighbour_sizes u s known in
-        (over_near u above (or_left (has own.neighbours u) (list_any (λ scope. has scope u) (kept_scopes view)) near),
-        sym (size_path u above ∙ ap or_zero (keeper.placed.agree u near above ∙ known)))
+        let near = found_there own.neighbours own.neighbour_sizes u s known in (
+          over_near u above (or_left (has own.neighbours u) (list_any (λ scope. has scope u) (kept_scopes view)) near),
+          sym (size_path u above ∙ ap or_zero (keeper.placed.agree u near above ∙ known)),
+        )
   ]
 
   pub own_lies : All (λ (t : CostTable). list_all (λ u. eqb u own.me || has place.path u) t.scope ≡ true → LiesIn (over_of view) (over_sizes view) t) own.tables

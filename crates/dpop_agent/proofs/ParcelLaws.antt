@@ -1,7 +1,7 @@
 -- Values for the children, one kept table after the other.
 use Rattle.std.proofs.Common.{◌≡◌, ℕ, ◌+◌, ◌<◌, ◌&&◌, Bool, true, ltb, eqb, List, [], ◌∷◌, ◌++◌, map, length, drop, get_or, Option, Some, None, refl, sym, ap, ap₂, subst, ◌∙◌, inl, inr, arith}
 use Rattle.std.specs.List.{All, flat_map, list_all, zip}
-use Rattle.std.proofs.lemmas.Bool.{cases_Bool, cond_both, and_from, and_parts, lt-ltb, ltb-true, or_cases, eqb-true, true≢false}
+use Rattle.std.proofs.lemmas.Bool.{cond_both, and_from, and_parts, lt-ltb, ltb-true, or_cases, eqb-true, true≢false}
 use Rattle.std.proofs.lemmas.List.{drop_more}
 use Rattle.std.proofs.lemmas.List.Elements.{All-nil, All-cons, All-head, All-tail}
 use Rattle.dcop_base.specs.Table.{CostTable, has}

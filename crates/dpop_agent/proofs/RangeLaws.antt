@@ -1,5 +1,5 @@
 -- The table that an agent sends up is within the ranges of a message.
-use Rattle.std.proofs.Common.{◌≡◌, ℕ, zero, suc, ◌+◌, ◌*◌, ◌≤◌, ◌<◌, Bool, true, ◌||◌, List, [], ◌∷◌, map, length, Option, is_some, nat_le, refl, sym, ap, subst, ◌∙◌, arith}
+use Rattle.std.proofs.Common.{◌≡◌, ℕ, suc, ◌≤◌, ◌<◌, Bool, true, ◌||◌, List, [], ◌∷◌, map, length, Option, is_some, nat_le, sym, ap, subst, ◌∙◌, arith}
 use Rattle.std.specs.List.{filter, list_all, list_any}
 use Rattle.std.proofs.Math.Nat.{mul-le-mul_right}
 use Rattle.std.proofs.lemmas.Bool.{and_parts, cond_both, leb-true}

@@ -1,7 +1,7 @@
 -- The tables that the children sent, as tables that an agent keeps.
-use Rattle.std.proofs.Common.{◌≡◌, ℕ, ◌+◌, ◌<◌, ◌≤◌, Bool, true, false, cond, eqb, ◌||◌, List, [], ◌∷◌, ◌++◌, map, length, take, drop, get_or, Option, Some, None, is_some, refl, sym, ap, ap₂, subst, ◌∙◌, arith}
-use Rattle.std.specs.List.{All, concat, filter, flat_map, list_all, list_any}
-use Rattle.std.proofs.lemmas.List.{length-map, get_or-map, get_or_default, append-nil, append_assoc, drop_more}
+use Rattle.std.proofs.Common.{◌≡◌, ℕ, ◌+◌, ◌<◌, Bool, true, false, cond, eqb, ◌||◌, List, [], ◌∷◌, ◌++◌, map, length, drop, get_or, Option, Some, None, refl, sym, ap, ap₂, subst, ◌∙◌}
+use Rattle.std.specs.List.{All, concat, filter, flat_map, list_any}
+use Rattle.std.proofs.lemmas.List.{length-map, get_or-map, get_or_default, append_assoc, drop_more}
 use Rattle.std.proofs.lemmas.List.Elements.{All-map}
 use Rattle.std.proofs.lemmas.List.Folds.{list_any-append}
 use Rattle.dcop_base.specs.Table.{CostTable, IsTable, has, product}

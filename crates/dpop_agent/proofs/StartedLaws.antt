@@ -1,5 +1,5 @@
 -- That an agent that starts has started.
-use Rattle.std.proofs.Common.{◌≡◌, ℕ, Bool, true, List, [], map, Option, Some, None, refl, ap, ◌∙◌}
+use Rattle.std.proofs.Common.{◌≡◌, ℕ, true, List, Option, Some, None, refl, ap, ◌∙◌}
 use Rattle.std.proofs.lemmas.Bool.{cond_both}
 use Rattle.dcop_base.specs.Table.{CostTable}
 use Rattle.protocol_steps.specs.declared.message.Message.{Message}

@@ -1,5 +1,5 @@
 -- What holds of every DPOP agent.
-use Rattle.std.specs.Prelude.{◌≡◌, ℕ, true, false, not, ◌&&◌, List, length, Option, Some, is_some}
+use Rattle.std.specs.Prelude.{◌≡◌, true, false, not, ◌&&◌, List, length, Option, Some, is_some}
 use Rattle.std.specs.List.{All, list_all}
 use Rattle.dcop_base.specs.Table.{CostTable}
 use Rattle.dcop_base.specs.declared.knowledge.Private.{Private}

@@ -97,7 +97,15 @@ impl DpopAgent {
         };
         let kept = self.kept.as_slice();
         let above = made.scope.as_slice();
-        let best = best_of(self.alloc, &self.own, &self.place, kept, joined, above, values)?;
+        let best = best_of(
+            self.alloc,
+            &self.own,
+            &self.place,
+            kept,
+            joined,
+            above,
+            values,
+        )?;
         let children = self.place.children.as_slice();
         let parcels = values_for(self.alloc, children, kept, self.own.me, best, values)?;
         self.joined = None;
@@ -146,7 +154,15 @@ impl DpopAgent {
             return Ok(Vec::new(self.alloc));
         };
         let kept = self.kept.as_slice();
-        let Some(table) = table_of(self.alloc, &self.own, &self.place, kept, child, scope, cells)?
+        let Some(table) = table_of(
+            self.alloc,
+            &self.own,
+            &self.place,
+            kept,
+            child,
+            scope,
+            cells,
+        )?
         else {
             return Ok(Vec::new(self.alloc));
         };
@@ -171,11 +187,7 @@ impl DpopAgent {
     }
 
     /// Decides, where the values are taken.
-    fn take_values(
-        &mut self,
-        from: VarId,
-        values: &AgentContext,
-    ) -> Result<Vec<Parcel>, NoMemory>
+    fn take_values(&mut self, from: VarId, values: &AgentContext) -> Result<Vec<Parcel>, NoMemory>
         requires running { IsRunning self.old }
         requires range { IsContext values.now }
         ensures own { (self.new.own ≡ self.old.own) × (self.new.place ≡ self.old.place) }

@@ -79,8 +79,12 @@ pub(crate) fn zeros_over(
 }
 
 /// The joined table of zeros that an agent starts from; `None` exactly where it is too wide.
-fn zeros(alloc: Global, own: &Private, place: &Place, kept: &[Option<Table>])
--> Result<Option<Joined>, NoMemory>
+fn zeros(
+    alloc: Global,
+    own: &Private,
+    place: &Place,
+    kept: &[Option<Table>],
+) -> Result<Option<Joined>, NoMemory>
     requires { IsKeeper own.now place.now kept.now }
     ensures { IfOk result (IsZeroWhereNarrow (keeping own.now place.now kept.now)) }
 {
@@ -105,7 +109,12 @@ pub(crate) fn joined_of(
     let Some(mut joined) = zeros(alloc, own, place, kept)? else {
         return Ok(None);
     };
-    add_own(&mut joined, own.tables.as_slice(), own.me, place.path.as_slice());
+    add_own(
+        &mut joined,
+        own.tables.as_slice(),
+        own.me,
+        place.path.as_slice(),
+    );
     add_kept(&mut joined, kept);
     Ok(Some(joined.table()))
 }

@@ -6,13 +6,13 @@
 //! is the UTIL and VALUE propagation of DPOP (Petcu, Faltings, IJCAI 2005).
 #![tactic(auto)]
 
-mod kept;
-mod separator;
-mod stage;
 mod agent;
 mod child;
 mod joint;
+mod kept;
 mod made;
+mod separator;
+mod stage;
 mod steps;
 mod util;
 mod values;

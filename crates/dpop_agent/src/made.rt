@@ -93,7 +93,12 @@ fn joined_with(
         // The condition excludes a table that is too wide.
         return Err(NoMemory);
     };
-    add_own(&mut joined, own.tables.as_slice(), own.me, place.path.as_slice());
+    add_own(
+        &mut joined,
+        own.tables.as_slice(),
+        own.me,
+        place.path.as_slice(),
+    );
     add_sent(&mut joined, children, kept);
     Ok(joined.table())
 }

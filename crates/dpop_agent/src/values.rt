@@ -18,7 +18,11 @@ use std::alloc::Global;
 fn value_with(var: VarId, me: VarId, best: Val, values: &AgentContext) -> Val
     ensures { result ≡ with_own me best (valued values.now) var }
 {
-    if var == me { best } else { value_of(var, values) }
+    if var == me {
+        best
+    } else {
+        value_of(var, values)
+    }
 }
 
 /// The context of these variables.
@@ -75,9 +79,12 @@ pub(crate) fn values_for(
     requires best { best < MAX_SIZE }
     requires range { IsContext values.now }
     ensures { IfOk result (λ parcels. parcels.items
-        ≡ flat_map (λ kept. map (λ t. (kept.0, ValueAll
-            (context_of t.scope (with_own me best (valued values.now))))) (there kept.1))
-            (zip children.now kept.now)) }
+        ≡ flat_map (λ kept. map (λ t. (
+          kept.0,
+          ValueAll
+              (context_of t.scope (with_own me best (valued values.now))),
+        )) (there kept.1))
+        (zip children.now kept.now)) }
 {
     let mut parcels = Vec::new(alloc);
     for (k, entry) in kept.iter().enumerate() {

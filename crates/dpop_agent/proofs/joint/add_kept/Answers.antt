@@ -1,4 +1,4 @@
-use Rattle.std.proofs.Common.{◌≡◌, ℕ, ◌+◌, take, ap, sym, subst, ◌∙◌}
+use Rattle.std.proofs.Common.{◌+◌, take, sym, subst}
 use Rattle.std.specs.List.{flat_map}
 use Rattle.dcop_base.specs.Table.{CostTable}
 use Rattle.protocol_steps.specs.Dpop.{there}

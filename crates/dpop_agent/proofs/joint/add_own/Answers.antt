@@ -1,5 +1,5 @@
-use Rattle.std.proofs.Common.{◌≡◌, ℕ, ◌+◌, Bool, true, List, ◌||◌, ◌==◌, length, take, ap, sym, subst, ◌∙◌}
-use Rattle.std.specs.List.{All, filter, list_all}
+use Rattle.std.proofs.Common.{◌≡◌, ℕ, ◌+◌, Bool, true, List, ◌||◌, ◌==◌, take, ap, sym, subst, ◌∙◌}
+use Rattle.std.specs.List.{filter, list_all}
 use Rattle.std.proofs.lemmas.List.{take_all}
 use Rattle.dcop_base.specs.Table.{CostTable, has}
 use Rattle.util_join.specs.Join.{LiesIn}

@@ -1,4 +1,4 @@
-use Rattle.std.proofs.Common.{◌≡◌, ◌==◌, ◌||◌, take}
+use Rattle.std.proofs.Common.{◌==◌, ◌||◌, take}
 use Rattle.std.specs.List.{filter, list_all}
 use Rattle.dcop_base.specs.Table.{has}
 use Rattle.dpop_agent.specs.Joint.{HasGained}

@@ -1,12 +1,11 @@
-use Rattle.std.proofs.Common.{◌≡◌, ℕ, ◌+◌, ◌||◌, ◌==◌, Bool, true, List, Option, is_some, refl, sym, ap, ap₂, subst, ◌∙◌}
-use Rattle.std.specs.List.{filter, flat_map, list_all}
+use Rattle.std.proofs.Common.{ℕ, ◌||◌, ◌==◌, List, Option, is_some, sym, ap₂, subst, ◌∙◌}
+use Rattle.std.specs.List.{filter, list_all}
 use Rattle.std.proofs.lemmas.Bool.{and_from, le-leb}
 use Rattle.dcop_base.specs.Table.{CostTable, has}
-use Rattle.dcop_base.specs.Values.{cost_with}
 use Rattle.pseudotree.specs.declared.width.TheConstants.{MAX_JOINED_CELLS}
-use Rattle.protocol_steps.specs.Dpop.{DpopView, there, own_tables, kept_tables, kept_scopes, joined_cells_with}
+use Rattle.protocol_steps.specs.Dpop.{DpopView, own_tables, kept_tables, kept_scopes, joined_cells_with}
 use Rattle.dpop_agent.specs.Keeping.{keeping}
-use Rattle.dpop_agent.specs.Joint.{IsCostOf, HasGained, IsJoint, IsZeroWhereNarrow, over_of, over_sizes}
+use Rattle.dpop_agent.specs.Joint.{HasGained, IsJoint, IsZeroWhereNarrow, over_of, over_sizes}
 use Rattle.dpop_agent.proofs.SumLaws.{both_added}
 use Rattle.dpop_agent.proofs.OverLaws.{own_may, kept_may}
 use Rattle.dpop_agent.proofs.joint.joined_of.Goals as goal

@@ -1,7 +1,7 @@
-use Rattle.std.proofs.Common.{◌≡◌, ℕ, ◌≤◌, List, Option, map, sym, ap, subst, ◌∙◌}
+use Rattle.std.proofs.Common.{ℕ, ◌≤◌, List, map, sym, ap, subst, ◌∙◌}
 use Rattle.std.specs.List.{All}
 use Rattle.std.proofs.lemmas.Result.{IfOk-weaker}
-use Rattle.dcop_base.specs.Table.{CostTable, has_repeat, product}
+use Rattle.dcop_base.specs.Table.{has_repeat}
 use Rattle.protocol_steps.specs.Dpop.{DpopView, size_of}
 use Rattle.dpop_agent.specs.Keeping.{keeping}
 use Rattle.dpop_agent.specs.Joint.{IsZeroOver, IsZeroWhereNarrow}

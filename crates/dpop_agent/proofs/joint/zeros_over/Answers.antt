@@ -23,10 +23,11 @@ returns-in-Ok c =
     let made = c.in-Ok.ensures in
     let narrow = made.0 in
     let long = ap product sizes in
-    let zeros = zeros_cost c.from_vec.result c.from_vec-2.result c.in-Ok.joined made.1 in
-    (omega (arith, narrow, long),
-    subst (λ (ss : List ℕ). IsCostOf over ss (λ value. 0) c.in-Ok.joined) sizes
-    (subst (λ (vs : List ℕ). IsCostOf vs c.from_vec-2.result (λ value. 0) c.in-Ok.joined) c.from_vec.ensures zeros))
+    let zeros = zeros_cost c.from_vec.result c.from_vec-2.result c.in-Ok.joined made.1 in (
+      omega (arith, narrow, long),
+      subst (λ (ss : List ℕ). IsCostOf over ss (λ value. 0) c.in-Ok.joined) sizes
+          (subst (λ (vs : List ℕ). IsCostOf vs c.from_vec-2.result (λ value. 0) c.in-Ok.joined) c.from_vec.ensures zeros),
+    )
 
 pub returns-in-Err-TooWide : goal.returns-in-Err-TooWide
 returns-in-Err-TooWide c =

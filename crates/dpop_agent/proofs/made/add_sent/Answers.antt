@@ -1,11 +1,10 @@
-use Rattle.std.proofs.Common.{◌≡◌, ℕ, ◌+◌, ◌<◌, take, length, ap, sym, subst, ◌∙◌}
+use Rattle.std.proofs.Common.{◌+◌, take, ap, sym, subst}
 use Rattle.std.specs.List.{flat_map}
-use Rattle.std.proofs.lemmas.List.{length-map}
 use Rattle.dcop_base.specs.Table.{CostTable}
 use Rattle.protocol_steps.specs.Dpop.{there}
 use Rattle.util_join.specs.Join.{LiesIn}
 use Rattle.dpop_agent.specs.Joint.{HasGained}
-use Rattle.dpop_agent.specs.Remade.{sent_at, sent_by, sent_of}
+use Rattle.dpop_agent.specs.Remade.{sent_by, sent_of}
 use Rattle.dpop_agent.proofs.SumLaws.{kept_at, kept_more, kept_none, lies_still}
 use Rattle.dpop_agent.proofs.RemakeLaws.{sent_lt, sent_next}
 use Rattle.dpop_agent.proofs.made.add_sent.Goals as goal

@@ -1,4 +1,4 @@
-use Rattle.std.proofs.Common.{◌≡◌, take}
+use Rattle.std.proofs.Common.{take}
 use Rattle.std.specs.List.{flat_map}
 use Rattle.protocol_steps.specs.Dpop.{there}
 use Rattle.dpop_agent.specs.Joint.{HasGained}

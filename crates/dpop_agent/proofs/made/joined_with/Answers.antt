@@ -1,4 +1,4 @@
-use Rattle.std.proofs.Common.{◌≡◌, ℕ, ◌||◌, ◌==◌, ◌≤◌, [], Bool, List, Option, map, sym, ap, ap₂, subst, ◌∙◌}
+use Rattle.std.proofs.Common.{ℕ, ◌||◌, ◌==◌, ◌≤◌, List, Option, map, sym, ap, ap₂, subst, ◌∙◌}
 use Rattle.std.specs.List.{All, filter, flat_map, list_all}
 use Rattle.dcop_base.specs.Table.{CostTable, has, has_repeat}
 use Rattle.util_join.specs.Join.{LiesIn}

@@ -1,4 +1,4 @@
-use Rattle.std.proofs.Common.{◌≡◌, ℕ, List, ◌++◌, ap, ◌∙◌}
+use Rattle.std.proofs.Common.{ℕ, List, ◌++◌, ap, ◌∙◌}
 use Rattle.dpop_agent.specs.declared.made.Made.{Made}
 use Rattle.dpop_agent.specs.Remade.{sent_of}
 use Rattle.dpop_agent.proofs.RemakeLaws.{named_in_all, names_more, names_none}

@@ -1,8 +1,8 @@
-use Rattle.std.proofs.Common.{◌≡◌, ℕ, ◌+◌, ◌≤◌, List, Option, length, sym, ap, subst, ◌∙◌, arith}
+use Rattle.std.proofs.Common.{List, Option, length, ap, subst, ◌∙◌, arith}
 use Rattle.dcop_base.specs.Table.{CostTable, IsTable}
 use Rattle.dpop_agent.specs.declared.made.Made.{Made}
 use Rattle.dpop_agent.specs.Joint.{IsJoint}
-use Rattle.dpop_agent.specs.Remade.{joined_count, sent_of, with_sent}
+use Rattle.dpop_agent.specs.Remade.{sent_of, with_sent}
 use Rattle.dpop_agent.proofs.CellLaws.{projects}
 use Rattle.dpop_agent.proofs.RemakeLaws.{counts, sent_keeper}
 use Rattle.dpop_agent.proofs.made.remake.Goals as goal

@@ -1,10 +1,10 @@
-use Rattle.std.proofs.Common.{◌≡◌, ℕ, List, map, sym, ap, subst, ◌∙◌}
+use Rattle.std.proofs.Common.{ℕ, List, map, sym, ap, subst, ◌∙◌}
 use Rattle.std.specs.List.{remove}
 use Rattle.dcop_base.specs.Table.{AreWithin}
 use Rattle.cost_table.specs.Cells.{place_in}
 use Rattle.util_project.specs.Projection.{IsLowestLeast, cell_at_value, size_in}
 use Rattle.protocol_steps.specs.Values.{valued}
-use Rattle.protocol_steps.specs.Dpop.{DpopView, separator, size_of}
+use Rattle.protocol_steps.specs.Dpop.{DpopView, size_of}
 use Rattle.dpop_agent.specs.Keeping.{keeping}
 use Rattle.dpop_agent.proofs.CellLaws.{joint_names, joint_sizes, picked_best}
 use Rattle.dpop_agent.proofs.util.best_of.Goals as goal

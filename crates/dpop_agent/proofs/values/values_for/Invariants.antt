@@ -1,8 +1,6 @@
-use Rattle.std.proofs.Common.{◌≡◌, ◌++◌, drop, map}
-use Rattle.std.specs.List.{flat_map, zip}
+use Rattle.std.proofs.Common.{◌≡◌, ◌++◌, drop}
 use Rattle.dcop_base.specs.Values.{with_own}
 use Rattle.protocol_steps.specs.Values.{valued}
-use Rattle.protocol_steps.specs.Dpop.{there}
 use Rattle.dpop_agent.proofs.ParcelLaws.{values_sent}
 use Rattle.dpop_agent.proofs.values.values_for.Given as goal
 

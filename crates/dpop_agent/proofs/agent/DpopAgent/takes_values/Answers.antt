@@ -1,4 +1,4 @@
-use Rattle.std.proofs.Common.{◌≡◌, ℕ, true, List, map, sym, ap, subst, ◌∙◌}
+use Rattle.std.proofs.Common.{◌≡◌, ℕ, List, map, sym, ap, subst, ◌∙◌}
 use Rattle.std.specs.List.{list_all, zip}
 use Rattle.dcop_base.specs.Table.{CostTable, AreWithin}
 use Rattle.adopt_context.specs.Context.{Context, value_in, names_all}
