@@ -1,0 +1,134 @@
+-- How the parts of a DPOP agent's work make up its steps.
+use Rattle.std.proofs.Common.{◌≡◌, ℕ, Bool, true, false, cond, not, ◌&&◌, nat_le, List, [], Option, Some, None, is_some, refl, sym, ap, ap₂, subst, ◌∙◌}
+use Rattle.std.specs.Borrow.{Bor}
+use Rattle.std.specs.Option.{option_copied}
+use Rattle.std.specs.List.{list_all}
+use Rattle.std.proofs.lemmas.Bool.{and_parts, false≢true}
+use Rattle.dcop_base.specs.Table.{CostTable}
+use Rattle.dcop_base.specs.Values.{with_own}
+use Rattle.dcop_base.specs.declared.knowledge.Private.{Private}
+use Rattle.pseudotree.specs.declared.agent.Place.{Place}
+use Rattle.adopt_context.specs.Context.{Context}
+use Rattle.protocol_steps.specs.declared.message.Message.{Message}
+use Rattle.protocol_steps.specs.Agent.{Phase, quiet, last_of}
+use Rattle.protocol_steps.specs.Values.{valued}
+use Rattle.protocol_steps.specs.Dpop.{DpopView, joined_cells_with, kept_scopes, best_value, util_table}
+use Rattle.protocol_steps.specs.DpopJoin.{decide, send_up, can_join, join}
+use Rattle.dpop_agent.specs.declared.stage.Stage.{Stage}
+use Rattle.dpop_agent.specs.declared.stage.Stage.TheVariants.{Ended}
+use Rattle.dpop_agent.specs.Stage.{phase_at, view_at, working}
+use Rattle.dpop_agent.specs.Keeping.{keeping}
+use Rattle.pseudotree.specs.declared.width.TheConstants.{MAX_JOINED_CELLS}
+use Rattle.dpop_agent.specs.Joint.{IsJoint, IsJointWhereMay}
+use Rattle.dpop_agent.specs.Sound.{IsSound}
+use Rattle.dpop_agent.specs.Deed.{Gives, parcels_up}
+use Rattle.dpop_agent.proofs.ParcelLaws.{values_sent}
+
+decided_at : (own : Private) (place : Place) (stage : Stage) (kept : List (Option CostTable)) (made : Option CostTable) (value : ℕ) (values : Context) (best : ℕ) (parcels : List (ℕ × Message))
+    → phase_at stage ≡ working → best ≡ best_value (keeping own place kept) (valued values) → parcels ≡ values_sent (with_own own.me best (valued values)) place.children kept
+    → Gives (decide (view_at own place stage kept made value) values) (view_at own place Ended kept made best) parcels
+decided_at own place stage kept made value values best parcels phase is sends =
+    let ends : phase_at Ended ≡ record (phase_at stage) { ended = true } = ap (λ (p : Phase). let q : Phase = record p { ended = true } in q) (sym phase) in
+    record {
+      viewed = ap₂ (λ (d : ℕ) (p : Phase). let v : DpopView = record { own = own; place = place; phase = p; kept = kept; made = made; value = d } in v) is ends;
+      sent = sends ∙ ap (λ (d : ℕ). values_sent (with_own own.me d (valued values)) place.children kept) is;
+    }
+
+-- what an agent's decision gives
+pub decided : (own : Private) (place : Place) (stage : Stage) (kept now : List (Option CostTable)) (made : Option CostTable) (value : ℕ) (v : DpopView) (values : Context) (best : ℕ) (children : List ℕ) (parcels : List (ℕ × Message))
+    → view_at own place stage kept made value ≡ v → v.phase ≡ working → now ≡ kept → children ≡ place.children
+    → best ≡ best_value (keeping own place now) (valued values) → parcels ≡ values_sent (with_own own.me best (valued values)) children now
+    → Gives (decide v values) (view_at own place Ended kept made best) parcels
+decided own place stage kept now made value v values best children parcels view phase same below is sends =
+    subst (λ (w : DpopView). Gives (decide w values) (view_at own place Ended kept made best) parcels) view
+    (decided_at own place stage kept made value values best parcels (ap (λ (w : DpopView). w.phase) view ∙ phase)
+    (is ∙ ap (λ (es : List (Option CostTable)). best_value (keeping own place es) (valued values)) same)
+    (sends ∙ ap₂ (λ (cs : List ℕ) (es : List (Option CostTable)). values_sent (with_own own.me best (valued values)) cs es) below same))
+
+-- of five tests that pass together, the last two
+pub last_two : (a b c d e : Bool) → (a && b && c && d && e) ≡ true → (d ≡ true) × (e ≡ true)
+last_two true true true true true h = (refl, refl)
+last_two false b c d e h = absurd (false≢true h)
+last_two true false c d e h = absurd (false≢true h)
+last_two true true false d e h = absurd (false≢true h)
+last_two true true true false e h = absurd (false≢true h)
+last_two true true true true false h = absurd (false≢true h)
+
+joins_at : (own : Private) (place : Place) (stage : Stage) (kept : List (Option CostTable)) (made : Option CostTable) (value : ℕ) (t : CostTable) (parcels : List (ℕ × Message)) (parent : Option ℕ)
+    → can_join (keeping own place kept) ≡ true → t ≡ util_table (keeping own place kept) → last_of place.path ≡ parent → is_some parent ≡ true → parcels ≡ parcels_up parent t
+    → Gives (join (view_at own place stage kept made value)) (view_at own place stage kept (Some t) value) parcels
+joins_at own place stage kept made value t parcels None can is last some sends = absurd (false≢true some)
+joins_at own place stage kept made value t parcels (Some parent) can is last some sends =
+    let v : DpopView = view_at own place stage kept made value in
+    let u : CostTable = util_table v in
+    let w : DpopView = record v { made = Some u } in
+    let after : DpopView = view_at own place stage kept (Some t) value in
+    subst (λ (b : Bool). Gives (cond b (send_up w u (last_of place.path)) (quiet v)) after parcels) (sym can)
+    (subst (λ (o : Option ℕ). Gives (send_up w u o) after parcels) (sym last)
+    (record {
+      viewed = ap (λ (s : CostTable). view_at own place stage kept (Some s) value) is;
+      sent = sends ∙ ap (λ (s : CostTable). parcels_up (Some parent) s) is;
+    }))
+
+-- what joining gives an agent with a parent
+pub joins : (own : Private) (place : Place) (stage : Stage) (kept now : List (Option CostTable)) (made : Option CostTable) (value : ℕ) (v : DpopView) (t : CostTable) (path : List ℕ) (parcels : List (ℕ × Message))
+    → view_at own place stage kept made value ≡ v → now ≡ kept → path ≡ place.path → can_join (keeping own place now) ≡ true → t ≡ util_table (keeping own place now) → is_some (last_of path) ≡ true → parcels ≡ parcels_up (last_of path) t
+    → Gives (join v) (view_at own place stage kept (Some t) value) parcels
+joins own place stage kept now made value v t path parcels view same above can is some sends =
+    subst (λ (w : DpopView). Gives (join w) (view_at own place stage kept (Some t) value) parcels) view
+    (joins_at own place stage kept made value t parcels (last_of path)
+    (subst (λ (es : List (Option CostTable)). can_join (keeping own place es) ≡ true) same can)
+    (is ∙ ap (λ (es : List (Option CostTable)). util_table (keeping own place es)) same)
+    (ap last_of (sym above)) some sends)
+
+same_table : (t u : CostTable) → Some t ≡ Some u → t ≡ u
+same_table t u e = ap (λ (o : Option CostTable). or_first o) e
+  where
+    or_first : Option CostTable → CostTable
+    or_first None = t
+    or_first (Some x) = x
+
+-- an agent that has joined stays sound
+pub joined_sound : (own : Private) (place : Place) (stage : Stage) (kept now : List (Option CostTable)) (before made : Option CostTable) (j m : CostTable) → IsSound own place stage kept before made → phase_at stage ≡ working → now ≡ kept
+    → IsJointWhereMay (keeping own place now) (Some j) → m ≡ util_table (keeping own place now) → IsSound own place stage kept (Some j) (Some m)
+joined_sound own place stage kept now before made j m sound phase same joint is =
+    let here : IsJointWhereMay (keeping own place kept) (Some j) = subst (λ (es : List (Option CostTable)). IsJointWhereMay (keeping own place es) (Some j)) same joint in
+    let util : m ≡ util_table (keeping own place kept) = is ∙ ap (λ (es : List (Option CostTable)). util_table (keeping own place es)) same in
+    let all = (and_parts (list_all is_some kept) (nat_le (joined_cells_with (keeping own place kept) (kept_scopes (keeping own place kept))) MAX_JOINED_CELLS) here.0).0 in
+    record {
+      keeper = sound.keeper;
+      joint = λ t e. subst (λ (u : CostTable). IsJoint (keeping own place kept) u) (same_table j t e) here.1;
+      util = λ t e. record { is = sym (same_table m t e) ∙ util; all = all };
+      waits = λ well. sym (ap (λ (p : Phase). true && not p.ended) phase);
+      ended = λ _. refl;
+    }
+
+-- a copied option is there exactly where the option is
+pub copied_some : {X : Type 0} (o : Option (Bor X)) → is_some (option_copied o) ≡ is_some o
+copied_some None = refl
+copied_some (Some x) = refl
+
+root_at : (own : Private) (place : Place) (stage : Stage) (kept : List (Option CostTable)) (made : Option CostTable) (value : ℕ) (t : CostTable) (after : DpopView) (parcels : List (ℕ × Message)) (parent : Option ℕ)
+    → can_join (keeping own place kept) ≡ true → t ≡ util_table (keeping own place kept) → last_of place.path ≡ parent → is_some parent ≡ false
+    → Gives (decide (view_at own place stage kept (Some t) value) []) after parcels → Gives (join (view_at own place stage kept made value)) after parcels
+root_at own place stage kept made value t after parcels (Some parent) can is last none gives = absurd (false≢true (sym none))
+root_at own place stage kept made value t after parcels None can is last none gives =
+    let v : DpopView = view_at own place stage kept made value in
+    let u : CostTable = util_table v in
+    let w : DpopView = record v { made = Some u } in
+    subst (λ (b : Bool). Gives (cond b (send_up w u (last_of place.path)) (quiet v)) after parcels) (sym can)
+    (subst (λ (o : Option ℕ). Gives (send_up w u o) after parcels) (sym last)
+    (subst (λ (s : CostTable). Gives (decide (view_at own place stage kept (Some s) value) []) after parcels) is gives))
+
+-- what joining gives the root, which decides at once
+pub root_joins : (own : Private) (place : Place) (stage : Stage) (kept now : List (Option CostTable)) (made : Option CostTable) (value : ℕ) (v w : DpopView) (t : CostTable) (path : List ℕ) (values : Context) (after : DpopView) (parcels : List (ℕ × Message))
+    → view_at own place stage kept made value ≡ v → now ≡ kept → path ≡ place.path → can_join (keeping own place now) ≡ true → t ≡ util_table (keeping own place now) → is_some (last_of path) ≡ false
+    → view_at own place stage kept (Some t) value ≡ w → values ≡ [] → Gives (decide w values) after parcels → Gives (join v) after parcels
+root_joins own place stage kept now made value v w t path values after parcels view same above can is none waits empty gives =
+    subst (λ (x : DpopView). Gives (join x) after parcels) view
+    (root_at own place stage kept made value t after parcels (last_of path)
+    (subst (λ (es : List (Option CostTable)). can_join (keeping own place es) ≡ true) same can)
+    (is ∙ ap (λ (es : List (Option CostTable)). util_table (keeping own place es)) same)
+    (ap last_of (sym above)) none
+    (subst (λ (c : Context). Gives (decide (view_at own place stage kept (Some t) value) c) after parcels) empty
+    (subst (λ (x : DpopView). Gives (decide x values) after parcels) (sym waits) gives)))

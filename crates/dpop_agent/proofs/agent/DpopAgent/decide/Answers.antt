@@ -1,0 +1,28 @@
+use Rattle.std.proofs.Common.{ℕ, ◌<◌, List, Option, sym, ap, subst, ◌∙◌}
+use Rattle.std.specs.List.{All, flat_map}
+use Rattle.dcop_base.specs.Table.{CostTable}
+use Rattle.dcop_base.specs.declared.problem.TheConstants.{MAX_VARIABLES, MAX_SIZE}
+use Rattle.protocol_steps.specs.Values.{valued}
+use Rattle.protocol_steps.specs.Dpop.{there, best_value}
+use Rattle.dpop_agent.specs.Keeping.{keeping}
+use Rattle.dpop_agent.proofs.OverLaws.{kept_below, best_small}
+use Rattle.dpop_agent.proofs.AgentLaws.{decided}
+use Rattle.dpop_agent.proofs.agent.DpopAgent.decide.Goals as goal
+
+pub values_for-requires-clause-scopes : goal.values_for-requires-clause-scopes
+values_for-requires-clause-scopes c =
+    let a = c.self.inside in
+    subst (λ (es : List (Option CostTable)). All (λ (t : CostTable). All (λ u. u < MAX_VARIABLES) t.scope) (flat_map there es)) (sym c.as_slice-kept.ensures.value)
+    (kept_below a.own a.place a.kept.items c.self.invariant.keeper)
+
+pub values_for-requires-clause-best : goal.values_for-requires-clause-best
+values_for-requires-clause-best c =
+    let a = c.self.inside in
+    let best = c.in_ok-best.ensures ∙ ap (λ (es : List (Option CostTable)). best_value (keeping a.own a.place es) (valued c.args.values.now)) c.as_slice-kept.ensures.value in
+    subst (λ (x : ℕ). x < MAX_SIZE) (sym best) (best_small a.own a.place a.kept.items c.self.invariant.keeper (valued c.args.values.now))
+
+pub returns-clause-gives : goal.returns-clause-gives
+returns-clause-gives c =
+    let a = c.self.inside in
+    decided a.own a.place a.stage a.kept.items c.as_slice-kept.result.now a.made a.value c.args.self.now c.args.values.now c.in_ok-best.best c.as_slice-children.result.now c.in_ok-parcels.parcels.items
+    c.self.view_is c.requires.working c.as_slice-kept.ensures.value c.as_slice-children.ensures c.in_ok-best.ensures c.in_ok-parcels.ensures

@@ -1,0 +1,69 @@
+use Rattle.std.proofs.Common.{ℕ, List, Option, Some, eqb, sym, ap, subst, ◌∙◌}
+use Rattle.std.specs.List.{position, slice_set}
+use Rattle.std.proofs.lemmas.Result.{IfOk-weaker}
+use Rattle.dcop_base.specs.Table.{CostTable}
+use Rattle.protocol_steps.specs.declared.message.Message.TheVariants.{Util}
+use Rattle.protocol_steps.specs.Dpop.{DpopView}
+use Rattle.protocol_steps.specs.DpopJoin.{join}
+use Rattle.protocol_steps.specs.DpopStep.{dpop_message}
+use Rattle.dpop_agent.specs.Stage.{view_at}
+use Rattle.dpop_agent.specs.Keeping.{keeping}
+use Rattle.dpop_agent.specs.Deed.{Gives, IsTaken}
+use Rattle.dpop_agent.proofs.TakeLaws.{keeps_sound, open_works, passes_over, takes, untaken}
+use Rattle.dpop_agent.proofs.agent.DpopAgent.take_util.Goals as goal
+
+pub returns-in_default-2-clause-gives : goal.returns-in_default-2-clause-gives
+returns-in_default-2-clause-gives c =
+    let a = c.self.inside in
+    let k = c.in-Some.child in
+    let scope = c.args.scope.now in
+    let cells = c.args.cells.now in
+    let found = ap (λ (cs : List ℕ). position (λ x. eqb x c.args.from) cs) (sym c.as_slice.ensures) ∙ sym c.found_in.ensures ∙ c.in-Some.is in
+    let tried = subst (λ (es : List (Option CostTable)). IsTaken (keeping a.own a.place es) k scope cells c.in_ok-table.field-0) c.as_slice-kept.ensures.value c.in_ok-table.ensures in
+    let not_taken = untaken (keeping a.own a.place a.kept.items) k scope cells c.in_ok-table.field-0 tried c.in_default-2.not-Some in
+    passes_over a.own a.place a.stage a.kept.items a.made a.value c.args.self.now c.args.from k scope cells c.new-in_default-2.result.items c.self.view_is found not_taken c.new-in_default-2.ensures.items
+
+pub invariant_of-self : goal.invariant_of-self
+invariant_of-self c =
+    let a = c.self.inside in
+    let k = c.in-Some.child in
+    let scope = c.args.scope.now in
+    let cells = c.args.cells.now in
+    let t = c.in-Some-2.table in
+    let now = c.as_slice-kept.result.now in
+    let well = ap (λ (v : DpopView). v.phase.failed) c.self.view_is ∙ c.requires.running.well in
+    let taken = subst (λ (es : List (Option CostTable)). IsTaken (keeping a.own a.place es) k scope cells (Some t)) c.as_slice-kept.ensures.value
+    (subst (λ (o : Option CostTable). IsTaken (keeping a.own a.place now) k scope cells o) c.in-Some-2.is c.in_ok-table.ensures) in
+    keeps_sound a.own a.place a.stage a.kept.items a.joined a.made k scope cells t c.self.invariant well taken
+
+pub join-requires : goal.join-requires
+join-requires c =
+    let a = c.self.inside in
+    let k = c.in-Some.child in
+    let scope = c.args.scope.now in
+    let cells = c.args.cells.now in
+    let t = c.in-Some-2.table in
+    let now = c.as_slice-kept.result.now in
+    let started = ap (λ (v : DpopView). v.phase.started) c.self.view_is ∙ c.requires.running.started in
+    let well = ap (λ (v : DpopView). v.phase.failed) c.self.view_is ∙ c.requires.running.well in
+    let taken = subst (λ (es : List (Option CostTable)). IsTaken (keeping a.own a.place es) k scope cells (Some t)) c.as_slice-kept.ensures.value
+    (subst (λ (o : Option CostTable). IsTaken (keeping a.own a.place now) k scope cells o) c.in-Some-2.is c.in_ok-table.ensures) in
+    record { working = open_works a.own a.place a.stage a.kept.items a.joined a.made k scope cells c.self.invariant started well taken.0 }
+
+pub returns-clause-gives : goal.returns-clause-gives
+returns-clause-gives c =
+    let a = c.self.inside in
+    let k = c.in-Some.child in
+    let scope = c.args.scope.now in
+    let cells = c.args.cells.now in
+    let t = c.in-Some-2.table in
+    let now = c.as_slice-kept.result.now in
+    let v = c.args.self.now in
+    let after = c.join.new.self in
+    let mid : DpopView = view_at a.own a.place a.stage (slice_set a.kept.items k (Some t)) a.made a.value in
+    let found = ap (λ (cs : List ℕ). position (λ x. eqb x c.args.from) cs) (sym c.as_slice.ensures) ∙ sym c.found_in.ensures ∙ c.in-Some.is in
+    let taken = subst (λ (es : List (Option CostTable)). IsTaken (keeping a.own a.place es) k scope cells (Some t)) c.as_slice-kept.ensures.value
+    (subst (λ (o : Option CostTable). IsTaken (keeping a.own a.place now) k scope cells o) c.in-Some-2.is c.in_ok-table.ensures) in
+    IfOk-weaker c.join.result (λ ps. Gives (join mid) after ps.items) (λ ps. Gives (dpop_message v c.args.from (Util scope cells)) after ps.items)
+    (λ ps gives. takes a.own a.place a.stage a.kept.items a.made a.value v c.args.from k scope cells t after ps.items c.self.view_is found taken gives)
+    c.join.ensures.gives

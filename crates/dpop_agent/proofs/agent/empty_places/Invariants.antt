@@ -1,0 +1,5 @@
+use Rattle.std.proofs.Common.{◌≡◌, None, replicate}
+use Rattle.dpop_agent.proofs.agent.empty_places.Given as goal
+
+abbrev pub invariant-loop-place : goal.invariant-loop-place
+invariant-loop-place l = l.places.items ≡ replicate l.place None

@@ -1,0 +1,17 @@
+use Rattle.std.proofs.Common.{ℕ, List, [], map, sym, ap, ◌∙◌}
+use Rattle.dcop_base.specs.Table.{table_fault}
+use Rattle.protocol_steps.specs.Dpop.{size_of}
+use Rattle.dpop_agent.specs.Keeping.{keeping}
+use Rattle.dpop_agent.proofs.TakeLaws.{taken_faultless}
+use Rattle.dpop_agent.proofs.child.table_of.Goals as goal
+
+pub invariant_of-result : goal.invariant_of-result
+invariant_of-result c =
+    let taken = sym c.in_ok-takes.ensures ∙ c.if-not-branch.false in
+    let scope = c.from_vec.ensures ∙ c.in_ok-from_slice.ensures.items in
+    let sizes = c.from_vec-2.ensures ∙ c.in_ok-sizes.ensures in
+    let cells = c.from_vec-3.ensures ∙ c.in_ok-from_slice-2.ensures.items in
+    ap (λ (vs : List ℕ). table_fault vs c.from_vec-2.result c.from_vec-3.result) scope
+    ∙ ap (λ (ss : List ℕ). table_fault c.args.scope.now ss c.from_vec-3.result) sizes
+    ∙ ap (λ (cs : List ℕ). table_fault c.args.scope.now (map (size_of (keeping c.args.own.now c.args.place.now [])) c.args.scope.now) cs) cells
+    ∙ taken_faultless c.args.own.now c.args.place.now c.args.kept.now c.requires.keeper c.args.child c.args.scope.now c.args.cells.now taken c.requires.range

@@ -1,0 +1,9 @@
+use Rattle.std.proofs.Common.{◌==◌, ◌||◌, take}
+use Rattle.std.specs.List.{filter, list_all}
+use Rattle.dcop_base.specs.Table.{has}
+use Rattle.dpop_agent.specs.Joint.{HasGained}
+use Rattle.dpop_agent.proofs.joint.add_own.Given as goal
+
+abbrev pub invariant-loop-table : goal.invariant-loop-table
+invariant-loop-table l =
+    HasGained (filter (λ t. list_all (λ u. u == l.me || has l.path u) t.scope) (take l.table-index l.tables)) l.fn.joined l.joined

@@ -1,0 +1,28 @@
+use Rattle.std.proofs.Common.{ℕ, ◌≤◌, List, map, sym, ap, subst, ◌∙◌}
+use Rattle.std.specs.List.{All}
+use Rattle.std.proofs.lemmas.Result.{IfOk-weaker}
+use Rattle.dcop_base.specs.Table.{has_repeat}
+use Rattle.protocol_steps.specs.Dpop.{DpopView, size_of}
+use Rattle.dpop_agent.specs.Keeping.{keeping}
+use Rattle.dpop_agent.specs.Joint.{IsZeroOver, IsZeroWhereNarrow}
+use Rattle.dpop_agent.proofs.OverLaws.{over_apart, over_positive, zero_where_narrow}
+use Rattle.dpop_agent.proofs.joint.zeros.Goals as goal
+
+pub zeros_over-requires-clause-distinct : goal.zeros_over-requires-clause-distinct
+zeros_over-requires-clause-distinct c =
+    ap has_repeat c.in_ok-over.ensures ∙ over_apart c.args.own.now c.args.place.now c.args.kept.now c.requires
+
+pub zeros_over-requires-clause-positive : goal.zeros_over-requires-clause-positive
+zeros_over-requires-clause-positive c =
+    let v : DpopView = keeping c.args.own.now c.args.place.now c.args.kept.now in
+    subst (λ (vs : List ℕ). All (λ s. 1 ≤ s) (map (size_of v) vs)) (sym c.in_ok-over.ensures) (over_positive c.args.own.now c.args.place.now c.args.kept.now c.requires)
+
+pub returns : goal.returns
+returns c =
+    let own = c.args.own.now in
+    let place = c.args.place.now in
+    let kept = c.args.kept.now in
+    let v : DpopView = keeping own place kept in
+    let over = c.in_ok-over.over.items in
+    IfOk-weaker c.zeros_over.result (IsZeroOver over (map (size_of v) over)) (IsZeroWhereNarrow v)
+    (λ zero is. zero_where_narrow own place kept c.requires over zero c.in_ok-over.ensures is) c.zeros_over.ensures

@@ -1,0 +1,28 @@
+-- What one deed of a DPOP agent gives.
+use Rattle.std.specs.Prelude.{◌≡◌, ℕ, true, false, List, [], ◌∷◌, map, Option, Some, None}
+use Rattle.protocol_steps.specs.declared.message.Message.{Message}
+use Rattle.protocol_steps.specs.Agent.{Stepped}
+use Rattle.dcop_base.specs.Table.{CostTable, IsTableOfParts}
+use Rattle.protocol_steps.specs.declared.message.Message.TheVariants.{Util}
+use Rattle.protocol_steps.specs.Dpop.{DpopView, size_of}
+use Rattle.protocol_steps.specs.DpopStep.{takes_util}
+
+-- the agent's view and the parcels are those of a step
+pub record Gives (s : Stepped DpopView) (view : DpopView) (parcels : List (ℕ × Message)) : Type 0 where
+  pub viewed : view ≡ s.view
+  pub sent : parcels ≡ s.sends
+
+-- an agent that has started and has not failed
+pub record IsRunning (v : DpopView) : Type 0 where
+  pub started : v.phase.started ≡ true
+  pub well : v.phase.failed ≡ false
+
+-- UTIL for the parent, where there is one
+abbrev pub parcels_up : Option ℕ → CostTable → List (ℕ × Message)
+parcels_up None t = []
+parcels_up (Some parent) t = (parent, Util t.scope t.cells) ∷ []
+
+-- the child's table exactly where it is taken, with the sizes that the agent knows
+abbrev pub IsTaken : DpopView → ℕ → List ℕ → List ℕ → Option CostTable → Type 0
+IsTaken v k scope cells None = takes_util v k scope cells ≡ false
+IsTaken v k scope cells (Some t) = (takes_util v k scope cells ≡ true) × IsTableOfParts scope (map (size_of v) scope) cells t

@@ -1,0 +1,47 @@
+-- Joined tables of an agent.
+use Rattle.std.specs.Prelude.{◌≡◌, ℕ, ◌+◌, ◌<◌, ◌≤◌, true, false, List, [], ◌∷◌, ◌++◌, map, Option, Some, None}
+use Rattle.dcop_base.specs.Table.{CostTable, AreWithin, product}
+use Rattle.dcop_base.specs.Values.{cell_with, cost_with}
+use Rattle.adopt_context.specs.Bounds.{cap}
+use Rattle.protocol_steps.specs.Dpop.{DpopView, own_tables, kept_tables, kept_scopes, joined_cells_with, size_of, separator}
+use Rattle.pseudotree.specs.declared.width.TheConstants.{MAX_JOINED_CELLS}
+use Rattle.protocol_steps.specs.DpopJoin.{can_join}
+
+-- a table over these variables with these sizes, of which each cell is this cost of the same values, capped
+pub record IsCostOf (over sizes : List ℕ) (costs : (ℕ → ℕ) → ℕ) (t : CostTable) : Type 0 where
+  pub same_scope : t.scope ≡ over
+  pub same_sizes : t.sizes ≡ sizes
+  pub cells : (value : ℕ → ℕ) → AreWithin sizes (map value over) → cell_with t value ≡ cap (costs value)
+
+-- a joined table to which these tables were added: its cells cost so much more
+pub record HasGained (ts : List CostTable) (old new : CostTable) : Type 0 where
+  pub same_scope : new.scope ≡ old.scope
+  pub same_sizes : new.sizes ≡ old.sizes
+  pub costs : (costs : (ℕ → ℕ) → ℕ) → IsCostOf old.scope old.sizes costs old → IsCostOf old.scope old.sizes (λ value. costs value + cost_with ts value) new
+
+-- the variables of an agent's joined table: its separator, from the root down, and then the agent
+abbrev pub over_of : DpopView → List ℕ
+over_of v = separator v ++ (v.own.me ∷ [])
+
+-- the sizes of these
+abbrev pub over_sizes : DpopView → List ℕ
+over_sizes v = map (size_of v) (over_of v)
+
+-- a joined table of zeros over these variables exactly where it is not too wide
+abbrev pub IsZeroOver : List ℕ → List ℕ → Option CostTable → Type 0
+IsZeroOver over sizes None = MAX_JOINED_CELLS < product sizes
+IsZeroOver over sizes (Some t) = (product sizes ≤ MAX_JOINED_CELLS) × IsCostOf over sizes (λ value. 0) t
+
+-- an agent's joined table of zeros exactly where it is not too wide
+abbrev pub IsZeroWhereNarrow : DpopView → Option CostTable → Type 0
+IsZeroWhereNarrow v None = MAX_JOINED_CELLS < joined_cells_with v (kept_scopes v)
+IsZeroWhereNarrow v (Some t) = (joined_cells_with v (kept_scopes v) ≤ MAX_JOINED_CELLS) × IsCostOf (over_of v) (over_sizes v) (λ value. 0) t
+
+-- the joined table of an agent: the sum of its own tables and its children's tables
+abbrev pub IsJoint : DpopView → CostTable → Type 0
+IsJoint v t = IsCostOf (over_of v) (over_sizes v) (λ value. cost_with (own_tables v) value + cost_with (kept_tables v) value) t
+
+-- the joined table exactly where the agent may join
+abbrev pub IsJointWhereMay : DpopView → Option CostTable → Type 0
+IsJointWhereMay v None = can_join v ≡ false
+IsJointWhereMay v (Some t) = (can_join v ≡ true) × IsJoint v t

@@ -1,0 +1,22 @@
+-- A DPOP agent by what it was made from and the tables that it keeps.
+use Rattle.std.specs.Prelude.{◌≡◌, List, [], ◌∷◌, ◌++◌, map, Option, Some, None}
+use Rattle.std.specs.List.{filter}
+use Rattle.dcop_base.specs.Table.{CostTable, has}
+use Rattle.dcop_base.specs.declared.knowledge.Private.{Private}
+use Rattle.pseudotree.specs.declared.agent.Place.{Place}
+use Rattle.protocol_steps.specs.Agent.{not_started}
+use Rattle.protocol_steps.specs.Dpop.{DpopView, size_of}
+
+-- an agent that keeps these tables of its children
+abbrev pub keeping : Private → Place → List (Option CostTable) → DpopView
+keeping own place kept = record { own = own; place = place; phase = not_started; kept = kept; made = None; value = 0 }
+
+-- a child's table that may be kept: its scope consists of variables of the path, from the root down, and the agent, with the sizes that the agent knows
+pub record IsChildTable (own : Private) (place : Place) (t : CostTable) : Type 0 where
+  pub scope : t.scope ≡ filter (has t.scope) place.path ++ (own.me ∷ [])
+  pub sizes : t.sizes ≡ map (size_of (keeping own place [])) t.scope
+
+-- what is kept for a child: nothing yet, or such a table
+abbrev pub MayKeep : Private → Place → Option CostTable → Type 0
+MayKeep own place None = Unit {0}
+MayKeep own place (Some t) = IsChildTable own place t

@@ -1,0 +1,33 @@
+-- What holds of every DPOP agent.
+use Rattle.std.specs.Prelude.{◌≡◌, true, false, not, ◌&&◌, List, length, Option, Some, is_some}
+use Rattle.std.specs.List.{All, list_all}
+use Rattle.dcop_base.specs.Table.{CostTable}
+use Rattle.dcop_base.specs.declared.knowledge.Private.{Private}
+use Rattle.pseudotree.specs.declared.agent.Place.{Place}
+use Rattle.protocol_steps.specs.Dpop.{util_table}
+use Rattle.protocol_steps.specs.Knowledge.{IsKnowledge}
+use Rattle.protocol_steps.specs.Placing.{IsPlaceFor}
+use Rattle.dpop_agent.specs.declared.stage.Stage.{Stage}
+use Rattle.dpop_agent.specs.Keeping.{keeping, MayKeep}
+use Rattle.dpop_agent.specs.Joint.{IsJoint}
+use Rattle.dpop_agent.specs.Stage.{phase_at}
+
+-- what an agent was made from, and the tables that it keeps: one place for each child
+pub record IsKeeper (own : Private) (place : Place) (kept : List (Option CostTable)) : Type 0 where
+  pub known : IsKnowledge own
+  pub placed : IsPlaceFor own place
+  pub counted : length kept ≡ length place.children
+  pub tables : All (MayKeep own place) kept
+
+-- a table that was made is the UTIL table, and all children's tables are kept
+pub record IsMade (own : Private) (place : Place) (kept : List (Option CostTable)) (t : CostTable) : Type 0 where
+  pub is : t ≡ util_table (keeping own place kept)
+  pub all : list_all is_some kept ≡ true
+
+-- an agent with the joined table that waits for values, from joining until the value is taken, and the table that it made; one that has ended has made it
+pub record IsSound (own : Private) (place : Place) (stage : Stage) (kept : List (Option CostTable)) (joined made : Option CostTable) : Type 0 where
+  pub keeper : IsKeeper own place kept
+  pub joint : (t : CostTable) → joined ≡ Some t → IsJoint (keeping own place kept) t
+  pub util : (t : CostTable) → made ≡ Some t → IsMade own place kept t
+  pub waits : (phase_at stage).failed ≡ false → is_some joined ≡ (is_some made && not (phase_at stage).ended)
+  pub ended : (phase_at stage).ended ≡ true → is_some made ≡ true

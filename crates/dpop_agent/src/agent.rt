@@ -1,0 +1,316 @@
+//! The DPOP agent.
+
+ghost use Rattle.std.specs.Prelude.{◌≡◌, true, [], ◌↔◌, map, replicate, Some, None, is_some, IfOk, OnOk, OnErr, IsErr, MatchOption};
+ghost use Rattle.std.specs.List.{All};
+ghost use Rattle.dcop_base.specs.Table.{AreWithin};
+ghost use Rattle.protocol_steps.specs.declared.message.Message.TheVariants.{Util, ValueAll};
+ghost use Rattle.protocol_steps.specs.Agent.{not_started};
+ghost use Rattle.protocol_steps.specs.Ranges.{AreCells, IsContext};
+ghost use Rattle.protocol_steps.specs.Values.{valued};
+ghost use Rattle.protocol_steps.specs.Knowledge.{IsKnowledge};
+ghost use Rattle.protocol_steps.specs.Placing.{IsPlaceFor};
+ghost use Rattle.protocol_steps.specs.Dpop.{new_dpop, separator, size_of};
+ghost use Rattle.protocol_steps.specs.DpopJoin.{decide, join};
+ghost use Rattle.protocol_steps.specs.DpopStep.{dpop_message, dpop_start, dpop_step, takes_values};
+ghost use Rattle.protocol_steps.specs.View.{DpopKind};
+ghost use Rattle.dpop_agent.specs.Stage.{working};
+ghost use Rattle.dpop_agent.specs.Deed.{Gives, IsRunning};
+
+use crate::child::{are_sized, table_of, util_for};
+use crate::joint::joined_of;
+use crate::kept::found_in;
+use crate::stage::Stage;
+use crate::util::{best_of, util_of};
+use crate::values::values_for;
+use adopt_context::AgentContext;
+use dcop_base::{NoMemory, Private, Table, Val, VarId};
+use protocol_steps::{Batch, Letter, Machine, Message, Outbox, Parcel, Standing};
+use pseudotree::Place;
+use std::alloc::Global;
+use std::marker::Model;
+
+/// A DPOP agent: its part in the propagation of UTIL tables and values. Contracts see its view.
+///
+/// It keeps the tables that its children send. When it has all of them it joins them with its own
+/// tables, and keeps the joined table until it takes its value.
+#[derive(Debug, Drop)]
+pub struct DpopAgent {
+    alloc: Global,
+    own: Private,
+    place: Place,
+    stage: Stage,
+    kept: Vec<Option<Table>>,
+    joined: Option<Table>,
+    made: Option<Table>,
+    value: Val,
+}
+
+impl Model for DpopAgent {
+    ghost use Rattle.protocol_steps.specs.Dpop.{DpopView};
+    ghost use Rattle.dpop_agent.specs.Stage.{view_at};
+    ghost use Rattle.dpop_agent.specs.Sound.{IsSound};
+
+    ghost Value = { DpopView };
+
+    ghost view = { λ a. view_at a.own a.place a.stage a.kept.items a.made a.value };
+
+    ghost invariant = { λ a. IsSound a.own a.place a.stage a.kept.items a.joined a.made };
+}
+
+impl DpopAgent {
+    /// The agent that knows this part of a problem, with this place in a tree, before its start.
+    ///
+    /// # Errors
+    ///
+    /// [`NoMemory`] where memory was wanted and not had. The arguments are gone then too.
+    pub fn new(alloc: Global, own: Private, place: Place) -> Result<DpopAgent, NoMemory>
+        requires known { IsKnowledge own }
+        requires placed { IsPlaceFor own place }
+        ensures { IfOk result (λ agent. agent ≡ new_dpop own place) }
+    {
+        let kept = empty_places(alloc, place.children.as_slice().len())?;
+        Ok(DpopAgent {
+            alloc,
+            own,
+            place,
+            stage: Stage::Waiting,
+            kept,
+            joined: None,
+            made: None,
+            value: Val(0),
+        })
+    }
+
+    /// Takes the best value at these values, tells the children, and ends. Without a joined table
+    /// that waits for values it does nothing.
+    fn decide(&mut self, values: &AgentContext) -> Result<Vec<Parcel>, NoMemory>
+        requires working { self.old.phase ≡ working }
+        requires made { is_some self.old.made ≡ true }
+        requires within { AreWithin (map (size_of self.old) (separator self.old))
+            (map (valued values.now) (separator self.old)) }
+        requires range { IsContext values.now }
+        ensures own { (self.new.own ≡ self.old.own) × (self.new.place ≡ self.old.place) }
+        ensures gives { IfOk result (λ ps. Gives (decide self.old values.now) self.new ps.items) }
+    {
+        let (Some(joined), Some(made)) = (&self.joined, &self.made) else {
+            return Ok(Vec::new(self.alloc));
+        };
+        let kept = self.kept.as_slice();
+        let above = made.scope.as_slice();
+        let best = best_of(
+            self.alloc,
+            &self.own,
+            &self.place,
+            kept,
+            joined,
+            above,
+            values,
+        )?;
+        let children = self.place.children.as_slice();
+        let parcels = values_for(self.alloc, children, kept, self.own.me, best, values)?;
+        self.joined = None;
+        self.value = best;
+        self.stage = Stage::Ended;
+        Ok(parcels)
+    }
+
+    /// Joins where all children's tables are kept and the joined table is not too wide: the table
+    /// goes to the parent; the root decides.
+    fn join(&mut self) -> Result<Vec<Parcel>, NoMemory>
+        requires working { self.old.phase ≡ working }
+        ensures own { (self.new.own ≡ self.old.own) × (self.new.place ≡ self.old.place) }
+        ensures running { IfOk result (λ _. IsRunning self.new) }
+        ensures gives { IfOk result (λ ps. Gives (join self.old) self.new ps.items) }
+    {
+        let kept = self.kept.as_slice();
+        let Some(joined) = joined_of(self.alloc, &self.own, &self.place, kept)? else {
+            return Ok(Vec::new(self.alloc));
+        };
+        let made = util_of(self.alloc, &self.own, &self.place, kept, &joined)?;
+        let parcels = util_for(self.alloc, self.place.path.as_slice(), &made)?;
+        self.joined = Some(joined);
+        self.made = Some(made);
+        if self.place.path.as_slice().last().is_none() {
+            return self.decide(&AgentContext::new(self.alloc));
+        }
+        Ok(parcels)
+    }
+
+    /// Keeps a child's table and joins, where the table is taken.
+    fn take_util(
+        &mut self,
+        from: VarId,
+        scope: &[VarId],
+        cells: &[u64],
+    ) -> Result<Vec<Parcel>, NoMemory>
+        requires running { IsRunning self.old }
+        requires range { AreCells cells.now }
+        ensures own { (self.new.own ≡ self.old.own) × (self.new.place ≡ self.old.place) }
+        ensures running { IfOk result (λ _. IsRunning self.new) }
+        ensures gives { IfOk result (λ ps.
+            Gives (dpop_message self.old from (Util scope.now cells.now)) self.new ps.items) }
+    {
+        let Some(child) = found_in(self.place.children.as_slice(), from) else {
+            return Ok(Vec::new(self.alloc));
+        };
+        let kept = self.kept.as_slice();
+        let Some(table) = table_of(
+            self.alloc,
+            &self.own,
+            &self.place,
+            kept,
+            child,
+            scope,
+            cells,
+        )?
+        else {
+            return Ok(Vec::new(self.alloc));
+        };
+        self.kept[child] = Some(table);
+        self.join()
+    }
+
+    /// Whether these values are taken.
+    fn takes_values(&self, from: VarId, values: &AgentContext) -> bool
+        requires { IsRunning self.now }
+        ensures taken { result ≡ takes_values self.now from values.now }
+        ensures within { result ≡ true → AreWithin (map (size_of self.now) (separator self.now))
+            (map (valued values.now) (separator self.now)) }
+    {
+        let (Some(_), Some(made)) = (&self.joined, &self.made) else {
+            return false;
+        };
+        if self.place.path.as_slice().last() != Some(&from) {
+            return false;
+        }
+        are_sized(&self.place, values.pairs()) && values.names_all(&made.scope)
+    }
+
+    /// Decides, where the values are taken.
+    fn take_values(&mut self, from: VarId, values: &AgentContext) -> Result<Vec<Parcel>, NoMemory>
+        requires running { IsRunning self.old }
+        requires range { IsContext values.now }
+        ensures own { (self.new.own ≡ self.old.own) × (self.new.place ≡ self.old.place) }
+        ensures running { IfOk result (λ _. IsRunning self.new) }
+        ensures gives { IfOk result (λ ps.
+            Gives (dpop_message self.old from (ValueAll values.now)) self.new ps.items) }
+    {
+        if !self.takes_values(from, values) {
+            return Ok(Vec::new(self.alloc));
+        }
+        self.decide(values)
+    }
+
+    /// Handles one message: what is not taken is passed over.
+    fn handle(&mut self, letter: &Letter) -> Result<Vec<Parcel>, NoMemory>
+        requires running { IsRunning self.old }
+        ensures own { (self.new.own ≡ self.old.own) × (self.new.place ≡ self.old.place) }
+        ensures running { IfOk result (λ _. IsRunning self.new) }
+        ensures gives { IfOk result (λ ps.
+            Gives (dpop_message self.old letter.now.0 letter.now.1) self.new ps.items) }
+    {
+        match &letter.message {
+            Message::Util { scope, cells } => {
+                self.take_util(letter.from, scope.as_slice(), cells.as_slice())
+            }
+            Message::ValueAll { values } => self.take_values(letter.from, values),
+            _ => Ok(Vec::new(self.alloc)),
+        }
+    }
+
+    /// Handles all messages of a batch, in order.
+    #[tactic(auto, using(crate::proofs::BatchLaws::leads_on, crate::proofs::BatchLaws::led_to))]
+    fn handle_all(&mut self, letters: &[Letter]) -> Result<Vec<Parcel>, NoMemory>
+        requires { IsRunning self.old }
+        ensures own { (self.new.own ≡ self.old.own) × (self.new.place ≡ self.old.place) }
+        ensures viewed { IfOk result (λ _. self.new ≡ (dpop_step self.old letters.now).view) }
+        ensures sent { IfOk result (λ ps. ps.items ≡ (dpop_step self.old letters.now).sends) }
+    {
+        let mut parcels = Vec::new(self.alloc);
+        for letter in letters {
+            let mut more = self.handle(letter)?;
+            parcels.append(&mut more)?;
+        }
+        Ok(parcels)
+    }
+
+    /// Fails for good.
+    fn fail(&mut self) -> NoMemory
+        ensures own { (self.new.own ≡ self.old.own) × (self.new.place ≡ self.old.place) }
+        ensures failed { self.new.phase.failed ≡ true }
+    {
+        self.stage = Stage::Failed;
+        NoMemory
+    }
+
+    /// Starts: an agent without children joins at once.
+    fn begin(&mut self) -> Result<Vec<Parcel>, NoMemory>
+        requires { self.old.phase ≡ not_started }
+        ensures own { (self.new.own ≡ self.old.own) × (self.new.place ≡ self.old.place) }
+        ensures gives { IfOk result (λ ps. Gives (dpop_start self.old) self.new ps.items) }
+    {
+        self.stage = Stage::Working;
+        self.join()
+    }
+}
+
+impl Machine for DpopAgent {
+    ghost meaning = { λ a. DpopKind a };
+
+    fn start(&mut self, out: &mut Outbox) -> Result<(), NoMemory> {
+        if matches!(self.stage, Stage::Failed) {
+            return Err(NoMemory);
+        }
+        let Ok(parcels) = self.begin() else {
+            return Err(self.fail());
+        };
+        *out = Outbox::from_vec(parcels);
+        Ok(())
+    }
+
+    fn react(&mut self, batch: &Batch, out: &mut Outbox) -> Result<(), NoMemory> {
+        if matches!(self.stage, Stage::Failed) {
+            return Err(NoMemory);
+        }
+        let Ok(parcels) = self.handle_all(batch.as_slice()) else {
+            return Err(self.fail());
+        };
+        *out = Outbox::from_vec(parcels);
+        Ok(())
+    }
+
+    fn ended(&self) -> bool {
+        matches!(self.stage, Stage::Ended)
+    }
+
+    fn value(&self) -> Val {
+        self.value
+    }
+
+    fn standing(&self) -> Standing {
+        Standing {
+            lower: 0,
+            upper: None,
+            threshold: 0,
+        }
+    }
+
+    fn table(&self) -> Option<&Table> {
+        self.made.as_ref()
+    }
+
+    fn place(&self) -> Option<&Place> {
+        None
+    }
+}
+
+/// So many places for tables, of which none is kept yet.
+fn empty_places(alloc: Global, count: usize) -> Result<Vec<Option<Table>>, NoMemory>
+    ensures { IfOk result (λ places. places.items ≡ replicate count None) }
+{
+    let mut places = Vec::new(alloc);
+    for place in 0..count {
+        places.push(None)?;
+    }
+    Ok(places)
+}

@@ -1,0 +1,194 @@
+//! What comes from a child, and from and to the parent.
+
+ghost use Rattle.std.specs.Prelude.{◌≡◌, ◌<◌, ◌≤◌, [], ◌∷◌, ◌++◌, ◌&&◌, ◌==◌, length, map, nat_eq, nat_le, Option, IfOk, slice_get};
+ghost use Rattle.std.specs.List.{All, filter, list_all, zip};
+ghost use Rattle.std.specs.Cmp.Lexicographic.{pointwise};
+ghost use Rattle.dcop_base.specs.Table.{has, product};
+ghost use Rattle.adopt_context.specs.Context.{value_in};
+ghost use Rattle.protocol_steps.specs.declared.message.Message.TheVariants.{Util};
+ghost use Rattle.protocol_steps.specs.Agent.{last_of};
+ghost use Rattle.protocol_steps.specs.Dpop.{joined_cells_with, kept_scopes, size_of};
+ghost use Rattle.protocol_steps.specs.Ranges.{AreVariables, AreCells};
+ghost use Rattle.protocol_steps.specs.DpopStep.{is_below_size, is_open, takes_util};
+ghost use Rattle.dpop_agent.specs.Keeping.{keeping};
+ghost use Rattle.dpop_agent.specs.Sound.{IsKeeper};
+ghost use Rattle.dpop_agent.specs.Deed.{IsTaken, parcels_up};
+
+use crate::kept::stands_in;
+use crate::separator::{size_beside, sizes_of, variables_with};
+use cost_table::cells_of;
+use dcop_base::{CellList, NoMemory, Private, SizeList, Table, Val, VarId, VarList};
+use protocol_steps::{Message, Parcel};
+use pseudotree::{MAX_JOINED_CELLS, Place};
+use std::alloc::Global;
+
+/// UTIL for the parent, with the table that was made; the root, whose path is empty, sends none.
+pub(crate) fn util_for(alloc: Global, path: &[VarId], made: &Table) -> Result<Vec<Parcel>, NoMemory>
+    requires scope { AreVariables made.now.scope }
+    requires cells { AreCells made.now.cells }
+    ensures { IfOk result (λ parcels. parcels.items ≡ parcels_up (last_of path.now) made.now) }
+{
+    let mut parcels = Vec::new(alloc);
+    if let Some(parent) = path.last() {
+        parcels.push(Parcel {
+            to: *parent,
+            message: Message::Util {
+                scope: VarList::from_vec(Vec::from_slice(alloc, made.scope.as_slice())?),
+                cells: CellList::from_vec(Vec::from_slice(alloc, made.cells.as_slice())?),
+            },
+        })?;
+    }
+    Ok(parcels)
+}
+
+/// Whether a value is below the size of a variable of the path; also where it is another variable.
+fn is_sized(place: &Place, var: VarId, value: Val) -> bool
+    requires { length place.now.path_sizes ≡ length place.now.path }
+    ensures { result ≡ is_below_size
+        (value_in (zip place.now.path place.now.path_sizes) var) value }
+{
+    match size_beside(place.path.as_slice(), place.path_sizes.as_slice(), var) {
+        Some(size) => value.0 < size,
+        None => true,
+    }
+}
+
+/// Whether each variable of the path has a value below its size.
+pub(crate) fn are_sized(place: &Place, pairs: &[(VarId, Val)]) -> bool
+    requires { length place.now.path_sizes ≡ length place.now.path }
+    ensures { result ≡ list_all (λ p. is_below_size
+        (value_in (zip place.now.path place.now.path_sizes) p.0) p.1) pairs.now }
+{
+    pairs.iter().all(|pair| is_sized(place, pair.0, pair.1))
+}
+
+/// Those of these variables that stand in a scope.
+fn named_in(alloc: Global, path: &[VarId], scope: &[VarId]) -> Result<Vec<VarId>, NoMemory>
+    ensures { IfOk result (λ vars. vars.items ≡ filter (has scope.now) path.now) }
+{
+    let mut vars = Vec::new(alloc);
+    for var in path {
+        if stands_in(scope, *var) {
+            vars.push(*var)?;
+        }
+    }
+    Ok(vars)
+}
+
+/// Whether there is a place for a child's table, and none is kept there yet.
+fn is_open(kept: &[Option<Table>], child: usize) -> bool
+    ensures { result ≡ is_open (slice_get kept.now child) }
+{
+    match kept.get(child) {
+        Some(entry) => entry.is_none(),
+        None => false,
+    }
+}
+
+/// Whether a scope consists of variables of the path, from the root down, and then the agent.
+fn is_in_order(alloc: Global, me: VarId, path: &[VarId], scope: &[VarId]) -> Result<bool, NoMemory>
+    ensures { IfOk result (λ holds. holds
+        ≡ pointwise nat_eq scope.now (filter (has scope.now) path.now ++ (me ∷ []))) }
+{
+    let mut due = named_in(alloc, path, scope)?;
+    due.push(me)?;
+    Ok(scope == due.as_slice())
+}
+
+/// Whether a table of this scope, with the sizes that the agent knows, has so many cells.
+fn has_cells(
+    alloc: Global,
+    own: &Private,
+    place: &Place,
+    scope: &[VarId],
+    count: usize,
+) -> Result<bool, NoMemory>
+    requires sized { length place.now.path_sizes ≡ length place.now.path }
+    requires few { count ≤ MAX_JOINED_CELLS }
+    ensures { IfOk result (λ holds. holds
+        ≡ (count == product (map (size_of (keeping own.now place.now [])) scope.now))) }
+{
+    let sizes = sizes_of(alloc, own, place, scope)?;
+    Ok(are_cells_of(sizes.as_slice(), count))
+}
+
+/// Whether a table of these sizes has so many cells.
+fn are_cells_of(sizes: &[u16], count: usize) -> bool
+    requires { count ≤ MAX_JOINED_CELLS }
+    ensures { result ≡ (count == product sizes.now) }
+{
+    match cells_of(sizes, MAX_JOINED_CELLS) {
+        Some(cells) => count as u64 == cells,
+        None => false,
+    }
+}
+
+/// Whether the joined table stays within its limit where this scope counts as kept.
+fn is_narrow(
+    alloc: Global,
+    own: &Private,
+    place: &Place,
+    kept: &[Option<Table>],
+    scope: &[VarId],
+) -> Result<bool, NoMemory>
+    requires { length place.now.path_sizes ≡ length place.now.path }
+    ensures { IfOk result (λ holds. holds
+        ≡ nat_le (joined_cells_with (keeping own.now place.now kept.now)
+        (scope.now ∷ kept_scopes (keeping own.now place.now kept.now))) MAX_JOINED_CELLS) }
+{
+    let over = variables_with(alloc, own, place, kept, scope)?;
+    let sizes = sizes_of(alloc, own, place, over.as_slice())?;
+    Ok(cells_of(sizes.as_slice(), MAX_JOINED_CELLS).is_some())
+}
+
+/// Whether the child at this place may send a table of this scope with these cells.
+fn takes(
+    alloc: Global,
+    own: &Private,
+    place: &Place,
+    kept: &[Option<Table>],
+    child: usize,
+    scope: &[VarId],
+    cells: &[u64],
+) -> Result<bool, NoMemory>
+    requires sized { length place.now.path_sizes ≡ length place.now.path }
+    requires few { length cells.now ≤ MAX_JOINED_CELLS }
+    ensures { IfOk result (λ holds. holds
+        ≡ takes_util (keeping own.now place.now kept.now) child scope.now cells.now) }
+{
+    if !is_open(kept, child) {
+        return Ok(false);
+    }
+    if !is_in_order(alloc, own.me, place.path.as_slice(), scope)? {
+        return Ok(false);
+    }
+    if !has_cells(alloc, own, place, scope, cells.len())? {
+        return Ok(false);
+    }
+    is_narrow(alloc, own, place, kept, scope)
+}
+
+/// The table that a child sends with this scope and these cells, where it is taken.
+pub(crate) fn table_of(
+    alloc: Global,
+    own: &Private,
+    place: &Place,
+    kept: &[Option<Table>],
+    child: usize,
+    scope: &[VarId],
+    cells: &[u64],
+) -> Result<Option<Table>, NoMemory>
+    requires keeper { IsKeeper own.now place.now kept.now }
+    requires range { AreCells cells.now }
+    ensures { IfOk result (IsTaken (keeping own.now place.now kept.now) child scope.now cells.now) }
+{
+    if !takes(alloc, own, place, kept, child, scope, cells)? {
+        return Ok(None);
+    }
+    let sizes = sizes_of(alloc, own, place, scope)?;
+    Ok(Some(Table {
+        scope: VarList::from_vec(Vec::from_slice(alloc, scope)?),
+        sizes: SizeList::from_vec(sizes),
+        cells: CellList::from_vec(Vec::from_slice(alloc, cells)?),
+    }))
+}

@@ -1,0 +1,120 @@
+//! Joined tables.
+
+ghost use Rattle.std.specs.Prelude.{◌≡◌, ◌==◌, ◌||◌, ◌≤◌, [], true, false, length, map, IfOk};
+ghost use Rattle.std.specs.List.{All, list_all, filter, flat_map};
+ghost use Rattle.dcop_base.specs.Table.{has, has_repeat};
+ghost use Rattle.protocol_steps.specs.Dpop.{size_of, there};
+ghost use Rattle.util_join.specs.Join.{LiesIn};
+ghost use Rattle.dpop_agent.specs.Keeping.{keeping};
+ghost use Rattle.dpop_agent.specs.Joint.{HasGained, IsZeroOver, IsZeroWhereNarrow, IsJointWhereMay};
+ghost use Rattle.dpop_agent.specs.Sound.{IsKeeper};
+
+use crate::kept::{are_all_there, stands_in};
+use crate::separator::{sizes_of, variables_with};
+use dcop_base::{NoMemory, Private, SizeList, Table, VarId, VarList};
+use pseudotree::Place;
+use std::alloc::Global;
+use util_join::{JoinFault, Joined};
+
+/// Whether the variable is the agent's or one of its path.
+fn is_above(var: VarId, me: VarId, path: &[VarId]) -> bool
+    ensures { result ≡ (var == me || has path.now var) }
+{
+    var == me || stands_in(path, var)
+}
+
+/// Whether these variables are the agent's and otherwise only those of its path.
+fn are_above(scope: &[VarId], me: VarId, path: &[VarId]) -> bool
+    ensures { result ≡ list_all (λ u. u == me || has path.now u) scope.now }
+{
+    scope.iter().all(|var| is_above(*var, me, path))
+}
+
+/// Adds the tables that name the agent and otherwise only variables of its path.
+pub(crate) fn add_own(joined: &mut Joined, tables: &[Table], me: VarId, path: &[VarId])
+    requires { All (λ t. list_all (λ u. u == me || has path.now u) t.scope ≡ true
+        → LiesIn joined.old.scope joined.old.sizes t) tables.now }
+    ensures { HasGained (filter (λ t. list_all (λ u. u == me || has path.now u) t.scope) tables.now)
+        joined.old joined.new }
+{
+    for table in tables {
+        if are_above(table.scope.as_slice(), me, path) {
+            joined.add(table);
+        }
+    }
+}
+
+/// Adds the kept tables.
+fn add_kept(joined: &mut Joined, kept: &[Option<Table>])
+    requires { All (LiesIn joined.old.scope joined.old.sizes) (flat_map there kept.now) }
+    ensures { HasGained (flat_map there kept.now) joined.old joined.new }
+{
+    for entry in kept {
+        if let Some(table) = entry {
+            joined.add(table);
+        }
+    }
+}
+
+/// A joined table of zeros over these variables; `None` exactly where it is too wide.
+pub(crate) fn zeros_over(
+    alloc: Global,
+    own: &Private,
+    place: &Place,
+    over: Vec<VarId>,
+) -> Result<Option<Joined>, NoMemory>
+    requires sized { length place.now.path_sizes ≡ length place.now.path }
+    requires distinct { has_repeat over.items ≡ false }
+    requires positive { All (λ s. 1 ≤ s)
+        (map (size_of (keeping own.now place.now [])) over.items) }
+    ensures { IfOk result (IsZeroOver over.items
+        (map (size_of (keeping own.now place.now [])) over.items)) }
+{
+    let sizes = sizes_of(alloc, own, place, over.as_slice())?;
+    match Joined::new(alloc, VarList::from_vec(over), SizeList::from_vec(sizes)) {
+        Ok(joined) => Ok(Some(joined)),
+        Err(JoinFault::TooWide { .. }) => Ok(None),
+        Err(JoinFault::NoMemory) => Err(NoMemory),
+    }
+}
+
+/// The joined table of zeros that an agent starts from; `None` exactly where it is too wide.
+fn zeros(
+    alloc: Global,
+    own: &Private,
+    place: &Place,
+    kept: &[Option<Table>],
+) -> Result<Option<Joined>, NoMemory>
+    requires { IsKeeper own.now place.now kept.now }
+    ensures { IfOk result (IsZeroWhereNarrow (keeping own.now place.now kept.now)) }
+{
+    let over = variables_with(alloc, own, place, kept, &[])?;
+    zeros_over(alloc, own, place, over)
+}
+
+/// The joined table of the agent's own tables and all its children's tables; `None` exactly where
+/// not all of them are kept, or the table is too wide.
+pub(crate) fn joined_of(
+    alloc: Global,
+    own: &Private,
+    place: &Place,
+    kept: &[Option<Table>],
+) -> Result<Option<Table>, NoMemory>
+    requires { IsKeeper own.now place.now kept.now }
+    ensures { IfOk result (IsJointWhereMay (keeping own.now place.now kept.now)) }
+{
+    if !are_all_there(kept) {
+        return Ok(None);
+    }
+    let Some(mut joined) = zeros(alloc, own, place, kept)? else {
+        return Ok(None);
+    };
+    add_own(
+        &mut joined,
+        own.tables.as_slice(),
+        own.me,
+        place.path.as_slice(),
+    );
+    add_kept(&mut joined, kept);
+    Ok(Some(joined.table()))
+}

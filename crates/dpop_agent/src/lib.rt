@@ -1,0 +1,22 @@
+//! The DPOP agent: tables of costs go up a tree, and values come down.
+//!
+//! A [`DpopAgent`] knows its part of the problem and its place in the tree. When it has the tables
+//! of all its children it joins them with its own tables, projects itself out and sends the result
+//! to its parent. With the values of the parent it takes its own value and tells its children. This
+//! is the UTIL and VALUE propagation of DPOP (Petcu, Faltings, IJCAI 2005).
+#![tactic(auto)]
+
+mod agent;
+mod child;
+mod joint;
+mod kept;
+mod made;
+mod separator;
+mod stage;
+mod steps;
+mod util;
+mod values;
+
+pub use agent::DpopAgent;
+pub use made::{KeptList, Made, remake};
+pub use steps::Steps;
