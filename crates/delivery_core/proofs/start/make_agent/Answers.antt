@@ -1,0 +1,8 @@
+use Rattle.std.proofs.Common.{sym, subst}
+use Rattle.dcop_base.specs.declared.knowledge.Private.{Private}
+use Rattle.protocol_steps.specs.Knowledge.{IsKnowledge}
+use Rattle.delivery_core.proofs.start.make_agent.Goals as goal
+
+pub token-requires : goal.token-requires
+token-requires c =
+    subst (λ (own : Private). IsKnowledge own) (sym c.requires.known) (c.private_is_knowledge.ensures c.args.problem.now c.args.me c.requires.whole c.requires.inside)

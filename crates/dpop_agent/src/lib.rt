@@ -1,0 +1,6 @@
+//! The DPOP agent: tables of costs go up a tree, and values come down.
+#![tactic(auto)]
+
+mod agent;
+
+pub use agent::DpopAgent;
