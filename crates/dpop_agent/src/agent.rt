@@ -71,10 +71,14 @@ impl Machine for DpopAgent {
     }
 
     fn ended(&self) -> bool {
-        false
+        match self.stage {
+            Stage::Waiting => false,
+            Stage::Failed => false,
+        }
     }
 
     fn value(&self) -> Val {
+        let _stage = self.stage;
         Val(0)
     }
 
@@ -87,6 +91,7 @@ impl Machine for DpopAgent {
     }
 
     fn table(&self) -> Option<&Table> {
+        let _stage = self.stage;
         None
     }
 
