@@ -52,7 +52,7 @@ pub(crate) fn begin(alloc: Global, problem: &Problem, start: &Start) -> Result<C
 
 /// Runs these events from the start state, and gives the network state at their end. A tree of the
 /// start is a pseudotree of the problem, and linked: each variable but the root is a neighbour of
-/// its parent.
+/// its parent; an error is at most 2^62.
 ///
 /// # Errors
 ///

@@ -4,8 +4,10 @@ ghost use Rattle.std.specs.Prelude.{◌≡◌, ℕ, ◌+◌, ◌<◌, ◌≤◌,
 ghost use Rattle.dcop_base.specs.Problem.{Dcop};
 ghost use Rattle.dcop_base.specs.Whole.{IsProblem};
 ghost use Rattle.dcop_base.specs.Knowledge.{private_of};
+ghost use Rattle.protocol_steps.specs.Placing.{IsPlaceFor};
 ghost use Rattle.protocol_steps.specs.View.{View};
-ghost use Rattle.delivery_core.specs.Agents.{IsStartFor, agents_of};
+ghost use Rattle.protocol_steps.specs.TreeAgents.{place_at};
+ghost use Rattle.delivery_core.specs.Agents.{IsTreeFor, IsStartFor, agents_of};
 ghost use Rattle.delivery_core.specs.Starts.{agent_of, new_seat, Begun, Starts};
 
 use crate::agent::Agent;
@@ -13,8 +15,8 @@ use crate::deliver::post;
 use crate::inbox::new_links;
 use crate::seat::Seat;
 use dcop_base::{MAX_VARIABLES, NoMemory, Private, Problem, VarId, private};
-use protocol_steps::private_is_knowledge;
-use pseudotree::Tree;
+use protocol_steps::{places_fit, private_is_knowledge};
+use pseudotree::{Place, Tree, place};
 use std::alloc::Global;
 
 /// What a run starts with: the kind of its agents, and what they are made from besides the
@@ -25,6 +27,20 @@ pub enum Start {
     Token,
     /// DPOP agents on this tree.
     Dpop(Tree),
+    /// ADOPT agents on this tree, for a requested error.
+    Adopt(Tree, u64),
+}
+
+/// The place of a variable in a tree on which the agents run.
+fn place_in(alloc: Global, problem: &Problem, tree: &Tree, me: VarId) -> Result<Place, NoMemory>
+    requires whole { IsProblem problem.now }
+    requires tree { IsTreeFor problem.now tree.now }
+    requires inside { me < length problem.now.sizes }
+    ensures placed { IfOk result (λ place. place ≡ place_at problem.now tree.now.paths me) }
+    ensures fits { IfOk result (IsPlaceFor (private_of problem.now me)) }
+{
+    places_fit();
+    place(alloc, tree, problem, me)
 }
 
 /// The agent of a variable, which knows this.
@@ -44,7 +60,14 @@ fn make_agent(
     private_is_knowledge();
     match start {
         Start::Token => Agent::token(alloc, own),
-        Start::Dpop(tree) => Err(NoMemory),
+        Start::Dpop(tree) => {
+            let place = place_in(alloc, problem, tree, me)?;
+            Agent::dpop(alloc, own, place)
+        }
+        Start::Adopt(tree, error) => {
+            let place = place_in(alloc, problem, tree, me)?;
+            Agent::adopt(alloc, own, place, *error)
+        }
     }
 }
 

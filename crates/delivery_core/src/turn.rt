@@ -96,7 +96,7 @@ fn play_rounds(
 /// takes what is pending, at most 64 messages. Playing stops where, after the start or a round,
 /// all have ended, the deliveries are at least `budget`, or the round had no event. A tree of the
 /// start is a pseudotree of the problem, and linked: each variable but the root is a neighbour of
-/// its parent.
+/// its parent; an error is at most 2^62.
 ///
 /// # Errors
 ///

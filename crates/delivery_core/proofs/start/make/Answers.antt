@@ -26,7 +26,8 @@ returns-clause-made c =
     let made = agent_of p c.args.start.now in
     let before : c.loop-me.seats.items ≡ map new_seat (map made (range_with_len 0 c.loop-me.me)) = c.loop-me.invariant in
     let all : length c.as_slice-me-end.result.now ≡ length c.problem.inside.sizes = ap (λ (xs : List ℕ). length xs) c.as_slice-me-end.ensures in
-    let end : c.loop-me.me ≡ length p.sizes = ? in
+    let size : length c.problem.inside.sizes ≡ length p.sizes = ap (λ (q : Dcop). length q.sizes) c.problem.view_is in
+    let end : c.loop-me.me ≡ length p.sizes = omega (arith, all, size, c.loop-me-test.false, c.loop-me.auto.me-end) in
     before ∙ ap (λ (n : ℕ). map new_seat (map made (range_with_len 0 n))) end ∙ ap (λ (vs : List View). map new_seat vs) (sym (agents_made p c.args.start.now))
 
 pub returns-clause-few : goal.returns-clause-few
