@@ -1,6 +1,6 @@
 -- The place of a variable in a linked pseudotree fits what its agent is given of the problem.
-use Rattle.std.proofs.Common.{◌≡◌, ℕ, zero, suc, ◌+◌, ◌<◌, ◌≤◌, Bool, true, false, not, ◌&&◌, ◌||◌, eqb, List, [], ◌∷◌, map, length, get_or, take, Some, refl, sym, ap, subst, ◌∙◌, inl, inr, arith}
-use Rattle.std.specs.List.{All, Contains, filter, list_any, range_with_len, zip}
+use Rattle.std.proofs.Common.{◌≡◌, ℕ, zero, suc, ◌<◌, true, false, not, ◌||◌, eqb, List, [], ◌∷◌, length, get_or, Some, refl, sym, ap, subst, ◌∙◌, inl, inr, arith}
+use Rattle.std.specs.List.{All, list_any, range_with_len}
 use Rattle.std.proofs.lemmas.Bool.{cases_Bool, or_cases, or_left, or_from, eqb-true, eq-eqb, ne_eqb, both_ways}
 use Rattle.std.proofs.lemmas.List.{length-map, length-take-le, get_or_default}
 use Rattle.std.proofs.lemmas.List.Kept.{IsStrictlyIncreasing-filter}
@@ -26,8 +26,6 @@ use Rattle.pseudotree.proofs.GatherLaws.{variable_is}
 use Rattle.pseudotree.proofs.SpreadLaws.{any_in_range, range_any, above_child, above_above}
 use Rattle.pseudotree.proofs.NestLaws.{has_filter, filter_has, above_shorter}
 use Rattle.pseudotree.proofs.PlaceLaws.{path_below}
-use Rattle.adopt_context.specs.Context.{value_in}
-use Rattle.protocol_steps.specs.TokenStep.{most_others}
 use Rattle.protocol_steps.specs.Knowledge.{IsSize}
 use Rattle.protocol_steps.specs.Placing.{IsPathOf, IsPlaceFor, PlacesFit}
 use Rattle.protocol_steps.specs.TreeAgents.{place_at}
@@ -67,7 +65,7 @@ module _ (paths : List (List ℕ)) (tree : IsTree paths) (i : ℕ) where
   not_above_itself h = let less = above_shorter paths tree i i h in omega (arith, less)
 
   without : has path i ≡ false
-  without = elim (cases_Bool (is_above paths i i)) [ | inl there ↦ absurd (not_above_itself there) | inr none ↦ none ]
+  without = elim (cases_Bool (is_above paths i i)) [ inl there ↦ absurd (not_above_itself there) | inr none ↦ none ]
 
   -- the depth of what stands in a path is its place there
   depth_at : (k d : ℕ) → k < length path → length (path_of paths (get_or path k d)) ≡ k
