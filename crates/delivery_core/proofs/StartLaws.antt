@@ -9,23 +9,21 @@ use Rattle.std.proofs.lemmas.List.{append-nil, length-set, length-map, map-set, 
 use Rattle.std.proofs.lemmas.List.Elements.{All-weaker}
 use Rattle.std.proofs.lemmas.List.FromFn.{length-map-range_with_len, map-range_with_len_more}
 use Rattle.dcop_base.specs.Problem.{Dcop}
-use Rattle.dcop_base.specs.Knowledge.{private_of as known_by}
 use Rattle.protocol_steps.specs.declared.message.Message.{Message}
 use Rattle.protocol_steps.specs.declared.event.Take.{Take}
-use Rattle.protocol_steps.specs.Token.{new_token}
-use Rattle.protocol_steps.specs.View.{View, TokenKind, private_of}
+use Rattle.protocol_steps.specs.View.{View, private_of}
 use Rattle.protocol_steps.specs.Step.{start_of}
 use Rattle.protocol_steps.specs.Machine.{MayStart, IsToNeighbour}
 use Rattle.protocol_steps.specs.Network.{Desk, start_state, messages_to, sent_at, takes_at, taken_from}
 use Rattle.protocol_steps.specs.Effect.{deliveries}
 use Rattle.delivery_core.specs.declared.start.Start.{Start}
-use Rattle.delivery_core.specs.declared.start.Start.TheVariants.{Token}
+use Rattle.delivery_core.specs.declared.start.Start.TheVariants.{Token, Dpop, Adopt}
 use Rattle.delivery_core.specs.State.{LinkView, SeatView, link_from, waiting_on, taken_on, waiting_from, last_taken, inbox_of, inbox_at, views_of}
 use Rattle.delivery_core.specs.NetworkState.{letters_of}
 use Rattle.delivery_core.specs.Inboxes.{senders}
 use Rattle.delivery_core.specs.SeatEvents.{deliver_all}
 use Rattle.delivery_core.specs.Agents.{agents_of}
-use Rattle.delivery_core.specs.Starts.{new_link, new_seat, sends_in, first_sends, IsFresh, Begun}
+use Rattle.delivery_core.specs.Starts.{agent_of, new_link, new_seat, sends_in, first_sends, IsFresh, Begun}
 use Rattle.delivery_core.specs.Shown.{IsRunning, Shows}
 use Rattle.delivery_core.proofs.NearLaws.{near_back}
 use Rattle.delivery_core.proofs.StartedLaws.{start_starts, start_private}
@@ -177,7 +175,7 @@ begun_new p made count new =
       last = λ i j lt. (let v = at i lt in ap (λ (ls : List LinkView). last_taken ls j) (new_box made i v.0 v.1) ∙ (new_empty (private_of v.0).neighbours j).1);
     }
 
--- the token agents of a problem
+-- the agents of a start
 range_get : (a n i v : ℕ) → slice_get (range_with_len a n) i ≡ Some v → v ≡ a + i
 range_get a zero i v h = absurd (none-some v h)
 range_get a (suc n) zero v h = let e : a ≡ v = same_Some a v h in omega (arith, e)
@@ -187,18 +185,26 @@ map_get : {A B : Type 0} (f : A → B) (o : Option A) (y : B) → option_map f o
 map_get f None y h = absurd (none-some y h)
 map_get f (Some x) y h = (x, refl, same_Some (f x) y h)
 
-abbrev pub token_made : Dcop → ℕ → View
-token_made p i = TokenKind (new_token (known_by p i))
+fresh_agent : (p : Dcop) (start : Start) (i : ℕ) → IsFresh p i (agent_of p start i)
+fresh_agent p Token i = record { near = refl; fresh = refl }
+fresh_agent p (Dpop tree) i = record { near = refl; fresh = refl }
+fresh_agent p (Adopt tree error) i = record { near = refl; fresh = refl }
 
-fresh_token : (p : Dcop) (i : ℕ) (v : View) → slice_get (map (token_made p) (range_with_len 0 (length p.sizes))) i ≡ Some v → IsFresh p i v
-fresh_token p i v h =
-    let r = map_get (token_made p) (slice_get (range_with_len 0 (length p.sizes)) i) v (sym (slice_get-map (token_made p) (range_with_len 0 (length p.sizes)) i) ∙ h) in
+pub agents_made : (p : Dcop) (start : Start) → agents_of p start ≡ map (agent_of p start) (range_with_len 0 (length p.sizes))
+agents_made p Token = refl
+agents_made p (Dpop tree) = refl
+agents_made p (Adopt tree error) = refl
+
+fresh_made : (p : Dcop) (start : Start) (i : ℕ) (v : View) → slice_get (map (agent_of p start) (range_with_len 0 (length p.sizes))) i ≡ Some v → IsFresh p i v
+fresh_made p start i v h =
+    let r = map_get (agent_of p start) (slice_get (range_with_len 0 (length p.sizes)) i) v (sym (slice_get-map (agent_of p start) (range_with_len 0 (length p.sizes)) i) ∙ h) in
     let e : r.0 ≡ i = (let f = range_get 0 (length p.sizes) i r.0 r.1 in omega (arith, f)) in
-    let one : IsFresh p i (token_made p i) = record { near = refl; fresh = refl } in
-    subst (λ (w : View). IsFresh p i w) (ap (token_made p) (sym e) ∙ r.2) one
+    subst (λ (w : View). IsFresh p i w) (ap (agent_of p start) (sym e) ∙ r.2) (fresh_agent p start i)
 
 pub begun_agents : (p : Dcop) (start : Start) → Begun p (agents_of p start) 0 (map new_seat (agents_of p start))
-begun_agents p Token = begun_new p (map (token_made p) (range_with_len 0 (length p.sizes))) (length-map-range_with_len (token_made p) 0 (length p.sizes)) (fresh_token p)
+begun_agents p start =
+    subst (λ (made : List View). Begun p made 0 (map new_seat made)) (sym (agents_made p start))
+    (begun_new p (map (agent_of p start) (range_with_len 0 (length p.sizes))) (length-map-range_with_len (agent_of p start) 0 (length p.sizes)) (fresh_made p start))
 
 -- all have started
 abbrev first_desk : View → Desk
@@ -246,10 +252,11 @@ no_takes (v ∷ vs) n = no_takes vs (n + 0) ∙ omega arith
 pub none_delivered : (made : List View) → deliveries (start_state made) ≡ 0
 none_delivered made = no_takes made 0
 
--- one more token agent is made
-pub seats_more : (p : Dcop) (n : ℕ) → map new_seat (map (token_made p) (range_with_len 0 (n + 1))) ≡ map new_seat (map (token_made p) (range_with_len 0 n)) ++ (new_seat (token_made p n) ∷ [])
-seats_more p n =
-    ap (λ (vs : List View). map new_seat vs) (map-range_with_len_more (token_made p) 0 n n (omega arith)) ∙ map-append new_seat (map (token_made p) (range_with_len 0 n)) (token_made p n ∷ [])
+-- one more agent is made
+pub seats_more : (p : Dcop) (start : Start) (n : ℕ)
+    → map new_seat (map (agent_of p start) (range_with_len 0 (n + 1))) ≡ map new_seat (map (agent_of p start) (range_with_len 0 n)) ++ (new_seat (agent_of p start n) ∷ [])
+seats_more p start n =
+    ap (λ (vs : List View). map new_seat vs) (map-range_with_len_more (agent_of p start) 0 n n (omega arith)) ∙ map-append new_seat (map (agent_of p start) (range_with_len 0 n)) (agent_of p start n ∷ [])
 
 pub agent_there : (seats : List SeatView) (k : ℕ) (d : SeatView) → k < length seats → slice_get seats k ≡ Some (get_or seats k d)
 agent_there seats k d lt = slice_get-get_or seats k d lt

@@ -1,7 +1,7 @@
 //! Replaying a list of events.
 
 ghost use Rattle.std.specs.Prelude.{◌≡◌, ◌≤◌, length, IfOk};
-ghost use Rattle.delivery_core.specs.Agents.{network_of};
+ghost use Rattle.delivery_core.specs.Agents.{IsStartFor, network_of};
 ghost use Rattle.delivery_core.specs.Shown.{IsCore};
 ghost use Rattle.delivery_core.specs.Faults.{Replays};
 
@@ -37,8 +37,9 @@ impl From<NoMemory> for ReplayFault {
 }
 
 /// The state where all agents of a start have started, and nothing is taken.
-pub(crate) fn begin(alloc: Global, problem: &Problem, start: Start) -> Result<CoreState, NoMemory>
-    ensures core { IfOk result (λ state. IsCore problem.now (network_of problem.now start) state) }
+pub(crate) fn begin(alloc: Global, problem: &Problem, start: &Start) -> Result<CoreState, NoMemory>
+    requires { IsStartFor problem.now start.now }
+    ensures core { IfOk result (λ state. IsCore problem.now (network_of problem.now start.now) state) }
     ensures few { IfOk result (λ state. length state.seats ≤ MAX_VARIABLES) }
 {
     let mut seats = make(alloc, problem, start)?;
@@ -49,7 +50,9 @@ pub(crate) fn begin(alloc: Global, problem: &Problem, start: Start) -> Result<Co
     })
 }
 
-/// Runs these events from the start state, and gives the network state at their end.
+/// Runs these events from the start state, and gives the network state at their end. A tree of the
+/// start is a pseudotree of the problem, and linked: each variable but the root is a neighbour of
+/// its parent; an error is at most 2^62.
 ///
 /// # Errors
 ///
@@ -62,10 +65,11 @@ pub fn replay(
     start: Start,
     events: &EventList,
 ) -> Result<CoreState, ReplayFault>
+    requires start { IsStartFor problem.now start }
     ensures end { Replays (network_of problem.now start) events.now result }
     ensures size { IfOk result (λ state. length state.seats ≡ length problem.now.sizes) }
 {
-    let mut state = begin(alloc, problem, start)?;
+    let mut state = begin(alloc, problem, &start)?;
     for (at, event) in events.as_slice().iter().enumerate() {
         if let Some(fault) = state.happen(alloc, event)? {
             return Err(ReplayFault::BadEvent {

@@ -4,17 +4,19 @@ ghost use Rattle.std.specs.Prelude.{◌≡◌, ℕ, ◌+◌, ◌<◌, ◌≤◌,
 ghost use Rattle.dcop_base.specs.Problem.{Dcop};
 ghost use Rattle.dcop_base.specs.Whole.{IsProblem};
 ghost use Rattle.dcop_base.specs.Knowledge.{private_of};
-ghost use Rattle.protocol_steps.specs.Token.{new_token};
-ghost use Rattle.protocol_steps.specs.View.{View, TokenKind};
-ghost use Rattle.delivery_core.specs.Agents.{agents_of};
-ghost use Rattle.delivery_core.specs.Starts.{new_seat, Begun, Starts};
+ghost use Rattle.protocol_steps.specs.Placing.{IsPlaceFor};
+ghost use Rattle.protocol_steps.specs.View.{View};
+ghost use Rattle.protocol_steps.specs.TreeAgents.{place_at};
+ghost use Rattle.delivery_core.specs.Agents.{IsTreeFor, IsStartFor, agents_of};
+ghost use Rattle.delivery_core.specs.Starts.{agent_of, new_seat, Begun, Starts};
 
 use crate::agent::Agent;
 use crate::deliver::post;
 use crate::inbox::new_links;
 use crate::seat::Seat;
-use dcop_base::{MAX_VARIABLES, NoMemory, Problem, VarId, private};
-use protocol_steps::private_is_knowledge;
+use dcop_base::{MAX_VARIABLES, NoMemory, Private, Problem, VarId, private};
+use protocol_steps::{places_fit, private_is_knowledge};
+use pseudotree::{Place, Tree, place};
 use std::alloc::Global;
 
 /// What a run starts with: the kind of its agents, and what they are made from besides the
@@ -23,41 +25,76 @@ use std::alloc::Global;
 pub enum Start {
     /// Token agents, which search the problem's depth-first tree.
     Token,
+    /// DPOP agents on this tree.
+    Dpop(Tree),
+    /// ADOPT agents on this tree, for a requested error.
+    Adopt(Tree, u64),
 }
 
-/// The token agent of a variable.
-fn token_seat(alloc: Global, problem: &Problem, me: VarId) -> Result<Seat, NoMemory>
+/// The place of a variable in a tree on which the agents run.
+fn place_in(alloc: Global, problem: &Problem, tree: &Tree, me: VarId) -> Result<Place, NoMemory>
     requires whole { IsProblem problem.now }
+    requires tree { IsTreeFor problem.now tree.now }
     requires inside { me < length problem.now.sizes }
-    ensures { IfOk result (λ seat. seat ≡ new_seat (TokenKind (new_token (private_of problem.now me)))) }
+    ensures placed { IfOk result (λ place. place ≡ place_at problem.now tree.now.paths me) }
+    ensures fits { IfOk result (IsPlaceFor (private_of problem.now me)) }
+{
+    places_fit();
+    place(alloc, tree, problem, me)
+}
+
+/// The agent of a variable, which knows this.
+fn make_agent(
+    alloc: Global,
+    problem: &Problem,
+    start: &Start,
+    me: VarId,
+    own: Private,
+) -> Result<Agent, NoMemory>
+    requires whole { IsProblem problem.now }
+    requires start { IsStartFor problem.now start.now }
+    requires inside { me < length problem.now.sizes }
+    requires known { own ≡ private_of problem.now me }
+    ensures { IfOk result (λ agent. agent ≡ agent_of problem.now start.now me) }
 {
     private_is_knowledge();
+    match start {
+        Start::Token => Agent::token(alloc, own),
+        Start::Dpop(tree) => {
+            let place = place_in(alloc, problem, tree, me)?;
+            Agent::dpop(alloc, own, place)
+        }
+        Start::Adopt(tree, error) => {
+            let place = place_in(alloc, problem, tree, me)?;
+            Agent::adopt(alloc, own, place, *error)
+        }
+    }
+}
+
+/// The agent of a variable, with a link of each neighbour.
+fn make_seat(alloc: Global, problem: &Problem, start: &Start, me: VarId) -> Result<Seat, NoMemory>
+    requires whole { IsProblem problem.now }
+    requires start { IsStartFor problem.now start.now }
+    requires inside { me < length problem.now.sizes }
+    ensures { IfOk result (λ seat. seat ≡ new_seat (agent_of problem.now start.now me)) }
+{
     let own = private(alloc, problem, me)?;
     let links = new_links(alloc, own.neighbours.as_slice())?;
-    let agent = Agent::token(alloc, own)?;
+    let agent = make_agent(alloc, problem, start, me, own)?;
     Ok(Seat::new(agent, links))
 }
 
-/// The token agents of a problem.
-fn token_seats(alloc: Global, problem: &Problem) -> Result<Vec<Seat>, NoMemory>
-    ensures made { IfOk result (λ seats. seats.items ≡ map new_seat (agents_of problem.now Start.Token)) }
+/// The agents of a start.
+pub(crate) fn make(alloc: Global, problem: &Problem, start: &Start) -> Result<Vec<Seat>, NoMemory>
+    requires { IsStartFor problem.now start.now }
+    ensures made { IfOk result (λ seats. seats.items ≡ map new_seat (agents_of problem.now start.now)) }
     ensures few { IfOk result (λ seats. length seats.items ≤ MAX_VARIABLES) }
 {
     let mut seats = Vec::new(alloc);
     for me in 0..problem.sizes.as_slice().len() {
-        seats.push(token_seat(alloc, problem, VarId(me as u32))?)?;
+        seats.push(make_seat(alloc, problem, start, VarId(me as u32))?)?;
     }
     Ok(seats)
-}
-
-/// The agents of a start.
-pub(crate) fn make(alloc: Global, problem: &Problem, start: Start) -> Result<Vec<Seat>, NoMemory>
-    ensures made { IfOk result (λ seats. seats.items ≡ map new_seat (agents_of problem.now start)) }
-    ensures few { IfOk result (λ seats. length seats.items ≤ MAX_VARIABLES) }
-{
-    match start {
-        Start::Token => token_seats(alloc, problem),
-    }
 }
 
 /// An agent starts, after those before it.

@@ -1,7 +1,7 @@
 //! Playing in rounds.
 
 ghost use Rattle.std.specs.Prelude.{◌≡◌, ◌<◌, ◌≤◌, [], length, IfOk, OnOk};
-ghost use Rattle.delivery_core.specs.Agents.{network_of};
+ghost use Rattle.delivery_core.specs.Agents.{IsStartFor, network_of};
 ghost use Rattle.delivery_core.specs.Turns.{IsPlayed};
 ghost use Rattle.delivery_core.specs.Shown.{IsSomeCore};
 ghost use Rattle.delivery_core.specs.SeatTurns.{is_over, TakesTurn, PlaysRound, PlaysOut};
@@ -94,16 +94,19 @@ fn play_rounds(
 /// Plays the agents in rounds from the start state. In a round the agents come in ascending order,
 /// and each that has not ended and has something pending makes one event: from each sender it
 /// takes what is pending, at most 64 messages. Playing stops where, after the start or a round,
-/// all have ended, the deliveries are at least `budget`, or the round had no event.
+/// all have ended, the deliveries are at least `budget`, or the round had no event. A tree of the
+/// start is a pseudotree of the problem, and linked: each variable but the root is a neighbour of
+/// its parent; an error is at most 2^62.
 ///
 /// # Errors
 ///
 /// [`NoMemory`] where memory was wanted and not had.
 pub fn play(alloc: Global, problem: &Problem, start: Start, budget: u64) -> Result<Played, NoMemory>
+    requires start { IsStartFor problem.now start }
     ensures end { IfOk result (λ played. IsPlayed budget (network_of problem.now start) played.events played.state) }
     ensures size { IfOk result (λ played. length played.state.seats ≡ length problem.now.sizes) }
 {
-    let mut state = begin(alloc, problem, start)?;
+    let mut state = begin(alloc, problem, &start)?;
     let mut events = Vec::new(alloc);
     play_rounds(alloc, &mut state, budget, &mut events)?;
     Ok(Played {

@@ -12,4 +12,5 @@ pub mod TallyLaws
 pub mod DeliveredLaws
 pub mod StampRows
 pub mod PrivateLaws
+pub mod PlacingLaws
 pub mod ValueLaws

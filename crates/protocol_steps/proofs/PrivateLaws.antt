@@ -22,12 +22,12 @@ use Rattle.adopt_context.specs.Context.{value_in}
 use Rattle.protocol_steps.specs.Knowledge.{IsSize, known_sizes, IsKnownTable, IsKnowledge, PrivatesAreKnowledge}
 
 -- a number that stands in a list is one of its elements, and each element stands in it
-contains_from_has : (xs : List ℕ) (x : ℕ) → has xs x ≡ true → Contains xs x
+pub contains_from_has : (xs : List ℕ) (x : ℕ) → has xs x ≡ true → Contains xs x
 contains_from_has xs x h =
     let some = Any-from_list_any (λ y. y == x) xs h in
     (some.0, some.2, get_or_default xs some.0 x some.1 some.2 ∙ some.3 ∙ eqb-true some.1 x some.4)
 
-has_at : (xs : List ℕ) (k d : ℕ) → k < length xs → has xs (get_or xs k d) ≡ true
+pub has_at : (xs : List ℕ) (k d : ℕ) → k < length xs → has xs (get_or xs k d) ≡ true
 has_at xs k d lt = list_any_at (λ y. y == get_or xs k d) xs k d lt (eq-eqb (get_or xs k d) (get_or xs k d) refl)
 
 -- what is looked up among sizes that are read off

@@ -2,6 +2,7 @@
 //! who needs the law calls it.
 
 ghost use Rattle.protocol_steps.specs.Knowledge.{PrivatesAreKnowledge};
+ghost use Rattle.protocol_steps.specs.Placing.{PlacesFit};
 ghost use Rattle.protocol_steps.specs.Laws.{OriginsStay, ParcelsGoToNeighbours, JournalsDecide};
 ghost use Rattle.protocol_steps.specs.Links.{LinksGrow};
 ghost use Rattle.protocol_steps.specs.StampLaw.{StampsOrder};
@@ -10,6 +11,12 @@ ghost use Rattle.protocol_steps.specs.JournalStamps.{StartsShow, JournalsOrder};
 /// What an agent is given of a problem is what an agent may be made from.
 pub fn private_is_knowledge()
     ensures { PrivatesAreKnowledge }
+{}
+
+/// The place of a variable in a linked pseudotree of a problem fits what its agent is given of the
+/// problem.
+pub fn places_fit()
+    ensures { PlacesFit }
 {}
 
 /// What an agent was made from never changes, by its start and by each step.

@@ -19,7 +19,7 @@ mod standing;
 pub use event::{Entry, Event, EventFault, EventList, Journal, JournalList, Take, TakeList};
 pub use law::{
     journals_decide, journals_order, links_grow, origins_stay, parcels_go_to_neighbours,
-    private_is_knowledge, stamps_order, starts_show,
+    places_fit, private_is_knowledge, stamps_order, starts_show,
 };
 pub use letter::{Batch, Envelope, Letter, Outbox, Parcel};
 pub use machine::Machine;
