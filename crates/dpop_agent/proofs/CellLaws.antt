@@ -10,8 +10,8 @@ use Rattle.dcop_base.proofs.TableLaws.{parts-of}
 use Rattle.pseudotree.specs.declared.agent.Place.{Place}
 use Rattle.cost_table.specs.Cells.{cell_of, place_in}
 use Rattle.util_project.specs.Projection.{IsLeast, IsLowestLeast, IsProjection, cell_at_value, size_in}
-use Rattle.protocol_steps.specs.Values.{or_zero, valued, choices}
-use Rattle.adopt_context.specs.Context.{value_in}
+use Rattle.protocol_steps.specs.Values.{valued, choices}
+use Rattle.adopt_context.specs.Context.{value_in, or_zero}
 use Rattle.protocol_steps.specs.Dpop.{DpopView, size_of, separator, joined_cost, best_value, util_cell, util_table}
 use Rattle.dpop_agent.specs.Keeping.{keeping}
 use Rattle.dpop_agent.specs.Joint.{IsJoint, over_of, over_sizes}

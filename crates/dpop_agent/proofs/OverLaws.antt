@@ -16,9 +16,9 @@ use Rattle.cost_table.specs.Cells.{place_in}
 use Rattle.cost_table.proofs.PlaceLaws.{place_in-lt}
 use Rattle.cost_table.proofs.ProblemCutLaws.{at-place}
 use Rattle.util_join.specs.Join.{LiesIn}
-use Rattle.adopt_context.specs.Context.{Context, value_in, names_all}
+use Rattle.adopt_context.specs.Context.{Context, value_in, names_all, or_zero}
 use Rattle.protocol_steps.specs.DpopStep.{is_below_size}
-use Rattle.protocol_steps.specs.Values.{or_zero, valued}
+use Rattle.protocol_steps.specs.Values.{valued}
 use Rattle.protocol_steps.specs.Dpop.{DpopView, there, joined_cost, best_value, size_of, separator, kept_scopes, joined_cells_with}
 use Rattle.protocol_steps.specs.Knowledge.{IsSize, known_sizes}
 use Rattle.dpop_agent.specs.Keeping.{keeping, IsChildTable, MayKeep}

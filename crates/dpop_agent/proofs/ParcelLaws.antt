@@ -7,11 +7,11 @@ use Rattle.std.proofs.lemmas.List.Elements.{All-nil, All-cons, All-head, All-tai
 use Rattle.dcop_base.specs.Table.{CostTable, has}
 use Rattle.dcop_base.specs.Values.{with_own}
 use Rattle.dcop_base.specs.declared.problem.TheConstants.{MAX_VARIABLES, MAX_SIZE}
-use Rattle.adopt_context.specs.Context.{Context, value_in}
+use Rattle.adopt_context.specs.Context.{Context, value_in, or_zero}
 use Rattle.protocol_steps.specs.declared.message.Message.{Message}
 use Rattle.protocol_steps.specs.declared.message.Message.TheVariants.{ValueAll}
 use Rattle.protocol_steps.specs.Ranges.{IsContext}
-use Rattle.protocol_steps.specs.Values.{or_zero, valued, context_of}
+use Rattle.protocol_steps.specs.Values.{valued, context_of}
 use Rattle.protocol_steps.specs.Dpop.{there}
 use Rattle.protocol_steps.proofs.ValueLaws.{all-context_of}
 

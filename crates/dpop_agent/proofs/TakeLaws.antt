@@ -16,8 +16,7 @@ use Rattle.pseudotree.proofs.NestLaws.{has_filter}
 use Rattle.cost_table.proofs.SliceLaws.{faultless}
 use Rattle.protocol_steps.specs.declared.message.Message.{Message}
 use Rattle.protocol_steps.specs.declared.message.Message.TheVariants.{Util}
-use Rattle.adopt_context.specs.Context.{value_in}
-use Rattle.protocol_steps.specs.Values.{or_zero}
+use Rattle.adopt_context.specs.Context.{value_in, or_zero}
 use Rattle.protocol_steps.specs.Agent.{quiet}
 use Rattle.protocol_steps.specs.Ranges.{AreCells}
 use Rattle.protocol_steps.specs.Dpop.{DpopView, size_of, separator_with, kept_scopes, joined_cells_with}
