@@ -1,13 +1,15 @@
 //! The bounds of the own values, and the lowest value of the least.
 
-ghost use Rattle.std.specs.Prelude.{◌≡◌, ℕ, ◌-◌, ◌<◌, ◌≤◌, length, nat_lt, slice_index};
+ghost use Rattle.std.specs.Prelude.{◌≡◌, ℕ, ◌+◌, ◌-◌, ◌<◌, ◌≤◌, length, max, nat_lt, slice_index, if◌then◌else◌};
 ghost use Rattle.dcop_base.specs.declared.number.TheConstants.{CAP};
-ghost use Rattle.adopt_context.specs.Bounds.{is_below, lower_at, lowest, upper_at};
+ghost use Rattle.adopt_context.specs.Allot.{lower_to};
+ghost use Rattle.adopt_context.specs.Context.{is_value};
+ghost use Rattle.adopt_context.specs.Bounds.{cap, is_below, lower_at, lowest, upper_at};
 ghost use Rattle.protocol_steps.specs.Ranges.{IsBound};
 ghost use Rattle.adopt_agent.specs.Costs.{cost_where};
 
 use adopt_bounds::Bounds;
-use dcop_base::{MAX_SIZE, Val};
+use dcop_base::{CAP, MAX_SIZE, Val};
 
 /// LB(d): the cost of an own value and the lower bounds of the children.
 pub(crate) fn lower_of(costs: &[u64], bounds: &Bounds, d: Val) -> u64
@@ -90,4 +92,42 @@ pub(crate) fn best_upper(costs: &[u64], whole: bool, bounds: &Bounds) -> Val
         }
     }
     best
+}
+
+/// The amount, or the bound where the amount is above it.
+pub(crate) fn lower_to(amount: u64, bound: Option<u64>) -> u64
+    requires { amount ≤ CAP }
+    ensures bound { result ≡ lower_to amount bound }
+    ensures within { result ≤ CAP }
+{
+    match bound {
+        Some(bound) => amount.min(bound),
+        None => amount,
+    }
+}
+
+/// Whether the bound that is found is this amount.
+pub(crate) fn is_value(found: Option<u64>, amount: u64) -> bool
+    ensures { result ≡ is_value found amount }
+{
+    match found {
+        Some(bound) => bound == amount,
+        None => false,
+    }
+}
+
+/// What the threshold is raised to, before it is lowered to the upper bound: at the root the lower
+/// bound and the error, elsewhere the lower bound at least.
+pub(crate) fn raised(is_root: bool, threshold: u64, lower: u64, error: u64) -> u64
+    requires threshold { threshold ≤ CAP }
+    requires lower { lower ≤ CAP }
+    requires error { error ≤ CAP }
+    ensures amount { result ≡ if is_root then cap (lower + error) else max threshold lower }
+    ensures within { result ≤ CAP }
+{
+    if is_root {
+        (lower + error).min(CAP)
+    } else {
+        threshold.max(lower)
+    }
 }

@@ -1,6 +1,6 @@
 //! What each own value costs by the agent's own tables.
 
-ghost use Rattle.std.specs.Prelude.{◌≡◌, ℕ, ◌<◌, ◌≤◌, ◌+◌, ◌&&◌, ◌||◌, ◌==◌, length, map, is_some, slice_index};
+ghost use Rattle.std.specs.Prelude.{◌≡◌, ℕ, ◌<◌, ◌≤◌, ◌+◌, ◌&&◌, ◌||◌, ◌==◌, length, map, is_some, slice_index, IfOk};
 ghost use Rattle.std.specs.List.{All, filter, list_all};
 ghost use Rattle.dcop_base.specs.Table.{AreWithin, cell_place, has, product};
 ghost use Rattle.dcop_base.specs.Values.{cell_with, cost_with, with_own};
@@ -10,14 +10,22 @@ ghost use Rattle.protocol_steps.specs.Values.{valued};
 ghost use Rattle.adopt_agent.specs.Sound.{AreCosts, IsGround};
 
 use adopt_context::AgentContext;
-use dcop_base::{CAP, MAX_SIZE, Private, Table, Val, VarId};
+use dcop_base::{CAP, MAX_SIZE, NoMemory, Private, Table, Val, VarId, VarList};
 use pseudotree::Place;
+use std::alloc::Global;
 
 /// Whether the variable is among these.
 pub(crate) fn stands_in(vars: &[VarId], sought: VarId) -> bool
     ensures { result ≡ has vars.now sought }
 {
     vars.iter().any(|var| *var == sought)
+}
+
+/// A copy of these variables.
+pub(crate) fn copy_of(alloc: Global, vars: &[VarId]) -> Result<VarList, NoMemory>
+    ensures { IfOk result (λ list. list ≡ vars.now) }
+{
+    Ok(VarList::from_vec(Vec::from_slice(alloc, vars)?))
 }
 
 /// Whether a variable is the agent's own, or one of the path that is known.

@@ -7,7 +7,12 @@
 //! ADOPT (Modi, Shen, Tambe, Yokoo, Artificial Intelligence 161, 2005).
 #![tactic(auto)]
 
+mod agent;
 mod choose;
 mod costs;
+mod messages;
 mod range;
+mod send;
 mod stage;
+
+pub use agent::AdoptAgent;

@@ -1,0 +1,12 @@
+use Rattle.std.proofs.Common.{◌≡◌, ◌<◌, sym, ap, subst, ◌∙◌, arith}
+use Rattle.dcop_base.specs.declared.problem.TheConstants.{MAX_SIZE}
+use Rattle.adopt_context.specs.Context.{Context, put}
+use Rattle.protocol_steps.specs.Ranges.{IsContext}
+use Rattle.adopt_agent.proofs.RangeLaws.{fits_context, put_range}
+use Rattle.adopt_agent.proofs.agent.AdoptAgent.threshold_for.Goals as goal
+
+pub invariant_of-result : goal.invariant_of-result
+invariant_of-result c =
+    let a = c.self.inside in
+    let s = c.self.invariant in
+    (c.threshold_of.ensures.within, subst IsContext (sym c.in_ok-copy.ensures) (fits_context a.own a.place a.known s.ground a.known s.ground.known_fits))
