@@ -1,6 +1,6 @@
 -- What a COST does where it is taken.
 use Rattle.std.proofs.Common.{◌≡◌, ℕ, Bool, true, false, ◌&&◌, ◌==◌, nat_lt, List, Option, Some, None, refl, sym, ap, subst, ◌∙◌}
-use Rattle.std.specs.Prelude.{is_some, is_none}
+use Rattle.std.specs.Prelude.{is_some}
 use Rattle.std.specs.List.{position}
 use Rattle.std.proofs.lemmas.Bool.{cond-true, true≢false}
 use Rattle.std.proofs.lemmas.List.Folds.{list_any_at}
@@ -32,10 +32,6 @@ cost_taken v w after j d c r l u some h is fit learns same stores =
     ∙ fit_stores v (place_at v j) d r l u some fit
     ∙ ap (λ (x : Context). take_cost v (place_at v j) (Some d) x l u) is
     ∙ ap (λ (o : Option ℕ). take_cost v (place_at v j) o (without v.own.me c) l u) (sym h)
-
-pub not_none : (o : Option ℕ) → is_none o ≡ false → is_some o ≡ true
-not_none None h = absurd (true≢false h)
-not_none (Some k) h = refl
 
 -- a sender that has a place among the children is one of them
 pub had_some : (xs : List ℕ) (j : ℕ) → is_some (position (λ x. x == j) xs) ≡ true → has xs j ≡ true

@@ -1,6 +1,6 @@
 -- What each message does to an agent.
 use Rattle.std.proofs.Common.{◌≡◌, ℕ, ◌<◌, Bool, true, false, cond, not, ◌&&◌, ◌||◌, ◌==◌, nat_lt, List, [], ◌∷◌, Option, Some, None, refl, sym, ap, subst, ◌∙◌}
-use Rattle.std.specs.Prelude.{is_some}
+use Rattle.std.specs.Prelude.{is_some, Result, OnOk}
 use Rattle.std.specs.List.{fold, position}
 use Rattle.std.proofs.lemmas.Bool.{cond_both, cond-true, cond-false, and_parts, false≢true}
 use Rattle.dcop_base.specs.Table.{has}
@@ -9,6 +9,7 @@ use Rattle.pseudotree.specs.declared.agent.Place.{Place}
 use Rattle.adopt_context.specs.Context.{Context, value_in, put, compatible}
 use Rattle.adopt_context.specs.Bounds.{Entry}
 use Rattle.adopt_context.proofs.KnownLaws.{put_all}
+use Rattle.protocol_steps.specs.declared.message.Message.{Message}
 use Rattle.protocol_steps.specs.declared.message.Message.TheVariants.{Value, Cost, Threshold, Terminate}
 use Rattle.protocol_steps.specs.Adopt.{AdoptView}
 use Rattle.protocol_steps.specs.AdoptBounds.{restore, at_context}
@@ -69,3 +70,9 @@ learned_fits v (p ∷ ps) x h more =
 pub two_and : (a b d : Bool) → a ≡ true → d ≡ b → d ≡ (a && b)
 two_and true b d one same = same
 two_and false b d one same = absurd (false≢true one)
+
+-- VALUE, as it stands in a letter
+pub value_handled : {T E : Type 0} (v after : AdoptView) (r : Result T E) (from d : ℕ) (m : Message) (l : ℕ × Message) → m ≡ Value d → (from, m) ≡ l → OnOk r (after ≡ adopt_message v from (Value d)) → OnOk r (after ≡ adopt_message v l.0 l.1)
+value_handled v after r from d m l is view ok =
+    subst (λ (x : ℕ × Message). OnOk r (after ≡ adopt_message v x.0 x.1)) view
+    (subst (λ (x : Message). OnOk r (after ≡ adopt_message v from x)) (sym is) ok)

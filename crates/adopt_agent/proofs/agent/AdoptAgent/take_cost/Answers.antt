@@ -1,4 +1,4 @@
-use Rattle.std.proofs.Common.{◌≡◌, ℕ, true, ◌&&◌, ◌==◌, nat_lt, List, Option, Some, sym, ap, subst, ◌∙◌}
+use Rattle.std.proofs.Common.{◌≡◌, ℕ, true, not, ◌true, ◌&&◌, ◌==◌true, ◌&&◌, ◌==◌◌, ◌==◌, nat_lt, List, Option, Some, sym, ap, subst, ◌∙◌}
 use Rattle.std.specs.Prelude.{is_some}
 use Rattle.std.specs.List.{position}
 use Rattle.std.proofs.lemmas.Result.{on_ok_weaker}
@@ -7,7 +7,7 @@ use Rattle.pseudotree.specs.declared.agent.Place.{Place}
 use Rattle.adopt_context.specs.Context.{value_in}
 use Rattle.protocol_steps.specs.Adopt.{AdoptView}
 use Rattle.protocol_steps.specs.AdoptCost.{without}
-use Rattle.adopt_agent.proofs.CostLaws.{place_at, not_none, had_some, cost_taken}
+use Rattle.adopt_agent.proofs.CostLaws.{place_at, had_some, cost_taken}
 use Rattle.adopt_agent.proofs.agent.AdoptAgent.take_cost.Goals as goal
 
 pub store-requires-clause-child : goal.store-requires-clause-child
@@ -16,7 +16,7 @@ store-requires-clause-child c =
     let from = c.args.from in
     let place : c.position_of.result ≡ place_at v from =
         c.position_of.ensures ∙ ap (λ (cs : List ℕ). position (λ child. child == from) cs) c.as_slice.ensures ∙ ap (λ (w : AdoptView). place_at w from) c.self.view_is in
-    let some : is_some (place_at v from) ≡ true = ap (λ (o : Option ℕ). is_some o) (sym place) ∙ not_none c.position_of.result (sym c.is_none.ensures ∙ c.if-is_none.false) in
+    let some : is_some (place_at v from) ≡ true = ap (λ (o : Option ℕ). is_some o) (sym place) ∙ c.is_none.ensures ∙ ap not c.if-is_none.false in
     subst (λ (p : Place). has p.children from ≡ true) (sym c.learn.ensures.same.1) (had_some v.place.children from some)
 
 pub returns-clause-taken : goal.returns-clause-taken
@@ -26,7 +26,7 @@ returns-clause-taken c =
     let told = c.args.context.now in
     let place : c.position_of.result ≡ place_at v from =
         c.position_of.ensures ∙ ap (λ (cs : List ℕ). position (λ child. child == from) cs) c.as_slice.ensures ∙ ap (λ (w : AdoptView). place_at w from) c.self.view_is in
-    let some : is_some (place_at v from) ≡ true = ap (λ (o : Option ℕ). is_some o) (sym place) ∙ not_none c.position_of.result (sym c.is_none.ensures ∙ c.if-is_none.false) in
+    let some : is_some (place_at v from) ≡ true = ap (λ (o : Option ℕ). is_some o) (sym place) ∙ c.is_none.ensures ∙ ap not c.if-is_none.false in
     let me : c.self.inside.own.me ≡ v.own.me = ap (λ (w : AdoptView). w.own.me) c.self.view_is in
     let named : value_in told v.own.me ≡ Some c.in-Some.d = ap (λ (m : ℕ). value_in told m) (sym me) ∙ sym c.get.ensures ∙ c.in-Some.is in
     let rest : c.in_ok-rest.rest ≡ without v.own.me told = c.in_ok-rest.ensures ∙ ap (λ (m : ℕ). without m told) me in

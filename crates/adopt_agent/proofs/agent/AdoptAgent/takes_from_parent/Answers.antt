@@ -24,5 +24,5 @@ returns-then-is_parent c =
               ap (λ (path : List ℕ). is_value (last_of path) from) (sym w.as_slice.ensures) ∙ sym w.is_parent.ensures ∙ sym w.value-is ∙ c.if-is_parent.true in
           three_and (not a.told) (is_value (last_of a.place.path) from) (fits v told) c.fit.result (ap not w.if-not-self.true) parent fit
           ∙ ap (λ (x : AdoptView). takes_from_parent x from told) c.self.view_is
-      | else-not-self w ↦ absurd (false≢true (sym w.value-is ∙ c.if-is_parent.true))
+      | else-not-self w ↦ absurd (false≢true (ap not (sym w.if-not-self.false) ∙ sym w.value-is ∙ c.if-is_parent.true))
     ]
