@@ -1,9 +1,9 @@
 -- The totals of a row, and what the flat lists of bounds keep.
-use Rattle.std.specs.Prelude.{◌≡◌, ℕ, ◌+◌, ◌*◌, ◌≤◌, List, [], ◌∷◌, map, length, Option, Some, None, IfSome}
-use Rattle.std.specs.List.{All}
+use Rattle.std.specs.Prelude.{◌≡◌, ℕ, ◌+◌, ◌*◌, ◌≤◌, List, [], ◌∷◌, map, length, Option, Some, None, IfSome, ◌==◌, if◌then◌else◌}
+use Rattle.std.specs.List.{All, sum_by}
 use Rattle.dcop_base.specs.declared.number.TheConstants.{CAP}
 use Rattle.adopt_context.specs.Context.{Context, or_zero}
-use Rattle.adopt_context.specs.Bounds.{Entry}
+use Rattle.adopt_context.specs.Bounds.{Entry, lower_sum}
 use Rattle.adopt_bounds.specs.Rows.{entries_of, rows_of}
 use Rattle.adopt_bounds.specs.declared.totals.Totals.{Totals}
 
@@ -12,18 +12,17 @@ abbrev pub missing_of : Option ℕ → ℕ
 missing_of None = 1
 missing_of (Some u) = 0
 
--- the totals of a row with one more entry of these bounds
-abbrev pub with_bounds : Totals → ℕ → Option ℕ → Totals
-with_bounds t l u = record {
-  lower = t.lower + l;
-  upper = t.upper + or_zero u;
-  missing = t.missing + missing_of u;
-}
-
 -- the totals of a row: the sum of its lower bounds, the sum of its upper bounds that are there, and how many are none
 abbrev pub totals_of : List Entry → Totals
-totals_of [] = record { lower = 0; upper = 0; missing = 0 }
-totals_of (e ∷ es) = with_bounds (totals_of es) e.lower e.upper
+totals_of es = record {
+  lower = lower_sum es;
+  upper = sum_by (λ e. or_zero e.upper) es;
+  missing = sum_by (λ e. missing_of e.upper) es;
+}
+
+-- the sum of the upper bounds, by the totals; none where one is none
+abbrev pub upper_of : Totals → Option ℕ
+upper_of t = if t.missing == 0 then Some t.upper else None
 
 -- as many bounds, shares and contexts as there are entries, and amounts within the cap
 pub record AreParts (count : ℕ) (lower : List ℕ) (upper : List (Option ℕ)) (share : List ℕ) (contexts : List Context) : Type 0 where

@@ -1,7 +1,7 @@
 //! Allotting a goal to the children of an own value.
 
-ghost use Rattle.std.specs.Prelude.{◌≡◌, ℕ, ◌+◌, ◌*◌, ◌≤◌, List, Option, length, sum};
-ghost use Rattle.std.specs.List.{All};
+ghost use Rattle.std.specs.Prelude.{◌≡◌, ℕ, ◌+◌, ◌*◌, ◌≤◌, List, Option, length, take, drop};
+ghost use Rattle.std.specs.List.{All, sum_by};
 ghost use Rattle.adopt_context.specs.Allot.{allot, cut, raise};
 ghost use Rattle.adopt_context.specs.Context.{Context};
 ghost use Rattle.adopt_bounds.specs.Rows.{entries_of};
@@ -9,9 +9,42 @@ ghost use Rattle.adopt_bounds.specs.Rows.{entries_of};
 use crate::interval::lower_to;
 use dcop_base::CAP;
 
+/// Allots the goal to the row of so many entries that starts at `start` in these lists.
+pub(crate) fn allot_at(
+    share: &mut [u64],
+    lower: &[u64],
+    upper: &[Option<u64>],
+    start: usize,
+    width: usize,
+    goal: u64,
+)
+    requires lower { length lower.now ≡ length share.old }
+    requires upper { length upper.now ≡ length share.old }
+    requires inside { start + width ≤ length share.old }
+    requires goal { goal ≤ CAP }
+    requires share_within { All (λ s. s ≤ CAP) share.old }
+    requires lower_within { All (λ l. l ≤ CAP) lower.now }
+    ensures before { take start share.new ≡ take start share.old }
+    ensures behind { drop (start + width) share.new ≡ drop (start + width) share.old }
+    ensures row { (contexts : List Context) → length contexts ≡ width
+        → entries_of (take width (drop start lower.now)) (take width (drop start upper.now))
+        (take width (drop start share.new)) contexts
+        ≡ allot goal (entries_of (take width (drop start lower.now)) (take width (drop start upper.now))
+        (take width (drop start share.old)) contexts) }
+    ensures share_within { All (λ s. s ≤ CAP) share.new }
+{
+    let (_, share) = share.split_at_mut(start);
+    let (row, _) = share.split_at_mut(width);
+    let (_, lower) = lower.split_at(start);
+    let (row_lower, _) = lower.split_at(width);
+    let (_, upper) = upper.split_at(start);
+    let (row_upper, _) = upper.split_at(width);
+    allot_row(row, row_lower, row_upper, goal);
+}
+
 /// Raises or lowers the shares of a row, between its bounds and in order, until they are the goal
 /// together.
-pub(crate) fn allot_row(share: &mut [u64], lower: &[u64], upper: &[Option<u64>], goal: u64)
+fn allot_row(share: &mut [u64], lower: &[u64], upper: &[Option<u64>], goal: u64)
     requires lower { length lower.now ≡ length share.old }
     requires upper { length upper.now ≡ length share.old }
     requires goal { goal ≤ CAP }
@@ -34,7 +67,7 @@ pub(crate) fn allot_row(share: &mut [u64], lower: &[u64], upper: &[Option<u64>],
 /// The sum of the shares.
 fn sum_of(share: &[u64]) -> u128
     requires { All (λ s. s ≤ CAP) share.now }
-    ensures { result ≡ sum share.now }
+    ensures { result ≡ sum_by (λ s. s) share.now }
 {
     let mut sum: u128 = 0;
     for amount in share {
@@ -46,7 +79,7 @@ fn sum_of(share: &[u64]) -> u128
 /// Raises the shares of a row, each to its upper bound at most and in order, by what is lacking.
 fn raise(share: &mut [u64], upper: &[Option<u64>], mut lack: u64)
     requires upper { length upper.now ≡ length share.old }
-    requires fits { sum share.old + lack ≤ CAP }
+    requires fits { sum_by (λ s. s) share.old + lack ≤ CAP }
     ensures entries { (lower : List ℕ) (contexts : List Context) → length lower ≡ length share.old
         → length contexts ≡ length share.old → entries_of lower upper.now share.new contexts
         ≡ raise lack (entries_of lower upper.now share.old contexts) }

@@ -1,6 +1,7 @@
 //! The bounds of an agent, for each own value and child.
 
-ghost use Rattle.std.specs.Prelude.{◌≡◌, ◌+◌, ◌*◌, ◌<◌, ◌≤◌, true, length, replicate, IfOk, IfSome, OnErr, slice_set, if◌then◌else◌};
+ghost use Rattle.std.specs.Prelude.{◌≡◌, ◌+◌, ◌*◌, ◌<◌, ◌≤◌, ◌==◌, true, length, replicate, None, IfOk, IfSome, OnErr, slice_set, if◌then◌else◌};
+ghost use Rattle.std.specs.List.{position};
 ghost use Rattle.dcop_base.specs.Table.{has};
 ghost use Rattle.adopt_context.specs.Allot.{reset, allot};
 ghost use Rattle.adopt_context.specs.Bounds.{blank, capped, lower_at, row_at, upper_at, upper_sum};
@@ -8,7 +9,7 @@ ghost use Rattle.adopt_context.specs.Context.{compatible};
 ghost use Rattle.adopt_context.specs.Merge.{may_merge};
 ghost use Rattle.adopt_bounds.specs.Rows.{entry_of, place_of, with_merged};
 
-use crate::allot::allot_row;
+use crate::allot::allot_at;
 use crate::forget::forget_rows;
 use crate::interval::Interval;
 use crate::totals::Totals;
@@ -64,11 +65,11 @@ impl Bounds {
     {
         let size = usize::from(size);
         let width = children.as_slice().len();
-        let count = size.checked_mul(width).ok_or(NoMemory)?;
+        let count = count_of(size, width)?;
         Ok(Bounds {
             children,
             lower: vec![in alloc; 0; count]?,
-            upper: vec![in alloc; None; count]?,
+            upper: none_yet(alloc, count)?,
             share: vec![in alloc; 0; count]?,
             contexts: vec![in alloc; AgentContext::new(alloc); count]?,
             totals: vec![in alloc; Totals::of_blank(width); size]?,
@@ -88,8 +89,7 @@ impl Bounds {
         requires value { d < length self.now.rows }
         ensures { result ≡ lower_at (λ e. own) self.now.rows d }
     {
-        let sum = self.totals[usize::from(d.0)].lower + u128::from(own);
-        sum.min(u128::from(CAP)) as u64
+        self.totals[usize::from(d.0)].lower_with(own)
     }
 
     /// UB(d): the same with upper bounds, at most [`CAP`]; `None` where the cost is not there or an
@@ -98,12 +98,7 @@ impl Bounds {
         requires value { d < length self.now.rows }
         ensures { result ≡ upper_at (λ e. own) self.now.rows d }
     {
-        let totals = &self.totals[usize::from(d.0)];
-        if totals.missing > 0 {
-            return None;
-        }
-        let sum = totals.upper + u128::from(own?);
-        Some(sum.min(u128::from(CAP)) as u64)
+        self.totals[usize::from(d.0)].upper_with(own)
     }
 
     /// The sum of the upper bounds of an own value, at most [`CAP`]; `None` where one is not there.
@@ -152,12 +147,12 @@ impl Bounds {
         } }
     {
         let width = self.children.as_slice().len();
-        let start = usize::from(d.0) * width;
-        let end = start + width;
-        allot_row(
-            &mut self.share[start..end],
-            &self.lower[start..end],
-            &self.upper[start..end],
+        allot_at(
+            self.share.as_mut_slice(),
+            self.lower.as_slice(),
+            self.upper.as_slice(),
+            usize::from(d.0) * width,
+            width,
             goal,
         );
     }
@@ -205,6 +200,27 @@ impl Bounds {
     }
 }
 
+/// How many entries there are in so many rows of so many.
+fn count_of(size: usize, width: usize) -> Result<usize, NoMemory>
+    ensures { IfOk result (λ count. count ≡ size * width) }
+{
+    match size.checked_mul(width) {
+        Some(count) => Ok(count),
+        None => Err(NoMemory),
+    }
+}
+
+/// So many upper bounds that are not there yet.
+fn none_yet(alloc: Global, count: usize) -> Result<Vec<Option<u64>>, NoMemory>
+    ensures { IfOk result (λ upper. upper.items ≡ replicate count None) }
+{
+    let mut upper = Vec::with_capacity(alloc, count)?;
+    for _ in 0..count {
+        upper.push(None)?;
+    }
+    Ok(upper)
+}
+
 /// The index of the entry of an own value and a child in the flat lists.
 fn index_of(children: &[VarId], d: Val, child: VarId) -> usize
     requires child { has children.now child ≡ true }
@@ -212,6 +228,13 @@ fn index_of(children: &[VarId], d: Val, child: VarId) -> usize
     ensures place { place_of children.now child < length children.now }
     ensures index { result ≡ d * length children.now + place_of children.now child }
 {
-    let place = children.iter().position(|one| *one == child).unwrap_or(0);
+    let place = position_of(children, child).unwrap_or(0);
     usize::from(d.0) * children.len() + place
+}
+
+/// The place of a child among the children.
+fn position_of(children: &[VarId], child: VarId) -> Option<usize>
+    ensures { result ≡ position (λ one. one == child) children.now }
+{
+    children.iter().position(|one| *one == child)
 }

@@ -52,19 +52,21 @@ fn forget_row(
     ensures entries { entries_of lower.new upper.new share.new contexts.new
         ≡ map (kept known.now) (entries_of lower.old upper.old share.old contexts.old) }
 {
-    let blank = Interval {
-        lower: 0,
-        upper: None,
-    };
     for k in 0..lower.len() {
         if !contexts[k].part_of(known) {
             let bounds = Interval {
                 lower: lower[k],
                 upper: upper[k],
             };
-            totals.exchange(bounds, blank);
-            lower[k] = blank.lower;
-            upper[k] = blank.upper;
+            totals.exchange(
+                bounds,
+                Interval {
+                    lower: 0,
+                    upper: None,
+                },
+            );
+            lower[k] = 0;
+            upper[k] = None;
             share[k] = 0;
             contexts[k].clear();
         }

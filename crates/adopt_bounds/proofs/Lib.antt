@@ -1,0 +1,7 @@
+mod EntryLaws
+mod RowLaws
+mod TotalLaws
+mod ShareLaws
+mod ForgetLaws
+mod BoundsLaws
+mod PlaceLaws
