@@ -1,7 +1,7 @@
 -- The bounds of an agent, from its costs and the bounds of its children.
-use Rattle.std.proofs.Common.{◌≡◌, ℕ, zero, suc, ◌+◌, ◌-◌, ◌<◌, ◌≤◌, Bool, true, cond, nat_lt, List, [], ◌∷◌, ◌++◌, map, length, take, drop, get_or, set, replicate, Option, Some, None, refl, sym, ap, ap₂, subst, ◌∙◌, arith}
+use Rattle.std.proofs.Common.{◌≡◌, ℕ, zero, suc, ◌+◌, ◌-◌, ◌<◌, ◌≤◌, Bool, true, cond, nat_lt, List, [], ◌∷◌, ◌++◌, map, length, take, drop, get_or, set, replicate, Some, None, refl, sym, ap, ap₂, subst, ◌∙◌, arith}
 use Rattle.std.proofs.lemmas.Bool.{cond_both}
-use Rattle.std.proofs.lemmas.List.{length-map, length-set, take_at}
+use Rattle.std.proofs.lemmas.List.{length-map, length-set, length-replicate, take_at}
 use Rattle.dcop_base.specs.declared.knowledge.Private.{Private}
 use Rattle.pseudotree.specs.declared.agent.Place.{Place}
 use Rattle.adopt_context.specs.Context.{Context, names_all, part_of}
@@ -10,7 +10,7 @@ use Rattle.adopt_context.specs.Allot.{kept, reset, lower_to, raised, raise, lowe
 use Rattle.adopt_context.proofs.RowLaws.{reset_at, set_each}
 use Rattle.adopt_bounds.specs.Rows.{BoundsView}
 use Rattle.protocol_steps.specs.Adopt.{AdoptView, higher}
-use Rattle.protocol_steps.specs.AdoptBounds.{delta, lower_of, upper_of, best_lower, best_upper}
+use Rattle.protocol_steps.specs.AdoptBounds.{lower_of, upper_of, best_lower, best_upper}
 use Rattle.protocol_steps.specs.AdoptStep.{to_allot, allotted}
 use Rattle.adopt_agent.specs.declared.stage.Stage.{Stage}
 use Rattle.adopt_agent.specs.Costs.{cost_where}
@@ -93,3 +93,21 @@ allotted_shown own place error stage known value threshold last told bounds afte
     ap (λ (b : BoundsView). view_at own place error stage known value threshold last told b.rows) after_is
     ∙ ap (λ (g : ℕ). view_at own place error stage known value threshold last told (set bounds.rows value (allot g (row_at bounds.rows value)))) right
     ∙ ap allotted view
+
+each_replicate : {X : Type 0} (P : X → Type 0) (n : ℕ) (x none : X) → P x → P none → (j : ℕ) → P (get_or (replicate n x) j none)
+each_replicate P zero x none a b j = b
+each_replicate P (suc n) x none a b zero = a
+each_replicate P (suc n) x none a b (suc j) = each_replicate P n x none a b j
+
+-- bounds of which nothing is known rest on nothing
+blank_rests : (size width : ℕ) → RestOn [] (replicate size (replicate width blank))
+blank_rests size width = λ d k.
+    each_replicate (λ (row : List Entry). part_of (get_or row k blank).context [] ≡ true) size (replicate width blank) []
+    (each_replicate (λ (e : Entry). part_of e.context [] ≡ true) width blank blank refl refl k) refl d
+
+pub backed_new : (own : Private) (place : Place) (known : Context) (bounds : BoundsView) (width : ℕ) → known ≡ [] → bounds.children ≡ place.children → bounds.rows ≡ replicate own.size (replicate width blank) → AreBacked own place known bounds
+backed_new own place known bounds width none children rows = record {
+  children = children;
+  counted = ap (λ (rs : List (List Entry)). length rs) rows ∙ length-replicate own.size (replicate width blank);
+  rest = subst (λ (x : Context). RestOn x bounds.rows) (sym none) (subst (λ (rs : List (List Entry)). RestOn [] rs) (sym rows) (blank_rests own.size width));
+}

@@ -1,11 +1,11 @@
 -- What the tables that count cost: each has a cell at the own value and the known values, and the costs add up.
-use Rattle.std.proofs.Common.{◌≡◌, ℕ, ◌+◌, ◌<◌, ◌≤◌, Bool, true, false, cond, not, ◌&&◌, ◌||◌, eqb, List, [], ◌∷◌, ◌++◌, map, length, take, get_or, min, Option, Some, None, is_some, refl, sym, ap, subst, ◌∙◌, inl, inr, arith}
-use Rattle.std.specs.List.{All, AllZip, filter, list_all, zip}
-use Rattle.std.proofs.lemmas.Bool.{cases_Bool, cond-true, cond-false, eqb-true, eq-eqb, and_parts, or_left, or_right, or_cases, ltb-true, false≢true}
+use Rattle.std.proofs.Common.{◌≡◌, ℕ, ◌+◌, ◌<◌, Bool, true, false, cond, ◌&&◌, ◌||◌, eqb, List, [], ◌∷◌, ◌++◌, map, length, take, get_or, min, Option, Some, None, is_some, refl, sym, ap, subst, ◌∙◌, inl, inr, arith}
+use Rattle.std.specs.List.{AllZip, filter, list_all, zip}
+use Rattle.std.proofs.lemmas.Bool.{cases_Bool, cond-true, cond-false, eqb-true, eq-eqb, and_parts, or_left, or_right, ltb-true, false≢true}
 use Rattle.std.proofs.lemmas.Option.{none-some, same_Some}
 use Rattle.std.proofs.lemmas.List.{append-nil}
 use Rattle.std.proofs.lemmas.List.Elements.{filter_more}
-use Rattle.std.proofs.lemmas.List.Sums.{sum_by-append, sum_by-cons}
+use Rattle.std.proofs.lemmas.List.Sums.{sum_by-append}
 use Rattle.dcop_base.specs.Table.{CostTable, AreWithin, has}
 use Rattle.dcop_base.specs.Values.{cell_with, cost_with, with_own}
 use Rattle.dcop_base.specs.declared.number.TheConstants.{CAP}
@@ -16,7 +16,6 @@ use Rattle.adopt_context.specs.Bounds.{cap}
 use Rattle.adopt_context.proofs.KnownLaws.{each_pair}
 use Rattle.protocol_steps.specs.Values.{valued}
 use Rattle.protocol_steps.specs.Knowledge.{known_sizes, IsKnownTable}
-use Rattle.protocol_steps.specs.AdoptBounds.{counts}
 use Rattle.protocol_steps.specs.AdoptRange.{in_range, is_within}
 use Rattle.adopt_agent.specs.Stage.{knowing}
 use Rattle.adopt_agent.specs.Sound.{IsGround}
@@ -94,9 +93,9 @@ cost_so_far q ts k value = cap (cost_with (filter q (take k ts)) value)
 pub cost_more : (q : CostTable → Bool) (ts : List CostTable) (k : ℕ) (t : CostTable) (value : ℕ → ℕ) (old new : ℕ) → k < length ts → t ≡ get_or ts k t → q t ≡ true → old ≡ cost_so_far q ts k value → new ≡ cap (old + cell_with t value) → new ≡ cost_so_far q ts (k + 1) value
 cost_more q ts k t value old new lt e passes so step =
     let more : filter q (take (k + 1) ts) ≡ filter q (take k ts) ++ (t ∷ []) =
-        filter_more q ts k t lt ∙ ap (λ (u : CostTable). filter q (take k ts) ++ cond (q u) (u ∷ []) []) (sym e) ∙ ap (λ (b : Bool). filter q (take k ts) ++ cond b (t ∷ []) []) passes in
+    filter_more q ts k t lt ∙ ap (λ (u : CostTable). filter q (take k ts) ++ cond (q u) (u ∷ []) []) (sym e) ∙ ap (λ (b : Bool). filter q (take k ts) ++ cond b (t ∷ []) []) passes in
     let sum : cost_with (filter q (take (k + 1) ts)) value ≡ cost_with (filter q (take k ts)) value + cell_with t value =
-        ap (λ (us : List CostTable). cost_with us value) more ∙ sum_by-append (λ u. cell_with u value) (filter q (take k ts)) (t ∷ []) ∙ one (cost_with (filter q (take k ts)) value) (cell_with t value) in
+    ap (λ (us : List CostTable). cost_with us value) more ∙ sum_by-append (λ u. cell_with u value) (filter q (take k ts)) (t ∷ []) ∙ one (cost_with (filter q (take k ts)) value) (cell_with t value) in
     step ∙ cap_more old (cost_with (filter q (take k ts)) value) (cell_with t value) so ∙ ap cap (sym sum)
   where
     one : (a b : ℕ) → a + (0 + b) ≡ a + b
@@ -106,5 +105,5 @@ cost_more q ts k t value old new lt e passes so step =
 pub cost_same : (q : CostTable → Bool) (ts : List CostTable) (k : ℕ) (t : CostTable) (value : ℕ → ℕ) (old : ℕ) → k < length ts → t ≡ get_or ts k t → q t ≡ false → old ≡ cost_so_far q ts k value → old ≡ cost_so_far q ts (k + 1) value
 cost_same q ts k t value old lt e fails so =
     let more : filter q (take (k + 1) ts) ≡ filter q (take k ts) ++ [] =
-        filter_more q ts k t lt ∙ ap (λ (u : CostTable). filter q (take k ts) ++ cond (q u) (u ∷ []) []) (sym e) ∙ ap (λ (b : Bool). filter q (take k ts) ++ cond b (t ∷ []) []) fails in
+    filter_more q ts k t lt ∙ ap (λ (u : CostTable). filter q (take k ts) ++ cond (q u) (u ∷ []) []) (sym e) ∙ ap (λ (b : Bool). filter q (take k ts) ++ cond b (t ∷ []) []) fails in
     so ∙ ap (λ (us : List CostTable). cap (cost_with us value)) (sym (append-nil (filter q (take k ts)))) ∙ ap (λ (us : List CostTable). cap (cost_with us value)) (sym more)

@@ -1,8 +1,8 @@
 -- What each message does to an agent.
-use Rattle.std.proofs.Common.{◌≡◌, ℕ, ◌<◌, Bool, true, false, cond, not, ◌&&◌, ◌||◌, ◌==◌, nat_lt, List, [], ◌∷◌, Option, Some, None, refl, sym, ap, subst, ◌∙◌}
+use Rattle.std.proofs.Common.{◌≡◌, ℕ, Bool, true, false, not, ◌&&◌, ◌||◌, List, [], ◌∷◌, refl, sym, ap, subst, ◌∙◌}
 use Rattle.std.specs.Prelude.{is_some, Result, OnOk}
-use Rattle.std.specs.List.{fold, position}
-use Rattle.std.proofs.lemmas.Bool.{cond_both, cond-true, cond-false, and_parts, false≢true}
+use Rattle.std.specs.List.{fold}
+use Rattle.std.proofs.lemmas.Bool.{cond_both, cond-true, and_parts, false≢true}
 use Rattle.dcop_base.specs.Table.{has}
 use Rattle.dcop_base.specs.declared.knowledge.Private.{Private}
 use Rattle.pseudotree.specs.declared.agent.Place.{Place}
@@ -10,11 +10,11 @@ use Rattle.adopt_context.specs.Context.{Context, value_in, put, compatible}
 use Rattle.adopt_context.specs.Bounds.{Entry}
 use Rattle.adopt_context.proofs.KnownLaws.{put_all}
 use Rattle.protocol_steps.specs.declared.message.Message.{Message}
-use Rattle.protocol_steps.specs.declared.message.Message.TheVariants.{Value, Cost, Threshold, Terminate}
+use Rattle.protocol_steps.specs.declared.message.Message.TheVariants.{Value, Threshold, Terminate}
 use Rattle.protocol_steps.specs.Adopt.{AdoptView}
 use Rattle.protocol_steps.specs.AdoptBounds.{restore, at_context}
 use Rattle.protocol_steps.specs.AdoptRange.{in_range, fits, is_parent}
-use Rattle.protocol_steps.specs.AdoptCost.{learn, learned, stored, take_cost, without}
+use Rattle.protocol_steps.specs.AdoptCost.{learned}
 use Rattle.protocol_steps.specs.AdoptMessage.{adopt_message, take_threshold, take_end, takes_value, takes_from_parent}
 use Rattle.adopt_agent.specs.declared.stage.Stage.{Stage}
 use Rattle.adopt_agent.specs.Stage.{view_at}

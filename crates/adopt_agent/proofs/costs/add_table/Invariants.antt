@@ -1,4 +1,4 @@
-use Rattle.std.proofs.Common.{◌≡◌, ℕ, ◌+◌, ◌<◌, ◌≤◌, length, get_or}
+use Rattle.std.proofs.Common.{◌≡◌, ℕ, ◌+◌, ◌<◌, ◌≤◌, get_or}
 use Rattle.std.specs.List.{All}
 use Rattle.dcop_base.specs.Values.{cell_with, with_own}
 use Rattle.dcop_base.specs.declared.number.TheConstants.{CAP}

@@ -1,4 +1,4 @@
-use Rattle.std.proofs.Common.{ℕ, ◌<◌, length, map, rules}
+use Rattle.std.proofs.Common.{ℕ, ◌<◌, length, rules}
 use Rattle.dcop_base.specs.Values.{with_own}
 use Rattle.protocol_steps.specs.Values.{valued}
 use Rattle.adopt_agent.proofs.PlaceLaws.{place_lt}

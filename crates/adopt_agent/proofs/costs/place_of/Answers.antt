@@ -1,4 +1,4 @@
-use Rattle.std.proofs.Common.{ℕ, ◌<◌, ◌*◌, ap, ◌∙◌, get_or, length, map, arith}
+use Rattle.std.proofs.Common.{ℕ, ◌<◌, ◌*◌, ap, ◌∙◌, length, map, arith}
 use Rattle.std.proofs.lemmas.List.{get_or_read}
 use Rattle.dcop_base.specs.Values.{with_own}
 use Rattle.dcop_base.proofs.TableLaws.{cell_place-lt}

@@ -18,7 +18,7 @@ add_table-requires-clause-within c =
     let known = c.args.known.now in
     let t : CostTable = c.table-item.result in
     let test : c.counts.result ≡ counts (knowing own place known) t =
-        c.counts.ensures ∙ ap₂ (λ (path : List ℕ) (scope : List ℕ). list_all (λ u. eqb u own.me || (has path u && is_some (value_in known u))) scope) c.as_slice-in-loop-table.ensures (c.as_slice.ensures ∙ ap (λ (u : CostTable). u.scope) c.table.view_is) in
+    c.counts.ensures ∙ ap₂ (λ (path : List ℕ) (scope : List ℕ). list_all (λ u. eqb u own.me || (has path u && is_some (value_in known u))) scope) c.as_slice-in-loop-table.ensures (c.as_slice.ensures ∙ ap (λ (u : CostTable). u.scope) c.table.view_is) in
     let counted = c.loop-table.invariant.counted in
     let tables = ap (λ (ts : List CostTable). get_or ts c.loop-table.table-index t) c.as_slice-table-items.ensures in
     let inside = c.loop-table-test.true in
@@ -33,7 +33,7 @@ loop-table-preserved c =
     let t : CostTable = c.table-item.result in
     let q = counts (knowing own place known) in
     let test : c.counts.result ≡ q t =
-        c.counts.ensures ∙ ap₂ (λ (path : List ℕ) (scope : List ℕ). list_all (λ u. eqb u own.me || (has path u && is_some (value_in known u))) scope) c.as_slice-in-loop-table.ensures (c.as_slice.ensures ∙ ap (λ (u : CostTable). u.scope) c.table.view_is) in
+    c.counts.ensures ∙ ap₂ (λ (path : List ℕ) (scope : List ℕ). list_all (λ u. eqb u own.me || (has path u && is_some (value_in known u))) scope) c.as_slice-in-loop-table.ensures (c.as_slice.ensures ∙ ap (λ (u : CostTable). u.scope) c.table.view_is) in
     let counted = c.loop-table.invariant.counted in
     let k = c.loop-table.table-index in
     let is = c.table-item.is ∙ ap (λ (ts : List CostTable). get_or ts k t) c.as_slice-table-items.ensures in

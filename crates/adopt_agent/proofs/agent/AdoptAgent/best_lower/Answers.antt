@@ -1,10 +1,9 @@
-use Rattle.std.proofs.Common.{◌≡◌, ℕ, ◌<◌, ◌-◌, nat_lt, Bool, List, length, get_or, sym, ap, subst, ◌∙◌, arith}
-use Rattle.adopt_context.specs.Bounds.{is_below, lower_at, lowest, upper_at}
+use Rattle.std.proofs.Common.{ℕ, ◌-◌, nat_lt, List, length, get_or, ap, ◌∙◌}
+use Rattle.adopt_context.specs.Bounds.{lower_at, lowest}
 use Rattle.protocol_steps.specs.Adopt.{AdoptView}
-use Rattle.protocol_steps.specs.AdoptBounds.{best_lower, best_upper, lower_bound, lower_of, upper_bound, upper_of}
-use Rattle.adopt_agent.specs.Costs.{cost_where}
+use Rattle.protocol_steps.specs.AdoptBounds.{best_lower}
 use Rattle.adopt_agent.specs.Stage.{view_at}
-use Rattle.adopt_agent.proofs.BoundLaws.{lower_shown, best_lower_shown, upper_shown, best_upper_shown}
+use Rattle.adopt_agent.proofs.BoundLaws.{best_lower_shown}
 use Rattle.adopt_agent.proofs.agent.AdoptAgent.best_lower.Goals as goal
 
 pub returns-clause-best : goal.returns-clause-best

@@ -1,8 +1,6 @@
-use Rattle.std.proofs.Common.{◌≡◌, ◌<◌, sym, ap, subst, ◌∙◌, arith}
-use Rattle.dcop_base.specs.declared.problem.TheConstants.{MAX_SIZE}
-use Rattle.adopt_context.specs.Context.{Context, put}
+use Rattle.std.proofs.Common.{sym, subst}
 use Rattle.protocol_steps.specs.Ranges.{IsContext}
-use Rattle.adopt_agent.proofs.RangeLaws.{fits_context, put_range}
+use Rattle.adopt_agent.proofs.RangeLaws.{fits_context}
 use Rattle.adopt_agent.proofs.agent.AdoptAgent.cost_for.Goals as goal
 
 pub invariant_of-result : goal.invariant_of-result

@@ -1,4 +1,4 @@
-use Rattle.std.proofs.Common.{◌≡◌, ◌<◌, sym, ap, subst, ◌∙◌, arith}
+use Rattle.std.proofs.Common.{◌<◌, sym, ap, subst, ◌∙◌, arith}
 use Rattle.dcop_base.specs.declared.problem.TheConstants.{MAX_SIZE}
 use Rattle.adopt_context.specs.Context.{Context, put}
 use Rattle.protocol_steps.specs.Ranges.{IsContext}

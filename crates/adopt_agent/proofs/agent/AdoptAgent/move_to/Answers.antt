@@ -1,8 +1,7 @@
-use Rattle.std.proofs.Common.{◌≡◌, ℕ, true, List, length, get_or, sym, ap, ap₂, subst, ◌∙◌, arith}
+use Rattle.std.proofs.Common.{◌≡◌, ℕ, true, List, sym, ap, ap₂, subst, ◌∙◌}
 use Rattle.std.specs.List.{filter}
 use Rattle.dcop_base.specs.Table.{has}
 use Rattle.adopt_context.specs.Context.{names_all}
-use Rattle.adopt_context.specs.Bounds.{Entry}
 use Rattle.adopt_bounds.specs.Rows.{BoundsView}
 use Rattle.protocol_steps.specs.Adopt.{AdoptView}
 use Rattle.protocol_steps.specs.AdoptBounds.{at_context, restore}

@@ -1,6 +1,5 @@
 use Rattle.std.proofs.Common.{◌≡◌, Bool, true, cond, sym, ap, ◌∙◌}
 use Rattle.adopt_context.specs.Context.{part_of}
-use Rattle.adopt_context.specs.Merge.{may_merge}
 use Rattle.adopt_bounds.specs.Rows.{place_of, entry_of, with_merged}
 use Rattle.adopt_agent.proofs.StoreLaws.{parts_agree, backed_merged, stored_shown, not_stored}
 use Rattle.adopt_agent.proofs.agent.AdoptAgent.store.Goals as goal
@@ -40,7 +39,7 @@ returns-then-branch-clause-stored c =
     let merged = c.in_ok-store.ensures.merged ∙ ap (λ (b : Bool). cond b (with_merged a.bounds c.args.d c.args.child rest c.args.lower c.args.upper) a.bounds) c.if-branch.true in
     c.restore.ensures
     ∙ stored_shown a.own a.place a.error a.stage a.known a.value a.threshold a.last a.told a.bounds c.store.new.self c.args.self.now c.args.d c.args.child rest c.args.lower c.args.upper
-      c.self.view_is s.backed.children part (sym c.in_ok-store.ensures.stored ∙ c.if-branch.true) merged
+    c.self.view_is s.backed.children part (sym c.in_ok-store.ensures.stored ∙ c.if-branch.true) merged
 
 pub returns-else-branch-clause-stored : goal.returns-else-branch-clause-stored
 returns-else-branch-clause-stored c =

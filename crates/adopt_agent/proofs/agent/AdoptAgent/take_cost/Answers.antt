@@ -1,4 +1,4 @@
-use Rattle.std.proofs.Common.{◌≡◌, ℕ, true, not, ◌true, ◌&&◌, ◌==◌true, ◌&&◌, ◌==◌◌, ◌==◌, nat_lt, List, Option, Some, sym, ap, subst, ◌∙◌}
+use Rattle.std.proofs.Common.{◌≡◌, ℕ, true, not, ◌==◌, List, Option, Some, sym, ap, subst, ◌∙◌}
 use Rattle.std.specs.Prelude.{is_some}
 use Rattle.std.specs.List.{position}
 use Rattle.std.proofs.lemmas.Result.{on_ok_weaker}
@@ -15,7 +15,7 @@ store-requires-clause-child c =
     let v : AdoptView = c.args.self.now in
     let from = c.args.from in
     let place : c.position_of.result ≡ place_at v from =
-        c.position_of.ensures ∙ ap (λ (cs : List ℕ). position (λ child. child == from) cs) c.as_slice.ensures ∙ ap (λ (w : AdoptView). place_at w from) c.self.view_is in
+    c.position_of.ensures ∙ ap (λ (cs : List ℕ). position (λ child. child == from) cs) c.as_slice.ensures ∙ ap (λ (w : AdoptView). place_at w from) c.self.view_is in
     let some : is_some (place_at v from) ≡ true = ap (λ (o : Option ℕ). is_some o) (sym place) ∙ c.is_none.ensures ∙ ap not c.if-is_none.false in
     subst (λ (p : Place). has p.children from ≡ true) (sym c.learn.ensures.same.1) (had_some v.place.children from some)
 
@@ -25,7 +25,7 @@ returns-clause-taken c =
     let from = c.args.from in
     let told = c.args.context.now in
     let place : c.position_of.result ≡ place_at v from =
-        c.position_of.ensures ∙ ap (λ (cs : List ℕ). position (λ child. child == from) cs) c.as_slice.ensures ∙ ap (λ (w : AdoptView). place_at w from) c.self.view_is in
+    c.position_of.ensures ∙ ap (λ (cs : List ℕ). position (λ child. child == from) cs) c.as_slice.ensures ∙ ap (λ (w : AdoptView). place_at w from) c.self.view_is in
     let some : is_some (place_at v from) ≡ true = ap (λ (o : Option ℕ). is_some o) (sym place) ∙ c.is_none.ensures ∙ ap not c.if-is_none.false in
     let me : c.self.inside.own.me ≡ v.own.me = ap (λ (w : AdoptView). w.own.me) c.self.view_is in
     let named : value_in told v.own.me ≡ Some c.in-Some.d = ap (λ (m : ℕ). value_in told m) (sym me) ∙ sym c.get.ensures ∙ c.in-Some.is in

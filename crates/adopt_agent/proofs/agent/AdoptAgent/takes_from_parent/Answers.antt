@@ -1,5 +1,4 @@
-use Rattle.std.proofs.Common.{◌≡◌, ℕ, true, not, ◌&&◌, List, sym, ap, ◌∙◌}
-use Rattle.std.specs.List.{list_all, zip}
+use Rattle.std.proofs.Common.{◌≡◌, ℕ, true, not, List, sym, ap, ◌∙◌}
 use Rattle.std.proofs.lemmas.Bool.{false≢true}
 use Rattle.adopt_context.specs.Context.{Context, is_value}
 use Rattle.protocol_steps.specs.Agent.{last_of}
@@ -21,7 +20,7 @@ returns-then-is_parent c =
     elim c.if-not-self.branch [
       | then-not-self w ↦
           let parent : is_value (last_of a.place.path) from ≡ true =
-              ap (λ (path : List ℕ). is_value (last_of path) from) (sym w.as_slice.ensures) ∙ sym w.is_parent.ensures ∙ sym w.value-is ∙ c.if-is_parent.true in
+          ap (λ (path : List ℕ). is_value (last_of path) from) (sym w.as_slice.ensures) ∙ sym w.is_parent.ensures ∙ sym w.value-is ∙ c.if-is_parent.true in
           three_and (not a.told) (is_value (last_of a.place.path) from) (fits v told) c.fit.result (ap not w.if-not-self.true) parent fit
           ∙ ap (λ (x : AdoptView). takes_from_parent x from told) c.self.view_is
       | else-not-self w ↦ absurd (false≢true (ap not (sym w.if-not-self.false) ∙ sym w.value-is ∙ c.if-is_parent.true))
