@@ -1,1 +1,3 @@
 pub mod ContextLaws
+pub mod KnownLaws
+pub mod RowLaws

@@ -1,9 +1,10 @@
 //! Contexts: what is known of the values of some variables.
 
-ghost use Rattle.std.specs.Prelude.{◌≡◌, ℕ, List, [], true, IfOk, OnOk, OnErr};
+ghost use Rattle.std.specs.Prelude.{◌≡◌, ℕ, List, [], true, not, ◌==◌, IfOk, OnOk, OnErr};
+ghost use Rattle.std.specs.List.{filter};
 ghost use Rattle.adopt_context.specs.Context.{value_in, put, compatible, part_of, union, names_all};
 
-use crate::pairs::{agree, joined, name_each, put, stand_in, value_in};
+use crate::pairs::{agree, joined, name_each, others, put, stand_in, value_in};
 use dcop_base::{NoMemory, Val, VarId, VarList};
 use std::alloc::{AllocError, Global};
 use std::marker::Model;
@@ -106,6 +107,18 @@ impl AgentContext {
             *self.pairs.allocator(),
         )?;
         Ok(())
+    }
+
+    /// The context without the pair of a variable.
+    ///
+    /// # Errors
+    ///
+    /// [`NoMemory`] where memory was wanted and not had.
+    pub fn without(&self, var: VarId) -> Result<AgentContext, NoMemory>
+        ensures { IfOk result (λ context. context ≡ filter (λ p. not (p.0 == var)) self.now) }
+    {
+        let pairs = others(self.pairs.as_slice(), var, *self.pairs.allocator())?;
+        Ok(AgentContext { pairs })
     }
 
     /// A context with the same pairs.

@@ -20,7 +20,7 @@ use Rattle.protocol_steps.specs.Links.{taken_at}
 use Rattle.protocol_steps.specs.Network.{Network, link}
 use Rattle.protocol_steps.specs.View.{AdoptKind, ended_of, value_of}
 use Rattle.protocol_steps.specs.TreeAgents.{place_at}
-use Rattle.adopt_runs.proofs.KnownLaws.{value_put}
+use Rattle.adopt_context.proofs.KnownLaws.{value_put}
 use Rattle.adopt_runs.proofs.FitLaws.{fits_child, fits_put}
 use Rattle.adopt_runs.proofs.PairLaws.{told_by}
 use Rattle.adopt_runs.proofs.PairRuns.{IsRun, IsPlaced, placed_at, parent_in, child_told}

@@ -27,7 +27,7 @@ use Rattle.protocol_steps.specs.View.{AdoptKind}
 use Rattle.dcop_optimum.proofs.LineLaws.{path_short}
 use Rattle.dcop_optimum.proofs.OwnerLaws.{cost_split}
 use Rattle.dcop_optimum.proofs.JoinLaws.{children_parent}
-use Rattle.adopt_runs.proofs.KnownLaws.{value_is, put_here, put_else}
+use Rattle.adopt_context.proofs.KnownLaws.{value_is, put_here, put_else}
 use Rattle.adopt_runs.proofs.EncloseLaws.{below, GivenAbove, IsReached, IsSum, plus_parts, filter_distinct}
 use Rattle.adopt_runs.proofs.OwnLaws.{counted_high, below_cap}
 use Rattle.adopt_runs.proofs.PlacedLaws.{Mid, capped_parts, with_value, with_is, with_here, with_above, delta_is, row_long, rests, known_values, known_is, known_given, not_cut, value_small}

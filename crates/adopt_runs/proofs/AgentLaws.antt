@@ -22,8 +22,9 @@ use Rattle.protocol_steps.specs.AdoptMessage.{take_threshold, take_end, takes_va
 use Rattle.protocol_steps.specs.AdoptStep.{choose, to_allot, allotted, may_end, settle, closed}
 use Rattle.dcop_optimum.specs.Enclosing.{IsAtMost}
 use Rattle.adopt_runs.proofs.BoundLaws.{lowest_within}
-use Rattle.adopt_runs.proofs.KnownLaws.{put_all}
-use Rattle.adopt_runs.proofs.RowLaws.{reset_row, reset_at, set_each, entry_each, InRange, IsReshared, allot_at, allot_length}
+use Rattle.adopt_context.proofs.KnownLaws.{put_all}
+use Rattle.adopt_context.proofs.RowLaws.{reset_row, reset_at, set_each, entry_each}
+use Rattle.adopt_runs.proofs.RowLaws.{InRange, IsReshared, allot_at, allot_length}
 use Rattle.adopt_runs.proofs.Every.{Every}
 
 long : {X : Type 0} (n : ℕ) (x : X) → length (replicate n x) ≡ n

@@ -27,7 +27,7 @@ use Rattle.dcop_optimum.proofs.LineLaws.{within_self, within_above}
 use Rattle.dcop_optimum.proofs.JoinLaws.{children_parent}
 use Rattle.protocol_steps.specs.TreeAgents.{place_at, adopt_agents}
 use Rattle.adopt_runs.specs.RunLaws.{DoesNotCross, NoBoundsCross}
-use Rattle.adopt_runs.proofs.KnownLaws.{part_gives, union_part}
+use Rattle.adopt_context.proofs.KnownLaws.{part_gives, union_part}
 use Rattle.adopt_runs.proofs.Every.{Every, every_split, every_then}
 use Rattle.adopt_runs.proofs.AgentLaws.{Brings, learn_mid, batch_mid}
 use Rattle.adopt_runs.proofs.EncloseLaws.{not_crossed}

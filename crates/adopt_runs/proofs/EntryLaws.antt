@@ -12,7 +12,7 @@ use Rattle.adopt_context.specs.Merge.{lesser, is_at_most, merged}
 use Rattle.protocol_steps.specs.AdoptStep.{adopt_start, adopt_step}
 use Rattle.adopt_runs.specs.Laws.{EntryHolds, EntriesHold, after_batches, AdoptEntries}
 use Rattle.adopt_runs.proofs.BoundLaws.{lowered_over, lowered_at_most, at_most_from}
-use Rattle.adopt_runs.proofs.KnownLaws.{union_part}
+use Rattle.adopt_context.proofs.KnownLaws.{union_part}
 use Rattle.adopt_runs.proofs.Every.{every_from}
 use Rattle.adopt_runs.proofs.AgentLaws.{IsKept, Brings}
 use Rattle.adopt_runs.proofs.StepLaws.{IsDone, step_done, start_done}

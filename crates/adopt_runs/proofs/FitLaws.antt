@@ -11,7 +11,7 @@ use Rattle.pseudotree.specs.Tree.{path_of, parent_of, IsTree}
 use Rattle.adopt_context.specs.Context.{Context, put, value_in, names_all}
 use Rattle.protocol_steps.specs.AdoptRange.{is_within}
 use Rattle.protocol_steps.specs.TreeAgents.{place_at}
-use Rattle.adopt_runs.proofs.KnownLaws.{put_all, put_here, put_else}
+use Rattle.adopt_context.proofs.KnownLaws.{put_all, put_here, put_else}
 use Rattle.adopt_runs.proofs.OwnLaws.{list_all_at, list_all_from}
 use Rattle.adopt_runs.proofs.DigestLaws.{fits_place}
 

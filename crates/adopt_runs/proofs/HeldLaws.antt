@@ -10,8 +10,9 @@ use Rattle.protocol_steps.specs.AdoptBounds.{delta, whole_delta, lower_of, upper
 use Rattle.protocol_steps.specs.AdoptStep.{choose, to_allot, allotted, may_end, settle}
 use Rattle.dcop_optimum.specs.Enclosing.{IsAtMost}
 use Rattle.adopt_runs.proofs.BoundLaws.{at_most_below, lowered_over, lowered_at_most, plus_over, capped_over, known_over, lowest_within, lowest_least, lowest_over}
-use Rattle.adopt_runs.proofs.KnownLaws.{value_is}
-use Rattle.adopt_runs.proofs.RowLaws.{set_each, set_same, InRange, shares_over, allot_lower, allot_upper, allot_none, allot_sum}
+use Rattle.adopt_context.proofs.KnownLaws.{value_is}
+use Rattle.adopt_context.proofs.RowLaws.{set_each, set_same}
+use Rattle.adopt_runs.proofs.RowLaws.{InRange, shares_over, allot_lower, allot_upper, allot_none, allot_sum}
 
 -- each share of an agent lies between the bounds of its entry
 abbrev pub AreInRange : AdoptView → Type 0

@@ -34,7 +34,7 @@ use Rattle.protocol_steps.proofs.EventLaws.{not_then}
 use Rattle.dcop_optimum.proofs.LineLaws.{within_self}
 use Rattle.dcop_optimum.proofs.JoinLaws.{child_named}
 use Rattle.protocol_steps.specs.TreeAgents.{place_at}
-use Rattle.adopt_runs.proofs.KnownLaws.{value_is}
+use Rattle.adopt_context.proofs.KnownLaws.{value_is}
 use Rattle.adopt_runs.proofs.EncloseLaws.{filter_distinct}
 use Rattle.adopt_runs.proofs.PlacedLaws.{value_small}
 use Rattle.adopt_runs.proofs.DigestLaws.{fits_place}

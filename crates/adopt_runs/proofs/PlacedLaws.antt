@@ -29,7 +29,7 @@ use Rattle.dcop_optimum.proofs.JoinLaws.{value_below, listed, listed_at, listed_
 use Rattle.protocol_steps.specs.TreeAgents.{place_at}
 use Rattle.adopt_runs.specs.Laws.{EntryHolds}
 use Rattle.adopt_runs.proofs.BoundLaws.{lowest_within, lowest_least}
-use Rattle.adopt_runs.proofs.KnownLaws.{each_pair, part_gives, union_gives_left, union_gives_right}
+use Rattle.adopt_context.proofs.KnownLaws.{each_pair, part_gives, union_gives_left, union_gives_right}
 use Rattle.adopt_runs.proofs.AgentLaws.{IsKept, IsMid}
 use Rattle.adopt_runs.proofs.EntryLaws.{merged_holds}
 use Rattle.adopt_runs.proofs.EncloseLaws.{below, GivenAbove, IsReached, IsBounded, bounded_blank, bounded_when, bounded_both, filter_distinct, row_low, IsSum, plus_parts, IsGathered, gather}

@@ -24,7 +24,8 @@ use Rattle.dcop_optimum.proofs.LineLaws.{within_cases, within_self, within_above
 use Rattle.dcop_optimum.proofs.JoinLaws.{children_parent}
 use Rattle.protocol_steps.specs.TreeAgents.{place_at}
 use Rattle.adopt_runs.specs.Agents.{EntryEncloses, IsSent}
-use Rattle.adopt_runs.proofs.KnownLaws.{value_without, put_here, put_else}
+use Rattle.adopt_context.proofs.KnownLaws.{put_here, put_else}
+use Rattle.adopt_runs.proofs.KnownLaws.{value_without}
 use Rattle.adopt_runs.proofs.Every.{Every, every_append, every_if, every_map, every_flat_map, every_from}
 use Rattle.adopt_runs.proofs.AgentLaws.{Brings}
 use Rattle.adopt_runs.proofs.EncloseLaws.{GivenAbove, IsBounded, bounded_when, encloses_from}

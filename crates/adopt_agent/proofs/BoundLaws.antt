@@ -1,0 +1,113 @@
+-- The bounds of an agent, from its costs and the bounds of its children.
+use Rattle.std.proofs.Common.{◌≡◌, ℕ, zero, suc, ◌+◌, ◌-◌, ◌<◌, ◌≤◌, Bool, true, cond, nat_lt, List, [], ◌∷◌, ◌++◌, map, length, take, drop, get_or, set, replicate, Some, None, refl, sym, ap, ap₂, subst, ◌∙◌, arith}
+use Rattle.std.proofs.lemmas.Bool.{cond_both}
+use Rattle.std.proofs.lemmas.List.{length-map, length-set, length-replicate, take_at}
+use Rattle.dcop_base.specs.declared.knowledge.Private.{Private}
+use Rattle.pseudotree.specs.declared.agent.Place.{Place}
+use Rattle.adopt_context.specs.Context.{Context, names_all, part_of}
+use Rattle.adopt_context.specs.Bounds.{Entry, blank, row_at, entry_at, cap, capped, plus_bound, lower_sum, upper_sum, lower_at, upper_at, is_below, lowest}
+use Rattle.adopt_context.specs.Allot.{kept, reset, lower_to, raised, raise, lowered, cut, share_sum, allot}
+use Rattle.adopt_context.proofs.RowLaws.{reset_at, set_each}
+use Rattle.adopt_bounds.specs.Rows.{BoundsView}
+use Rattle.protocol_steps.specs.Adopt.{AdoptView, higher}
+use Rattle.protocol_steps.specs.AdoptBounds.{lower_of, upper_of, best_lower, best_upper}
+use Rattle.protocol_steps.specs.AdoptStep.{to_allot, allotted}
+use Rattle.adopt_agent.specs.declared.stage.Stage.{Stage}
+use Rattle.adopt_agent.specs.Costs.{cost_where}
+use Rattle.adopt_agent.specs.Stage.{view_at}
+use Rattle.adopt_agent.specs.Sound.{AreCosts, RestOn, AreBacked}
+use Rattle.adopt_agent.proofs.LowestLaws.{lowest_same}
+
+-- what is written over all of a list
+pub written_back : (n : ℕ) (new old : List ℕ) → n ≡ length new → take n (new ++ drop (length new) old) ≡ new
+written_back n new old e = take_at new (drop (length new) old) n (sym e)
+
+module _ (v : AdoptView) (costs : List ℕ) (costed : AreCosts v.own v.place v.known costs) where
+  pub lower_shown : (d : ℕ) → d < v.own.size → lower_at (λ e. get_or costs e 0) v.rows d ≡ lower_of v d
+  lower_shown d lt = ap (λ (x : ℕ). cap (x + lower_sum (row_at v.rows d))) (costed.each d lt)
+
+  pub best_lower_shown : 1 ≤ v.own.size → lowest nat_lt (lower_at (λ e. get_or costs e 0) v.rows) (length costs - 1) ≡ best_lower v
+  best_lower_shown some =
+      ap (λ (n : ℕ). lowest nat_lt (lower_at (λ e. get_or costs e 0) v.rows) (n - 1)) costed.counted
+      ∙ lowest_same nat_lt (lower_at (λ e. get_or costs e 0) v.rows) (lower_of v) (v.own.size - 1) (λ d le. lower_shown d (omega (arith, le, some)))
+
+  module _ (whole : Bool) (whole_is : whole ≡ names_all v.known (higher v)) where
+    pub upper_shown : (d : ℕ) → d < v.own.size → upper_at (cost_where whole costs) v.rows d ≡ upper_of v d
+    upper_shown d lt =
+        ap₂ (λ (b : Bool) (x : ℕ). capped (plus_bound (cond b (Some x) None) (upper_sum (row_at v.rows d)))) whole_is (costed.each d lt)
+
+    pub best_upper_shown : 1 ≤ v.own.size → lowest is_below (upper_at (cost_where whole costs) v.rows) (length costs - 1) ≡ best_upper v
+    best_upper_shown some =
+        ap (λ (n : ℕ). lowest is_below (upper_at (cost_where whole costs) v.rows) (n - 1)) costed.counted
+        ∙ lowest_same is_below (upper_at (cost_where whole costs) v.rows) (upper_of v) (v.own.size - 1) (λ d le. upper_shown d (omega (arith, le, some)))
+
+-- bounds after a reset
+pub backed_reset : (own : Private) (place : Place) (known x : Context) (bounds after : BoundsView) → AreBacked own place known bounds → after ≡ record bounds { rows = reset x bounds.rows } → AreBacked own place x after
+backed_reset own place known x bounds after backed is = subst (λ (b : BoundsView). AreBacked own place x b) (sym is) (record {
+  children = backed.children;
+  counted = length-map bounds.rows (λ row. map (kept x) row) ∙ backed.counted;
+  rest = λ d k.
+      let e : Entry = entry_at bounds.rows d k in
+      subst (λ (f : Entry). part_of f.context x ≡ true) (sym (reset_at x bounds.rows d k))
+      (cond_both (part_of e.context x) e blank (λ (f : Entry). part_of f.context x ≡ true) (λ part. part) (λ _. refl));
+})
+
+raise_context : (lack : ℕ) (row : List Entry) (k : ℕ) → (get_or (raise lack row) k blank).context ≡ (get_or row k blank).context
+raise_context lack [] k = refl
+raise_context lack (e ∷ es) zero = refl
+raise_context lack (e ∷ es) (suc k) = raise_context (lack + e.share - raised lack e) es k
+
+cut_context : (excess : ℕ) (row : List Entry) (k : ℕ) → (get_or (cut excess row) k blank).context ≡ (get_or row k blank).context
+cut_context excess [] k = refl
+cut_context excess (e ∷ es) zero = refl
+cut_context excess (e ∷ es) (suc k) = cut_context (excess + lowered excess e - e.share) es k
+
+allot_context : (goal : ℕ) (row : List Entry) (k : ℕ) → (get_or (allot goal row) k blank).context ≡ (get_or row k blank).context
+allot_context goal row k =
+    cond_both (nat_lt (share_sum row) goal) (raise (goal - share_sum row) row) (cond (nat_lt goal (share_sum row)) (cut (share_sum row - goal) row) row)
+    (λ r. (get_or r k blank).context ≡ (get_or row k blank).context)
+    (λ _. raise_context (goal - share_sum row) row k)
+    (λ _. cond_both (nat_lt goal (share_sum row)) (cut (share_sum row - goal) row) row (λ r. (get_or r k blank).context ≡ (get_or row k blank).context)
+    (λ _. cut_context (share_sum row - goal) row k)
+    (λ _. refl))
+
+-- bounds after a row was allotted
+pub backed_allot : (own : Private) (place : Place) (known : Context) (bounds after : BoundsView) (d goal : ℕ) → AreBacked own place known bounds → after ≡ record bounds { rows = set bounds.rows d (allot goal (row_at bounds.rows d)) } → AreBacked own place known after
+backed_allot own place known bounds after d goal backed is = subst (λ (b : BoundsView). AreBacked own place known b) (sym is) (record {
+  children = backed.children;
+  counted = length-set bounds.rows d (allot goal (row_at bounds.rows d)) ∙ backed.counted;
+  rest =
+      set_each [] (λ i row. (k : ℕ) → part_of (get_or row k blank).context known ≡ true) bounds.rows d (allot goal (row_at bounds.rows d))
+      (λ k. subst (λ (c : Context). part_of c known ≡ true) (sym (allot_context goal (row_at bounds.rows d) k)) (backed.rest d k)) backed.rest;
+})
+
+-- what allotting gives
+pub allotted_shown : (own : Private) (place : Place) (error : ℕ) (stage : Stage) (known : Context) (value threshold last : ℕ) (told : Bool) (bounds after : BoundsView) (costs : List ℕ) (cost goal : ℕ) (v : AdoptView)
+    → view_at own place error stage known value threshold last told bounds.rows ≡ v → AreCosts own place known costs → value < own.size → cost ≡ get_or costs value 0
+    → goal ≡ lower_to (threshold - cost) (capped (upper_sum (row_at bounds.rows value)))
+    → after ≡ record bounds { rows = set bounds.rows value (allot goal (row_at bounds.rows value)) }
+    → view_at own place error stage known value threshold last told after.rows ≡ allotted v
+allotted_shown own place error stage known value threshold last told bounds after costs cost goal v view costed below is goal_is after_is =
+    let w : AdoptView = view_at own place error stage known value threshold last told bounds.rows in
+    let right : goal ≡ to_allot w = goal_is ∙ ap (λ (x : ℕ). lower_to (threshold - x) (capped (upper_sum (row_at bounds.rows value)))) (is ∙ costed.each value below) in
+    ap (λ (b : BoundsView). view_at own place error stage known value threshold last told b.rows) after_is
+    ∙ ap (λ (g : ℕ). view_at own place error stage known value threshold last told (set bounds.rows value (allot g (row_at bounds.rows value)))) right
+    ∙ ap allotted view
+
+each_replicate : {X : Type 0} (P : X → Type 0) (n : ℕ) (x none : X) → P x → P none → (j : ℕ) → P (get_or (replicate n x) j none)
+each_replicate P zero x none a b j = b
+each_replicate P (suc n) x none a b zero = a
+each_replicate P (suc n) x none a b (suc j) = each_replicate P n x none a b j
+
+-- bounds of which nothing is known rest on nothing
+blank_rests : (size width : ℕ) → RestOn [] (replicate size (replicate width blank))
+blank_rests size width = λ d k.
+    each_replicate (λ (row : List Entry). part_of (get_or row k blank).context [] ≡ true) size (replicate width blank) []
+    (each_replicate (λ (e : Entry). part_of e.context [] ≡ true) width blank blank refl refl k) refl d
+
+pub backed_new : (own : Private) (place : Place) (known : Context) (bounds : BoundsView) (width : ℕ) → known ≡ [] → bounds.children ≡ place.children → bounds.rows ≡ replicate own.size (replicate width blank) → AreBacked own place known bounds
+backed_new own place known bounds width none children rows = record {
+  children = children;
+  counted = ap (λ (rs : List (List Entry)). length rs) rows ∙ length-replicate own.size (replicate width blank);
+  rest = subst (λ (x : Context). RestOn x bounds.rows) (sym none) (subst (λ (rs : List (List Entry)). RestOn [] rs) (sym rows) (blank_rests own.size width));
+}

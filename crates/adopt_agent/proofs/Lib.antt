@@ -1,0 +1,9 @@
+pub mod PlaceLaws
+pub mod RangeLaws
+pub mod CountLaws
+pub mod LowestLaws
+pub mod BoundLaws
+pub mod StoreLaws
+pub mod AgentLaws
+pub mod MessageLaws
+pub mod CostLaws

@@ -1,0 +1,4 @@
+pub mod Costs
+pub mod Stage
+pub mod Sound
+pub mod Deed

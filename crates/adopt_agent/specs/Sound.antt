@@ -1,0 +1,46 @@
+-- What holds of every ADOPT agent.
+use Rattle.std.specs.Prelude.{◌≡◌, ℕ, ◌<◌, ◌≤◌, Bool, true, List, length, slice_index}
+use Rattle.dcop_base.specs.declared.knowledge.Private.{Private}
+use Rattle.dcop_base.specs.declared.number.TheConstants.{CAP}
+use Rattle.pseudotree.specs.declared.agent.Place.{Place}
+use Rattle.adopt_context.specs.Context.{Context, names_all, part_of}
+use Rattle.adopt_context.specs.Bounds.{Entry, entry_at}
+use Rattle.adopt_bounds.specs.Rows.{BoundsView}
+use Rattle.protocol_steps.specs.Knowledge.{IsKnowledge}
+use Rattle.protocol_steps.specs.Placing.{IsPlaceFor}
+use Rattle.protocol_steps.specs.Adopt.{higher}
+use Rattle.protocol_steps.specs.AdoptBounds.{delta}
+use Rattle.protocol_steps.specs.AdoptRange.{fits}
+use Rattle.adopt_agent.specs.Stage.{knowing}
+
+-- what an agent is made from, and a context over its path
+pub record IsGround (own : Private) (place : Place) (known : Context) : Type 0 where
+  pub own_fits : IsKnowledge own
+  pub placed : IsPlaceFor own place
+  pub known_fits : fits (knowing own place known) known ≡ true
+
+-- the cost of each own value by the tables that count
+pub record AreCosts (own : Private) (place : Place) (known : Context) (costs : List ℕ) : Type 0 where
+  pub counted : length costs ≡ own.size
+  pub each : (d : ℕ) → d < own.size → slice_index costs d ≡ delta (knowing own place known) d
+
+-- each entry rests on a part of what is known
+abbrev pub RestOn : Context → List (List Entry) → Type 0
+RestOn known rows = (d k : ℕ) → part_of (entry_at rows d k).context known ≡ true
+
+-- bounds with a row for each own value and an entry for each child
+pub record AreBacked (own : Private) (place : Place) (known : Context) (bounds : BoundsView) : Type 0 where
+  pub children : bounds.children ≡ place.children
+  pub counted : length bounds.rows ≡ own.size
+  pub rest : RestOn known bounds.rows
+
+-- an agent's knowledge, costs and bounds fit together, and its value and amounts are within their ranges
+pub record IsSound (own : Private) (place : Place) (error : ℕ) (known : Context) (costs : List ℕ) (whole : Bool) (bounds : BoundsView) (value threshold last : ℕ) : Type 0 where
+  pub ground : IsGround own place known
+  pub costed : AreCosts own place known costs
+  pub whole_is : whole ≡ names_all known (higher (knowing own place known))
+  pub backed : AreBacked own place known bounds
+  pub value_below : value < own.size
+  pub error_within : error ≤ CAP
+  pub threshold_within : threshold ≤ CAP
+  pub last_within : last ≤ CAP

@@ -1,0 +1,311 @@
+//! The ADOPT agent.
+
+ghost use Rattle.std.specs.Prelude.{◌≡◌, ℕ, ◌<◌, ◌≤◌, true, [], ◌↔◌, IfOk, IsErr, OnOk, OnErr, MatchOption, Some, None};
+ghost use Rattle.std.specs.List.{All, Contains};
+ghost use Rattle.adopt_context.specs.Context.{Context};
+ghost use Rattle.protocol_steps.specs.Agent.{not_started};
+ghost use Rattle.protocol_steps.specs.Knowledge.{IsKnowledge};
+ghost use Rattle.protocol_steps.specs.Placing.{IsPlaceFor};
+ghost use Rattle.protocol_steps.specs.Ranges.{IsBound};
+ghost use Rattle.protocol_steps.specs.Adopt.{new_adopt};
+ghost use Rattle.protocol_steps.specs.AdoptBounds.{at_context, best_lower, best_upper, lower_bound, lower_of, restore, upper_bound};
+ghost use Rattle.protocol_steps.specs.AdoptRange.{fits};
+ghost use Rattle.protocol_steps.specs.AdoptStep.{adopt_start, adopt_step, allotted, back_track, choose, closed, may_end, settle};
+ghost use Rattle.protocol_steps.specs.View.{AdoptKind, made_of};
+ghost use Rattle.adopt_agent.specs.Stage.{working};
+ghost use Rattle.adopt_agent.specs.Deed.{Gives};
+
+use crate::choose;
+use crate::costs::{are_known, copy_of, set_costs};
+use crate::stage::Stage;
+use adopt_bounds::Bounds;
+use adopt_context::AgentContext;
+use dcop_base::{CAP, NoMemory, Private, Table, Val};
+use protocol_steps::{Batch, Letter, Machine, Outbox, Parcel, Standing};
+use pseudotree::Place;
+use std::alloc::Global;
+use std::marker::Model;
+
+/// An ADOPT agent: its part in the search with bounds. Contracts see its view.
+///
+/// Beside what the view holds it keeps what follows from it: the cost of each own value by the
+/// tables that count, and whether all higher neighbours are known.
+#[derive(Debug, Drop)]
+pub struct AdoptAgent {
+    pub(crate) alloc: Global,
+    pub(crate) own: Private,
+    pub(crate) place: Place,
+    pub(crate) error: u64,
+    pub(crate) stage: Stage,
+    pub(crate) known: AgentContext,
+    pub(crate) costs: Vec<u64>,
+    pub(crate) whole: bool,
+    pub(crate) bounds: Bounds,
+    pub(crate) value: Val,
+    pub(crate) threshold: u64,
+    pub(crate) last: u64,
+    pub(crate) told: bool,
+}
+
+impl Model for AdoptAgent {
+    ghost use Rattle.protocol_steps.specs.Adopt.{AdoptView};
+    ghost use Rattle.adopt_agent.specs.Stage.{view_at};
+    ghost use Rattle.adopt_agent.specs.Sound.{IsSound};
+
+    ghost Value = { AdoptView };
+
+    ghost view = { λ a. view_at a.own a.place a.error a.stage a.known a.value a.threshold a.last
+        a.told a.bounds.rows };
+
+    ghost invariant = { λ a. IsSound a.own a.place a.error a.known a.costs.items a.whole a.bounds
+        a.value a.threshold a.last };
+}
+
+impl AdoptAgent {
+    /// The agent that knows this part of a problem, with this place in a tree and this error,
+    /// before its start.
+    ///
+    /// # Errors
+    ///
+    /// [`NoMemory`] where memory was wanted and not had. The arguments are gone then too.
+    pub fn new(
+        alloc: Global,
+        own: Private,
+        place: Place,
+        error: u64,
+    ) -> Result<AdoptAgent, NoMemory>
+        requires known { IsKnowledge own }
+        requires placed { IsPlaceFor own place }
+        requires error { error ≤ CAP }
+        ensures { IfOk result (λ agent. agent ≡ new_adopt own place error) }
+    {
+        let bounds = Bounds::new(alloc, own.size, copy_of(alloc, place.children.as_slice())?)?;
+        let known = AgentContext::new(alloc);
+        let mut costs = vec![in alloc; 0; usize::from(own.size)]?;
+        set_costs(costs.as_mut_slice(), &own, &place, &known);
+        let whole = are_known(own.neighbours.as_slice(), place.path.as_slice(), &known);
+        Ok(AdoptAgent {
+            alloc,
+            own,
+            place,
+            error,
+            stage: Stage::Waiting,
+            known,
+            costs,
+            whole,
+            bounds,
+            value: Val(0),
+            threshold: 0,
+            last: 0,
+            told: false,
+        })
+    }
+
+    /// The lowest value of least LB(d).
+    pub(crate) fn best_lower(&self) -> Val
+        ensures best { result ≡ best_lower self.now }
+        ensures within { result < self.now.own.size }
+    {
+        choose::best_lower(self.costs.as_slice(), &self.bounds)
+    }
+
+    /// The lowest value of least UB(d).
+    pub(crate) fn best_upper(&self) -> Val
+        ensures best { result ≡ best_upper self.now }
+        ensures within { result < self.now.own.size }
+    {
+        choose::best_upper(self.costs.as_slice(), self.whole, &self.bounds)
+    }
+
+    /// LB: the least LB(d).
+    pub(crate) fn lower_bound(&self) -> u64
+        ensures bound { result ≡ lower_bound self.now }
+        ensures within { result ≤ CAP }
+    {
+        let best = choose::best_lower(self.costs.as_slice(), &self.bounds);
+        choose::lower_of(self.costs.as_slice(), &self.bounds, best)
+    }
+
+    /// UB: the least UB(d), where one is there.
+    pub(crate) fn upper_bound(&self) -> Option<u64>
+        ensures bound { result ≡ upper_bound self.now }
+        ensures within { IsBound result }
+    {
+        let best = choose::best_upper(self.costs.as_slice(), self.whole, &self.bounds);
+        choose::upper_of(self.costs.as_slice(), self.whole, &self.bounds, best)
+    }
+
+    /// LB(d) of the agent's value.
+    fn own_lower(&self) -> u64
+        ensures { result ≡ lower_of self.now self.now.value }
+    {
+        choose::lower_of(self.costs.as_slice(), &self.bounds, self.value)
+    }
+
+    /// Brings the threshold between the bounds.
+    pub(crate) fn restore(&mut self)
+        ensures { self.new ≡ restore self.old }
+    {
+        let lower = self.lower_bound();
+        let upper = self.upper_bound();
+        let is_root = self.place.path.as_slice().is_empty();
+        let least = choose::raised(is_root, self.threshold, lower, self.error);
+        self.threshold = choose::lower_to(least, upper);
+    }
+
+    /// Knows these values from now on: forgets the entries that do not rest on them, and restores.
+    pub(crate) fn move_to(&mut self, known: AgentContext)
+        requires { fits self.old known ≡ true }
+        ensures { self.new ≡ restore (at_context self.old known) }
+    {
+        set_costs(self.costs.as_mut_slice(), &self.own, &self.place, &known);
+        let path = self.place.path.as_slice();
+        self.whole = are_known(self.own.neighbours.as_slice(), path, &known);
+        self.bounds.reset(&known);
+        self.known = known;
+        self.restore();
+    }
+
+    /// Takes another value where it has to.
+    fn choose(&mut self)
+        ensures { self.new ≡ choose self.old }
+    {
+        if choose::is_value(self.upper_bound(), self.threshold) {
+            self.value = self.best_upper();
+        } else if self.threshold < self.own_lower() {
+            self.value = self.best_lower();
+        }
+    }
+
+    /// Allots the threshold to the children.
+    fn allot(&mut self)
+        ensures { self.new ≡ allotted self.old }
+    {
+        let value = self.value;
+        let cost = self.costs[usize::from(value.0)];
+        let most = self.bounds.upper_sum_of(value);
+        let goal = choose::lower_to(self.threshold.saturating_sub(cost), most);
+        self.bounds.allot(value, goal);
+    }
+
+    /// Whether the agent may end.
+    fn may_end(&self) -> bool
+        ensures { result ≡ may_end self.now }
+    {
+        choose::is_value(self.upper_bound(), self.threshold)
+            && (self.place.path.as_slice().is_empty() || self.told)
+    }
+
+    /// Ends where it may.
+    fn settle(&mut self)
+        requires { self.old.phase ≡ working }
+        ensures { self.new ≡ settle self.old }
+    {
+        if self.may_end() {
+            self.stage = Stage::Ended;
+        }
+    }
+
+    /// The end of an activation: the value, the shares of the children, and whether the agent ends.
+    fn close(&mut self)
+        requires { self.old.phase ≡ working }
+        ensures { self.new ≡ closed self.old }
+    {
+        self.restore();
+        self.choose();
+        self.allot();
+        self.settle();
+    }
+
+    /// backTrack: the end of an activation, and what the neighbours are told.
+    fn back_track(&mut self) -> Result<Vec<Parcel>, NoMemory>
+        requires { self.old.phase ≡ working }
+        ensures made { made_of (AdoptKind self.new) ≡ made_of (AdoptKind self.old) }
+        ensures gives { IfOk result (λ ps. Gives (back_track self.old) self.new ps.items) }
+    {
+        self.close();
+        self.tell_all()
+    }
+
+    /// Handles all messages of a batch, in order, and then ends the activation.
+    fn handle_all(&mut self, letters: &[Letter]) -> Result<Vec<Parcel>, NoMemory>
+        requires { self.old.phase ≡ working }
+        ensures made { made_of (AdoptKind self.new) ≡ made_of (AdoptKind self.old) }
+        ensures gives { IfOk result (λ ps. Gives (adopt_step self.old letters.now) self.new ps.items) }
+    {
+        for letter in letters {
+            self.handle(letter)?;
+        }
+        self.back_track()
+    }
+
+    /// Starts: the agent takes the lowest value of least LB(d).
+    fn begin(&mut self) -> Result<Vec<Parcel>, NoMemory>
+        requires { self.old.phase ≡ not_started }
+        ensures made { made_of (AdoptKind self.new) ≡ made_of (AdoptKind self.old) }
+        ensures gives { IfOk result (λ ps. Gives (adopt_start self.old) self.new ps.items) }
+    {
+        self.value = self.best_lower();
+        self.stage = Stage::Working;
+        self.back_track()
+    }
+
+    /// Fails for good.
+    fn fail(&mut self) -> NoMemory
+        ensures made { made_of (AdoptKind self.new) ≡ made_of (AdoptKind self.old) }
+        ensures failed { self.new.phase.failed ≡ true }
+    {
+        self.stage = Stage::Failed;
+        NoMemory
+    }
+}
+
+impl Machine for AdoptAgent {
+    ghost meaning = { λ a. AdoptKind a };
+
+    fn start(&mut self, out: &mut Outbox) -> Result<(), NoMemory> {
+        if matches!(self.stage, Stage::Failed) {
+            return Err(NoMemory);
+        }
+        let Ok(parcels) = self.begin() else {
+            return Err(self.fail());
+        };
+        *out = Outbox::from_vec(parcels);
+        Ok(())
+    }
+
+    fn react(&mut self, batch: &Batch, out: &mut Outbox) -> Result<(), NoMemory> {
+        if matches!(self.stage, Stage::Failed) {
+            return Err(NoMemory);
+        }
+        let Ok(parcels) = self.handle_all(batch.as_slice()) else {
+            return Err(self.fail());
+        };
+        *out = Outbox::from_vec(parcels);
+        Ok(())
+    }
+
+    fn ended(&self) -> bool {
+        self.has_ended()
+    }
+
+    fn value(&self) -> Val {
+        self.value
+    }
+
+    fn standing(&self) -> Standing {
+        Standing {
+            lower: self.lower_bound(),
+            upper: self.upper_bound(),
+            threshold: self.threshold,
+        }
+    }
+
+    fn table(&self) -> Option<&Table> {
+        None
+    }
+
+    fn place(&self) -> Option<&Place> {
+        None
+    }
+}

@@ -1,0 +1,133 @@
+//! The bounds of the own values, and the lowest value of the least.
+
+ghost use Rattle.std.specs.Prelude.{◌≡◌, ℕ, ◌+◌, ◌-◌, ◌<◌, ◌≤◌, length, max, nat_lt, slice_index, if◌then◌else◌};
+ghost use Rattle.dcop_base.specs.declared.number.TheConstants.{CAP};
+ghost use Rattle.adopt_context.specs.Allot.{lower_to};
+ghost use Rattle.adopt_context.specs.Context.{is_value};
+ghost use Rattle.adopt_context.specs.Bounds.{cap, is_below, lower_at, lowest, upper_at};
+ghost use Rattle.protocol_steps.specs.Ranges.{IsBound};
+ghost use Rattle.adopt_agent.specs.Costs.{cost_where};
+
+use adopt_bounds::Bounds;
+use dcop_base::{CAP, MAX_SIZE, Val};
+
+/// LB(d): the cost of an own value and the lower bounds of the children.
+pub(crate) fn lower_of(costs: &[u64], bounds: &Bounds, d: Val) -> u64
+    requires cost { d < length costs.now }
+    requires row { d < length bounds.now.rows }
+    ensures bound { result ≡ lower_at (slice_index costs.now) bounds.now.rows d }
+    ensures within { result ≤ CAP }
+{
+    bounds.lb_of(costs[usize::from(d.0)], d)
+}
+
+/// UB(d): the cost of an own value and the upper bounds of the children; `None` where not all
+/// higher neighbours are known or an upper bound is not there.
+pub(crate) fn upper_of(costs: &[u64], whole: bool, bounds: &Bounds, d: Val) -> Option<u64>
+    requires cost { d < length costs.now }
+    requires row { d < length bounds.now.rows }
+    ensures bound { result ≡ upper_at (cost_where whole costs.now) bounds.now.rows d }
+    ensures within { IsBound result }
+{
+    let own = if whole {
+        Some(costs[usize::from(d.0)])
+    } else {
+        None
+    };
+    bounds.ub_of(own, d)
+}
+
+/// Whether one upper bound is below another; `None` is the largest.
+fn is_below(one: Option<u64>, other: Option<u64>) -> bool
+    ensures { result ≡ is_below one other }
+{
+    match (one, other) {
+        (Some(one), Some(other)) => one < other,
+        (one, None) => one.is_some(),
+        (None, Some(_)) => false,
+    }
+}
+
+/// The lowest own value of least LB(d).
+#[tactic(auto, using(crate::proofs::LowestLaws::lowest_next))]
+pub(crate) fn best_lower(costs: &[u64], bounds: &Bounds) -> Val
+    requires some { 1 ≤ length costs.now }
+    requires few { length costs.now ≤ MAX_SIZE }
+    requires rows { length bounds.now.rows ≡ length costs.now }
+    ensures best { result ≡ lowest nat_lt (lower_at (slice_index costs.now) bounds.now.rows)
+        (length costs.now - 1) }
+    ensures within { result < length costs.now }
+{
+    let mut best = Val(0);
+    let mut least = lower_of(costs, bounds, best);
+    for d in 1..costs.len() {
+        let value = Val(d as u16);
+        let lower = lower_of(costs, bounds, value);
+        if lower < least {
+            best = value;
+            least = lower;
+        }
+    }
+    best
+}
+
+/// The lowest own value of least UB(d).
+#[tactic(auto, using(crate::proofs::LowestLaws::lowest_next))]
+pub(crate) fn best_upper(costs: &[u64], whole: bool, bounds: &Bounds) -> Val
+    requires some { 1 ≤ length costs.now }
+    requires few { length costs.now ≤ MAX_SIZE }
+    requires rows { length bounds.now.rows ≡ length costs.now }
+    ensures best { result ≡ lowest is_below (upper_at (cost_where whole costs.now) bounds.now.rows)
+        (length costs.now - 1) }
+    ensures within { result < length costs.now }
+{
+    let mut best = Val(0);
+    let mut least = upper_of(costs, whole, bounds, best);
+    for d in 1..costs.len() {
+        let value = Val(d as u16);
+        let upper = upper_of(costs, whole, bounds, value);
+        if is_below(upper, least) {
+            best = value;
+            least = upper;
+        }
+    }
+    best
+}
+
+/// The amount, or the bound where the amount is above it.
+pub(crate) fn lower_to(amount: u64, bound: Option<u64>) -> u64
+    requires { amount ≤ CAP }
+    ensures bound { result ≡ lower_to amount bound }
+    ensures within { result ≤ CAP }
+{
+    match bound {
+        Some(bound) => amount.min(bound),
+        None => amount,
+    }
+}
+
+/// Whether the bound that is found is this amount.
+pub(crate) fn is_value(found: Option<u64>, amount: u64) -> bool
+    ensures { result ≡ is_value found amount }
+{
+    match found {
+        Some(bound) => bound == amount,
+        None => false,
+    }
+}
+
+/// What the threshold is raised to, before it is lowered to the upper bound: at the root the lower
+/// bound and the error, elsewhere the lower bound at least.
+pub(crate) fn raised(is_root: bool, threshold: u64, lower: u64, error: u64) -> u64
+    requires threshold { threshold ≤ CAP }
+    requires lower { lower ≤ CAP }
+    requires error { error ≤ CAP }
+    ensures amount { result ≡ if is_root then cap (lower + error) else max threshold lower }
+    ensures within { result ≤ CAP }
+{
+    if is_root {
+        (lower + error).min(CAP)
+    } else {
+        threshold.max(lower)
+    }
+}

@@ -1,0 +1,125 @@
+//! What each own value costs by the agent's own tables.
+
+ghost use Rattle.std.specs.Prelude.{◌≡◌, ℕ, ◌<◌, ◌≤◌, ◌+◌, ◌&&◌, ◌||◌, ◌==◌, length, map, is_some, slice_index, IfOk};
+ghost use Rattle.std.specs.List.{All, filter, list_all};
+ghost use Rattle.dcop_base.specs.Table.{AreWithin, cell_place, has, product};
+ghost use Rattle.dcop_base.specs.Values.{cell_with, cost_with, with_own};
+ghost use Rattle.adopt_context.specs.Bounds.{cap};
+ghost use Rattle.adopt_context.specs.Context.{names_all, value_in};
+ghost use Rattle.protocol_steps.specs.Values.{valued};
+ghost use Rattle.adopt_agent.specs.Sound.{AreCosts, IsGround};
+
+use adopt_context::AgentContext;
+use dcop_base::{CAP, MAX_SIZE, NoMemory, Private, Table, Val, VarId, VarList};
+use pseudotree::Place;
+use std::alloc::Global;
+
+/// Whether the variable is among these.
+pub(crate) fn stands_in(vars: &[VarId], sought: VarId) -> bool
+    ensures { result ≡ has vars.now sought }
+{
+    vars.iter().any(|var| *var == sought)
+}
+
+/// A copy of these variables.
+pub(crate) fn copy_of(alloc: Global, vars: &[VarId]) -> Result<VarList, NoMemory>
+    ensures { IfOk result (λ list. list ≡ vars.now) }
+{
+    Ok(VarList::from_vec(Vec::from_slice(alloc, vars)?))
+}
+
+/// Whether a variable is the agent's own, or one of the path that is known.
+fn is_settled(var: VarId, me: VarId, path: &[VarId], known: &AgentContext) -> bool
+    ensures { result ≡ (var == me || (has path.now var && is_some (value_in known.now var))) }
+{
+    var == me || (stands_in(path, var) && known.get(var).is_some())
+}
+
+/// Whether a table counts: besides the agent it names only variables of the path that are known.
+fn counts(scope: &[VarId], me: VarId, path: &[VarId], known: &AgentContext) -> bool
+    ensures { result ≡ list_all
+        (λ u. u == me || (has path.now u && is_some (value_in known.now u))) scope.now }
+{
+    scope.iter().all(|var| is_settled(*var, me, path, known))
+}
+
+/// Whether all neighbours that stand in the path are known.
+pub(crate) fn are_known(neighbours: &[VarId], path: &[VarId], known: &AgentContext) -> bool
+    ensures { result ≡ names_all known.now (filter (has path.now) neighbours.now) }
+{
+    for var in neighbours {
+        if stands_in(path, *var) && known.get(*var).is_none() {
+            return false;
+        }
+    }
+    true
+}
+
+/// The agent's own value, and the known values of other variables; 0 where none is known.
+fn value_of(var: VarId, me: VarId, d: Val, known: &AgentContext) -> Val
+    ensures { result ≡ with_own me d (valued known.now) var }
+{
+    if var == me {
+        return d;
+    }
+    match known.get(var) {
+        Some(value) => value,
+        None => Val(0),
+    }
+}
+
+/// The place of a table's cell at an own value and the known values.
+fn place_of(scope: &[VarId], sizes: &[u16], me: VarId, d: Val, known: &AgentContext) -> usize
+    requires within { AreWithin sizes.now (map (with_own me d (valued known.now)) scope.now) }
+    requires few { product sizes.now ≤ usize.MAX }
+    ensures { result ≡ cell_place sizes.now (map (with_own me d (valued known.now)) scope.now) }
+{
+    let mut place: usize = 0;
+    for (k, var) in scope.iter().enumerate() {
+        let value = value_of(*var, me, d, known);
+        place = place * usize::from(sizes[k]) + usize::from(value.0);
+    }
+    place
+}
+
+/// A table's cell at an own value and the known values.
+fn cell_at(table: &Table, me: VarId, d: Val, known: &AgentContext) -> u64
+    requires { AreWithin table.now.sizes (map (with_own me d (valued known.now)) table.now.scope) }
+    ensures cell { result ≡ cell_with table.now (with_own me d (valued known.now)) }
+    ensures within { result ≤ CAP }
+{
+    let scope = table.scope.as_slice();
+    let sizes = table.sizes.as_slice();
+    let cells = table.cells.as_slice();
+    cells[place_of(scope, sizes, me, d, known)]
+}
+
+/// Adds a table's cells to the costs of the own values, capped.
+fn add_table(costs: &mut [u64], table: &Table, me: VarId, known: &AgentContext)
+    requires few { length costs.old ≤ MAX_SIZE }
+    requires costs { All (λ c. c ≤ CAP) costs.old }
+    requires within { (d : ℕ) → d < length costs.old
+        → AreWithin table.now.sizes (map (with_own me d (valued known.now)) table.now.scope) }
+    ensures costs { All (λ c. c ≤ CAP) costs.new }
+    ensures added { (d : ℕ) → d < length costs.old → slice_index costs.new d
+        ≡ cap (slice_index costs.old d + cell_with table.now (with_own me d (valued known.now))) }
+{
+    for (d, cost) in costs.iter_mut().enumerate() {
+        let cell = cell_at(table, me, Val(d as u16), known);
+        *cost = (*cost + cell).min(CAP);
+    }
+}
+
+/// The cost of each own value by the tables that count.
+pub(crate) fn set_costs(costs: &mut [u64], own: &Private, place: &Place, known: &AgentContext)
+    requires ground { IsGround own.now place.now known.now }
+    requires counted { length costs.old ≡ own.now.size }
+    ensures { AreCosts own.now place.now known.now costs.new }
+{
+    costs.fill(0);
+    for table in own.tables.as_slice() {
+        if counts(table.scope.as_slice(), own.me, place.path.as_slice(), known) {
+            add_table(costs, table, own.me, known);
+        }
+    }
+}

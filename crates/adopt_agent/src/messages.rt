@@ -1,0 +1,205 @@
+//! How an agent handles one message.
+
+ghost use Rattle.std.specs.Prelude.{◌≡◌, ◌<◌, ◌≤◌, ◌==◌, ◌||◌, ◌&&◌, not, nat_lt, true, is_some, IfOk, OnOk, if◌then◌else◌};
+ghost use Rattle.std.specs.List.{fold, position};
+ghost use Rattle.dcop_base.specs.Table.{has};
+ghost use Rattle.adopt_context.specs.Context.{Context, or_zero, part_of, put, value_in};
+ghost use Rattle.protocol_steps.specs.declared.message.Message.TheVariants.{Value, Cost, Threshold, Terminate};
+ghost use Rattle.protocol_steps.specs.Ranges.{IsBound};
+ghost use Rattle.protocol_steps.specs.AdoptBounds.{at_context, restore};
+ghost use Rattle.protocol_steps.specs.AdoptRange.{fits};
+ghost use Rattle.protocol_steps.specs.AdoptCost.{learn, learned, stored};
+ghost use Rattle.protocol_steps.specs.AdoptMessage.{adopt_message, takes_from_parent, takes_value};
+ghost use Rattle.adopt_agent.specs.Deed.{IsSameAgent};
+
+use crate::agent::AdoptAgent;
+use crate::costs::stands_in;
+use crate::range::{fit, is_in_range, is_parent, position_of};
+use adopt_context::AgentContext;
+use dcop_base::{CAP, NoMemory, Val, VarId};
+use protocol_steps::{Letter, Message};
+
+/// What is known, with what a COST tells of variables that are no neighbours or not known yet.
+fn learned(
+    known: &AgentContext,
+    neighbours: &[VarId],
+    told: &AgentContext,
+) -> Result<AgentContext, NoMemory>
+    ensures { IfOk result (λ all. all ≡ fold (λ x p.
+        if not (has neighbours.now p.0) || not (is_some (value_in x p.0)) then put x p.0 p.1 else x)
+        known.now told.now) }
+{
+    let mut all = known.copy()?;
+    for pair in told.pairs() {
+        if !stands_in(neighbours, pair.0) || all.get(pair.0).is_none() {
+            all.set(pair.0, pair.1)?;
+        }
+    }
+    Ok(all)
+}
+
+impl AdoptAgent {
+    /// Whether VALUE is taken.
+    fn takes_value(&self, from: VarId, value: Val) -> bool
+        ensures { result ≡ takes_value self.now from value }
+    {
+        !self.told
+            && stands_in(self.own.neighbours.as_slice(), from)
+            && is_in_range(&self.place, from, value)
+    }
+
+    /// Knows the value of a higher neighbour, where VALUE is taken.
+    fn take_value(&mut self, from: VarId, value: Val) -> Result<(), NoMemory>
+        ensures same { IsSameAgent self.old self.new }
+        ensures taken { OnOk result (self.new ≡ adopt_message self.old from (Value value)) }
+    {
+        if !self.takes_value(from, value) {
+            return Ok(());
+        }
+        let mut known = self.known.copy()?;
+        known.set(from, value)?;
+        self.move_to(known);
+        Ok(())
+    }
+
+    /// Whether THRESHOLD or TERMINATE with this context is taken.
+    fn takes_from_parent(&self, from: VarId, context: &AgentContext) -> bool
+        ensures { result ≡ takes_from_parent self.now from context.now }
+    {
+        !self.told
+            && is_parent(self.place.path.as_slice(), from)
+            && fit(&self.place, context.pairs())
+    }
+
+    /// Remembers a threshold, where THRESHOLD is taken; it counts where its context is compatible
+    /// with what is known.
+    fn take_threshold(&mut self, from: VarId, amount: u64, context: &AgentContext)
+        requires { amount ≤ CAP }
+        ensures same { IsSameAgent self.old self.new }
+        ensures taken { self.new ≡ adopt_message self.old from (Threshold amount context.now) }
+    {
+        if !self.takes_from_parent(from, context) {
+            return;
+        }
+        self.last = amount;
+        if context.compatible(&self.known) {
+            self.threshold = amount;
+            self.restore();
+        }
+    }
+
+    /// Knows the last values of the path, where TERMINATE is taken; the threshold becomes the last
+    /// one received.
+    fn take_end(&mut self, from: VarId, context: &AgentContext) -> Result<(), NoMemory>
+        ensures same { IsSameAgent self.old self.new }
+        ensures taken { OnOk result (self.new ≡ adopt_message self.old from (Terminate context.now)) }
+    {
+        if !self.takes_from_parent(from, context) {
+            return Ok(());
+        }
+        let known = context.copy()?;
+        self.told = true;
+        self.threshold = self.last;
+        self.move_to(known);
+        Ok(())
+    }
+
+    /// Learns from the context of a COST, before TERMINATE.
+    fn learn(&mut self, rest: &AgentContext) -> Result<(), NoMemory>
+        requires { fits self.old rest.now ≡ true }
+        ensures same { IsSameAgent self.old self.new }
+        ensures learned { OnOk result (self.new ≡ learn self.old rest.now) }
+    {
+        if self.told {
+            return Ok(());
+        }
+        let known = learned(&self.known, self.own.neighbours.as_slice(), rest)?;
+        self.move_to(known);
+        Ok(())
+    }
+
+    /// Stores the bounds of a child, where they rest on what is known and do not cross those that
+    /// are there.
+    fn store(
+        &mut self,
+        d: Val,
+        child: VarId,
+        rest: &AgentContext,
+        lower: u64,
+        upper: Option<u64>,
+    ) -> Result<(), NoMemory>
+        requires value { d < self.old.own.size }
+        requires child { has self.old.place.children child ≡ true }
+        requires lower { lower ≤ CAP }
+        requires upper { IsBound upper }
+        ensures same { IsSameAgent self.old self.new }
+        ensures stored { OnOk result (self.new ≡ stored self.old d
+            (or_zero (position (λ c. c == child) self.old.place.children)) rest.now lower upper) }
+    {
+        if !rest.part_of(&self.known) {
+            return Ok(());
+        }
+        if self.bounds.store(d, child, rest, lower, upper)? {
+            self.restore();
+        }
+        Ok(())
+    }
+
+    /// Whether bounds for this value that rest on these values are taken.
+    fn takes_bounds(&self, d: Val, rest: &AgentContext) -> bool
+        ensures { result ≡ (nat_lt d self.now.own.size && fits self.now rest.now) }
+    {
+        d.0 < self.own.size && fit(&self.place, rest.pairs())
+    }
+
+    /// Learns from a COST and stores its bounds, where it comes from a child and its context gives
+    /// the agent a value and fits.
+    fn take_cost(
+        &mut self,
+        from: VarId,
+        context: &AgentContext,
+        lower: u64,
+        upper: Option<u64>,
+    ) -> Result<(), NoMemory>
+        requires lower { lower ≤ CAP }
+        requires upper { IsBound upper }
+        ensures same { IsSameAgent self.old self.new }
+        ensures taken { OnOk result
+            (self.new ≡ adopt_message self.old from (Cost context.now lower upper)) }
+    {
+        if position_of(self.place.children.as_slice(), from).is_none() {
+            return Ok(());
+        }
+        let Some(d) = context.get(self.own.me) else {
+            return Ok(());
+        };
+        let rest = context.without(self.own.me)?;
+        if !self.takes_bounds(d, &rest) {
+            return Ok(());
+        }
+        self.learn(&rest)?;
+        self.store(d, from, &rest, lower, upper)
+    }
+
+    /// Handles one message: what is not taken is passed over.
+    pub(crate) fn handle(&mut self, letter: &Letter) -> Result<(), NoMemory>
+        ensures same { IsSameAgent self.old self.new }
+        ensures taken { OnOk result
+            (self.new ≡ adopt_message self.old letter.now.0 letter.now.1) }
+    {
+        match &letter.message {
+            Message::Value { value } => self.take_value(letter.from, *value),
+            Message::Threshold { amount, context } => {
+                self.take_threshold(letter.from, *amount, context);
+                Ok(())
+            }
+            Message::Cost {
+                context,
+                lower,
+                upper,
+            } => self.take_cost(letter.from, context, *lower, *upper),
+            Message::Terminate { context } => self.take_end(letter.from, context),
+            _ => Ok(()),
+        }
+    }
+}

@@ -1,0 +1,61 @@
+//! What an agent takes: messages from its parent, and contexts over its path.
+
+ghost use Rattle.std.specs.Prelude.{◌≡◌, ◌==◌, length};
+ghost use Rattle.std.specs.List.{list_all, position, zip};
+ghost use Rattle.adopt_context.specs.Context.{is_value, value_in};
+ghost use Rattle.protocol_steps.specs.Agent.{last_of};
+ghost use Rattle.protocol_steps.specs.AdoptRange.{is_within};
+
+use dcop_base::{Val, VarId};
+use pseudotree::Place;
+
+/// The size beside a variable; `None` where it is none of these.
+#[tactic(auto, using(crate::proofs::RangeLaws::size_next))]
+fn size_beside(vars: &[VarId], sizes: &[u16], var: VarId) -> Option<u16>
+    requires { length sizes.now ≡ length vars.now }
+    ensures { result ≡ value_in (zip vars.now sizes.now) var }
+{
+    for (k, other) in vars.iter().enumerate() {
+        if *other == var {
+            return Some(sizes[k]);
+        }
+    }
+    None
+}
+
+/// Whether a variable stands in the path and the value is below its size.
+pub(crate) fn is_in_range(place: &Place, var: VarId, value: Val) -> bool
+    requires { length place.now.path_sizes ≡ length place.now.path }
+    ensures { result ≡ is_within (value_in (zip place.now.path place.now.path_sizes) var) value }
+{
+    match size_beside(place.path.as_slice(), place.path_sizes.as_slice(), var) {
+        Some(size) => value.0 < size,
+        None => false,
+    }
+}
+
+/// Whether these pairs name only variables of the path, with values below their sizes.
+pub(crate) fn fit(place: &Place, pairs: &[(VarId, Val)]) -> bool
+    requires { length place.now.path_sizes ≡ length place.now.path }
+    ensures { result ≡ list_all (λ p. is_within
+        (value_in (zip place.now.path place.now.path_sizes) p.0) p.1) pairs.now }
+{
+    pairs.iter().all(|pair| is_in_range(place, pair.0, pair.1))
+}
+
+/// Whether a variable is the agent's parent.
+pub(crate) fn is_parent(path: &[VarId], var: VarId) -> bool
+    ensures { result ≡ is_value (last_of path.now) var }
+{
+    match path.last() {
+        Some(parent) => *parent == var,
+        None => false,
+    }
+}
+
+/// The place of a child among the children, where it is one of them.
+pub(crate) fn position_of(children: &[VarId], sought: VarId) -> Option<usize>
+    ensures { result ≡ position (λ child. child == sought) children.now }
+{
+    children.iter().position(|child| *child == sought)
+}

@@ -1,0 +1,130 @@
+//! What an agent tells its neighbours at the end of an activation.
+
+ghost use Rattle.std.specs.Prelude.{◌≡◌, ◌++◌, true, IfOk, OnOk};
+ghost use Rattle.std.specs.List.{flat_map};
+ghost use Rattle.dcop_base.specs.Table.{has};
+ghost use Rattle.adopt_context.specs.Context.{put};
+ghost use Rattle.protocol_steps.specs.declared.message.Message.TheVariants.{Cost, Terminate, Threshold};
+ghost use Rattle.protocol_steps.specs.AdoptBounds.{lower_bound, upper_bound};
+ghost use Rattle.protocol_steps.specs.AdoptStep.{adopt_sends, messages_for, share_of};
+ghost use Rattle.adopt_agent.specs.Deed.{all_to, to_child, to_lower, to_parent};
+
+use crate::agent::AdoptAgent;
+use crate::costs::stands_in;
+use crate::range::is_parent;
+use crate::stage::Stage;
+use dcop_base::{NoMemory, VarId};
+use protocol_steps::{Message, Parcel};
+use std::alloc::Global;
+
+impl AdoptAgent {
+    /// VALUE for a lower neighbour.
+    fn tell_lower(&self, to: VarId, parcels: &mut Vec<Parcel>) -> Result<(), NoMemory>
+        ensures { OnOk result
+            (parcels.new.items ≡ parcels.old.items ++ all_to to (to_lower self.now to)) }
+    {
+        if stands_in(self.place.lower.as_slice(), to) {
+            let message = Message::Value { value: self.value };
+            parcels.push(Parcel { to, message })?;
+        }
+        Ok(())
+    }
+
+    /// The share of the threshold that is allotted to a child.
+    fn threshold_for(&self, to: VarId) -> Result<Parcel, NoMemory>
+        requires { has self.now.place.children to ≡ true }
+        ensures { IfOk result (λ parcel. parcel ≡ (to, Threshold (share_of self.now to) self.now.known)) }
+    {
+        let message = Message::Threshold {
+            amount: self.bounds.threshold_of(self.value, to),
+            context: self.known.copy()?,
+        };
+        Ok(Parcel { to, message })
+    }
+
+    /// TERMINATE, with the last values of a child's path.
+    fn end_for(&self, to: VarId) -> Result<Parcel, NoMemory>
+        ensures { IfOk result (λ parcel. parcel
+            ≡ (to, Terminate (put self.now.known self.now.own.me self.now.value))) }
+    {
+        let mut context = self.known.copy()?;
+        context.set(self.own.me, self.value)?;
+        let message = Message::Terminate { context };
+        Ok(Parcel { to, message })
+    }
+
+    /// The bounds of the agent's subtree.
+    fn cost_for(&self, to: VarId) -> Result<Parcel, NoMemory>
+        ensures { IfOk result (λ parcel. parcel
+            ≡ (to, Cost self.now.known (lower_bound self.now) (upper_bound self.now))) }
+    {
+        let message = Message::Cost {
+            context: self.known.copy()?,
+            lower: self.lower_bound(),
+            upper: self.upper_bound(),
+        };
+        Ok(Parcel { to, message })
+    }
+
+    /// Whether the agent has ended.
+    pub(crate) fn has_ended(&self) -> bool
+        ensures { result ≡ self.now.phase.ended }
+    {
+        matches!(self.stage, Stage::Ended)
+    }
+
+    /// THRESHOLD for a child, and TERMINATE where the agent has ended.
+    fn tell_child(&self, to: VarId, parcels: &mut Vec<Parcel>) -> Result<(), NoMemory>
+        ensures { OnOk result
+            (parcels.new.items ≡ parcels.old.items ++ all_to to (to_child self.now to)) }
+    {
+        if !stands_in(self.place.children.as_slice(), to) {
+            return Ok(());
+        }
+        parcels.push(self.threshold_for(to)?)?;
+        if self.has_ended() {
+            parcels.push(self.end_for(to)?)?;
+        }
+        Ok(())
+    }
+
+    /// COST for the parent, where the agent has not ended.
+    fn tell_parent(&self, to: VarId, parcels: &mut Vec<Parcel>) -> Result<(), NoMemory>
+        ensures { OnOk result
+            (parcels.new.items ≡ parcels.old.items ++ all_to to (to_parent self.now to)) }
+    {
+        if is_parent(self.place.path.as_slice(), to) && !self.has_ended() {
+            parcels.push(self.cost_for(to)?)?;
+        }
+        Ok(())
+    }
+
+    /// What a neighbour is told.
+    fn tell(&self, to: VarId, parcels: &mut Vec<Parcel>) -> Result<(), NoMemory>
+        ensures { OnOk result
+            (parcels.new.items ≡ parcels.old.items ++ all_to to (messages_for self.now to)) }
+    {
+        self.tell_lower(to, parcels)?;
+        self.tell_child(to, parcels)?;
+        self.tell_parent(to, parcels)
+    }
+
+    /// What these neighbours are told, in their order.
+    fn tell_each(&self, alloc: Global, neighbours: &[VarId]) -> Result<Vec<Parcel>, NoMemory>
+        ensures { IfOk result (λ parcels. parcels.items
+            ≡ flat_map (λ j. all_to j (messages_for self.now j)) neighbours.now) }
+    {
+        let mut parcels = Vec::new(alloc);
+        for to in neighbours {
+            self.tell(*to, &mut parcels)?;
+        }
+        Ok(parcels)
+    }
+
+    /// What all neighbours are told, by ascending receivers.
+    pub(crate) fn tell_all(&self) -> Result<Vec<Parcel>, NoMemory>
+        ensures { IfOk result (λ parcels. parcels.items ≡ adopt_sends self.now) }
+    {
+        self.tell_each(self.alloc, self.own.neighbours.as_slice())
+    }
+}
