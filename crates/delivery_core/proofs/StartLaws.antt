@@ -17,7 +17,7 @@ use Rattle.protocol_steps.specs.Machine.{MayStart, IsToNeighbour}
 use Rattle.protocol_steps.specs.Network.{Desk, start_state, messages_to, sent_at, takes_at, taken_from}
 use Rattle.protocol_steps.specs.Effect.{deliveries}
 use Rattle.delivery_core.specs.declared.start.Start.{Start}
-use Rattle.delivery_core.specs.declared.start.Start.TheVariants.{Token, Dpop}
+use Rattle.delivery_core.specs.declared.start.Start.TheVariants.{Token, Dpop, Adopt}
 use Rattle.delivery_core.specs.State.{LinkView, SeatView, link_from, waiting_on, taken_on, waiting_from, last_taken, inbox_of, inbox_at, views_of}
 use Rattle.delivery_core.specs.NetworkState.{letters_of}
 use Rattle.delivery_core.specs.Inboxes.{senders}
@@ -188,10 +188,12 @@ map_get f (Some x) y h = (x, refl, same_Some (f x) y h)
 fresh_agent : (p : Dcop) (start : Start) (i : ℕ) → IsFresh p i (agent_of p start i)
 fresh_agent p Token i = record { near = refl; fresh = refl }
 fresh_agent p (Dpop tree) i = record { near = refl; fresh = refl }
+fresh_agent p (Adopt tree error) i = record { near = refl; fresh = refl }
 
 pub agents_made : (p : Dcop) (start : Start) → agents_of p start ≡ map (agent_of p start) (range_with_len 0 (length p.sizes))
 agents_made p Token = refl
 agents_made p (Dpop tree) = refl
+agents_made p (Adopt tree error) = refl
 
 fresh_made : (p : Dcop) (start : Start) (i : ℕ) (v : View) → slice_get (map (agent_of p start) (range_with_len 0 (length p.sizes))) i ≡ Some v → IsFresh p i v
 fresh_made p start i v h =

@@ -1,30 +1,33 @@
 -- The agents of a start, as they are made.
-use Rattle.std.specs.Prelude.{List, map, length}
+use Rattle.std.specs.Prelude.{◌≤◌, List, map, length}
 use Rattle.std.specs.List.{range_with_len}
 use Rattle.dcop_base.specs.Problem.{Dcop}
 use Rattle.dcop_base.specs.Knowledge.{private_of}
+use Rattle.dcop_base.specs.declared.number.TheConstants.{CAP}
 use Rattle.pseudotree.specs.Pseudotree.{RootedTree, IsPseudotreeOf, IsLinked}
 use Rattle.protocol_steps.specs.Token.{new_token}
 use Rattle.protocol_steps.specs.View.{View, TokenKind}
-use Rattle.protocol_steps.specs.TreeAgents.{dpop_agents}
+use Rattle.protocol_steps.specs.TreeAgents.{dpop_agents, adopt_agents}
 use Rattle.protocol_steps.specs.Network.{Network, start_state}
 use Rattle.delivery_core.specs.declared.start.Start.{Start}
-use Rattle.delivery_core.specs.declared.start.Start.TheVariants.{Token, Dpop}
+use Rattle.delivery_core.specs.declared.start.Start.TheVariants.{Token, Dpop, Adopt}
 
 -- a tree on which the agents of a problem run: a pseudotree of it, with its separators and lower neighbours, and linked
 pub record IsTreeFor (p : Dcop) (tree : RootedTree) : Type 0 where
   pub pseudotree : IsPseudotreeOf p tree
   pub linked : IsLinked p tree.paths
 
--- a start of this problem's agents: its tree, where it has one, is one on which they run
+-- a start of this problem's agents: its tree, where it has one, is one on which they run, and its error, where it has one, is an amount
 abbrev pub IsStartFor : Dcop → Start → Type 0
 IsStartFor p Token = Unit {0}
 IsStartFor p (Dpop tree) = IsTreeFor p tree
+IsStartFor p (Adopt tree error) = IsTreeFor p tree × (error ≤ CAP)
 
 -- the views of the agents of a start, as they are made
 abbrev pub agents_of : Dcop → Start → List View
 agents_of p Token = map (λ i. TokenKind (new_token (private_of p i))) (range_with_len 0 (length p.sizes))
 agents_of p (Dpop tree) = dpop_agents p tree.paths
+agents_of p (Adopt tree error) = adopt_agents p tree.paths error
 
 -- the network where all agents of a start have started
 abbrev pub network_of : Dcop → Start → Network

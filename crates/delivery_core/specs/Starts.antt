@@ -6,12 +6,13 @@ use Rattle.dcop_base.specs.Knowledge.{private_of as known_by}
 use Rattle.protocol_steps.specs.declared.message.Message.{Message}
 use Rattle.protocol_steps.specs.Token.{new_token}
 use Rattle.protocol_steps.specs.Dpop.{new_dpop}
-use Rattle.protocol_steps.specs.View.{View, TokenKind, DpopKind, private_of, started_of}
+use Rattle.protocol_steps.specs.Adopt.{new_adopt}
+use Rattle.protocol_steps.specs.View.{View, TokenKind, DpopKind, AdoptKind, private_of, started_of}
 use Rattle.protocol_steps.specs.TreeAgents.{place_at}
 use Rattle.protocol_steps.specs.Step.{start_of}
 use Rattle.protocol_steps.specs.Network.{messages_to}
 use Rattle.delivery_core.specs.declared.start.Start.{Start}
-use Rattle.delivery_core.specs.declared.start.Start.TheVariants.{Token, Dpop}
+use Rattle.delivery_core.specs.declared.start.Start.TheVariants.{Token, Dpop, Adopt}
 use Rattle.delivery_core.specs.State.{LinkView, SeatView, waiting_from, last_taken, inbox_at, views_of}
 use Rattle.delivery_core.specs.NetworkState.{letters_of}
 use Rattle.delivery_core.specs.Inboxes.{senders}
@@ -20,6 +21,7 @@ use Rattle.delivery_core.specs.Inboxes.{senders}
 abbrev pub agent_of : Dcop → Start → ℕ → View
 agent_of p Token i = TokenKind (new_token (known_by p i))
 agent_of p (Dpop tree) i = DpopKind (new_dpop (known_by p i) (place_at p tree.paths i))
+agent_of p (Adopt tree error) i = AdoptKind (new_adopt (known_by p i) (place_at p tree.paths i) error)
 
 -- a link on which nothing was sent
 abbrev pub new_link : ℕ → LinkView

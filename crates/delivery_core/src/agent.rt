@@ -4,11 +4,13 @@ ghost use Rattle.std.specs.Prelude.{◌≡◌, ◌≤◌, [], IfOk, OnOk, OnErr,
 ghost use Rattle.std.specs.List.{All};
 ghost use Rattle.protocol_steps.specs.Token.{new_token};
 ghost use Rattle.protocol_steps.specs.Dpop.{new_dpop};
-ghost use Rattle.protocol_steps.specs.View.{TokenKind, DpopKind, made_of, ended_of, value_of, standing_of, table_of, place_of};
+ghost use Rattle.protocol_steps.specs.Adopt.{new_adopt};
+ghost use Rattle.protocol_steps.specs.View.{TokenKind, DpopKind, AdoptKind, made_of, ended_of, value_of, standing_of, table_of, place_of};
 ghost use Rattle.protocol_steps.specs.Knowledge.{IsKnowledge};
 ghost use Rattle.protocol_steps.specs.Placing.{IsPlaceFor};
 ghost use Rattle.protocol_steps.specs.Machine.{MayStart, MayReact, IsBatch, IsStart, IsStep, IsToNeighbour};
 
+use adopt_agent::AdoptAgent;
 use dcop_base::{CAP, NoMemory, Private, Table, Val};
 use dfs_agent::TokenAgent;
 use dpop_agent::DpopAgent;
@@ -22,6 +24,7 @@ use std::marker::Model;
 pub(crate) enum Kind {
     Token(TokenAgent),
     Dpop(DpopAgent),
+    Adopt(AdoptAgent),
 }
 
 /// An agent of any kind. Contracts see its view.
@@ -64,6 +67,24 @@ impl Agent {
         })
     }
 
+    /// An ADOPT agent that knows this, with this place in a tree, for a requested error.
+    pub(crate) fn adopt(
+        alloc: Global,
+        own: Private,
+        place: Place,
+        error: u64,
+    ) -> Result<Agent, NoMemory>
+        requires known { IsKnowledge own }
+        requires placed { IsPlaceFor own place }
+        requires error { error ≤ CAP }
+        ensures { IfOk result (λ agent. agent ≡ AdoptKind (new_adopt own place error)) }
+    {
+        let agent = AdoptAgent::new(alloc, own, place, error)?;
+        Ok(Agent {
+            kind: Kind::Adopt(agent),
+        })
+    }
+
     /// Starts the agent. `out` gets what it sends.
     pub(crate) fn start(&mut self, out: &mut Outbox) -> Result<(), NoMemory>
         requires ready { MayStart self.old }
@@ -74,6 +95,7 @@ impl Agent {
         match &mut self.kind {
             Kind::Token(agent) => agent.start(out),
             Kind::Dpop(agent) => agent.start(out),
+            Kind::Adopt(agent) => agent.start(out),
         }
     }
 
@@ -88,6 +110,7 @@ impl Agent {
         match &mut self.kind {
             Kind::Token(agent) => agent.react(batch, out),
             Kind::Dpop(agent) => agent.react(batch, out),
+            Kind::Adopt(agent) => agent.react(batch, out),
         }
     }
 
@@ -98,6 +121,7 @@ impl Agent {
         match &self.kind {
             Kind::Token(agent) => agent.ended(),
             Kind::Dpop(agent) => agent.ended(),
+            Kind::Adopt(agent) => agent.ended(),
         }
     }
 
@@ -108,6 +132,7 @@ impl Agent {
         match &self.kind {
             Kind::Token(agent) => agent.value(),
             Kind::Dpop(agent) => agent.value(),
+            Kind::Adopt(agent) => agent.value(),
         }
     }
 
@@ -118,6 +143,7 @@ impl Agent {
         match &self.kind {
             Kind::Token(agent) => agent.standing(),
             Kind::Dpop(agent) => agent.standing(),
+            Kind::Adopt(agent) => agent.standing(),
         }
     }
 
@@ -128,6 +154,7 @@ impl Agent {
         match &self.kind {
             Kind::Token(agent) => agent.place(),
             Kind::Dpop(agent) => agent.place(),
+            Kind::Adopt(agent) => agent.place(),
         }
     }
 
@@ -138,6 +165,7 @@ impl Agent {
         match &self.kind {
             Kind::Token(agent) => agent.table(),
             Kind::Dpop(agent) => agent.table(),
+            Kind::Adopt(agent) => agent.table(),
         }
     }
 }

@@ -27,6 +27,8 @@ pub enum Start {
     Token,
     /// DPOP agents on this tree.
     Dpop(Tree),
+    /// ADOPT agents on this tree, for a requested error.
+    Adopt(Tree, u64),
 }
 
 /// The place of a variable in a tree on which the agents run.
@@ -61,6 +63,10 @@ fn make_agent(
         Start::Dpop(tree) => {
             let place = place_in(alloc, problem, tree, me)?;
             Agent::dpop(alloc, own, place)
+        }
+        Start::Adopt(tree, error) => {
+            let place = place_in(alloc, problem, tree, me)?;
+            Agent::adopt(alloc, own, place, *error)
         }
     }
 }

@@ -6,3 +6,7 @@ use Rattle.delivery_core.proofs.start.make_agent.Goals as goal
 pub dpop-requires-clause-known : goal.dpop-requires-clause-known
 dpop-requires-clause-known c =
     subst (λ (own : Private). IsKnowledge own) (sym c.requires.known) (c.private_is_knowledge.ensures c.args.problem.now c.args.me c.requires.whole c.requires.inside)
+
+pub adopt-requires-clause-known : goal.adopt-requires-clause-known
+adopt-requires-clause-known c =
+    subst (λ (own : Private). IsKnowledge own) (sym c.requires.known) (c.private_is_knowledge.ensures c.args.problem.now c.args.me c.requires.whole c.requires.inside)

@@ -1,10 +1,11 @@
-use Rattle.delivery_core.specs.declared.agent.Kind.TheVariants.{Token, Dpop}
+use Rattle.delivery_core.specs.declared.agent.Kind.TheVariants.{Token, Dpop, Adopt}
 use Rattle.delivery_core.proofs.KindLaws.{toward}
 use Rattle.delivery_core.proofs.agent.Agent.start.Goals as goal
-use Rattle.delivery_core.proofs.agent.Agent.start.Goals.{in-Token, in-Dpop}
+use Rattle.delivery_core.proofs.agent.Agent.start.Goals.{in-Token, in-Dpop, in-Adopt}
 
 pub returns-clause-receivers : goal.returns-clause-receivers
 returns-clause-receivers c = elim c.match-self.branch [
   | in-Token w ↦ toward c.args.self.now c.self.inside.kind (Token w.in-Token.agent) w.start.new.out c.match-self.out c.self.view_is w.in-Token.is w.out-is w.start.ensures.receivers
   | in-Dpop w ↦ toward c.args.self.now c.self.inside.kind (Dpop w.in-Dpop.agent) w.start-in-Dpop.new.out c.match-self.out c.self.view_is w.in-Dpop.is w.out-is w.start-in-Dpop.ensures.receivers
+  | in-Adopt w ↦ toward c.args.self.now c.self.inside.kind (Adopt w.in-Adopt.agent) w.start-in-Adopt.new.out c.match-self.out c.self.view_is w.in-Adopt.is w.out-is w.start-in-Adopt.ensures.receivers
 ]
