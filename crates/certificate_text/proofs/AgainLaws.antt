@@ -34,7 +34,8 @@ use Rattle.certificate_text.specs.CertificateText.{parent_word, util_words, tabl
 use Rattle.certificate_text.specs.ReportText.{ending_word, method_word, head_lines, bound_lines, value_words, value_lines, report_lines, report_text}
 use Rattle.certificate_text.specs.ValueLine.{value_line}
 use Rattle.certificate_text.specs.UtilLine.{has_util, lacks_util}
-use Rattle.certificate_text.specs.ReportReading.{nothing_told, line_at, lines_read, report_told, report_read}
+use Rattle.certificate_text.specs.ReportLines.{nothing_told, line_at}
+use Rattle.certificate_text.specs.ReportReading.{lines_read, report_told, report_read}
 use Rattle.certificate_text.specs.Fits.{Fits, FitsUtil, FitsTables, FitsCertificate}
 use Rattle.certificate_text.proofs.LineAgainLaws.{status-again, method-again, number-again, value-again, util-again, fresh-before, has-one, range-all}
 

@@ -3,4 +3,5 @@ mod UtilLineLaws
 mod ValueLineLaws
 mod LineAgainLaws
 mod AgainLaws
+mod LineFitsLaws
 mod FitsLaws

@@ -6,6 +6,7 @@ pub mod HeadLines
 pub mod ValueLine
 pub mod UtilLine
 pub mod UtilWords
+pub mod ReportLines
 pub mod ReportReading
 pub mod Fits
 pub mod Again

@@ -1,7 +1,7 @@
 //! What the lines of a report have told so far.
 
 ghost use Rattle.std.specs.Prelude.{◌≡◌, ◌∷◌, [], ◌++◌, IfOk};
-ghost use Rattle.certificate_text.specs.ReportReading.{nothing_told};
+ghost use Rattle.certificate_text.specs.ReportLines.{nothing_told};
 
 use crate::certificate::{Util, UtilList};
 use crate::report::{Ending, Method};

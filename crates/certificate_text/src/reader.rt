@@ -10,7 +10,8 @@ ghost use Rattle.certificate_text.specs.HeadLines.{status_line, method_line, max
 ghost use Rattle.certificate_text.specs.UtilLine.{util_line, lacks_util as lacks_util_of};
 ghost use Rattle.certificate_text.specs.declared.draft.Stage.TheVariants as stages;
 ghost use Rattle.certificate_text.specs.ValueLine.{value_line};
-ghost use Rattle.certificate_text.specs.ReportReading as lines;
+ghost use Rattle.certificate_text.specs.ReportLines as lines;
+ghost use Rattle.certificate_text.specs.ReportReading.{over_at, report_told};
 ghost use Rattle.certificate_text.specs.Again.{ReadsReport, IsReading, HasFit, TellsFitting};
 
 use crate::certificate::{Certificate, Util};
@@ -75,7 +76,7 @@ fn read_lines(alloc: Global, bytes: &[u8], file: &ProblemFile) -> Result<Report,
 
 /// The report that lines told, or that the line `end` is wanted at this line.
 fn finished(draft: Draft, goal: Goal, over: u64) -> Result<Report, ReportFault>
-    ensures { IsReading (lines.over_at draft.stage over goal draft) result }
+    ensures { IsReading (over_at draft.stage over goal draft) result }
 {
     match draft.stage {
         Stage::End => Ok(report_of(draft, goal)),
@@ -88,7 +89,7 @@ fn finished(draft: Draft, goal: Goal, over: u64) -> Result<Report, ReportFault>
 
 /// The report that lines told.
 fn report_of(draft: Draft, goal: Goal) -> Report
-    ensures { result ≡ lines.report_told goal draft }
+    ensures { result ≡ report_told goal draft }
 {
     Report {
         status: draft.status,
