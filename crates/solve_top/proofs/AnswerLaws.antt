@@ -3,7 +3,7 @@ use Rattle.std.proofs.Common.{◌≡◌, ◌≢◌, ℕ, ◌<◌, List, Option, 
 use Rattle.dcop_edge.specs.Faults.{Rose}
 use Rattle.dcop_base.specs.Whole.{IsProblem}
 use Rattle.dcop_optimum.specs.TreeOptimum.{FirstOptimaOfTreesAreOne}
-use Rattle.pseudotree.specs.DepthFirst.{dfs, DepthFirstTreesAreLinked}
+use Rattle.pseudotree.specs.DepthFirst.{DepthFirstTreesAreLinked}
 use Rattle.pseudotree.specs.declared.width.Wide.{Wide}
 use Rattle.pseudotree.specs.declared.width.Wide.TheVariants.{Agent, Total}
 use Rattle.dcop_base.specs.declared.memory.NoMemory.{NoMemory}
@@ -17,7 +17,7 @@ use Rattle.solve_words.specs.declared.fault.WordFault.TheVariants as words
 use Rattle.solve_words.specs.Command.{answer_to}
 use Rattle.solve_report.specs.declared.answer.Answer.{Answer}
 use Rattle.solve_report.specs.declared.answer.Answer.TheVariants as answers
-use Rattle.solve_top.specs.declared.status.Status.TheVariants.{Solved, TooWide, ReadFault}
+use Rattle.solve_top.specs.declared.status.Status.TheVariants.{Solved, TooWide, ReadFault, WriteFault, NoMemory as no_memory}
 use Rattle.solve_top.specs.declared.task.Task.{Task}
 use Rattle.solve_top.specs.declared.task.Task.TheVariants as tasks
 use Rattle.solve_top.specs.Answering.{IsTaskAnswer, IsTextAnswer, IsInputAnswer, IsServedAnswer, IsCommandAnswer, IsAnswer}
@@ -30,7 +30,7 @@ use Rattle.solve_top.specs.Solving.{Answered, HasFitTree, IsWithinLimits, Accept
 use Rattle.solve_top.specs.Statuses.{status_of}
 use Rattle.solve_top.specs.Tree.{IsTreeAnswer}
 use Rattle.solve_top.specs.Whole.{whole_read}
-use Rattle.solve_top.proofs.SameLaws.{one_file, fits_none, report_in, one_answer}
+use Rattle.solve_top.proofs.SameLaws.{one_file, report_in, one_answer}
 
 -- the answer of a task, where words ask for it
 IsAnswer-task : (words : List (List ℕ)) (command : Command) (task : Task) (input : Input) (answer : Answer)
@@ -63,6 +63,19 @@ Answered-text words command task before after bytes slice (Ok answer) asked serv
     Answered-task words command task before after (Whole bytes) answer asked served read (subst (λ (t : List ℕ). IsTextAnswer task (whole_read t) answer) same is) best
 Answered-text words command task before after bytes slice (Err none) asked served read same is best = tt
 
+-- no answer has the status of a sink that failed, or of want of memory
+pub told-status : (answer : Answer) → (status_of answer ≢ WriteFault) × (status_of answer ≢ no_memory)
+told-status (answers.Report report file) = (λ e. cc, λ e. cc)
+told-status (answers.Tree deliveries nodes names) = (λ e. cc, λ e. cc)
+told-status (answers.Many n) = (λ e. cc, λ e. cc)
+told-status (answers.WideAgent var cells names) = (λ e. cc, λ e. cc)
+told-status (answers.WideTotal cells) = (λ e. cc, λ e. cc)
+told-status (answers.Upgraded file) = (λ e. cc, λ e. cc)
+told-status (answers.Words at kind) = (λ e. cc, λ e. cc)
+told-status (answers.ProblemText line kind problem) = (λ e. cc, λ e. cc)
+told-status answers.Read = (λ e. cc, λ e. cc)
+told-status answers.NotYet = (λ e. cc, λ e. cc)
+
 -- an answer of `tree` is solved
 tree-solved : (file : TextFile) (answer : Answer) → IsTreeAnswer file answer → status_of answer ≡ Solved
 tree-solved file (answers.Tree deliveries nodes names) is = refl
@@ -93,11 +106,11 @@ dpop-sound file (Some wide) answer is = λ e. let s = ap status_of is in let t =
 dpop-solved : (file : TextFile) (answer : Answer) → wide_in (solved file.goal file.problem) ≡ None → IsDpopAnswer file answer → status_of answer ≡ Solved
 dpop-solved file answer none is = report-solved file answer (subst (λ (wide : Option Wide). IsAnswerBy file wide answer) none is)
 
--- nothing is too wide in the tree of a file, where one that declares the same has a narrow and light tree
+-- nothing is too wide in the tree of a file, where that is so of one that declares the same
 fit-none : (d : Declared) → HasFitTree d → (file : TextFile) → IsProblem file.problem → declared_by file ≡ d → wide_in (solved file.goal file.problem) ≡ None
 fit-none d fit file whole declared =
     subst (λ (f : TextFile). wide_in (solved f.goal f.problem) ≡ None) (one_file fit.file file fit.whole whole (fit.declared ∙ sym declared))
-    (fits_none (solved fit.file.goal fit.file.problem) (dfs (solved fit.file.goal fit.file.problem)) fit.narrow fit.light)
+    fit.fits
 
 -- a task's answer to a text that was read is no failed reading
 task-sound : (task : Task) (d : Declared) (answer : Answer) → IsTaskAnswer task d answer → status_of answer ≢ ReadFault

@@ -5,9 +5,7 @@ use Rattle.dcop_base.specs.Whole.{IsProblem}
 use Rattle.dcop_base.specs.Graph.{AreJoints}
 use Rattle.dcop_base.proofs.UniqueLaws.{AreJoints-unique}
 use Rattle.pseudotree.specs.DepthFirst.{dfs, DepthFirstTreesAreLinked}
-use Rattle.pseudotree.specs.Width.{IsNarrow, IsLight, wide_of, wide_by}
 use Rattle.pseudotree.specs.declared.width.Wide.{Wide}
-use Rattle.pseudotree.proofs.WidthLaws.{narrow_none, light_none}
 use Rattle.dcop_optimum.specs.TreeOptimum.{FirstOptimaOfTreesAreOne}
 use Rattle.dcop_optimum.proofs.TurnLaws.{turned_problem}
 use Rattle.problem_text.specs.File.{TextFile}
@@ -42,10 +40,6 @@ one_file f g of_f of_g e =
     ap₂ file_with e
     (AreJoints-unique (length g.problem.sizes) g.problem.tables f.problem.joints g.problem.joints
     (subst (λ (d : Declared). AreJoints (length d.sizes) d.tables f.problem.joints) e of_f.joints) of_g.joints)
-
--- nothing is too wide in a narrow and light tree
-pub fits_none : (p : Dcop) (paths : List (List ℕ)) → IsNarrow p paths → IsLight p paths → wide_of p paths ≡ None
-fits_none p paths narrow light = ap (wide_by p paths) (narrow_none p paths narrow) ∙ light_none p paths light
 
 -- the report of these values
 abbrev report_of : TextFile → List ℕ → Report

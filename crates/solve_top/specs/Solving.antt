@@ -1,11 +1,9 @@
 -- What a top call does: it answers, and shows its answer.
-use Rattle.std.specs.Prelude.{◌≡◌, ℕ, ◌≤◌, ◌⊎◌, true, List, length, Some, Ok}
+use Rattle.std.specs.Prelude.{◌≡◌, ℕ, ◌≤◌, ◌⊎◌, true, List, length, Some, None, Ok}
 use Rattle.dcop_base.specs.Table.{product}
 use Rattle.dcop_base.specs.Whole.{IsProblem}
 use Rattle.dcop_edge.specs.Sink.{Adds}
 use Rattle.dcop_optimum.specs.declared.plain.TheConstants.{MAX_ASSIGNMENTS}
-use Rattle.pseudotree.specs.DepthFirst.{dfs}
-use Rattle.pseudotree.specs.Width.{IsNarrow, IsLight}
 use Rattle.problem_text.specs.Declarations.{Declared}
 use Rattle.problem_text.specs.File.{TextFile}
 use Rattle.problem_text.specs.Steps.{declared_by}
@@ -19,6 +17,7 @@ use Rattle.solve_top.specs.declared.status.Status.TheVariants as statuses
 use Rattle.solve_top.specs.declared.task.Task.{Task}
 use Rattle.solve_top.specs.declared.task.Task.TheVariants as tasks
 use Rattle.solve_top.specs.Answering.{IsAnswer}
+use Rattle.solve_top.specs.Dpop.{wide_in}
 use Rattle.solve_top.specs.Goal.{solved, TellsBest}
 use Rattle.solve_top.specs.Input.{Input, SourceState, IsReadFrom}
 use Rattle.solve_top.specs.Output.{SinkState, AddsPrefix}
@@ -50,13 +49,12 @@ pub record Solves (words : List (List ℕ)) (source source' : SourceState) (sink
   pub answered : Answered words source source' answer
   pub shown : IsShown answer sink sink' status ⊎ IsCut answer sink sink' status
 
--- a text that declares this is a file in whose depth-first tree, that of the problem solved, no table is too wide
+-- a text that declares this is a file in whose depth-first tree, that of the problem solved, nothing is too wide: it is narrow and light
 pub record HasFitTree (d : Declared) : Type 0 where
   pub file : TextFile
   pub whole : IsProblem file.problem
   pub declared : declared_by file ≡ d
-  pub narrow : IsNarrow (solved file.goal file.problem) (dfs (solved file.goal file.problem))
-  pub light : IsLight (solved file.goal file.problem) (dfs (solved file.goal file.problem))
+  pub fits : wide_in (solved file.goal file.problem) ≡ None
 
 -- a task is within its limits: plain has no more assignments to try than it tries, and for DPOP the tree is narrow and light
 abbrev pub IsWithinLimits : Task → Declared → Type 0

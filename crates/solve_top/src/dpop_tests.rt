@@ -117,11 +117,7 @@ fn tables_at_their_limit(rt: HostRuntime) -> Result<(), Fail> {
             "status solved\nmethod dpop\nerror 0\ndeliveries 6\ncost 0\nlower 0\nupper 0\n\
                 value a 0\nvalue b 0\nvalue c 0\nvalue d 0\nend\n",
         ),
-        (
-            33,
-            4,
-            "refused wide agent d cells 1185921 limit 1048576\n",
-        ),
+        (33, 4, "refused wide agent d cells 1185921 limit 1048576\n"),
     ];
     for (size, code, expected) in rows {
         let text = four(alloc, size)?;
@@ -135,7 +131,10 @@ fn tables_at_their_limit(rt: HostRuntime) -> Result<(), Fail> {
 /// A text of twelve meetings in eight slots: each likes one slot, and eight pairs must not meet in
 /// one slot. Its lines end with CR LF.
 fn timetable(alloc: Global) -> Result<String, Fail> {
-    let mut text = String::from_str(alloc, "# twelve meetings, eight slots each\r\ndcop 1\r\n\r\n")?;
+    let mut text = String::from_str(
+        alloc,
+        "# twelve meetings, eight slots each\r\ndcop 1\r\n\r\n",
+    )?;
     for meeting in 0..12 {
         write!(text, "var m{meeting} 8\r\n")?;
     }
@@ -146,7 +145,9 @@ fn timetable(alloc: Global) -> Result<String, Fail> {
         }
         text.push_str("\r\n")?;
     }
-    for pair in ["m0 m1", "m1 m2", "m2 m3", "m0 m3", "m4 m5", "m5 m6", "m0 m4", "m7 m8"] {
+    for pair in [
+        "m0 m1", "m1 m2", "m2 m3", "m0 m3", "m4 m5", "m5 m6", "m0 m4", "m7 m8",
+    ] {
         write!(text, "table {pair} :")?;
         for cell in 0..64 {
             let cost = if cell % 9 == 0 { 100 } else { 0 };

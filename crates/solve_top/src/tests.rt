@@ -9,7 +9,8 @@ pub(crate) const PAIR: &str = "dcop 1\nvar x 2\nvar y 2\ntable x y : 5 3 2 7\nen
 
 pub(crate) const SINGLE: &str = "dcop 1\nvar a 3\ntable a : 4 1 1\nend\n";
 
-pub(crate) const GAIN: &str = "dcop 2\ngoal max\nvar x : lo hi\nvar y 2\ntable x y : 5 3 2 7\nend\n";
+pub(crate) const GAIN: &str =
+    "dcop 2\ngoal max\nvar x : lo hi\nvar y 2\ntable x y : 5 3 2 7\nend\n";
 
 const GAIN_LATE: &str = "dcop 2\nvar x : lo hi\ngoal max\nvar y 2\ntable x y : 5 3 2 7\nend\n";
 
