@@ -19,6 +19,15 @@ text_refusal at kind problem =
 abbrev pub many_refusal : ℕ → List (List ℕ)
 many_refusal assignments = codes "refused" ∷ codes "many" ∷ codes "assignments" ∷ decimal assignments ∷ codes "limit" ∷ decimal 65536 ∷ []
 
+-- `refused wide agent NAME cells N limit 1048576`
+abbrev pub wide_refusal : List ℕ → ℕ → List (List ℕ)
+wide_refusal name cells =
+    codes "refused" ∷ codes "wide" ∷ codes "agent" ∷ name ∷ codes "cells" ∷ decimal cells ∷ codes "limit" ∷ decimal 1048576 ∷ []
+
+-- `refused wide total cells N limit 4194304`
+abbrev pub total_refusal : ℕ → List (List ℕ)
+total_refusal cells = codes "refused" ∷ codes "wide" ∷ codes "total" ∷ codes "cells" ∷ decimal cells ∷ codes "limit" ∷ decimal 4194304 ∷ []
+
 -- `refused read`
 abbrev pub read_refusal : List (List ℕ)
 read_refusal = codes "refused" ∷ codes "read" ∷ []

@@ -3,10 +3,12 @@
 ghost use Rattle.std.specs.Prelude.{◌≡◌, IfOk};
 ghost use Rattle.solve_report.specs.AnswerText.{HasText, answer_text};
 
-use crate::refusal::{refuse_many, refuse_not_yet, refuse_read, refuse_text, refuse_words};
+use crate::refusal::{
+    refuse_many, refuse_not_yet, refuse_read, refuse_text, refuse_total, refuse_wide, refuse_words,
+};
 use crate::tree::{NodeRowList, write_tree};
 use certificate_text::{Report, write_report};
-use dcop_base::{Bytes, NoMemory};
+use dcop_base::{Bytes, NoMemory, VarId};
 use problem_text::{Names, ProblemFile, write_problem};
 use std::alloc::Global;
 
@@ -46,6 +48,18 @@ pub enum Answer {
     Many {
         assignments: u64,
     },
+    /// The joined table of an agent would have too many cells: so many, or [`u64::MAX`] where there
+    /// are more than that. `names` are those of all variables.
+    WideAgent {
+        var: VarId,
+        cells: u64,
+        names: Names,
+    },
+    /// The tables that all agents send would have too many cells together: so many, or [`u64::MAX`]
+    /// where there are more than that.
+    WideTotal {
+        cells: u64,
+    },
     /// The input could not be read.
     Read,
     /// The words are accepted, and what they ask for is not served yet.
@@ -74,6 +88,8 @@ pub fn text_of(alloc: Global, answer: &Answer) -> Result<Bytes, NoMemory>
             problem,
         } => refuse_text(alloc, *line, *kind, *problem),
         Answer::Many { assignments } => refuse_many(alloc, *assignments),
+        Answer::WideAgent { var, cells, names } => refuse_wide(alloc, names.name(*var), *cells),
+        Answer::WideTotal { cells } => refuse_total(alloc, *cells),
         Answer::Read => refuse_read(alloc),
         Answer::NotYet => refuse_not_yet(alloc),
     }

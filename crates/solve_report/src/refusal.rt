@@ -3,7 +3,8 @@
 ghost use Rattle.std.specs.Prelude.{◌≡◌, IfOk};
 ghost use Rattle.std.specs.String.{string_bytes};
 ghost use Rattle.problem_text.specs.Canonical.{line as line_of};
-ghost use Rattle.solve_report.specs.Refusal.{words_refusal, text_refusal, many_refusal, read_refusal, not_yet_refusal};
+ghost use Rattle.solve_report.specs.Refusal.{words_refusal, text_refusal, many_refusal, wide_refusal};
+ghost use Rattle.solve_report.specs.Refusal.{total_refusal, read_refusal, not_yet_refusal};
 
 use dcop_base::{Bytes, NoMemory};
 use std::alloc::Global;
@@ -13,6 +14,12 @@ const PROBLEM_KIND: u8 = 7;
 
 /// The most assignments that plain search goes through.
 const ASSIGNMENT_LIMIT: u64 = 65_536;
+
+/// The most cells that an agent's joined table has.
+const JOINED_LIMIT: u64 = 1_048_576;
+
+/// The most cells that all agents send together.
+const SENT_LIMIT: u64 = 4_194_304;
 
 /// `refused words at A kind K`
 pub(crate) fn refuse_words(alloc: Global, at: u64, kind: u8) -> Result<Bytes, NoMemory>
@@ -53,6 +60,30 @@ pub(crate) fn refuse_many(alloc: Global, assignments: u64) -> Result<Bytes, NoMe
     write!(
         text,
         "refused many assignments {assignments} limit {ASSIGNMENT_LIMIT}\n"
+    )?;
+    Ok(bytes_of(text))
+}
+
+/// `refused wide agent NAME cells N limit 1048576`
+pub(crate) fn refuse_wide(alloc: Global, name: &str, cells: u64) -> Result<Bytes, NoMemory>
+    ensures { IfOk result (λ text. text ≡ line_of (wide_refusal name.now cells)) }
+{
+    let mut text = String::new(alloc);
+    write!(
+        text,
+        "refused wide agent {name} cells {cells} limit {JOINED_LIMIT}\n"
+    )?;
+    Ok(bytes_of(text))
+}
+
+/// `refused wide total cells N limit 4194304`
+pub(crate) fn refuse_total(alloc: Global, cells: u64) -> Result<Bytes, NoMemory>
+    ensures { IfOk result (λ text. text ≡ line_of (total_refusal cells)) }
+{
+    let mut text = String::new(alloc);
+    write!(
+        text,
+        "refused wide total cells {cells} limit {SENT_LIMIT}\n"
     )?;
     Ok(bytes_of(text))
 }

@@ -127,6 +127,18 @@ fn a_tree_is_told_whole(rt: HostRuntime) -> Result<(), Fail> {
 }
 
 #[test]
+fn an_agent_whose_table_is_too_wide_is_named(rt: HostRuntime) -> Result<(), Fail> {
+    let alloc = rt.alloc();
+    let wide = Answer::WideAgent {
+        var: VarId(3),
+        cells: 1_185_921,
+        names: four_names(alloc)?,
+    };
+    let expected = "refused wide agent d cells 1185921 limit 1048576\n";
+    assert_text(&rt, alloc, &wide, expected)
+}
+
+#[test]
 fn a_refusal_is_one_line(rt: HostRuntime) -> Result<(), Fail> {
     let alloc = rt.alloc();
     let words = Answer::Words { at: 3, kind: 5 };
@@ -156,6 +168,13 @@ fn a_refusal_is_one_line(rt: HostRuntime) -> Result<(), Fail> {
         alloc,
         &many,
         "refused many assignments 131072 limit 65536\n",
+    )?;
+    let total = Answer::WideTotal { cells: 4_194_305 };
+    assert_text(
+        &rt,
+        alloc,
+        &total,
+        "refused wide total cells 4194305 limit 4194304\n",
     )?;
     assert_text(&rt, alloc, &Answer::Read, "refused read\n")?;
     assert_text(&rt, alloc, &Answer::NotYet, "refused words at 1 kind 10\n")

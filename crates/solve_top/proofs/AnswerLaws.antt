@@ -1,27 +1,36 @@
 -- Which answer belongs to which words and input, case by case; and what its status says of the source.
-use Rattle.std.proofs.Common.{◌≡◌, ◌≢◌, ℕ, ◌<◌, List, Option, Some, None, Result, Ok, Err, IfOk, sym, ap, subst, arith, refl}
+use Rattle.std.proofs.Common.{◌≡◌, ◌≢◌, ℕ, ◌<◌, List, Option, Some, None, Result, Ok, Err, IfOk, sym, ap, subst, arith, refl, ◌∙◌}
 use Rattle.dcop_edge.specs.Faults.{Rose}
+use Rattle.dcop_base.specs.Whole.{IsProblem}
+use Rattle.dcop_optimum.specs.TreeOptimum.{FirstOptimaOfTreesAreOne}
+use Rattle.pseudotree.specs.DepthFirst.{DepthFirstTreesAreLinked}
+use Rattle.pseudotree.specs.declared.width.Wide.{Wide}
+use Rattle.pseudotree.specs.declared.width.Wide.TheVariants.{Agent, Total}
 use Rattle.dcop_base.specs.declared.memory.NoMemory.{NoMemory}
 use Rattle.problem_text.specs.Declarations.{Declared}
 use Rattle.problem_text.specs.File.{TextFile}
 use Rattle.problem_text.specs.Reading.{Fault}
+use Rattle.problem_text.specs.Steps.{declared_by}
 use Rattle.solve_words.specs.declared.command.Command.{Command}
 use Rattle.solve_words.specs.declared.fault.WordFault.{WordFault}
 use Rattle.solve_words.specs.declared.fault.WordFault.TheVariants as words
 use Rattle.solve_words.specs.Command.{answer_to}
 use Rattle.solve_report.specs.declared.answer.Answer.{Answer}
 use Rattle.solve_report.specs.declared.answer.Answer.TheVariants as answers
-use Rattle.solve_top.specs.declared.status.Status.TheVariants.{Solved, ReadFault}
+use Rattle.solve_top.specs.declared.status.Status.TheVariants.{Solved, TooWide, ReadFault, WriteFault, NoMemory as no_memory}
 use Rattle.solve_top.specs.declared.task.Task.{Task}
 use Rattle.solve_top.specs.declared.task.Task.TheVariants as tasks
 use Rattle.solve_top.specs.Answering.{IsTaskAnswer, IsTextAnswer, IsInputAnswer, IsServedAnswer, IsCommandAnswer, IsAnswer}
-use Rattle.solve_top.specs.Goal.{TellsBest}
+use Rattle.solve_top.specs.Dpop.{wide_in, wide_answer, IsDpopSolved, IsAnswerBy, IsDpopAnswer}
+use Rattle.solve_top.specs.Goal.{solved, TellsBest}
 use Rattle.solve_top.specs.Input.{Input, Unread, Broken, TooLong, Whole, SourceState, IsAllOf, HadMore, IsReadFrom}
+use Rattle.solve_top.specs.Same.{DpopAnswersAreOne}
 use Rattle.solve_top.specs.Served.{task_of}
-use Rattle.solve_top.specs.Solving.{Answered, HasFew, Accepts}
+use Rattle.solve_top.specs.Solving.{Answered, HasFitTree, IsWithinLimits, Accepts}
 use Rattle.solve_top.specs.Statuses.{status_of}
 use Rattle.solve_top.specs.Tree.{IsTreeAnswer}
 use Rattle.solve_top.specs.Whole.{whole_read}
+use Rattle.solve_top.proofs.SameLaws.{one_file, report_in, one_answer}
 
 -- the answer of a task, where words ask for it
 IsAnswer-task : (words : List (List ℕ)) (command : Command) (task : Task) (input : Input) (answer : Answer)
@@ -54,16 +63,54 @@ Answered-text words command task before after bytes slice (Ok answer) asked serv
     Answered-task words command task before after (Whole bytes) answer asked served read (subst (λ (t : List ℕ). IsTextAnswer task (whole_read t) answer) same is) best
 Answered-text words command task before after bytes slice (Err none) asked served read same is best = tt
 
+-- no answer has the status of a sink that failed, or of want of memory
+pub told-status : (answer : Answer) → (status_of answer ≢ WriteFault) × (status_of answer ≢ no_memory)
+told-status (answers.Report report file) = (λ e. cc, λ e. cc)
+told-status (answers.Tree deliveries nodes names) = (λ e. cc, λ e. cc)
+told-status (answers.Many n) = (λ e. cc, λ e. cc)
+told-status (answers.WideAgent var cells names) = (λ e. cc, λ e. cc)
+told-status (answers.WideTotal cells) = (λ e. cc, λ e. cc)
+told-status (answers.Upgraded file) = (λ e. cc, λ e. cc)
+told-status (answers.Words at kind) = (λ e. cc, λ e. cc)
+told-status (answers.ProblemText line kind problem) = (λ e. cc, λ e. cc)
+told-status answers.Read = (λ e. cc, λ e. cc)
+told-status answers.NotYet = (λ e. cc, λ e. cc)
+
 -- an answer of `tree` is solved
 tree-solved : (file : TextFile) (answer : Answer) → IsTreeAnswer file answer → status_of answer ≡ Solved
 tree-solved file (answers.Tree deliveries nodes names) is = refl
 tree-solved file (answers.Report report same) is = absurd is
 tree-solved file (answers.Many n) is = absurd is
+tree-solved file (answers.WideAgent var cells names) is = absurd is
+tree-solved file (answers.WideTotal cells) is = absurd is
 tree-solved file (answers.Upgraded same) is = absurd is
 tree-solved file (answers.Words at kind) is = absurd is
 tree-solved file (answers.ProblemText line kind problem) is = absurd is
 tree-solved file answers.Read is = absurd is
 tree-solved file answers.NotYet is = absurd is
+
+-- an answer with a report of DPOP is solved
+report-solved : (file : TextFile) (answer : Answer) → IsDpopSolved file answer → status_of answer ≡ Solved
+report-solved file answer is = ap status_of (report_in file answer is).1
+
+-- an answer of DPOP is solved or too wide
+wide-status : (names : List (List ℕ)) (wide : Wide) → status_of (wide_answer names wide) ≡ TooWide
+wide-status names (Agent var cells) = refl
+wide-status names (Total cells) = refl
+
+dpop-sound : (file : TextFile) (wide : Option Wide) (answer : Answer) → IsAnswerBy file wide answer → status_of answer ≢ ReadFault
+dpop-sound file None answer is = λ e. let s = report-solved file answer is in cc
+dpop-sound file (Some wide) answer is = λ e. let s = ap status_of is in let t = wide-status file.names wide in cc
+
+-- and solved where nothing is too wide
+dpop-solved : (file : TextFile) (answer : Answer) → wide_in (solved file.goal file.problem) ≡ None → IsDpopAnswer file answer → status_of answer ≡ Solved
+dpop-solved file answer none is = report-solved file answer (subst (λ (wide : Option Wide). IsAnswerBy file wide answer) none is)
+
+-- nothing is too wide in the tree of a file, where that is so of one that declares the same
+fit-none : (d : Declared) → HasFitTree d → (file : TextFile) → IsProblem file.problem → declared_by file ≡ d → wide_in (solved file.goal file.problem) ≡ None
+fit-none d fit file whole declared =
+    subst (λ (f : TextFile). wide_in (solved f.goal f.problem) ≡ None) (one_file fit.file file fit.whole whole (fit.declared ∙ sym declared))
+    fit.fits
 
 -- a task's answer to a text that was read is no failed reading
 task-sound : (task : Task) (d : Declared) (answer : Answer) → IsTaskAnswer task d answer → status_of answer ≢ ReadFault
@@ -72,15 +119,20 @@ task-sound tasks.Plain d (answers.Many n) is = λ e. cc
 task-sound tasks.Plain d (answers.Tree deliveries nodes names) is = absurd is
 task-sound tasks.Plain d (answers.Upgraded file) is = absurd is
 task-sound tasks.Plain d (answers.Words at kind) is = absurd is
+task-sound tasks.Plain d (answers.WideAgent var cells names) is = absurd is
+task-sound tasks.Plain d (answers.WideTotal cells) is = absurd is
 task-sound tasks.Plain d (answers.ProblemText line kind problem) is = absurd is
 task-sound tasks.Plain d answers.Read is = absurd is
 task-sound tasks.Plain d answers.NotYet is = absurd is
+task-sound tasks.Dpop d answer is = dpop-sound is.file (wide_in (solved is.file.goal is.file.problem)) answer is.is
 task-sound tasks.Tree d answer is = λ e. let s = tree-solved is.file answer is.is in cc
 task-sound tasks.Upgrade d (answers.Upgraded file) is = λ e. cc
 task-sound tasks.Upgrade d (answers.Report report file) is = absurd is
 task-sound tasks.Upgrade d (answers.Tree deliveries nodes names) is = absurd is
 task-sound tasks.Upgrade d (answers.Many n) is = absurd is
 task-sound tasks.Upgrade d (answers.Words at kind) is = absurd is
+task-sound tasks.Upgrade d (answers.WideAgent var cells names) is = absurd is
+task-sound tasks.Upgrade d (answers.WideTotal cells) is = absurd is
 task-sound tasks.Upgrade d (answers.ProblemText line kind problem) is = absurd is
 task-sound tasks.Upgrade d answers.Read is = absurd is
 task-sound tasks.Upgrade d answers.NotYet is = absurd is
@@ -133,22 +185,27 @@ pub ReadFault-answered : (words : List (List ℕ)) (before after : SourceState) 
     → before.faults < after.faults → status_of answer ≡ ReadFault
 ReadFault-answered words before after answer done more = failed-input words before after done.input answer done.read done.belongs more
 
--- a task on what a text declares is solved, where it has few assignments
-task-solved : (task : Task) (d : Declared) (answer : Answer) → HasFew task d → IsTaskAnswer task d answer → status_of answer ≡ Solved
+-- a task on what a text declares is solved, where it is within its limits
+task-solved : (task : Task) (d : Declared) (answer : Answer) → IsWithinLimits task d → IsTaskAnswer task d answer → status_of answer ≡ Solved
 task-solved tasks.Plain d (answers.Report report file) few is = refl
 task-solved tasks.Plain d (answers.Many n) few is = absurd (omega (arith, few, is.0))
 task-solved tasks.Plain d (answers.Tree deliveries nodes names) few is = absurd is
 task-solved tasks.Plain d (answers.Upgraded file) few is = absurd is
 task-solved tasks.Plain d (answers.Words at kind) few is = absurd is
+task-solved tasks.Plain d (answers.WideAgent var cells names) few is = absurd is
+task-solved tasks.Plain d (answers.WideTotal cells) few is = absurd is
 task-solved tasks.Plain d (answers.ProblemText line kind problem) few is = absurd is
 task-solved tasks.Plain d answers.Read few is = absurd is
 task-solved tasks.Plain d answers.NotYet few is = absurd is
+task-solved tasks.Dpop d answer few is = dpop-solved is.file answer (fit-none d few is.file is.whole is.declared) is.is
 task-solved tasks.Tree d answer few is = tree-solved is.file answer is.is
 task-solved tasks.Upgrade d (answers.Upgraded file) few is = refl
 task-solved tasks.Upgrade d (answers.Report report file) few is = absurd is
 task-solved tasks.Upgrade d (answers.Tree deliveries nodes names) few is = absurd is
 task-solved tasks.Upgrade d (answers.Many n) few is = absurd is
 task-solved tasks.Upgrade d (answers.Words at kind) few is = absurd is
+task-solved tasks.Upgrade d (answers.WideAgent var cells names) few is = absurd is
+task-solved tasks.Upgrade d (answers.WideTotal cells) few is = absurd is
 task-solved tasks.Upgrade d (answers.ProblemText line kind problem) few is = absurd is
 task-solved tasks.Upgrade d answers.Read few is = absurd is
 task-solved tasks.Upgrade d answers.NotYet few is = absurd is
@@ -163,10 +220,28 @@ input-solved text words accepts before after TooLong answer told steady read is 
 input-solved text words accepts before after (Whole bytes) answer told steady read is =
     let all = subst (λ (l : Option (List ℕ)). IsAllOf bytes l after.left) told read.1 in
     let same = subst (λ (t : List ℕ). IsTextAnswer accepts.task (whole_read t) answer) all.0 is in
-    task-solved accepts.task accepts.declared answer accepts.few (subst (λ (r : Result Declared Fault). IsTextAnswer accepts.task r answer) accepts.read same)
+    task-solved accepts.task accepts.declared answer accepts.within (subst (λ (r : Result Declared Fault). IsTextAnswer accepts.task r answer) accepts.read same)
 
 pub Solved-answered : (words : List (List ℕ)) (text : List ℕ) (before after : SourceState) (answer : Answer) → Answered words before after answer
     → before.left ≡ Some text → Accepts words text → ¬ Rose before.faults after.faults → status_of answer ≡ Solved
 Solved-answered words text before after answer done told accepts steady =
     input-solved text words accepts before after done.input answer told steady done.read
     (task-IsAnswer words accepts.command accepts.task done.input answer accepts.asked accepts.served done.belongs)
+
+-- of one input DPOP has one answer
+module _ (optima : FirstOptimaOfTreesAreOne) (trees : DepthFirstTreesAreLinked) where
+  one_of_text : (read : Result Declared Fault) (a b : Answer) → IsTextAnswer tasks.Dpop read a → IsTextAnswer tasks.Dpop read b → a ≡ b
+  one_of_text (Ok d) a b of_a of_b = one_answer optima trees d a b of_a of_b
+  one_of_text (Err fault) a b of_a of_b = of_a ∙ sym of_b
+
+  one_of_input : (input : Input) (a b : Answer) → IsInputAnswer tasks.Dpop input a → IsInputAnswer tasks.Dpop input b → a ≡ b
+  one_of_input Unread a b of_a of_b = absurd of_a
+  one_of_input Broken a b of_a of_b = of_a ∙ sym of_b
+  one_of_input TooLong a b of_a of_b = of_a ∙ sym of_b
+  one_of_input (Whole bytes) a b of_a of_b = one_of_text (whole_read bytes) a b of_a of_b
+
+  pub dpop_answers_one : DpopAnswersAreOne
+  dpop_answers_one words words' input a b asks asks' of_a of_b =
+      one_of_input input a b
+      (task-IsAnswer words asks.command tasks.Dpop input a asks.asked asks.served of_a)
+      (task-IsAnswer words' asks'.command tasks.Dpop input b asks'.asked asks'.served of_b)

@@ -30,7 +30,7 @@ pub played-found : (p : Dcop) → IsProblem p → TokenRuns → (budget : ℕ) �
 played-found p whole law budget same events state is =
     let plays : PlaysTo (token_deliveries p) (network_of p Token) is.pieces is.end = subst (λ (b : ℕ). PlaysTo b (network_of p Token) is.pieces is.end) same is.plays in
     let holds = law.runs p whole events is.end is.leads in
-    let all = holds.whole (played-ended p whole law events is.pieces is.end is.leads plays) in record {
+    let all = holds.whole (played-ended (token_deliveries p) is.end holds.early holds.pending (network_of p Token) is.pieces plays) in record {
       whole = whole;
       sized = sym (length-map state.seats (λ x. x.view)) ∙ ap length is.shows.views ∙ holds.sized;
       places = subst (FoundPlaces p) (sym is.shows.views) all.places;

@@ -4,5 +4,8 @@ mod RowLaws
 mod ParentLaws
 mod PlayLaws
 mod FoundLaws
+mod AgreedLaws
+mod ChosenLaws
 mod TreeLaws
+mod SameLaws
 mod AnswerLaws

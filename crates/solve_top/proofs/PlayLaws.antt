@@ -1,16 +1,12 @@
--- Token agents that are played under the budget of their messages have all ended.
+-- Agents that are played under the budget of their messages have all ended.
 use Rattle.std.proofs.Common.{◌≡◌, ℕ, zero, suc, ◌-◌, ◌*◌, ◌<◌, ◌≤◌, min, Bool, true, false, cond, eqb, leb, ◌||◌, List, [], ◌∷◌, ◌++◌, length, get_or, refl, sym, ap, subst, ◌∙◌, inl, inr, arith}
 use Rattle.std.specs.List.{flat_map, range_with_len}
 use Rattle.std.proofs.lemmas.Bool.{cases_Bool, or_cases, eqb-true, leb-true}
 use Rattle.std.proofs.lemmas.List.FromFn.{length-range_with_len, get_or-range_with_len}
-use Rattle.dcop_base.specs.Problem.{Dcop}
-use Rattle.dcop_base.specs.Whole.{IsProblem}
 use Rattle.protocol_steps.specs.declared.event.Take.{Take}
 use Rattle.protocol_steps.specs.declared.event.Event.{Event}
-use Rattle.protocol_steps.specs.Network.{Network, start_state}
-use Rattle.protocol_steps.specs.Effect.{pending, has_ended, deliveries}
-use Rattle.token_runs.specs.TokenRun.{token_agents, IsTokenRun}
-use Rattle.token_runs.specs.Laws.{HoldsOfTokens, TokenRuns}
+use Rattle.protocol_steps.specs.Network.{Network}
+use Rattle.protocol_steps.specs.Effect.{SomePending, pending, has_ended, deliveries}
 use Rattle.delivery_core.specs.Turns.{most_taken, take_some, turn_takes, event_with, turn, after, turns, round, stops, PlaysTo}
 
 module _ {A : Type 0} where
@@ -63,16 +59,14 @@ played-stops : (budget : ℕ) (net end : Network) (pieces : List (List Event)) �
 played-stops budget net end [] plays = subst (λ (n : Network). stops budget n ≡ true) plays.1 plays.0
 played-stops budget net end (es ∷ pieces) plays = played-stops budget (after net es) end pieces plays.2
 
-module _ (p : Dcop) (whole : IsProblem p) (law : TokenRuns) (es : List Event) (end : Network) (leads : IsTokenRun p es end) where
-  holds : HoldsOfTokens p end
-  holds = law.runs p whole es end leads
-
+-- agents that take fewer messages than the budget and have one pending until all have ended, and that were played under this budget, have all ended
+module _ (budget : ℕ) (end : Network) (early : has_ended end ≡ false → deliveries end < budget) (pends : has_ended end ≡ false → SomePending end) where
   -- as many deliveries as there can be leave no agent open
-  ended-by-budget : 2 * (length p.sizes - 1) ≤ deliveries end → has_ended end ≡ true
+  ended-by-budget : budget ≤ deliveries end → has_ended end ≡ true
   ended-by-budget all =
       elim (cases_Bool (has_ended end)) [
         | inl ended ↦ ended
-        | inr runs ↦ let early = holds.early runs in absurd (omega arith)
+        | inr runs ↦ let few = early runs in absurd (omega arith)
       ]
 
   -- so does a round without an event
@@ -81,23 +75,20 @@ module _ (p : Dcop) (whole : IsProblem p) (law : TokenRuns) (es : List Event) (e
       elim (cases_Bool (has_ended end)) [
         | inl ended ↦ ended
         | inr runs ↦
-            let some = holds.pending runs in
+            let some = pends runs in
             absurd (some.some (round-none end rest some.to some.from some.to_agent some.from_agent))
       ]
 
-  -- where playing under the budget stops, all have ended
-  pub ended-where-stops : stops (2 * (length p.sizes - 1)) end ≡ true → has_ended end ≡ true
+  -- where playing stops, all have ended
+  ended-where-stops : stops budget end ≡ true → has_ended end ≡ true
   ended-where-stops stopped =
-      elim (or_cases (has_ended end || leb (2 * (length p.sizes - 1)) (deliveries end)) (eqb (length (round end)) 0) stopped) [
-        | inl early ↦ elim (or_cases (has_ended end) (leb (2 * (length p.sizes - 1)) (deliveries end)) early) [
+      elim (or_cases (has_ended end || leb budget (deliveries end)) (eqb (length (round end)) 0) stopped) [
+        | inl first ↦ elim (or_cases (has_ended end) (leb budget (deliveries end)) first) [
           | inl ended ↦ ended
-          | inr enough ↦ ended-by-budget (leb-true (2 * (length p.sizes - 1)) (deliveries end) enough)
+          | inr enough ↦ ended-by-budget (leb-true budget (deliveries end) enough)
         ]
         | inr rest ↦ ended-by-rest (eqb-true (length (round end)) 0 rest)
       ]
 
--- token agents that were played under the budget of their messages have all ended
-pub played-ended : (p : Dcop) → IsProblem p → TokenRuns → (es : List Event) (pieces : List (List Event)) (end : Network) → IsTokenRun p es end
-    → PlaysTo (2 * (length p.sizes - 1)) (start_state (token_agents p)) pieces end → has_ended end ≡ true
-played-ended p whole law es pieces end leads plays =
-    ended-where-stops p whole law es end leads (played-stops (2 * (length p.sizes - 1)) (start_state (token_agents p)) end pieces plays)
+  pub played-ended : (first : Network) (pieces : List (List Event)) → PlaysTo budget first pieces end → has_ended end ≡ true
+  played-ended first pieces plays = ended-where-stops (played-stops budget first end pieces plays)

@@ -13,6 +13,7 @@ use Rattle.solve_report.specs.declared.answer.Answer.{Answer}
 use Rattle.solve_report.specs.declared.answer.Answer.TheVariants as answers
 use Rattle.solve_top.specs.declared.task.Task.{Task}
 use Rattle.solve_top.specs.declared.task.Task.TheVariants as tasks
+use Rattle.solve_top.specs.Dpop.{AnswersDpop}
 use Rattle.solve_top.specs.Input.{Input, Unread, Broken, TooLong, Whole}
 use Rattle.solve_top.specs.Kinds.{number_of_words, number_of_text, number_of_problem}
 use Rattle.solve_top.specs.Plain.{IsPlainReport, HasFirstOptimum, IsTooMany}
@@ -25,6 +26,7 @@ abbrev pub IsTaskAnswer : Task → Declared → Answer → Type 0
 IsTaskAnswer tasks.Plain d (answers.Report report file) =
     (product d.sizes ≤ MAX_ASSIGNMENTS) × (declared_by file ≡ d) × IsPlainReport file report × HasFirstOptimum file report
 IsTaskAnswer tasks.Plain d (answers.Many assignments) = IsTooMany (product d.sizes) assignments
+IsTaskAnswer tasks.Dpop d answer = AnswersDpop d answer
 IsTaskAnswer tasks.Tree d answer = AnswersTree d answer
 IsTaskAnswer tasks.Upgrade d (answers.Upgraded file) = declared_by file ≡ record d { version = 2 }
 IsTaskAnswer task d answer = ⊥

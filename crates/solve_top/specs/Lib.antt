@@ -6,8 +6,11 @@ pub mod Whole
 pub mod Texts
 pub mod Goal
 pub mod Plain
+pub mod Dpop
+pub mod Agreed
 pub mod Tree
 pub mod Found
 pub mod Answering
+pub mod Same
 pub mod Statuses
 pub mod Solving

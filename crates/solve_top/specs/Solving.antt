@@ -1,9 +1,12 @@
 -- What a top call does: it answers, and shows its answer.
-use Rattle.std.specs.Prelude.{◌≡◌, ℕ, ◌≤◌, ◌⊎◌, true, List, length, Some, Ok}
+use Rattle.std.specs.Prelude.{◌≡◌, ℕ, ◌≤◌, ◌⊎◌, true, List, length, Some, None, Ok}
 use Rattle.dcop_base.specs.Table.{product}
+use Rattle.dcop_base.specs.Whole.{IsProblem}
 use Rattle.dcop_edge.specs.Sink.{Adds}
 use Rattle.dcop_optimum.specs.declared.plain.TheConstants.{MAX_ASSIGNMENTS}
 use Rattle.problem_text.specs.Declarations.{Declared}
+use Rattle.problem_text.specs.File.{TextFile}
+use Rattle.problem_text.specs.Steps.{declared_by}
 use Rattle.solve_words.specs.declared.command.Command.{Command}
 use Rattle.solve_words.specs.Command.{answer_to}
 use Rattle.solve_report.specs.declared.answer.Answer.{Answer}
@@ -14,7 +17,8 @@ use Rattle.solve_top.specs.declared.status.Status.TheVariants as statuses
 use Rattle.solve_top.specs.declared.task.Task.{Task}
 use Rattle.solve_top.specs.declared.task.Task.TheVariants as tasks
 use Rattle.solve_top.specs.Answering.{IsAnswer}
-use Rattle.solve_top.specs.Goal.{TellsBest}
+use Rattle.solve_top.specs.Dpop.{wide_in}
+use Rattle.solve_top.specs.Goal.{solved, TellsBest}
 use Rattle.solve_top.specs.Input.{Input, SourceState, IsReadFrom}
 use Rattle.solve_top.specs.Output.{SinkState, AddsPrefix}
 use Rattle.solve_top.specs.Served.{task_of}
@@ -45,11 +49,19 @@ pub record Solves (words : List (List ℕ)) (source source' : SourceState) (sink
   pub answered : Answered words source source' answer
   pub shown : IsShown answer sink sink' status ⊎ IsCut answer sink sink' status
 
--- the plain method has no more assignments to try than it tries
-abbrev pub HasFew : Task → Declared → Type 0
-HasFew tasks.Plain d = product d.sizes ≤ MAX_ASSIGNMENTS
-HasFew tasks.Tree d = Unit {0}
-HasFew tasks.Upgrade d = Unit {0}
+-- a text that declares this is a file in whose depth-first tree, that of the problem solved, nothing is too wide: it is narrow and light
+pub record HasFitTree (d : Declared) : Type 0 where
+  pub file : TextFile
+  pub whole : IsProblem file.problem
+  pub declared : declared_by file ≡ d
+  pub fits : wide_in (solved file.goal file.problem) ≡ None
+
+-- a task is within its limits: plain has no more assignments to try than it tries, and for DPOP the tree is narrow and light
+abbrev pub IsWithinLimits : Task → Declared → Type 0
+IsWithinLimits tasks.Plain d = product d.sizes ≤ MAX_ASSIGNMENTS
+IsWithinLimits tasks.Dpop d = HasFitTree d
+IsWithinLimits tasks.Tree d = Unit {0}
+IsWithinLimits tasks.Upgrade d = Unit {0}
 
 -- words and a text that are accepted, and that can be served
 pub record Accepts (words : List (List ℕ)) (text : List ℕ) : Type 0 where
@@ -60,4 +72,4 @@ pub record Accepts (words : List (List ℕ)) (text : List ℕ) : Type 0 where
   pub served : task_of command ≡ Some task
   pub short : length text ≤ MAX_INPUT
   pub read : whole_read text ≡ Ok declared
-  pub few : HasFew task declared
+  pub within : IsWithinLimits task declared

@@ -9,6 +9,7 @@ ghost use Rattle.solve_top.specs.Solving.{Answered};
 ghost use Rattle.solve_top.specs.Kinds.{number_of_words, number_of_text, number_of_problem};
 ghost use Rattle.solve_top.specs.Whole.{whole_read};
 
+use crate::dpop::dpop_answer;
 use crate::plain::plain_answer;
 use crate::reading::{ReadEnd, read_all};
 use crate::task::Task;
@@ -58,6 +59,7 @@ fn text_answer(alloc: Global, task: Task, bytes: &[u8]) -> Result<Answer, NoMemo
     match read_whole(alloc, bytes) {
         Ok(file) => match task {
             Task::Plain => plain_answer(alloc, file),
+            Task::Dpop => dpop_answer(alloc, file),
             Task::Tree => tree_answer(alloc, file),
             Task::Upgrade => Ok(Answer::Upgraded {
                 file: upgraded(file),

@@ -7,6 +7,10 @@
 
 mod after_end;
 mod answering;
+mod dpop;
+#[cfg(test)]
+mod dpop_tests;
+mod law;
 mod plain;
 mod reading;
 mod status;
@@ -18,6 +22,7 @@ mod tree;
 mod whole;
 mod writing;
 
+pub use law::dpop_answers_are_one;
 pub use reading::MAX_INPUT;
 pub use status::Status;
 pub use top::solve;

@@ -14,6 +14,8 @@ pub enum Status {
     BadWords,
     /// The problem text is refused.
     BadText,
+    /// The tables of the agents would be too wide.
+    TooWide,
     /// The source failed.
     ReadFault,
     /// The sink failed. What is written is a prefix of the answer's text.
@@ -33,6 +35,7 @@ impl Status {
             Status::Solved => 0,
             Status::BadWords => 2,
             Status::BadText => 3,
+            Status::TooWide => 4,
             Status::ReadFault => 5,
             Status::WriteFault => 6,
             Status::NoMemory => 7,
@@ -48,6 +51,7 @@ impl Status {
             Answer::Report { .. } | Answer::Tree { .. } | Answer::Upgraded { .. } => Status::Solved,
             Answer::Words { .. } | Answer::NotYet => Status::BadWords,
             Answer::ProblemText { .. } => Status::BadText,
+            Answer::WideAgent { .. } | Answer::WideTotal { .. } => Status::TooWide,
             Answer::Read => Status::ReadFault,
             Answer::Many { .. } => Status::TooMany,
         }

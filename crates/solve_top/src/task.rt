@@ -10,6 +10,8 @@ use solve_words::{Choice, Command, Format};
 pub enum Task {
     /// Solve a problem by the plain method.
     Plain,
+    /// Solve a problem by DPOP.
+    Dpop,
     /// Find the depth-first tree of a problem.
     Tree,
     /// Write a problem again in the newest version of its text.
@@ -27,6 +29,13 @@ impl Task {
                 format: Format::Dcop,
                 ..
             } => Some(Task::Plain),
+            Command::Solve {
+                method: Choice::Dpop,
+                nodes: 1,
+                certificate: false,
+                format: Format::Dcop,
+                ..
+            } => Some(Task::Dpop),
             Command::Tree {
                 format: Format::Dcop,
                 ..

@@ -5,15 +5,16 @@ use dcop_edge::{MemorySink, MemorySource};
 use std::alloc::Global;
 use std::test::Fail;
 
-const PAIR: &str = "dcop 1\nvar x 2\nvar y 2\ntable x y : 5 3 2 7\nend\n";
+pub(crate) const PAIR: &str = "dcop 1\nvar x 2\nvar y 2\ntable x y : 5 3 2 7\nend\n";
 
-const SINGLE: &str = "dcop 1\nvar a 3\ntable a : 4 1 1\nend\n";
+pub(crate) const SINGLE: &str = "dcop 1\nvar a 3\ntable a : 4 1 1\nend\n";
 
-const GAIN: &str = "dcop 2\ngoal max\nvar x : lo hi\nvar y 2\ntable x y : 5 3 2 7\nend\n";
+pub(crate) const GAIN: &str =
+    "dcop 2\ngoal max\nvar x : lo hi\nvar y 2\ntable x y : 5 3 2 7\nend\n";
 
 const GAIN_LATE: &str = "dcop 2\nvar x : lo hi\ngoal max\nvar y 2\ntable x y : 5 3 2 7\nend\n";
 
-const PAW: &str = "dcop 1\nvar a 2\nvar b 2\nvar c 2\nvar d 2\ntable a b : 1 2 2 0\n\
+pub(crate) const PAW: &str = "dcop 1\nvar a 2\nvar b 2\nvar c 2\nvar d 2\ntable a b : 1 2 2 0\n\
     table a c : 1 2 2 0\ntable b c : 1 2 2 0\ntable b d : 1 2 2 0\nend\n";
 
 const PAW_TREE: &str = "status tree\ndeliveries 6\nnode a parent - separator\n\
@@ -21,7 +22,7 @@ const PAW_TREE: &str = "status tree\ndeliveries 6\nnode a parent - separator\n\
     node d parent b separator b\nend\n";
 
 /// Two components, which a joint of a and c ties.
-const APART: &str = "dcop 1\nvar a 2\nvar b 2\nvar c 2\nvar d 2\ntable a b : 1 0 3 2\n\
+pub(crate) const APART: &str = "dcop 1\nvar a 2\nvar b 2\nvar c 2\nvar d 2\ntable a b : 1 0 3 2\n\
     table c d : 4 4 5 1\nend\n";
 
 const APART_TREE: &str = "status tree\ndeliveries 6\nnode a parent - separator\n\
@@ -34,7 +35,7 @@ const PAIR_REPORT: &str = "status solved\nmethod plain\nerror 0\ndeliveries 0\nc
     upper 2\nvalue x 1\nvalue y 0\nend\n";
 
 /// The code and the text that a call answers, over a source and a sink that fail at these calls.
-fn answer_over(
+pub(crate) fn answer_over(
     alloc: Global,
     words: &str,
     input: &[u8],
@@ -110,12 +111,7 @@ fn worked_answers(rt: HostRuntime) -> Result<(), Fail> {
             "refused words at 4 kind 9\n",
         ),
         ("", PAIR, 2, "refused words at 1 kind 1\n"),
-        (
-            "solve --method dpop",
-            PAIR,
-            2,
-            "refused words at 1 kind 10\n",
-        ),
+        ("solve", PAIR, 2, "refused words at 1 kind 10\n"),
     ];
     for (words, input, code, text) in rows {
         let (ended, written) = answer_over(rt.alloc(), words, input.as_bytes(), &[], &[])?;
@@ -213,15 +209,27 @@ fn input_that_is_too_long(rt: HostRuntime) -> Result<(), Fail> {
     Ok(())
 }
 
+/// The first lines of a text with one variable, whose tables cost 2^62 together.
+fn dearest_tables(alloc: Global) -> Result<String, Fail> {
+    let mut text = String::from_str(alloc, "dcop 1\nvar a 1\n")?;
+    for _ in 0..4096 {
+        text.push_str("table a : 1125899906842624\n")?;
+    }
+    Ok(text)
+}
+
+/// A text of one variable whose tables cost 2^62 together, which is the most.
+pub(crate) fn at_the_brim(alloc: Global) -> Result<String, Fail> {
+    let mut text = dearest_tables(alloc)?;
+    text.push_str("end\n")?;
+    Ok(text)
+}
+
 #[test]
 fn limits(rt: HostRuntime) -> Result<(), Fail> {
     let alloc = rt.alloc();
-    let mut brim = String::from_str(alloc, "dcop 1\nvar a 1\n")?;
-    for _ in 0..4096 {
-        brim.push_str("table a : 1125899906842624\n")?;
-    }
-    let mut over = String::from_str(alloc, brim.as_str())?;
-    brim.push_str("end\n")?;
+    let brim = at_the_brim(alloc)?;
+    let mut over = dearest_tables(alloc)?;
     over.push_str("table a : 1\nend\n")?;
     let loose = loose(alloc, 17)?;
     let rows = [

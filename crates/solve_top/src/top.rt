@@ -17,8 +17,9 @@ use std::alloc::Global;
 /// writes the answer to the sink, and says how it went.
 ///
 /// The words are tested before anything is read, and the whole answer is built before anything is
-/// written. `solve --method plain` reads a problem and reports an assignment with the best sum of
-/// any, `tree` reads a problem and writes the tree over which its agents work, and `upgrade` reads a
+/// written. `solve` reads a problem and reports an assignment with the best sum of any: with
+/// `--method plain` by trying all, with `--method dpop` by agents on a tree, unless their tables
+/// would be too wide. `tree` reads a problem and writes the tree over which its agents work, and `upgrade` reads a
 /// problem and writes it in the newest version of its text. Refusals are written to the sink too.
 ///
 /// [`Status::ReadFault`] and [`Status::WriteFault`] come only where the source or the sink failed

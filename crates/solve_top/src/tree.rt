@@ -21,9 +21,9 @@ use token_runs::token_runs;
 
 /// A tree, and how many messages the agents took to find it.
 #[derive(Debug, Drop)]
-struct Found {
-    tree: Tree,
-    deliveries: u64,
+pub(crate) struct Found {
+    pub tree: Tree,
+    pub deliveries: u64,
 }
 
 /// The depth-first tree of a file's problem, with the messages that its agents took to find it.
@@ -44,7 +44,7 @@ pub fn tree_answer(alloc: Global, file: ProblemFile) -> Result<Answer, NoMemory>
 }
 
 /// The tree that the token agents of a problem find.
-fn find_tree(alloc: Global, problem: &Problem) -> Result<Found, NoMemory>
+pub(crate) fn find_tree(alloc: Global, problem: &Problem) -> Result<Found, NoMemory>
     ensures { IfOk result (IsFound problem.now) }
 {
     let state = play_tokens(alloc, problem)?;

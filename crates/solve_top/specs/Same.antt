@@ -1,0 +1,19 @@
+-- The answer of DPOP is one function of what was read.
+use Rattle.std.specs.Prelude.{◌≡◌, ℕ, List, Some, Ok}
+use Rattle.solve_words.specs.declared.command.Command.{Command}
+use Rattle.solve_words.specs.Command.{answer_to}
+use Rattle.solve_report.specs.declared.answer.Answer.{Answer}
+use Rattle.solve_top.specs.declared.task.Task.TheVariants as tasks
+use Rattle.solve_top.specs.Answering.{IsAnswer}
+use Rattle.solve_top.specs.Input.{Input}
+use Rattle.solve_top.specs.Served.{task_of}
+
+-- words that ask for DPOP
+pub record AskForDpop (words : List (List ℕ)) : Type 0 where
+  pub command : Command
+  pub asked : answer_to words ≡ Ok command
+  pub served : task_of command ≡ Some tasks.Dpop
+
+-- whatever words ask for DPOP, one answer belongs to an input
+abbrev pub DpopAnswersAreOne : Type 0
+DpopAnswersAreOne = (words words' : List (List ℕ)) (input : Input) (a b : Answer) → AskForDpop words → AskForDpop words' → IsAnswer words input a → IsAnswer words' input b → a ≡ b
