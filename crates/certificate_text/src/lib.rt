@@ -8,8 +8,10 @@ mod certificate;
 mod report;
 #[cfg(test)]
 mod tests;
+mod verdict;
 mod writer;
 
 pub use certificate::{Certificate, Util, UtilList};
 pub use report::{Ending, Method, Report};
+pub use verdict::{Differs, Verdict};
 pub use writer::{parent_word, write_report};

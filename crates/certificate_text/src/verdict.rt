@@ -1,0 +1,81 @@
+//! What comes of checking a certificate.
+
+use crate::report::Ending;
+use dcop_base::{Val, VarId};
+
+/// What comes of checking a report with a certificate.
+#[derive(Clone, Copy, Debug, PartialEq, Eq)]
+pub enum Verdict {
+    /// The report holds: its cost, and the gap, by which the cost is at most worse than the best.
+    Yes { cost: u64, error: u64 },
+    /// The report does not hold, by its first difference.
+    No(Differs),
+}
+
+/// How a report differs from what holds. `left` is what was printed and `right` is what is right,
+/// unless a variant says otherwise.
+#[derive(Clone, Copy, Debug, PartialEq, Eq)]
+pub enum Differs {
+    /// Not exactly one variable has no parent, but so many.
+    TreeRoots {
+        count: u64,
+    },
+    /// The parents of this variable do not reach the root. It is the lowest such variable.
+    TreeLoop {
+        var: VarId,
+    },
+    /// Two variables of one table or joint, of which neither is an ancestor of the other. They are
+    /// the least such pair.
+    TreePair {
+        one: VarId,
+        other: VarId,
+    },
+    /// The scope of this variable is not its separator from the root down. It is the lowest such
+    /// variable.
+    Scope {
+        var: VarId,
+    },
+    /// A cell of this variable's table, counted from 0, exceeds, at this value of the variable, the
+    /// sum of its own tables' cells and its children's cells, which is `right`.
+    Cell {
+        var: VarId,
+        cell: u64,
+        value: Val,
+        left: u64,
+        right: u64,
+    },
+    /// The cost is not that of the values.
+    Cost {
+        left: u64,
+        right: u64,
+    },
+    /// The root's cell is not the cost of the values in the problem solved.
+    Root {
+        left: u64,
+        right: u64,
+    },
+    /// The lower bound is not the right one.
+    Lower {
+        left: u64,
+        right: u64,
+    },
+    /// The upper bound is not the right one.
+    Upper {
+        left: u64,
+        right: u64,
+    },
+    /// The error is not the right one.
+    Error {
+        left: u64,
+        right: u64,
+    },
+    /// The deliveries are not as many as the method makes.
+    Deliveries {
+        left: u64,
+        right: u64,
+    },
+    /// The status, which is this one, is not the right one.
+    Status {
+        ending: Ending,
+    },
+}
