@@ -1,3 +1,4 @@
 pub mod Named
 pub mod CertificateText
 pub mod ReportText
+pub mod Fits
