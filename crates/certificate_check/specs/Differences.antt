@@ -64,16 +64,21 @@ abbrev pub status_difference : Ending → Option Differs
 status_difference Solved = None
 status_difference Spent = Some (Status Spent)
 
--- the cost is that of the values, the root's cell is their cost in the problem solved, lower and upper are the cost, the error is 0, there are two deliveries for each variable but one, and the status is solved
-abbrev pub number_difference : TextFile → List Util → Report → Option Differs
-number_difference f utils r =
-    option_or (unless_same (λ left right. Cost left right) r.cost (cost f.problem r.values))
-    (option_or (unless_same (λ left right. Root left right) (root_cell f.problem utils) (cost (solved f.goal f.problem) r.values))
-    (option_or (unless_same (λ left right. Lower left right) r.lower r.cost)
+-- lower and upper are the cost, the error is 0, there are two deliveries for each of so many variables but one, and the status is solved
+abbrev pub bound_difference : ℕ → Report → Option Differs
+bound_difference count r =
+    option_or (unless_same (λ left right. Lower left right) r.lower r.cost)
     (option_or (unless_same (λ left right. Upper left right) r.upper r.cost)
     (option_or (unless_same (λ left right. Error left right) r.error 0)
-    (option_or (unless_same (λ left right. Deliveries left right) r.deliveries (2 * (length f.problem.sizes - 1)))
-    (status_difference r.status))))))
+    (option_or (unless_same (λ left right. Deliveries left right) r.deliveries (2 * (count - 1)))
+    (status_difference r.status))))
+
+-- the cost is that of the values, and the root's cell is their cost in the problem solved
+abbrev pub number_difference : TextFile → ℕ → Report → Option Differs
+number_difference f root r =
+    option_or (unless_same (λ left right. Cost left right) r.cost (cost f.problem r.values))
+    (option_or (unless_same (λ left right. Root left right) root (cost (solved f.goal f.problem) r.values))
+    (bound_difference (length f.problem.sizes) r))
 
 -- the first difference behind those of the tree: every scope by variable, every cell by variable, cell and value, and then the numbers
 abbrev pub difference_in : TextFile → List (List ℕ) → List Util → Report → Option Differs
@@ -81,4 +86,4 @@ difference_in f paths utils r =
     let p : Dcop = solved f.goal f.problem in
     option_or (first_of (scope_difference p paths utils) (variables p))
     (option_or (first_of (cells_difference p paths utils) (variables p))
-    (number_difference f utils r))
+    (number_difference f (root_cell p utils) r))

@@ -8,10 +8,9 @@
 #![tactic(auto)]
 
 mod cells;
-mod check;
 mod numbers;
+mod odometer;
 mod parts;
 mod scopes;
+mod sums;
 mod told;
-
-// pub use check::check;

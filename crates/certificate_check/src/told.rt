@@ -1,13 +1,21 @@
 //! What the tables of a certificate tell of each variable.
 
-ghost use Rattle.std.specs.Prelude.{◌≡◌, ◌==◌, IfOk};
+ghost use Rattle.std.specs.Prelude.{◌≡◌, ◌==◌, ◌≤◌, length, IfOk};
 ghost use Rattle.std.specs.List.{count_by};
 ghost use Rattle.certificate_text.specs.Fits.{FitsTables};
 ghost use Rattle.certificate_check.specs.Told.{told, parents_told};
 
 use certificate_text::Util;
-use dcop_base::{NoMemory, Problem, VarId};
+use dcop_base::{MAX_VARIABLES, NoMemory, Problem, VarId};
 use std::alloc::Global;
+
+/// How many variables a problem has.
+pub(crate) fn variable_count(problem: &Problem) -> usize
+    ensures count { result ≡ length problem.now.sizes }
+    ensures few { result ≤ MAX_VARIABLES }
+{
+    problem.sizes.as_slice().len()
+}
 
 /// The table of a variable.
 pub(crate) fn util_of(utils: &[Util], var: VarId) -> &Util
@@ -31,7 +39,7 @@ pub(crate) fn parents_of(
     requires { FitsTables problem.now.sizes utils.now }
     ensures { IfOk result (λ parents. parents.items ≡ parents_told problem.now utils.now) }
 {
-    let count = problem.sizes.as_slice().len();
+    let count = variable_count(problem);
     let mut parents = Vec::with_capacity(alloc, count)?;
     for index in 0..count {
         parents.push(util_of(utils, VarId(index as u32)).parent)?;

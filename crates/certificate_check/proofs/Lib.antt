@@ -1,0 +1,5 @@
+pub mod ToldLaws
+pub mod FirstLaws
+pub mod PartLaws
+pub mod CellLaws
+pub mod OdometerLaws
