@@ -3,3 +3,5 @@ pub mod FirstLaws
 pub mod PartLaws
 pub mod CellLaws
 pub mod OdometerLaws
+pub mod ValueLaws
+pub mod DifferLaws

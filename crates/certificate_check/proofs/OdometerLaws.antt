@@ -24,19 +24,19 @@ pub last_next : (sizes : List ℕ) (v : ℕ) (vs old mid : List ℕ) (x value : 
     → ((u : ℕ) → has vs u ≡ false → get_or mid u 0 ≡ get_or old u 0) → IsNextPlace sizes vs old mid false
     → value ≡ get_or mid v 0 → value < get_or sizes v 0 → (b : Bool) → b ≡ ltb (value + 1) (get_or sizes v 0) → (b ≡ true → x ≡ value + 1) → (b ≡ false → x ≡ 0)
     → IsNextPlace sizes (v ∷ vs) old (set mid v x) b
-last_next sizes v vs old mid x value apart inside others next is below true test yes no =
+last_next sizes v vs old mid x value apart inside others next is below true test if_true if_false =
     let here : get_or (set mid v x) v 0 ≡ x = get_or-set_same mid v x 0 inside in
     let same : place_of sizes vs (set mid v x) ≡ place_of sizes vs mid = place_apart sizes vs mid v x apart in
     let was = others v apart in
-    let set_to = yes refl in
+    let set_to = if_true refl in
     let head : get_or (set mid v x) v 0 * product (sizes_at sizes vs) ≡ (value + 1) * product (sizes_at sizes vs) = ap (λ (n : ℕ). n * product (sizes_at sizes vs)) (here ∙ set_to) in
     let head_old : get_or old v 0 * product (sizes_at sizes vs) ≡ value * product (sizes_at sizes vs) = ap (λ (n : ℕ). n * product (sizes_at sizes vs)) (sym (is ∙ was)) in
     omega (arith, head, head_old, same, next.0, next.1)
-last_next sizes v vs old mid x value apart inside others next is below false test yes no =
+last_next sizes v vs old mid x value apart inside others next is below false test if_true if_false =
     let here : get_or (set mid v x) v 0 ≡ x = get_or-set_same mid v x 0 inside in
     let same : place_of sizes vs (set mid v x) ≡ place_of sizes vs mid = place_apart sizes vs mid v x apart in
     let was = others v apart in
-    let set_to = no refl in
+    let set_to = if_false refl in
     let top = ltb-false (value + 1) (get_or sizes v 0) (sym test) in
     let size : get_or sizes v 0 ≡ value + 1 = omega arith in
     let all : get_or sizes v 0 * product (sizes_at sizes vs) ≡ (value + 1) * product (sizes_at sizes vs) = ap (λ (n : ℕ). n * product (sizes_at sizes vs)) size in
