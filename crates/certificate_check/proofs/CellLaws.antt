@@ -11,9 +11,10 @@ sizes_at sizes scope = map (λ v. get_or sizes v 0) scope
 -- an assignment gives a scope values below its sizes
 pub scope_within : (sizes values scope : List ℕ) → AreWithin sizes values → All (λ v. v < length sizes) scope → AreWithin (sizes_at sizes scope) (values_at scope values)
 scope_within sizes values [] within named = tt
-scope_within sizes values (v ∷ vs) within named =
-    (AllZip-get_or (λ s d. d < s) sizes values v 0 0 within (All-head (λ u. u < length sizes) v vs named),
-    scope_within sizes values vs within (All-tail (λ u. u < length sizes) v vs named))
+scope_within sizes values (v ∷ vs) within named = (
+  AllZip-get_or (λ s d. d < s) sizes values v 0 0 within (All-head (λ u. u < length sizes) v vs named),
+  scope_within sizes values vs within (All-tail (λ u. u < length sizes) v vs named),
+)
 
 -- one more variable
 pub within_next : (scope sizes values : List ℕ) (k : ℕ) → k < length scope → k < length sizes → AreWithin (drop k sizes) (values_at (drop k scope) values)

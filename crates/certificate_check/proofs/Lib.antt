@@ -5,3 +5,4 @@ pub mod CellLaws
 pub mod OdometerLaws
 pub mod ValueLaws
 pub mod DifferLaws
+pub mod FitLaws

@@ -1,18 +1,16 @@
 -- The values of a cell, as an assignment and as the definition gives them.
-use Rattle.std.proofs.Common.{◌≡◌, ℕ, ◌+◌, ◌*◌, ◌/◌, ◌%◌, ◌<◌, ◌≤◌, Bool, true, false, cond, ◌||◌, eqb, ltb, min, List, [], ◌∷◌, map, length, get_or, set, None, Some, refl, sym, ap, subst, ◌∙◌, inl, inr, arith, All, get_or-set_same, get_or-set_other}
+use Rattle.std.proofs.Common.{◌≡◌, ℕ, zero, suc, ◌+◌, ◌*◌, ◌/◌, ◌%◌, ◌<◌, ◌≤◌, Bool, true, false, cond, ◌||◌, eqb, ltb, min, List, [], ◌∷◌, map, length, get_or, set, replicate, refl, sym, ap, subst, ◌∙◌, inl, inr, arith, All, get_or-set_same, get_or-set_other}
 use Rattle.std.proofs.lemmas.Bool.{cases_Bool, cases_eq, cond-true, cond-false, eqb-true, eq-eqb, ne_eqb, lt-ltb, le-ltb}
 use Rattle.std.proofs.lemmas.Nat.{div-mul-add, div-add-mod'}
 use Rattle.std.proofs.lemmas.List.Elements.{length_all_zip}
 use Rattle.dcop_base.specs.Table.{CostTable, product, AreWithin, has, values_at, cell_place}
 use Rattle.dcop_base.proofs.TableLaws.{cell_place-lt}
 use Rattle.dcop_optimum.specs.Certificate.{value_by}
+use Rattle.dcop_optimum.proofs.PlaceLaws.{zeros_within}
 use Rattle.certificate_text.specs.declared.certificate.Util.{Util}
-use Rattle.certificate_text.specs.declared.verdict.Differs.{Differs}
-use Rattle.certificate_text.specs.declared.verdict.Differs.TheVariants.{Cell}
 use Rattle.certificate_text.specs.Fits.{FitsUtil}
 use Rattle.certificate_check.specs.Cells.{values_of_cell, values_at_cell, sum_below}
-use Rattle.certificate_check.specs.Odometer.{place_of, IsAtCell}
-use Rattle.certificate_check.specs.Differences.{first_of, value_difference, cell_difference}
+use Rattle.certificate_check.specs.Odometer.{place_of, IsAtCell, IsNextPlace}
 use Rattle.certificate_check.proofs.CellLaws.{sizes_at, scope_within}
 use Rattle.certificate_check.proofs.OdometerLaws.{place_apart, within_set}
 
@@ -77,3 +75,37 @@ pub sum_at : (sizes : List ℕ) (own : List CostTable) (children : List Util) (u
     → sum_below sizes own children (λ v. get_or (set values u.var d) v 0) ≡ sum_below sizes own children (values_at_cell sizes u k d)
 sum_at sizes own children u k values d at inside fits =
     ap (λ (f : ℕ → ℕ). sum_below sizes own children f) (λ i v. value_at sizes u k values d at inside fits.named.scope fits.named.own v i)
+
+-- one step of the values is one step of the cells
+pub at_next : (sizes : List ℕ) (u : Util) (k : ℕ) (old new : List ℕ) (b : Bool) → IsAtCell sizes u k old → k < length u.cells → length u.cells ≡ product (sizes_at sizes u.scope)
+    → AreWithin sizes new → IsNextPlace sizes u.scope old new b → ((v : ℕ) → has u.scope v ≡ false → get_or new v 0 ≡ get_or old v 0) → IsAtCell sizes u (k + 1) new
+at_next sizes u k old new true at inside full within next others = record {
+  within = within;
+  place = λ more. let was = at.place inside in omega (arith, next, was);
+  rest = λ v out other. others v out ∙ at.rest v out other;
+}
+at_next sizes u k old new false at inside full within next others = record {
+  within = within;
+  place = λ more. let was = at.place inside in absurd (omega (arith, next.0, was, full, more));
+  rest = λ v out other. others v out ∙ at.rest v out other;
+}
+
+-- an assignment of zeros is at the first cell
+read_zero : (n v : ℕ) → get_or (replicate n 0) v 0 ≡ 0
+read_zero zero v = refl
+read_zero (suc n) zero = refl
+read_zero (suc n) (suc v) = read_zero n v
+
+place_zeros : (sizes scope : List ℕ) (n : ℕ) → place_of sizes scope (replicate n 0) ≡ 0
+place_zeros sizes [] n = refl
+place_zeros sizes (v ∷ vs) n =
+    let head = ap (λ (d : ℕ). d * product (sizes_at sizes vs)) (read_zero n v) in
+    let rest = place_zeros sizes vs n in
+    omega (arith, head, rest)
+
+pub at_zeros : (sizes : List ℕ) (u : Util) (values : List ℕ) → All (λ s. 1 ≤ s) sizes → values ≡ replicate (length sizes) 0 → IsAtCell sizes u 0 values
+at_zeros sizes u values positive e = rw e (record {
+  within = zeros_within sizes positive;
+  place = λ inside. place_zeros sizes u.scope (length sizes);
+  rest = λ v out other. read_zero (length sizes) v;
+})

@@ -34,9 +34,13 @@ IsFirstDifference f r utils differs =
     ⊎ IsDifferenceIn f r utils (Some differs)
 
 -- yes with the cost and the gap where there is no difference, no with the first one otherwise
+abbrev pub IsTablesVerdict : TextFile → Report → List Util → Verdict → Type 0
+IsTablesVerdict f r utils (Yes cost error) = IsDifferenceIn f r utils None × (cost ≡ r.cost) × (error ≡ gap_of f.goal r)
+IsTablesVerdict f r utils (No differs) = IsFirstDifference f r utils differs
+
+-- the same of a certificate
 abbrev pub IsVerdictOn : TextFile → Report → Verdict → Certificate → Type 0
-IsVerdictOn f r (Yes cost error) (Tables utils) = IsDifferenceIn f r utils None × (cost ≡ r.cost) × (error ≡ gap_of f.goal r)
-IsVerdictOn f r (No differs) (Tables utils) = IsFirstDifference f r utils differs
+IsVerdictOn f r verdict (Tables utils) = IsTablesVerdict f r utils verdict
 
 -- the same of the report's certificate
 abbrev pub IsVerdict : TextFile → Report → Verdict → Type 0
@@ -51,3 +55,13 @@ IsExact f r (No differs) = ¬ Holds f r
 abbrev pub ShowsBest : TextFile → Verdict → Type 0
 ShowsBest f (Yes cost error) = (best : ℕ) → IsBestSum f.goal f.problem best → IsAtMostWorse f.goal error cost best
 ShowsBest f (No differs) = Unit {0}
+
+-- no, by the first reason why the parents form no pseudotree
+abbrev pub IsTreeVerdict : Dcop → List (Option ℕ) → Verdict → Type 0
+IsTreeVerdict p parents (Yes cost error) = ⊥
+IsTreeVerdict p parents (No differs) = IsTreeDifference p parents differs
+
+-- yes with the cost and the gap where there is no difference, no with it otherwise
+abbrev pub verdict_by : TextFile → Report → Option Differs → Verdict
+verdict_by f r None = Yes r.cost (gap_of f.goal r)
+verdict_by f r (Some differs) = No differs

@@ -7,10 +7,15 @@
 //! the numbers.
 #![tactic(auto)]
 
+mod behind;
 mod cells;
+mod checking;
 mod numbers;
 mod odometer;
 mod parts;
 mod scopes;
 mod sums;
 mod told;
+mod tree;
+
+pub use checking::check;
