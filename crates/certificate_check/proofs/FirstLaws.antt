@@ -79,3 +79,7 @@ none_given test k (Some x) none is some = absurd (cc)
 -- nothing is told of all numbers where nothing is told of those below their count
 pub none_all : (test : ℕ → Option Differs) (k n : ℕ) → first_of test (range_with_len 0 k) ≡ None → k ≡ n → None ≡ first_of test (range_with_len 0 n)
 none_all test k n none e = sym none ∙ ap (λ (m : ℕ). first_of test (range_with_len 0 m)) e
+
+pub not_told : (o : Option Differs) → is_some o ≡ false → o ≡ None
+not_told None h = refl
+not_told (Some x) h = absurd (cc)

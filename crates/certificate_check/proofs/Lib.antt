@@ -6,3 +6,5 @@ pub mod OdometerLaws
 pub mod ValueLaws
 pub mod DifferLaws
 pub mod FitLaws
+pub mod RootLaws
+pub mod HoldsLaws

@@ -91,7 +91,7 @@ at_next sizes u k old new false at inside full within next others = record {
 }
 
 -- an assignment of zeros is at the first cell
-read_zero : (n v : ℕ) → get_or (replicate n 0) v 0 ≡ 0
+read_zero : (n v : ℕ) → get_or (replicate {A = ℕ} n 0) v 0 ≡ 0
 read_zero zero v = refl
 read_zero (suc n) zero = refl
 read_zero (suc n) (suc v) = read_zero n v

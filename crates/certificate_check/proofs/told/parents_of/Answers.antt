@@ -1,4 +1,5 @@
-use Rattle.std.proofs.Common.{◌≡◌, ◌<◌, ◌++◌, ◌∷◌, [], ℕ, List, Option, length, sym, ap, ◌∙◌, arith}
+use Rattle.std.proofs.Common.{◌≡◌, ◌<◌, ◌++◌, ◌∷◌, [], ℕ, List, Option, length, map, sym, ap, ◌∙◌, arith}
+use Rattle.std.specs.List.{range_with_len}
 use Rattle.std.proofs.lemmas.List.FromFn.{map-range_with_len_more}
 use Rattle.certificate_text.specs.declared.certificate.Util.{Util}
 use Rattle.certificate_check.specs.Told.{told}
@@ -13,5 +14,5 @@ pub loop-index-preserved : goal.loop-index-preserved
 loop-index-preserved c =
     c.in_ok-push.ensures.items
     ∙ ap (λ (xs : List (Option ℕ)). xs ++ (c.util_of.result.now.parent ∷ [])) c.loop-index.invariant
-    ∙ ap (λ (u : Util). _ ++ (u.parent ∷ [])) c.util_of.ensures
+    ∙ ap (λ (u : Util). map (λ v. (told c.args.utils.now v).parent) (range_with_len 0 c.loop-index.index) ++ (u.parent ∷ [])) c.util_of.ensures
     ∙ sym (map-range_with_len_more (λ v. (told c.args.utils.now v).parent) 0 c.loop-index.index c.loop-index.index (omega arith))
