@@ -1,7 +1,7 @@
 -- The values of a cell, as an assignment and as the definition gives them.
 use Rattle.std.proofs.Common.{◌≡◌, ℕ, zero, suc, ◌+◌, ◌*◌, ◌/◌, ◌%◌, ◌<◌, ◌≤◌, Bool, true, false, cond, ◌||◌, eqb, ltb, min, List, [], ◌∷◌, map, length, get_or, set, replicate, refl, sym, ap, subst, ◌∙◌, inl, inr, arith, All, get_or-set_same, get_or-set_other}
-use Rattle.std.proofs.lemmas.Bool.{cases_Bool, cases_eq, cond-true, cond-false, eqb-true, eq-eqb, ne_eqb, lt-ltb, le-ltb}
-use Rattle.std.proofs.lemmas.Nat.{div-mul-add, div-add-mod'}
+use Rattle.std.proofs.lemmas.Bool.{cases_Bool, cases_eq, cases_lt, cond-true, cond-false, eqb-true, eq-eqb, ne_eqb, lt-ltb, le-ltb}
+use Rattle.std.proofs.lemmas.Nat.{div-mul-add, div-add-mod', div_below}
 use Rattle.std.proofs.lemmas.List.Elements.{length_all_zip}
 use Rattle.dcop_base.specs.Table.{CostTable, product, AreWithin, has, values_at, cell_place}
 use Rattle.dcop_base.proofs.TableLaws.{cell_place-lt}
@@ -28,6 +28,24 @@ values_of_place (s ∷ ss) (x ∷ xs) within =
     ap (λ (n : ℕ). n ∷ values_of_cell ss ((x * product ss + cell_place ss xs) % product ss)) quotient
     ∙ ap (λ (n : ℕ). x ∷ values_of_cell ss n) remainder
     ∙ ap (λ (ys : List ℕ). x ∷ ys) (values_of_place ss xs within.1)
+
+-- and they are within the sizes, at that place
+pub place_of_values : (ss : List ℕ) (k : ℕ) → k < product ss → AreWithin ss (values_of_cell ss k) × (cell_place ss (values_of_cell ss k) ≡ k)
+place_of_values [] k lt = (tt, omega arith)
+place_of_values (s ∷ ss) k lt =
+    elim (cases_lt 0 (product ss)) [
+      | inl some ↦
+          let high : k / product ss < s = div_below k (product ss) s some lt in
+          let whole = div-add-mod' k (product ss) in
+          let low : k % product ss < product ss = omega arith in
+          let rest = place_of_values ss (k % product ss) low in
+          let place = rest.1 in
+          ((high, rest.0), omega (arith, place, whole))
+      | inr none ↦
+          let zero_is : product ss ≡ 0 = omega arith in
+          let times = ap (λ (n : ℕ). s * n) zero_is in
+          absurd (omega (arith, times))
+    ]
 
 -- the values of a scope by its variables, 0 for all others
 pub value_by-map : (scope : List ℕ) (f : ℕ → ℕ) (v : ℕ) → value_by scope (map f scope) v ≡ cond (has scope v) (f v) 0
