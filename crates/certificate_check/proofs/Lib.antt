@@ -8,3 +8,5 @@ pub mod DifferLaws
 pub mod FitLaws
 pub mod RootLaws
 pub mod HoldsLaws
+pub mod TreeFactLaws
+pub mod VerdictLaws

@@ -16,7 +16,7 @@ use Rattle.certificate_text.specs.declared.report.Ending.{Ending}
 use Rattle.certificate_text.specs.declared.report.Ending.TheVariants.{Solved, Spent}
 use Rattle.certificate_text.specs.declared.verdict.Differs.{Differs}
 use Rattle.certificate_text.specs.declared.verdict.Differs.TheVariants.{TreeRoots, TreeLoop, TreePair, Scope, Cell, Cost, Root, Lower, Upper, Error, Deliveries, Status}
-use Rattle.certificate_check.specs.Goal.{solved}
+use Rattle.certificate_check.specs.Goal.{problem_solved}
 use Rattle.certificate_check.specs.Told.{told, variables, root_cell}
 use Rattle.certificate_check.specs.Cells.{sum_below, values_at_cell, children_told}
 
@@ -77,13 +77,13 @@ bound_difference count r =
 abbrev pub number_difference : TextFile → ℕ → Report → Option Differs
 number_difference f root r =
     option_or (unless_same (λ left right. Cost left right) r.cost (cost f.problem r.values))
-    (option_or (unless_same (λ left right. Root left right) root (cost (solved f.goal f.problem) r.values))
+    (option_or (unless_same (λ left right. Root left right) root (cost (problem_solved f) r.values))
     (bound_difference (length f.problem.sizes) r))
 
 -- the first difference behind those of the tree: every scope by variable, every cell by variable, cell and value, and then the numbers
 abbrev pub difference_in : TextFile → List (List ℕ) → List Util → Report → Option Differs
 difference_in f paths utils r =
-    let p : Dcop = solved f.goal f.problem in
+    let p : Dcop = problem_solved f in
     option_or (first_of (scope_difference p paths utils) (variables p))
     (option_or (first_of (cells_difference p paths utils) (variables p))
     (number_difference f (root_cell p utils) r))

@@ -13,6 +13,10 @@ abbrev pub solved : Goal → Dcop → Dcop
 solved Min p = p
 solved Max p = turned p
 
+-- the problem that is solved for a file
+abbrev pub problem_solved : TextFile → Dcop
+problem_solved f = solved f.goal f.problem
+
 -- the best sum of any assignment: the least, or for goal max the greatest
 abbrev pub IsBestSum : Goal → Dcop → ℕ → Type 0
 IsBestSum Min p sum = IsOptimum p sum

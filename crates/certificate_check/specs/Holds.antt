@@ -8,12 +8,12 @@ use Rattle.certificate_text.specs.declared.certificate.Certificate.TheVariants.{
 use Rattle.certificate_text.specs.declared.certificate.Util.{Util}
 use Rattle.certificate_text.specs.declared.report.Report.{Report}
 use Rattle.certificate_text.specs.declared.report.Ending.TheVariants.{Solved}
-use Rattle.certificate_check.specs.Goal.{solved}
+use Rattle.certificate_check.specs.Goal.{problem_solved}
 use Rattle.certificate_check.specs.Told.{parents_told, scopes_told, cells_told}
 
 -- tables and values are a certificate of the problem solved, the cost is that of the values in the file's problem, and the other numbers are those of a run of DPOP
 pub record HoldsTables (f : TextFile) (r : Report) (utils : List Util) : Type 0 where
-  pub tables : IsTableCertificate (solved f.goal f.problem) (parents_told f.problem utils) (scopes_told f.problem utils) (cells_told f.problem utils) r.values
+  pub tables : IsTableCertificate (problem_solved f) (parents_told (problem_solved f) utils) (scopes_told (problem_solved f) utils) (cells_told (problem_solved f) utils) r.values
   pub cost : r.cost ≡ cost f.problem r.values
   pub lower : r.lower ≡ r.cost
   pub upper : r.upper ≡ r.cost

@@ -11,7 +11,7 @@ use Rattle.certificate_text.specs.declared.report.Report.{Report}
 use Rattle.certificate_text.specs.declared.verdict.Differs.{Differs}
 use Rattle.certificate_text.specs.declared.verdict.Verdict.{Verdict}
 use Rattle.certificate_text.specs.declared.verdict.Verdict.TheVariants.{Yes, No}
-use Rattle.certificate_check.specs.Goal.{solved, IsBestSum, IsAtMostWorse, gap_of}
+use Rattle.certificate_check.specs.Goal.{problem_solved, IsBestSum, IsAtMostWorse, gap_of}
 use Rattle.certificate_check.specs.Told.{parents_told}
 use Rattle.certificate_check.specs.Differences.{IsTreeDifference, difference_in}
 use Rattle.certificate_check.specs.Holds.{Holds}
@@ -24,13 +24,13 @@ pub record IsTreeOf (p : Dcop) (parents : List (Option ℕ)) (paths : List (List
 -- the parents are those of a pseudotree, and behind them the first difference is this one, or there is none
 abbrev pub IsDifferenceIn : TextFile → Report → List Util → Option Differs → Type 0
 IsDifferenceIn f r utils differs =
-    (paths : List (List ℕ)) × IsTreeOf (solved f.goal f.problem) (parents_told f.problem utils) paths
+    (paths : List (List ℕ)) × IsTreeOf (problem_solved f) (parents_told (problem_solved f) utils) paths
     × (difference_in f paths utils r ≡ differs)
 
 -- the first difference of a report: in the tree, or else behind it
 abbrev pub IsFirstDifference : TextFile → Report → List Util → Differs → Type 0
 IsFirstDifference f r utils differs =
-    IsTreeDifference (solved f.goal f.problem) (parents_told f.problem utils) differs
+    IsTreeDifference (problem_solved f) (parents_told (problem_solved f) utils) differs
     ⊎ IsDifferenceIn f r utils (Some differs)
 
 -- yes with the cost and the gap where there is no difference, no with the first one otherwise

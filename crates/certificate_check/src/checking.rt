@@ -70,12 +70,12 @@ fn check_in(
     utils: &[Util],
 ) -> Result<Verdict, NoMemory>
     requires solved { problem.now ≡ solved file.now.goal file.now.problem }
-    requires sizes { problem.now.sizes ≡ file.now.problem.sizes }
     requires values { IsAssignment file.now.problem report.now.values }
-    requires fits { FitsTables file.now.problem.sizes utils.now }
+    requires turned { IsAssignment problem.now report.now.values }
+    requires fits { FitsTables problem.now.sizes utils.now }
     ensures { IfOk result (IsTablesVerdict file.now report.now utils.now) }
 {
-    let parents = parents_of(alloc, &file.problem, utils)?;
+    let parents = parents_of(alloc, problem, utils)?;
     match check_tree(alloc, problem, parents.as_slice()) {
         Ok(tree) => {
             let differs = difference_in(
