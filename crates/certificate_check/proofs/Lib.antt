@@ -10,3 +10,4 @@ pub mod RootLaws
 pub mod HoldsLaws
 pub mod TreeFactLaws
 pub mod VerdictLaws
+pub mod ExactLaws

@@ -1,10 +1,8 @@
 -- Where a report with a certificate of tables holds.
-use Rattle.std.specs.Prelude.{◌≡◌, ℕ, ◌*◌, ◌-◌, List, length, IfSome}
+use Rattle.std.specs.Prelude.{◌≡◌, ℕ, ◌*◌, ◌-◌, List, length}
 use Rattle.dcop_base.specs.Problem.{Dcop, cost}
 use Rattle.dcop_optimum.specs.Certificate.{IsTableCertificate}
 use Rattle.problem_text.specs.File.{TextFile}
-use Rattle.certificate_text.specs.declared.certificate.Certificate.{Certificate}
-use Rattle.certificate_text.specs.declared.certificate.Certificate.TheVariants.{Tables}
 use Rattle.certificate_text.specs.declared.certificate.Util.{Util}
 use Rattle.certificate_text.specs.declared.report.Report.{Report}
 use Rattle.certificate_text.specs.declared.report.Ending.TheVariants.{Solved}
@@ -20,11 +18,3 @@ pub record HoldsTables (f : TextFile) (r : Report) (utils : List Util) : Type 0 
   pub error : r.error ≡ 0
   pub deliveries : r.deliveries ≡ 2 * (length f.problem.sizes - 1)
   pub status : r.status ≡ Solved
-
--- a certificate shows that its report holds
-abbrev pub HoldsBy : TextFile → Report → Certificate → Type 0
-HoldsBy f r (Tables utils) = HoldsTables f r utils
-
--- a report has a certificate, which shows that it holds
-abbrev pub Holds : TextFile → Report → Type 0
-Holds f r = IfSome r.certificate (HoldsBy f r)

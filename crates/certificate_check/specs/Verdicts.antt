@@ -14,7 +14,7 @@ use Rattle.certificate_text.specs.declared.verdict.Verdict.TheVariants.{Yes, No}
 use Rattle.certificate_check.specs.Goal.{problem_solved, IsBestSum, IsAtMostWorse, gap_of}
 use Rattle.certificate_check.specs.Told.{parents_told}
 use Rattle.certificate_check.specs.Differences.{IsTreeDifference, difference_in}
-use Rattle.certificate_check.specs.Holds.{Holds}
+use Rattle.certificate_check.specs.Holds.{HoldsTables}
 
 -- the parents are those of this pseudotree of the problem
 pub record IsTreeOf (p : Dcop) (parents : List (Option ℕ)) (paths : List (List ℕ)) : Type 0 where
@@ -46,10 +46,18 @@ IsVerdictOn f r verdict (Tables utils) = IsTablesVerdict f r utils verdict
 abbrev pub IsVerdict : TextFile → Report → Verdict → Type 0
 IsVerdict f r verdict = IfSome r.certificate (IsVerdictOn f r verdict)
 
--- yes exactly where the report holds
+-- yes exactly where these tables show that the report holds
+abbrev pub IsTablesExact : TextFile → Report → List Util → Verdict → Type 0
+IsTablesExact f r utils (Yes cost error) = HoldsTables f r utils
+IsTablesExact f r utils (No differs) = ¬ HoldsTables f r utils
+
+-- the same of a certificate
+abbrev pub IsExactOn : TextFile → Report → Verdict → Certificate → Type 0
+IsExactOn f r verdict (Tables utils) = IsTablesExact f r utils verdict
+
+-- the same of the report's certificate
 abbrev pub IsExact : TextFile → Report → Verdict → Type 0
-IsExact f r (Yes cost error) = Holds f r
-IsExact f r (No differs) = ¬ Holds f r
+IsExact f r verdict = IfSome r.certificate (IsExactOn f r verdict)
 
 -- after a yes the cost is at most the error worse than the best sum of the file
 abbrev pub ShowsBest : TextFile → Verdict → Type 0

@@ -4,11 +4,11 @@ ghost use Rattle.std.specs.Prelude.{◌≡◌, IfOk, IsSome, Some};
 ghost use Rattle.dcop_base.specs.Problem.{IsAssignment};
 ghost use Rattle.certificate_text.specs.Fits.{Fits, FitsTables};
 ghost use Rattle.certificate_check.specs.Goal.{solved, gap_of};
-ghost use Rattle.certificate_check.specs.Verdicts.{IsVerdict, IsTablesVerdict, IsExact, ShowsBest};
-ghost use Rattle.certificate_check.specs.Verdicts.{verdict_by};
+ghost use Rattle.certificate_check.specs.Verdicts.{IsVerdict, IsTablesVerdict, IsExact};
+ghost use Rattle.certificate_check.specs.Verdicts.{IsTablesExact, ShowsBest, verdict_by};
 
 use crate::behind::difference_in;
-use crate::told::parents_of;
+use crate::told::{parents_of, stay_within_limits};
 use crate::tree::tree_verdict;
 use certificate_text::{Certificate, Differs, Report, Util, Verdict};
 use dcop_base::{NoMemory, Problem};
@@ -53,6 +53,23 @@ fn check_tables(
 ) -> Result<Verdict, NoMemory>
     requires values { IsAssignment file.now.problem report.now.values }
     requires fits { FitsTables file.now.problem.sizes utils.now }
+    ensures verdict { IfOk result (IsTablesVerdict file.now report.now utils.now) }
+    ensures exact { IfOk result (IsTablesExact file.now report.now utils.now) }
+    ensures best { IfOk result (ShowsBest file.now) }
+{
+    stay_within_limits(&file.problem);
+    check_goal(alloc, file, report, utils)
+}
+
+/// What comes of these tables in the problem solved.
+fn check_goal(
+    alloc: Global,
+    file: &ProblemFile,
+    report: &Report,
+    utils: &[Util],
+) -> Result<Verdict, NoMemory>
+    requires values { IsAssignment file.now.problem report.now.values }
+    requires fits { FitsTables file.now.problem.sizes utils.now }
     ensures { IfOk result (IsTablesVerdict file.now report.now utils.now) }
 {
     match file.goal {
@@ -61,7 +78,7 @@ fn check_tables(
     }
 }
 
-/// Whether these tables show it, in this problem, which is the one solved.
+/// What comes of these tables in this problem, which is the one solved.
 fn check_in(
     alloc: Global,
     file: &ProblemFile,

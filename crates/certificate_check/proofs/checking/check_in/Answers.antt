@@ -5,7 +5,6 @@ use Rattle.certificate_check.specs.Goal.{problem_solved}
 use Rattle.certificate_check.specs.Told.{parents_told}
 use Rattle.certificate_check.specs.Verdicts.{IsTreeVerdict, IsTablesVerdict}
 use Rattle.certificate_check.proofs.VerdictLaws.{parents_fit, tree_first}
-use Rattle.certificate_check.proofs.TreeFactLaws.{refuted}
 use Rattle.certificate_check.proofs.checking.check_in.Goals as goal
 
 pub check_tree-requires : goal.check_tree-requires
