@@ -1,0 +1,13 @@
+pub mod ToldLaws
+pub mod FirstLaws
+pub mod PartLaws
+pub mod CellLaws
+pub mod OdometerLaws
+pub mod ValueLaws
+pub mod DifferLaws
+pub mod FitLaws
+pub mod RootLaws
+pub mod HoldsLaws
+pub mod TreeFactLaws
+pub mod VerdictLaws
+pub mod ExactLaws

@@ -1,0 +1,21 @@
+//! Checking of certificates: whether a report shows that no better values exist.
+//!
+//! [`check`] trusts neither who made a report nor how. It uses the file and the report alone: the
+//! answer is yes exactly where the certificate holds, and then the cost is at most the printed gap
+//! worse than the best sum of the file. Otherwise it tells the first difference, in the order of
+//! [`Differs`](certificate_text::Differs): the tree of the parents, the scopes, the cells, and then
+//! the numbers.
+#![tactic(auto)]
+
+mod behind;
+mod cells;
+mod checking;
+mod numbers;
+mod odometer;
+mod parts;
+mod scopes;
+mod sums;
+mod told;
+mod tree;
+
+pub use checking::check;

@@ -1,0 +1,87 @@
+//! The numbers of a report: its cost, bounds, error, deliveries and status.
+
+ghost use Rattle.std.specs.Prelude.{◌≡◌, ◌≤◌, length};
+ghost use Rattle.dcop_base.specs.Problem.{IsAssignment};
+ghost use Rattle.certificate_check.specs.Goal.{solved};
+ghost use Rattle.certificate_check.specs.Differences.{number_difference, bound_difference};
+ghost use Rattle.certificate_check.specs.Differences.{status_difference};
+
+use crate::told::variable_count;
+use certificate_text::{Differs, Ending, Report};
+use dcop_base::{MAX_VARIABLES, Problem, cost_of};
+use problem_text::ProblemFile;
+
+/// The first number that is not the right one, where `root` is the root's cell and `problem` the
+/// problem solved.
+pub(crate) fn number_difference(
+    file: &ProblemFile,
+    problem: &Problem,
+    root: u64,
+    report: &Report,
+) -> Option<Differs>
+    requires solved { problem.now ≡ solved file.now.goal file.now.problem }
+    requires values { IsAssignment file.now.problem report.now.values }
+    requires turned { IsAssignment problem.now report.now.values }
+    ensures { result ≡ number_difference file.now root report.now }
+{
+    let values = report.values.as_slice();
+    let cost = cost_of(&file.problem, values);
+    if report.cost != cost {
+        return Some(Differs::Cost {
+            left: report.cost,
+            right: cost,
+        });
+    }
+    let least = cost_of(problem, values);
+    if root != least {
+        return Some(Differs::Root {
+            left: root,
+            right: least,
+        });
+    }
+    bound_difference(variable_count(&file.problem), report)
+}
+
+/// The first of lower bound, upper bound, error, deliveries and status that is not the right one.
+fn bound_difference(variables: usize, report: &Report) -> Option<Differs>
+    requires { variables ≤ MAX_VARIABLES }
+    ensures { result ≡ bound_difference variables report.now }
+{
+    let cost = report.cost;
+    if report.lower != cost {
+        return Some(Differs::Lower {
+            left: report.lower,
+            right: cost,
+        });
+    }
+    if report.upper != cost {
+        return Some(Differs::Upper {
+            left: report.upper,
+            right: cost,
+        });
+    }
+    if report.error != 0 {
+        return Some(Differs::Error {
+            left: report.error,
+            right: 0,
+        });
+    }
+    let deliveries = 2 * (variables as u64).saturating_sub(1);
+    if report.deliveries != deliveries {
+        return Some(Differs::Deliveries {
+            left: report.deliveries,
+            right: deliveries,
+        });
+    }
+    status_difference(report.status)
+}
+
+/// The difference of a status that is not solved.
+fn status_difference(status: Ending) -> Option<Differs>
+    ensures { result ≡ status_difference status }
+{
+    match status {
+        Ending::Solved => None,
+        Ending::Spent => Some(Differs::Status { ending: status }),
+    }
+}

@@ -1,0 +1,56 @@
+//! What the tables of a certificate tell of each variable.
+
+ghost use Rattle.std.specs.Prelude.{◌≡◌, ◌==◌, ◌≤◌, length, IfOk};
+ghost use Rattle.std.specs.List.{count_by};
+ghost use Rattle.dcop_base.specs.Whole.{IsProblem};
+ghost use Rattle.certificate_text.specs.Fits.{FitsTables};
+ghost use Rattle.certificate_check.specs.Told.{told, parents_told};
+
+use certificate_text::Util;
+use dcop_base::{MAX_VARIABLES, NoMemory, Problem, VarId};
+use std::alloc::Global;
+
+/// How many variables a problem has.
+pub(crate) fn variable_count(problem: &Problem) -> usize
+    ensures count { result ≡ length problem.now.sizes }
+    ensures few { result ≤ MAX_VARIABLES }
+{
+    problem.sizes.as_slice().len()
+}
+
+/// Every problem is within its limits. One that is read is known to be, so this does no more.
+pub(crate) fn stay_within_limits(problem: &Problem)
+    ensures { IsProblem problem.now }
+{
+    let _ = problem.sizes.as_slice();
+}
+
+/// The table of a variable.
+pub(crate) fn util_of(utils: &[Util], var: VarId) -> &Util
+    requires { count_by (λ u. u.var == var) utils.now ≡ 1 }
+    ensures { result.now ≡ told utils.now var }
+{
+    for util in utils {
+        if util.var == var {
+            return util;
+        }
+    }
+    unreachable!()
+}
+
+/// The parent of each variable, in order.
+pub(crate) fn parents_of(
+    alloc: Global,
+    problem: &Problem,
+    utils: &[Util],
+) -> Result<Vec<Option<VarId>>, NoMemory>
+    requires { FitsTables problem.now.sizes utils.now }
+    ensures { IfOk result (λ parents. parents.items ≡ parents_told problem.now utils.now) }
+{
+    let count = variable_count(problem);
+    let mut parents = Vec::with_capacity(alloc, count)?;
+    for index in 0..count {
+        parents.push(util_of(utils, VarId(index as u32)).parent)?;
+    }
+    Ok(parents)
+}
