@@ -1,6 +1,5 @@
 -- Entries whose parts stand in four lists.
-use Rattle.std.proofs.Common.{◌≡◌, ℕ, zero, suc, ◌+◌, ◌*◌, ◌<◌, ◌≤◌, List, [], ◌∷◌, ◌++◌, Option, None, length, get_or, set, take, drop, replicate, refl, sym, ap, ◌∙◌, arith}
-use Rattle.std.specs.List.{All}
+use Rattle.std.proofs.Common.{◌≡◌, ℕ, zero, suc, ◌<◌, List, [], ◌∷◌, ◌++◌, Option, None, length, get_or, set, take, drop, replicate, refl, sym, ap, arith}
 use Rattle.adopt_context.specs.Context.{Context}
 use Rattle.adopt_context.specs.Bounds.{Entry, blank}
 use Rattle.adopt_bounds.specs.Rows.{entries_of}

@@ -7,7 +7,7 @@ use Rattle.std.proofs.lemmas.List.Elements.{All-replicate, All-get_or}
 use Rattle.std.proofs.lemmas.List.Sums.{sum_by-cons}
 use Rattle.std.proofs.lemmas.Nat.{mul-le}
 use Rattle.adopt_context.specs.Allot.{allot}
-use Rattle.adopt_context.specs.Bounds.{Entry, blank, row_at, entry_at, lower_sum}
+use Rattle.adopt_context.specs.Bounds.{Entry, blank, row_at, entry_at}
 use Rattle.adopt_context.specs.Context.{Context, or_zero}
 use Rattle.adopt_context.specs.Merge.{lesser, merged, put_entry}
 use Rattle.adopt_bounds.specs.Rows.{BoundsView, entries_of, rows_of}

@@ -1,5 +1,5 @@
 -- The totals of a row, and what the flat lists of bounds keep.
-use Rattle.std.specs.Prelude.{◌≡◌, ℕ, ◌+◌, ◌*◌, ◌≤◌, List, [], ◌∷◌, map, length, Option, Some, None, IfSome, ◌==◌, if◌then◌else◌}
+use Rattle.std.specs.Prelude.{◌≡◌, ℕ, ◌*◌, ◌≤◌, List, map, length, Option, Some, None, IfSome, ◌==◌, if◌then◌else◌}
 use Rattle.std.specs.List.{All, sum_by}
 use Rattle.dcop_base.specs.declared.number.TheConstants.{CAP}
 use Rattle.adopt_context.specs.Context.{Context, or_zero}

@@ -1,17 +1,10 @@
 -- Runs of DPOP agents on a tree, and the messages that were delivered in them.
-use Rattle.std.specs.Prelude.{◌≡◌, ℕ, Bool, true, false, List, map, length, Some}
-use Rattle.std.specs.List.{count_by, range_with_len}
+use Rattle.std.specs.Prelude.{◌≡◌, ℕ, Bool, true, false, List, Some}
+use Rattle.std.specs.List.{count_by}
 use Rattle.dcop_base.specs.Problem.{Dcop}
-use Rattle.dcop_base.specs.Knowledge.{private_of}
-use Rattle.pseudotree.specs.Tree.{path_of, children_of}
-use Rattle.pseudotree.specs.Pseudotree.{lower_of}
-use Rattle.pseudotree.specs.Place.{sizes_of}
-use Rattle.pseudotree.specs.declared.agent.Place.{Place}
 use Rattle.protocol_steps.specs.declared.message.Message.{Message}
 use Rattle.protocol_steps.specs.declared.message.Message.TheVariants.{Util, ValueAll}
 use Rattle.protocol_steps.specs.declared.event.Event.{Event}
-use Rattle.protocol_steps.specs.Dpop.{new_dpop}
-use Rattle.protocol_steps.specs.View.{View, DpopKind}
 use Rattle.protocol_steps.specs.TreeAgents.{dpop_agents}
 use Rattle.protocol_steps.specs.Network.{Network, start_state}
 use Rattle.protocol_steps.specs.Delivered.{delivered}

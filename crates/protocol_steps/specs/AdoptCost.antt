@@ -1,5 +1,5 @@
 -- How an ADOPT agent takes the bounds of a child.
-use Rattle.std.specs.Prelude.{ℕ, Bool, true, not, ◌&&◌, ◌||◌, Option, Some, None, is_some, ◌==◌, nat_lt, if◌then◌else◌}
+use Rattle.std.specs.Prelude.{ℕ, Bool, not, ◌&&◌, ◌||◌, Option, Some, None, is_some, ◌==◌, nat_lt, if◌then◌else◌}
 use Rattle.std.specs.List.{filter, fold}
 use Rattle.dcop_base.specs.Table.{has}
 use Rattle.adopt_context.specs.Context.{Context, value_in, put, part_of}

@@ -1,10 +1,10 @@
-use Rattle.std.proofs.Common.{◌≡◌, ◌∷◌, List, map, take, drop, length, ap, subst, refl, ◌∙◌, arith}
+use Rattle.std.proofs.Common.{◌≡◌, List, map, take, drop, length, ap, subst, refl, ◌∙◌, arith}
 use Rattle.adopt_context.specs.Bounds.{Entry}
 use Rattle.adopt_context.specs.Allot.{kept, reset}
 use Rattle.adopt_bounds.specs.Rows.{entries_of, rows_of}
 use Rattle.adopt_bounds.specs.Totals.{AreBounds, AreParts, totals_of}
 use Rattle.adopt_bounds.specs.declared.totals.Totals.{Totals}
-use Rattle.adopt_bounds.proofs.BoundsLaws.{first_parts, first_totals, rest_bounds, bounds_join, reset_join}
+use Rattle.adopt_bounds.proofs.BoundsLaws.{first_totals, rest_bounds, bounds_join, reset_join}
 use Rattle.adopt_bounds.proofs.forget.+forget_rows.Goals as goal
 
 pub forget_row-requires-clause-totals : goal.forget_row-requires-clause-totals

@@ -1,4 +1,4 @@
-use Rattle.std.proofs.Common.{◌≡◌, length}
+use Rattle.std.proofs.Common.{length}
 use Rattle.adopt_bounds.specs.Rows.{entries_of}
 use Rattle.adopt_bounds.proofs.ForgetLaws.{IsForgetting}
 use Rattle.adopt_bounds.proofs.forget.forget_row.Given as goal

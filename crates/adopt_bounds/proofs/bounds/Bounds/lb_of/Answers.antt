@@ -1,6 +1,6 @@
 use Rattle.std.proofs.Common.{◌≡◌, ◌<◌, ◌+◌, length, ap, ◌∙◌, arith}
 use Rattle.adopt_context.specs.Bounds.{cap, row_at}
-use Rattle.adopt_bounds.specs.Rows.{BoundsView, entries_of, rows_of}
+use Rattle.adopt_bounds.specs.Rows.{BoundsView}
 use Rattle.adopt_bounds.specs.Totals.{totals_of}
 use Rattle.adopt_bounds.specs.declared.totals.Totals.{Totals}
 use Rattle.adopt_bounds.proofs.PlaceLaws.{seen_totals, seen_small}

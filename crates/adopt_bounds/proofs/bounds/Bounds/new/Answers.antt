@@ -1,4 +1,4 @@
-use Rattle.std.proofs.Common.{◌≡◌, ℕ, ◌*◌, List, [], Option, None, replicate, length, ap, ◌∙◌, refl, sym, arith}
+use Rattle.std.proofs.Common.{◌≡◌, ℕ, ◌*◌, List, [], None, replicate, length, ap, ◌∙◌}
 use Rattle.std.proofs.lemmas.List.{length-replicate}
 use Rattle.adopt_context.specs.Bounds.{blank}
 use Rattle.adopt_context.specs.Context.{Context}

@@ -1,10 +1,10 @@
-use Rattle.std.proofs.Common.{◌≡◌, ℕ, ◌+◌, ◌*◌, ◌<◌, ◌≤◌, List, [], Option, None, true, false, max, length, get_or, set, ap, sym, subst, refl, ◌∙◌, arith}
+use Rattle.std.proofs.Common.{◌≡◌, ℕ, ◌+◌, ◌*◌, ◌<◌, List, [], Option, true, false, max, length, set, ap, sym, subst, ◌∙◌, arith}
 use Rattle.adopt_context.specs.Allot.{lower_to}
-use Rattle.adopt_context.specs.Bounds.{Entry, row_at, entry_at}
+use Rattle.adopt_context.specs.Bounds.{Entry, row_at}
 use Rattle.adopt_context.specs.Context.{Context, compatible, or_zero, union}
-use Rattle.adopt_context.specs.Merge.{is_at_most, lesser, may_merge, merged, put_entry}
-use Rattle.adopt_bounds.specs.Rows.{BoundsView, place_of, entry_of, entries_of, rows_of, with_merged}
-use Rattle.adopt_bounds.specs.Totals.{AreBounds, missing_of, totals_of}
+use Rattle.adopt_context.specs.Merge.{is_at_most, lesser, merged, put_entry}
+use Rattle.adopt_bounds.specs.Rows.{BoundsView, place_of, entry_of, entries_of, rows_of}
+use Rattle.adopt_bounds.specs.Totals.{missing_of, totals_of}
 use Rattle.adopt_bounds.specs.declared.interval.Interval.{Interval}
 use Rattle.adopt_bounds.proofs.PlaceLaws.{seen_entry, seen_totals, seen_small, seen_holds, seen_within, merged_within, seen_put, seen_put_rows, or_zero_within, missing_one, view_of}
 use Rattle.adopt_bounds.proofs.bounds.Bounds.store.Goals as goal

@@ -1,5 +1,5 @@
-use Rattle.std.proofs.Common.{◌≡◌, ℕ, ◌+◌, ◌*◌, ◌<◌, List, None, [], length, get_or, ap, sym, subst, ◌∙◌, arith}
-use Rattle.adopt_context.specs.Bounds.{Entry, entry_at}
+use Rattle.std.proofs.Common.{◌≡◌, ℕ, ◌+◌, ◌*◌, ◌<◌, List, None, [], length, ap, sym, subst, ◌∙◌}
+use Rattle.adopt_context.specs.Bounds.{Entry}
 use Rattle.adopt_bounds.specs.Rows.{BoundsView, place_of}
 use Rattle.adopt_bounds.proofs.PlaceLaws.{seen_entry}
 use Rattle.adopt_bounds.proofs.bounds.Bounds.threshold_of.Goals as goal

@@ -1,8 +1,7 @@
 use Rattle.std.proofs.Common.{◌≡◌, ◌<◌, Option, ℕ, length, ap, ◌∙◌, arith}
 use Rattle.adopt_context.specs.Bounds.{capped, plus_bound, row_at}
-use Rattle.adopt_bounds.specs.Rows.{BoundsView, entries_of, rows_of}
+use Rattle.adopt_bounds.specs.Rows.{BoundsView}
 use Rattle.adopt_bounds.specs.Totals.{totals_of}
-use Rattle.adopt_bounds.specs.declared.totals.Totals.{Totals}
 use Rattle.adopt_bounds.proofs.PlaceLaws.{seen_totals, seen_small}
 use Rattle.adopt_bounds.proofs.TotalLaws.{upper_of_is}
 use Rattle.adopt_bounds.proofs.bounds.Bounds.ub_of.Goals as goal
