@@ -57,9 +57,11 @@ root_is paths tree =
       | inl lt ↦ lt
       | inr le ↦ absurd (both_ways (is_none (get_or parents root None)) (fails_before_first is_none parents root None (let k = tree.some_root.1.0 in omega arith)) (ap is_none none))
     ] in
-    let lt : position_or_len is_none parents < length paths = omega arith in
-    (lt, path_none (path_of paths (position_or_len is_none parents))
-    (sym (parent_read paths (position_or_len is_none parents) None lt) ∙ is_none_true (get_or parents (position_or_len is_none parents) None) (passes_at_first is_none parents None before)))
+    let lt : position_or_len is_none parents < length paths = omega arith in (
+      lt,
+      path_none (path_of paths (position_or_len is_none parents))
+          (sym (parent_read paths (position_or_len is_none parents) None lt) ∙ is_none_true (get_or parents (position_or_len is_none parents) None) (passes_at_first is_none parents None before)),
+    )
 
 -- a scope that does not differ is the separator
 pub scope_same : (p : Dcop) (paths : List (List ℕ)) (utils : List Util) (i : ℕ) → scope_difference p paths utils i ≡ None → (told utils i).scope ≡ separator_of p paths i
