@@ -9,3 +9,4 @@ mod ChosenLaws
 mod TreeLaws
 mod SameLaws
 mod AnswerLaws
+mod ShowLaws

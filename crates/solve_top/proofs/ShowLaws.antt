@@ -6,52 +6,42 @@ use Rattle.solve_top.specs.declared.status.Status.{Status}
 use Rattle.solve_top.specs.declared.status.Status.TheVariants.{Solved, ReadFault, WriteFault, NoMemory}
 use Rattle.solve_top.specs.Input.{SourceState}
 use Rattle.solve_top.specs.Output.{SinkState}
-use Rattle.solve_top.specs.Solving.{Answered, Accepts, IsShown, IsCut, Shows, Solves}
-use Rattle.solve_top.specs.Statuses.{status_of}
+use Rattle.solve_top.specs.Solving.{Answered, Accepts, Shows, Solves}
 use Rattle.solve_top.proofs.AnswerLaws.{Rose-answered, ReadFault-answered, Solved-answered, told-status}
 
-module _ (words : List (List ℕ)) (source source' : SourceState) (answer : Answer) (answered : Answered words source source' answer)
-    (sink sink' : SinkState) (faults faults' : ℕ) (status : Status) (shows : Shows answer sink sink' faults faults' status) where
+pub solved-so : (words : List (List ℕ)) (source source' : SourceState) (answer : Answer) → Answered words source source' answer
+    → (sink sink' : SinkState) (faults faults' : ℕ) (status : Status) → Shows answer sink sink' faults faults' status → status ≢ NoMemory
+    → Solves words source source' sink sink' status
+solved-so words source source' answer answered sink sink' faults faults' status (inl none) some = absurd (some none.0)
+solved-so words source source' answer answered sink sink' faults faults' status (inr (inl shown)) some = record { answer = answer; answered = answered; shown = inl shown.0 }
+solved-so words source source' answer answered sink sink' faults faults' status (inr (inr cut)) some = record { answer = answer; answered = answered; shown = inr cut.0 }
 
-  pub solved-so : status ≢ NoMemory → Solves words source source' sink sink' status
-  solved-so some = elim shows [
-    inl none ↦ absurd (some none.0)
-  | inr rest ↦ elim rest [
-      inl shown ↦ record { answer = answer; answered = answered; shown = inl shown.0 }
-    | inr cut ↦ record { answer = answer; answered = answered; shown = inr cut.0 } ] ]
+pub read-so : (words : List (List ℕ)) (source source' : SourceState) (answer : Answer) → Answered words source source' answer
+    → (sink sink' : SinkState) (faults faults' : ℕ) (status : Status) → Shows answer sink sink' faults faults' status → status ≡ ReadFault
+    → Rose source.faults source'.faults
+read-so words source source' answer answered sink sink' faults faults' status (inl none) fault = let e = sym fault ∙ none.0 in cc
+read-so words source source' answer answered sink sink' faults faults' status (inr (inl shown)) fault = Rose-answered words source source' answer answered (sym shown.0.same ∙ fault)
+read-so words source source' answer answered sink sink' faults faults' status (inr (inr cut)) fault = let e = sym fault ∙ cut.0.fault in cc
 
-  pub read-so : status ≡ ReadFault → Rose source.faults source'.faults
-  read-so fault = elim shows [
-    inl none ↦ let e = sym fault ∙ none.0 in cc
-  | inr rest ↦ elim rest [
-      inl shown ↦ Rose-answered words source source' answer answered (sym shown.0.same ∙ fault)
-    | inr cut ↦ let e = sym fault ∙ cut.0.fault in cc ] ]
+pub write-so : (words : List (List ℕ)) (source source' : SourceState) (answer : Answer) → Answered words source source' answer
+    → (sink sink' : SinkState) (faults faults' : ℕ) (status : Status) → Shows answer sink sink' faults faults' status → status ≡ WriteFault
+    → Rose faults faults'
+write-so words source source' answer answered sink sink' faults faults' status (inl none) fault = let e = sym fault ∙ none.0 in cc
+write-so words source source' answer answered sink sink' faults faults' status (inr (inl shown)) fault = absurd ((told-status answer).0 (sym shown.0.same ∙ fault))
+write-so words source source' answer answered sink sink' faults faults' status (inr (inr cut)) fault = cut.1
 
-  pub write-so : status ≡ WriteFault → Rose faults faults'
-  write-so fault = elim shows [
-    inl none ↦ let e = sym fault ∙ none.0 in cc
-  | inr rest ↦ elim rest [
-      inl shown ↦ absurd ((told-status answer).0 (sym shown.0.same ∙ fault))
-    | inr cut ↦ cut.1 ] ]
+pub source-so : (words : List (List ℕ)) (source source' : SourceState) (answer : Answer) → Answered words source source' answer
+    → (sink sink' : SinkState) (faults faults' : ℕ) (status : Status) → Shows answer sink sink' faults faults' status → source.faults < source'.faults
+    → (status ≡ ReadFault) ⊎ (status ≡ WriteFault) ⊎ (status ≡ NoMemory)
+source-so words source source' answer answered sink sink' faults faults' status (inl none) more = inr (inr none.0)
+source-so words source source' answer answered sink sink' faults faults' status (inr (inl shown)) more = inl (shown.0.same ∙ ReadFault-answered words source source' answer answered more)
+source-so words source source' answer answered sink sink' faults faults' status (inr (inr cut)) more = inr (inl cut.0.fault)
 
-  pub source-so : source.faults < source'.faults → (status ≡ ReadFault) ⊎ (status ≡ WriteFault) ⊎ (status ≡ NoMemory)
-  source-so more = elim shows [
-    inl none ↦ inr (inr none.0)
-  | inr rest ↦ elim rest [
-      inl shown ↦ inl (shown.0.same ∙ ReadFault-answered words source source' answer answered more)
-    | inr cut ↦ inr (inl cut.0.fault) ] ]
-
-  pub sink-so : faults < faults' → status ≡ WriteFault
-  sink-so more = elim shows [
-    inl none ↦ absurd (omega (arith, more, none.1))
-  | inr rest ↦ elim rest [
-      inl shown ↦ absurd (omega (arith, more, shown.1))
-    | inr cut ↦ cut.0.fault ] ]
-
-  pub complete-so : (text : List ℕ) → source.left ≡ Some text → Accepts words text → ¬ Rose source.faults source'.faults → ¬ Rose faults faults'
-      → (status ≡ Solved) ⊎ (status ≡ NoMemory)
-  complete-so text told accepts steady quiet = elim shows [
-    inl none ↦ inr none.0
-  | inr rest ↦ elim rest [
-      inl shown ↦ inl (shown.0.same ∙ Solved-answered words text source source' answer answered told accepts steady)
-    | inr cut ↦ absurd (quiet cut.1) ] ]
+pub complete-so : (words : List (List ℕ)) (source source' : SourceState) (answer : Answer) → Answered words source source' answer
+    → (sink sink' : SinkState) (faults faults' : ℕ) (status : Status) → Shows answer sink sink' faults faults' status
+    → (text : List ℕ) → source.left ≡ Some text → Accepts words text → ¬ Rose source.faults source'.faults → ¬ Rose faults faults'
+    → (status ≡ Solved) ⊎ (status ≡ NoMemory)
+complete-so words source source' answer answered sink sink' faults faults' status (inl none) text told accepts steady quiet = inr none.0
+complete-so words source source' answer answered sink sink' faults faults' status (inr (inl shown)) text told accepts steady quiet =
+    inl (shown.0.same ∙ Solved-answered words text source source' answer answered told accepts steady)
+complete-so words source source' answer answered sink sink' faults faults' status (inr (inr cut)) text told accepts steady quiet = absurd (quiet cut.1)

@@ -2,6 +2,7 @@
 use Rattle.std.specs.Prelude.{◌≡◌, ℕ, ◌≤◌, ◌⊎◌, true, List, length, Some, None, Ok}
 use Rattle.dcop_base.specs.Table.{product}
 use Rattle.dcop_base.specs.Whole.{IsProblem}
+use Rattle.dcop_edge.specs.Faults.{Rose}
 use Rattle.dcop_edge.specs.Sink.{Adds}
 use Rattle.dcop_optimum.specs.declared.plain.TheConstants.{MAX_ASSIGNMENTS}
 use Rattle.problem_text.specs.Declarations.{Declared}
@@ -42,6 +43,13 @@ pub record IsShown (answer : Answer) (before after : SinkState) (status : Status
 pub record IsCut (answer : Answer) (before after : SinkState) (status : Status) : Type 0 where
   pub prefix : AddsPrefix before.held (answer_text answer) after.held
   pub fault : status ≡ statuses.WriteFault
+
+-- an answer was shown, to a sink that did not fail; or the sink failed, as its count of faults tells; or memory was wanted
+abbrev pub Shows : Answer → SinkState → SinkState → ℕ → ℕ → Status → Type 0
+Shows answer sink sink' faults faults' status =
+    ((status ≡ statuses.NoMemory) × (faults' ≡ faults))
+    ⊎ (IsShown answer sink sink' status × (faults' ≡ faults))
+    ⊎ (IsCut answer sink sink' status × Rose faults faults')
 
 -- a call on these words answered and showed its answer, or its sink failed
 pub record Solves (words : List (List ℕ)) (source source' : SourceState) (sink sink' : SinkState) (status : Status) : Type 0 where

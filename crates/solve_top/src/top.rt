@@ -4,13 +4,14 @@ ghost use Rattle.std.specs.Prelude.{◌≡◌, ◌≢◌, ◌<◌, ◌⊎◌, �
 ghost use Rattle.dcop_edge.specs.Faults.{Rose};
 ghost use Rattle.solve_top.specs.Input.{source_state};
 ghost use Rattle.solve_top.specs.Output.{sink_state};
-ghost use Rattle.solve_top.specs.Solving.{Solves, Accepts};
+ghost use Rattle.solve_report.specs.AnswerText.{HasText};
+ghost use Rattle.solve_top.specs.Solving.{Shows, Solves, Accepts};
 
 use crate::answering::answer_of;
 use crate::status::Status;
 use crate::writing::write_all;
 use dcop_edge::{Sink, Source};
-use solve_report::text_of;
+use solve_report::{Answer, text_of};
 use std::alloc::Global;
 
 /// Answers these words, which are the arguments of the program: reads the source as they ask,
@@ -54,11 +55,23 @@ pub fn solve<S: Source, K: Sink>(
     let Ok(answer) = answer_of(alloc, words, source) else {
         return Status::NoMemory;
     };
-    let Ok(text) = text_of(alloc, &answer) else {
+    show(alloc, &answer, sink)
+}
+
+/// Writes the whole text of an answer, and says how it went.
+fn show<K: Sink>(alloc: Global, answer: &Answer, sink: &mut K) -> Status
+    requires { HasText answer.now }
+    ensures shows { Shows answer.now
+        (sink_state (K.held sink.old) (K.finished sink.old))
+        (sink_state (K.held sink.new) (K.finished sink.new))
+        (K.faults sink.old) (K.faults sink.new) result }
+    ensures unwritten { result ≡ Status.NoMemory → sink.new ≡ sink.old }
+{
+    let Ok(text) = text_of(alloc, answer) else {
         return Status::NoMemory;
     };
     match write_all(sink, text.as_slice()) {
-        Ok(()) => Status::of(&answer),
+        Ok(()) => Status::of(answer),
         Err(_) => Status::WriteFault,
     }
 }
