@@ -1,5 +1,5 @@
 -- Reports that fit a file: what is written of them is read back.
-use Rattle.std.specs.Prelude.{◌≡◌, ℕ, ◌<◌, ◌≤◌, ◌==◌, List, map, length, Some, IfSome, slice_index, count_by, false}
+use Rattle.std.specs.Prelude.{◌≡◌, ℕ, ◌<◌, ◌≤◌, ◌==◌, List, map, length, IfSome, slice_index, count_by, false}
 use Rattle.std.specs.List.{All, AllZip}
 use Rattle.dcop_base.specs.Table.{product, has_repeat}
 use Rattle.dcop_base.specs.declared.number.TheConstants.{CAP}
