@@ -1,10 +1,9 @@
 -- Where a cell differs, by a sum that is capped.
-use Rattle.std.proofs.Common.{◌≡◌, ℕ, ◌<◌, ◌≤◌, true, ltb, min, List, length, get_or, set, None, Some, refl, sym, ap, ◌∙◌, arith}
+use Rattle.std.proofs.Common.{◌≡◌, ℕ, ◌<◌, ◌≤◌, ltb, min, List, length, get_or, set, None, Some, sym, ap, ◌∙◌, arith}
 use Rattle.std.specs.List.{range_with_len}
 use Rattle.std.proofs.lemmas.Bool.{cond-true, cond-false, lt-ltb, le-ltb}
-use Rattle.dcop_base.specs.Table.{CostTable, has}
+use Rattle.dcop_base.specs.Table.{CostTable}
 use Rattle.certificate_text.specs.declared.certificate.Util.{Util}
-use Rattle.certificate_text.specs.declared.verdict.Differs.{Differs}
 use Rattle.certificate_text.specs.declared.verdict.Differs.TheVariants.{Cell}
 use Rattle.certificate_check.specs.Cells.{values_at_cell, sum_below}
 use Rattle.certificate_check.specs.Odometer.{IsAtCell, FitTogether}

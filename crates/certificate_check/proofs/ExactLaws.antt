@@ -1,18 +1,16 @@
 -- A yes exactly where the report holds, and what it shows.
-use Rattle.std.proofs.Common.{◌≡◌, ℕ, suc, ◌+◌, ◌*◌, ◌-◌, ◌<◌, ◌≤◌, Bool, true, false, eqb, List, [], ◌∷◌, length, get_or, map, Option, None, Some, refl, sym, ap, subst, ◌∙◌, inl, inr, arith}
-use Rattle.std.specs.List.{filter, position_or_len, range_with_len}
+use Rattle.std.proofs.Common.{◌≡◌, ℕ, ◌*◌, ◌-◌, ◌<◌, eqb, List, [], ◌∷◌, length, get_or, map, Option, None, Some, refl, sym, ap, subst, ◌∙◌, inl, inr, arith}
+use Rattle.std.specs.List.{filter, position_or_len}
 use Rattle.std.specs.Option.{is_none}
 use Rattle.std.proofs.lemmas.Bool.{cases_Bool, cond-true, cond-false, eqb-true, eq-eqb}
-use Rattle.std.proofs.lemmas.Option.{none-some, same_Some}
+use Rattle.std.proofs.lemmas.Option.{none-some}
 use Rattle.std.proofs.lemmas.List.FromFn.{get_or-map-range_with_len}
 use Rattle.dcop_base.specs.Table.{product, AreWithin}
 use Rattle.dcop_base.specs.Problem.{Dcop, IsAssignment, cost}
 use Rattle.dcop_base.specs.Whole.{IsProblem}
-use Rattle.pseudotree.specs.Tree.{path_of, IsRoot}
-use Rattle.pseudotree.specs.Pseudotree.{IsPseudotree, touches}
-use Rattle.pseudotree.specs.Fault.{parents_of}
+use Rattle.pseudotree.specs.Tree.{IsRoot}
+use Rattle.pseudotree.specs.Pseudotree.{touches}
 use Rattle.dcop_optimum.specs.Optimum.{IsOptimum}
-use Rattle.dcop_optimum.specs.Goal.{turned, top_of, IsGreatestSum}
 use Rattle.dcop_optimum.proofs.OptimumLaws.{optimum_same}
 use Rattle.dcop_optimum.proofs.TurnLaws.{turned_problem, sum_to_top}
 use Rattle.dcop_optimum.proofs.CertificateLaws.{certificates_show_optima}
@@ -28,11 +26,11 @@ use Rattle.certificate_text.specs.declared.verdict.Differs.TheVariants.{Cost, Ro
 use Rattle.certificate_text.specs.declared.verdict.Verdict.{Verdict}
 use Rattle.certificate_text.specs.declared.verdict.Verdict.TheVariants.{Yes, No}
 use Rattle.certificate_text.specs.Fits.{FitsTables}
-use Rattle.certificate_check.specs.Goal.{solved, problem_solved, IsBestSum, IsAtMostWorse, gap_of}
+use Rattle.certificate_check.specs.Goal.{solved, problem_solved, IsBestSum, IsAtMostWorse}
 use Rattle.certificate_check.specs.Told.{told, variables, parents_told, scopes_told, cells_told, root_told, root_cell}
 use Rattle.certificate_check.specs.Differences.{first_of, scope_difference, cells_difference, unless_same, status_difference, bound_difference, number_difference, difference_in}
 use Rattle.certificate_check.specs.Holds.{HoldsTables}
-use Rattle.certificate_check.specs.Verdicts.{IsTreeOf, IsDifferenceIn, IsFirstDifference, IsTablesVerdict, IsTablesExact, ShowsBest}
+use Rattle.certificate_check.specs.Verdicts.{IsTreeOf, IsTablesVerdict, IsTablesExact, ShowsBest}
 use Rattle.certificate_check.proofs.FirstLaws.{none_at, or_parts, or_none}
 use Rattle.certificate_check.proofs.FitLaws.{told_fits}
 use Rattle.certificate_check.proofs.RootLaws.{root_is, scope_same}

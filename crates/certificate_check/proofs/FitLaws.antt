@@ -1,5 +1,5 @@
 -- What is told of the variables of a problem fits together.
-use Rattle.std.proofs.Common.{◌≡◌, ℕ, ◌<◌, ◌≤◌, List, length, get_or, map, false, Option, sym, ap, subst, ◌∙◌, arith, All}
+use Rattle.std.proofs.Common.{◌≡◌, ℕ, ◌<◌, List, length, get_or, sym, ap, subst, ◌∙◌, arith}
 use Rattle.std.proofs.lemmas.List.{get_or_default}
 use Rattle.std.proofs.lemmas.List.Elements.{All-map, All-filter}
 use Rattle.dcop_base.specs.Table.{CostTable, has}
@@ -9,7 +9,6 @@ use Rattle.pseudotree.specs.Tree.{children_of}
 use Rattle.pseudotree.specs.Pseudotree.{IsPseudotree}
 use Rattle.dcop_optimum.specs.Certificate.{is_on_path, tables_on_path}
 use Rattle.certificate_text.specs.declared.certificate.Util.{Util}
-use Rattle.certificate_text.specs.declared.verdict.Differs.{Differs}
 use Rattle.certificate_text.specs.Fits.{FitsTables, FitsUtil}
 use Rattle.certificate_check.specs.Told.{told}
 use Rattle.certificate_check.specs.Cells.{children_told}

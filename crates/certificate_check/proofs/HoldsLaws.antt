@@ -1,36 +1,33 @@
 -- Where there is no difference the report holds, and its values are the best.
-use Rattle.std.proofs.Common.{◌≡◌, ℕ, zero, suc, ◌+◌, ◌*◌, ◌-◌, ◌<◌, ◌≤◌, Bool, true, false, cond, eqb, ltb, List, [], ◌∷◌, length, get_or, map, Option, None, Some, refl, sym, ap, subst, ◌∙◌, inl, inr, arith, All}
+use Rattle.std.proofs.Common.{◌≡◌, ℕ, zero, suc, ◌+◌, ◌<◌, ◌≤◌, cond, ltb, List, [], ◌∷◌, length, get_or, map, None, Some, refl, sym, ap, subst, ◌∙◌, inl, inr, arith}
 use Rattle.std.specs.List.{range_with_len, sum_by}
-use Rattle.std.specs.Option.{option_or}
-use Rattle.std.proofs.lemmas.Bool.{cases_Bool, cond-true, cond-false, eqb-true, eq-eqb, ltb-false, le-ltb}
+use Rattle.std.proofs.lemmas.Bool.{cases_Bool, cond-true, cond-false, ltb-false, le-ltb}
 use Rattle.std.proofs.lemmas.Option.{none-some}
-use Rattle.std.proofs.lemmas.List.{length-map, get_or_default}
+use Rattle.std.proofs.lemmas.List.{get_or_default}
 use Rattle.std.proofs.lemmas.List.Sums.{sum_by-cons}
-use Rattle.std.proofs.lemmas.List.FromFn.{get_or-map-range_with_len, length-map-range_with_len, fill_by_all}
-use Rattle.dcop_base.specs.Table.{CostTable, product, AreWithin, cell_place}
-use Rattle.dcop_base.specs.Problem.{Dcop, IsAssignment, cost}
-use Rattle.dcop_base.specs.Whole.{IsProblem}
+use Rattle.std.proofs.lemmas.List.FromFn.{get_or-map-range_with_len}
+use Rattle.dcop_base.specs.Table.{CostTable, AreWithin, cell_place}
+use Rattle.dcop_base.specs.Problem.{Dcop}
 use Rattle.dcop_base.specs.Values.{cell_with, cost_with, with_own}
 use Rattle.dcop_base.proofs.TableLaws.{cell_place-lt}
-use Rattle.pseudotree.specs.Tree.{path_of, children_of, IsRoot}
-use Rattle.pseudotree.specs.Pseudotree.{IsPseudotree, separator_of, touches}
+use Rattle.pseudotree.specs.Tree.{children_of}
+use Rattle.pseudotree.specs.Pseudotree.{IsPseudotree, separator_of}
 use Rattle.pseudotree.specs.Place.{sizes_of}
-use Rattle.pseudotree.specs.Fault.{parents_of}
-use Rattle.dcop_optimum.specs.Certificate.{value_by, util_of, tables_on_path, AreLowerCells, AreLowerTables, IsTableCertificate}
+use Rattle.dcop_optimum.specs.Certificate.{value_by, util_of, tables_on_path, AreLowerCells}
 use Rattle.dcop_optimum.proofs.SumLaws.{sum_same}
 use Rattle.certificate_text.specs.declared.certificate.Util.{Util}
 use Rattle.certificate_text.specs.declared.verdict.Differs.{Differs}
 use Rattle.certificate_text.specs.declared.verdict.Differs.TheVariants.{Cell}
-use Rattle.certificate_text.specs.Fits.{FitsTables, FitsUtil}
-use Rattle.certificate_check.specs.Told.{told, variables, sized, parents_told, scopes_told, cells_told, root_told, root_cell}
+use Rattle.certificate_text.specs.Fits.{FitsTables}
+use Rattle.certificate_check.specs.Told.{told, variables, sized, scopes_told, cells_told}
 use Rattle.certificate_check.specs.Cells.{values_of_cell, values_at_cell, sum_below, children_told}
-use Rattle.certificate_check.specs.Differences.{first_of, scope_difference, value_difference, cell_difference, table_difference, cells_difference, unless_same}
-use Rattle.certificate_check.proofs.FirstLaws.{none_at, none_each, or_parts, or_none}
+use Rattle.certificate_check.specs.Differences.{first_of, scope_difference, value_difference, cell_difference, table_difference, cells_difference}
+use Rattle.certificate_check.proofs.FirstLaws.{none_at, none_each}
 use Rattle.certificate_check.proofs.PartLaws.{child_below}
 use Rattle.certificate_check.proofs.CellLaws.{sizes_at}
 use Rattle.certificate_check.proofs.ValueLaws.{values_of_place, place_of_values}
 use Rattle.certificate_check.proofs.FitLaws.{told_fits, told_var}
-use Rattle.certificate_check.proofs.RootLaws.{scope_same, same_scope, root_is}
+use Rattle.certificate_check.proofs.RootLaws.{scope_same, same_scope}
 
 -- lists by the same function of each variable are the same
 map_from : {X : Type 0} (f g : ℕ → X) (s n : ℕ) → ((i : ℕ) → i < n → f (s + i) ≡ g (s + i)) → map f (range_with_len s n) ≡ map g (range_with_len s n)

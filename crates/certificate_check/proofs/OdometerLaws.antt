@@ -1,7 +1,7 @@
 -- One step from the values of a cell to those of the next.
-use Rattle.std.proofs.Common.{◌≡◌, ℕ, zero, suc, ◌+◌, ◌*◌, ◌<◌, Bool, true, false, ◌||◌, eqb, ltb, List, [], ◌∷◌, length, get_or, map, set, refl, sym, ap, subst, ◌∙◌, arith, get_or-set_same, get_or-set_other}
-use Rattle.std.proofs.lemmas.Bool.{or_parts, or_left, or_right, eq-eqb, ltb-true, ltb-false, both_ways}
-use Rattle.dcop_base.specs.Table.{product, AreWithin, has, has_repeat, values_at, cell_place}
+use Rattle.std.proofs.Common.{◌≡◌, ℕ, zero, suc, ◌+◌, ◌*◌, ◌<◌, Bool, true, false, eqb, ltb, List, [], ◌∷◌, length, get_or, set, refl, sym, ap, subst, ◌∙◌, arith, get_or-set_same, get_or-set_other}
+use Rattle.std.proofs.lemmas.Bool.{or_left, or_right, eq-eqb, ltb-false, both_ways}
+use Rattle.dcop_base.specs.Table.{product, AreWithin, has, values_at, cell_place}
 use Rattle.certificate_check.specs.Odometer.{place_of, IsNextPlace}
 use Rattle.certificate_check.proofs.CellLaws.{sizes_at}
 

@@ -1,15 +1,14 @@
 -- The root of a tree by its parents, and what the separators are apart from.
-use Rattle.std.proofs.Common.{◌≡◌, ℕ, ◌+◌, ◌-◌, ◌<◌, ◌≤◌, Bool, true, false, not, ltb, List, [], ◌∷◌, length, get_or, map, Option, None, Some, refl, sym, ap, subst, ◌∙◌, inl, inr, arith, All}
-use Rattle.std.specs.List.{position, position_or_len, range_with_len, slice_get, filter}
+use Rattle.std.proofs.Common.{◌≡◌, ℕ, ◌-◌, ◌<◌, ◌≤◌, Bool, true, not, ltb, List, [], ◌∷◌, length, get_or, Option, None, Some, refl, sym, ap, subst, ◌∙◌, inl, inr, arith, All}
+use Rattle.std.specs.List.{position, position_or_len, slice_get}
 use Rattle.std.specs.Option.{is_none}
 use Rattle.std.specs.Str.{bytes_eq}
 use Rattle.std.proofs.lemmas.Bool.{cases_Bool, cases_lt, ltb-false, cond-true, cond-false, both_ways, false_from_ne_true}
 use Rattle.std.proofs.lemmas.Option.{none-some}
-use Rattle.std.proofs.lemmas.List.{get_or_default, length-map}
 use Rattle.std.proofs.lemmas.List.Sums.{fails_before_first, passes_at_first, prefix_len-le-length}
 use Rattle.std.proofs.lemmas.List.FromFn.{get_or-map-range_with_len, length-map-range_with_len}
 use Rattle.std.proofs.lemmas.Slice.Eq.{bytes_eq-Decides}
-use Rattle.dcop_base.specs.Table.{has, product}
+use Rattle.dcop_base.specs.Table.{has}
 use Rattle.dcop_base.specs.Problem.{Dcop}
 use Rattle.dcop_base.proofs.TableLaws.{product-pos}
 use Rattle.pseudotree.specs.Tree.{path_of, parent_of, IsRoot, IsTree}
@@ -20,7 +19,6 @@ use Rattle.pseudotree.proofs.NestLaws.{has_filter}
 use Rattle.dcop_optimum.proofs.LineLaws.{not_both, within_self}
 use Rattle.dcop_optimum.proofs.PlaceLaws.{zeros_within}
 use Rattle.certificate_text.specs.declared.certificate.Util.{Util}
-use Rattle.certificate_text.specs.declared.verdict.Differs.{Differs}
 use Rattle.certificate_text.specs.declared.verdict.Differs.TheVariants.{Scope}
 use Rattle.certificate_text.specs.Fits.{FitsUtil}
 use Rattle.certificate_check.specs.Told.{told, variables}

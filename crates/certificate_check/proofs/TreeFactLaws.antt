@@ -1,16 +1,14 @@
 -- What the parents of a pseudotree are not refused for, and that they tell one tree alone.
-use Rattle.std.proofs.Common.{◌≡◌, ℕ, zero, suc, ◌+◌, ◌-◌, ◌<◌, ◌≤◌, Bool, true, false, cond, List, [], ◌∷◌, ◌++◌, length, get_or, map, Option, None, Some, refl, sym, ap, subst, ◌∙◌, inl, inr, arith}
-use Rattle.std.specs.List.{count_by, range_with_len, slice_get}
+use Rattle.std.proofs.Common.{◌≡◌, ℕ, zero, suc, ◌<◌, ◌≤◌, true, cond, List, [], ◌∷◌, ◌++◌, length, get_or, Option, None, Some, refl, sym, ap, subst, ◌∙◌, inl, inr, arith}
+use Rattle.std.specs.List.{count_by}
 use Rattle.std.specs.Option.{is_none}
-use Rattle.std.proofs.lemmas.Bool.{cases_Bool, cases_lt, cond-true, cond-false, both_ways, true≢false}
-use Rattle.std.proofs.lemmas.Option.{none-some}
-use Rattle.std.proofs.lemmas.List.{length-append}
+use Rattle.std.proofs.lemmas.Bool.{cases_Bool, cond-true, cond-false, true≢false}
 use Rattle.std.proofs.lemmas.List.Sums.{sum_by-cons}
 use Rattle.std.proofs.lemmas.List.FromFn.{length-map-range_with_len, fill_by_all}
 use Rattle.dcop_base.specs.Problem.{Dcop}
-use Rattle.pseudotree.specs.Tree.{path_of, parent_of, IsRoot, IsTree}
+use Rattle.pseudotree.specs.Tree.{path_of, parent_of, IsTree}
 use Rattle.pseudotree.specs.Pseudotree.{IsPseudotree, are_in_line}
-use Rattle.pseudotree.specs.Fault.{parents_of, parent_at, root_count, IsClimb, ReachesRoot, IsFirstFault}
+use Rattle.pseudotree.specs.Fault.{parents_of, root_count, ReachesRoot}
 use Rattle.pseudotree.proofs.TreeLaws.{longer}
 use Rattle.certificate_text.specs.declared.verdict.Differs.{Differs}
 use Rattle.certificate_text.specs.declared.verdict.Differs.TheVariants.{TreeRoots, TreeLoop, TreePair}

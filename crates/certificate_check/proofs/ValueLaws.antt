@@ -1,6 +1,6 @@
 -- The values of a cell, as an assignment and as the definition gives them.
-use Rattle.std.proofs.Common.{◌≡◌, ℕ, zero, suc, ◌+◌, ◌*◌, ◌/◌, ◌%◌, ◌<◌, ◌≤◌, Bool, true, false, cond, ◌||◌, eqb, ltb, min, List, [], ◌∷◌, map, length, get_or, set, replicate, refl, sym, ap, subst, ◌∙◌, inl, inr, arith, All, get_or-set_same, get_or-set_other}
-use Rattle.std.proofs.lemmas.Bool.{cases_Bool, cases_eq, cases_lt, cond-true, cond-false, eqb-true, eq-eqb, ne_eqb, lt-ltb, le-ltb}
+use Rattle.std.proofs.Common.{◌≡◌, ℕ, zero, suc, ◌+◌, ◌*◌, ◌/◌, ◌%◌, ◌<◌, ◌≤◌, Bool, true, false, cond, ◌||◌, eqb, List, [], ◌∷◌, map, length, get_or, set, replicate, refl, sym, ap, ◌∙◌, inl, inr, arith, All, get_or-set_same, get_or-set_other}
+use Rattle.std.proofs.lemmas.Bool.{cases_Bool, cases_eq, cases_lt, cond-true, cond-false, eqb-true, eq-eqb, ne_eqb}
 use Rattle.std.proofs.lemmas.Nat.{div-mul-add, div-add-mod', div_below}
 use Rattle.std.proofs.lemmas.List.Elements.{length_all_zip}
 use Rattle.dcop_base.specs.Table.{CostTable, product, AreWithin, has, values_at, cell_place}

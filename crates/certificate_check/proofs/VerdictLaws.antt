@@ -1,5 +1,5 @@
 -- Verdicts from what was found.
-use Rattle.std.proofs.Common.{◌≡◌, ℕ, ◌+◌, ◌-◌, ◌<◌, ◌≤◌, List, [], ◌∷◌, length, get_or, Option, None, Some, refl, sym, ap, subst, ◌∙◌, inl, inr, arith}
+use Rattle.std.proofs.Common.{◌≡◌, ℕ, ◌<◌, List, [], ◌∷◌, length, get_or, Option, None, Some, sym, ap, subst, ◌∙◌, inl, inr, arith}
 use Rattle.std.specs.Prelude.{IfSome}
 use Rattle.std.specs.List.{AllZip}
 use Rattle.std.proofs.lemmas.Bool.{cases_lt}
@@ -8,7 +8,7 @@ use Rattle.std.proofs.lemmas.List.{get_or_past}
 use Rattle.std.proofs.lemmas.List.FromFn.{get_or-map-range_with_len, length-map-range_with_len}
 use Rattle.dcop_base.specs.Table.{AreWithin}
 use Rattle.dcop_base.specs.Problem.{Dcop}
-use Rattle.pseudotree.specs.Fault.{parent_at, AreParents}
+use Rattle.pseudotree.specs.Fault.{AreParents}
 use Rattle.problem_text.specs.File.{TextFile}
 use Rattle.certificate_text.specs.declared.certificate.Util.{Util}
 use Rattle.certificate_text.specs.declared.report.Report.{Report}
@@ -17,7 +17,7 @@ use Rattle.certificate_text.specs.declared.verdict.Verdict.TheVariants.{Yes, No}
 use Rattle.certificate_text.specs.Fits.{FitsTables}
 use Rattle.certificate_check.specs.Goal.{problem_solved}
 use Rattle.certificate_check.specs.Told.{told, parents_told}
-use Rattle.certificate_check.specs.Verdicts.{IsTreeVerdict, IsTablesVerdict, IsDifferenceIn}
+use Rattle.certificate_check.specs.Verdicts.{IsTreeVerdict, IsTablesVerdict}
 use Rattle.certificate_check.specs.Differences.{IsTreeDifference}
 use Rattle.certificate_check.proofs.FitLaws.{told_fits}
 

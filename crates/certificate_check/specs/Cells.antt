@@ -1,11 +1,10 @@
 -- The cells of a certificate's tables, and what each is compared with.
-use Rattle.std.specs.Prelude.{ℕ, ◌+◌, ◌/◌, ◌%◌, List, [], ◌∷◌, map, slice_index}
+use Rattle.std.specs.Prelude.{ℕ, ◌+◌, ◌/◌, ◌%◌, List, [], ◌∷◌, map}
 use Rattle.std.specs.List.{sum_by}
 use Rattle.dcop_base.specs.Table.{CostTable, product}
-use Rattle.dcop_base.specs.Problem.{Dcop}
 use Rattle.dcop_base.specs.Values.{cell_with, cost_with, with_own}
 use Rattle.pseudotree.specs.Tree.{children_of}
-use Rattle.dcop_optimum.specs.Certificate.{value_by, tables_on_path}
+use Rattle.dcop_optimum.specs.Certificate.{value_by}
 use Rattle.certificate_text.specs.declared.certificate.Util.{Util}
 use Rattle.certificate_check.specs.Told.{told, sized}
 

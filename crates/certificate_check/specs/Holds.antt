@@ -1,6 +1,6 @@
 -- Where a report with a certificate of tables holds.
-use Rattle.std.specs.Prelude.{◌≡◌, ℕ, ◌*◌, ◌-◌, List, length}
-use Rattle.dcop_base.specs.Problem.{Dcop, cost}
+use Rattle.std.specs.Prelude.{◌≡◌, ◌*◌, ◌-◌, List, length}
+use Rattle.dcop_base.specs.Problem.{cost}
 use Rattle.dcop_optimum.specs.Certificate.{IsTableCertificate}
 use Rattle.problem_text.specs.File.{TextFile}
 use Rattle.certificate_text.specs.declared.certificate.Util.{Util}

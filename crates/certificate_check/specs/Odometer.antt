@@ -1,5 +1,5 @@
 -- How the cells of a table are gone over: an assignment that has the values of one cell after the other.
-use Rattle.std.specs.Prelude.{◌≡◌, ◌≢◌, ℕ, ◌+◌, ◌<◌, ◌≤◌, Bool, true, false, List, map, length, slice_index}
+use Rattle.std.specs.Prelude.{◌≡◌, ◌≢◌, ℕ, ◌+◌, ◌<◌, Bool, true, false, List, map, length, slice_index}
 use Rattle.std.specs.List.{All}
 use Rattle.dcop_base.specs.Table.{CostTable, AreWithin, product, has, values_at, cell_place}
 use Rattle.dcop_base.specs.Problem.{Dcop}

@@ -1,5 +1,5 @@
 -- What comes of checking a report: that it holds, or the first difference.
-use Rattle.std.specs.Prelude.{◌≡◌, ℕ, ◌⊎◌, ◌↔◌, List, length, Option, Some, None, IfSome}
+use Rattle.std.specs.Prelude.{◌≡◌, ℕ, ◌⊎◌, List, Option, Some, None, IfSome}
 use Rattle.dcop_base.specs.Problem.{Dcop}
 use Rattle.pseudotree.specs.Pseudotree.{IsPseudotree}
 use Rattle.pseudotree.specs.Fault.{parents_of}

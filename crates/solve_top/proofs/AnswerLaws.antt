@@ -22,7 +22,8 @@ use Rattle.solve_top.specs.declared.task.Task.{Task}
 use Rattle.solve_top.specs.declared.task.Task.TheVariants as tasks
 use Rattle.solve_top.specs.Answering.{IsTaskAnswer, IsTextAnswer, IsInputAnswer, IsServedAnswer, IsCommandAnswer, IsAnswer}
 use Rattle.solve_top.specs.Dpop.{wide_in, wide_answer, IsDpopSolved, IsAnswerBy, IsDpopAnswer}
-use Rattle.solve_top.specs.Goal.{solved, TellsBest}
+use Rattle.certificate_check.specs.Goal.{solved}
+use Rattle.solve_top.specs.Goal.{TellsBest}
 use Rattle.solve_top.specs.Input.{Input, Unread, Broken, TooLong, Whole, SourceState, IsAllOf, HadMore, IsReadFrom}
 use Rattle.solve_top.specs.Same.{DpopAnswersAreOne}
 use Rattle.solve_top.specs.Served.{task_of}

@@ -20,7 +20,8 @@ use Rattle.certificate_text.specs.declared.report.Report.{Report}
 use Rattle.solve_report.specs.AnswerText.{HasText}
 use Rattle.solve_report.specs.declared.answer.Answer.{Answer}
 use Rattle.solve_report.specs.declared.answer.Answer.TheVariants as answers
-use Rattle.solve_top.specs.Goal.{solved, IsBestSum, IsBestReport, TellsBest}
+use Rattle.certificate_check.specs.Goal.{solved, IsBestSum}
+use Rattle.solve_top.specs.Goal.{IsBestReport, TellsBest}
 use Rattle.solve_top.specs.Dpop.{wide_in, wide_answer, IsFirstOfTree, IsDpopReport, IsAnswerBy, AnswersDpop, AreBestChosen, GivesChosen, GivesBestChosen}
 use Rattle.solve_top.specs.declared.dpop.Chosen.{Chosen}
 use Rattle.solve_top.specs.declared.dpop.DpopFault.{DpopFault}

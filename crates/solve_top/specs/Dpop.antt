@@ -16,7 +16,7 @@ use Rattle.certificate_text.specs.declared.report.Ending.TheVariants.{Solved}
 use Rattle.certificate_text.specs.declared.report.Method.TheVariants.{Dpop}
 use Rattle.solve_report.specs.declared.answer.Answer.{Answer}
 use Rattle.solve_report.specs.declared.answer.Answer.TheVariants as answers
-use Rattle.solve_top.specs.Goal.{solved, IsBestSum}
+use Rattle.certificate_check.specs.Goal.{solved, IsBestSum}
 use Rattle.solve_top.specs.declared.dpop.Chosen.{Chosen}
 use Rattle.solve_top.specs.declared.dpop.DpopFault.{DpopFault}
 use Rattle.solve_top.specs.declared.dpop.DpopFault.TheVariants as faults

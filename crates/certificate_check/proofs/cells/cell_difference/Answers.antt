@@ -1,11 +1,10 @@
-use Rattle.std.proofs.Common.{◌≡◌, ◌<◌, ℕ, List, length, get_or, set, false, sym, ap, subst, ◌∙◌, arith}
-use Rattle.dcop_base.specs.Table.{AreWithin, has}
+use Rattle.std.proofs.Common.{◌≡◌, ◌<◌, ℕ, List, get_or, set, false, sym, subst, ◌∙◌}
+use Rattle.dcop_base.specs.Table.{has}
 use Rattle.certificate_text.specs.declared.certificate.Util.{Util}
 use Rattle.certificate_check.specs.Odometer.{IsAtCell}
 use Rattle.certificate_check.specs.Differences.{value_difference}
 use Rattle.certificate_check.proofs.FirstLaws.{none_more}
 use Rattle.certificate_check.proofs.PartLaws.{targets}
-use Rattle.certificate_check.proofs.OdometerLaws.{within_set}
 use Rattle.certificate_check.proofs.ValueLaws.{at_set}
 use Rattle.certificate_check.proofs.DifferLaws.{Seen, first_at, same_at}
 use Rattle.certificate_check.proofs.cells.cell_difference.Goals as goal

@@ -1,6 +1,6 @@
-use Rattle.std.proofs.Common.{◌≡◌, ◌<◌, ℕ, List, length, get_or, false, sym, ap, subst, ◌∙◌, arith}
+use Rattle.std.proofs.Common.{◌≡◌, ◌<◌, ℕ, List, length, sym, ap, subst, ◌∙◌, arith}
 use Rattle.dcop_base.specs.Table.{has}
-use Rattle.certificate_check.specs.Odometer.{IsAtCell, IsNextPlace}
+use Rattle.certificate_check.specs.Odometer.{IsNextPlace}
 use Rattle.certificate_check.specs.Differences.{cell_difference}
 use Rattle.certificate_check.proofs.FirstLaws.{found_given, none_given, none_all}
 use Rattle.certificate_check.proofs.PartLaws.{targets}

@@ -1,12 +1,9 @@
-use Rattle.std.proofs.Common.{◌≡◌, ◌<◌, ◌≤◌, ℕ, List, length, replicate, get_or, sym, ap, subst, ◌∙◌, arith, All}
+use Rattle.std.proofs.Common.{◌≤◌, ℕ, List, replicate, sym, ap, subst, ◌∙◌}
 use Rattle.std.proofs.lemmas.List.Elements.{All-weaker}
 use Rattle.dcop_base.specs.Problem.{Dcop}
 use Rattle.dcop_base.specs.declared.problem.TheConstants.{MAX_SIZE}
 use Rattle.certificate_check.specs.Odometer.{IsAtCell}
 use Rattle.dcop_base.specs.Whole.{IsProblem}
-use Rattle.dcop_optimum.specs.Certificate.{tables_on_path}
-use Rattle.certificate_check.specs.Told.{told}
-use Rattle.certificate_check.specs.Cells.{children_told}
 use Rattle.certificate_check.proofs.PartLaws.{targets}
 use Rattle.certificate_check.proofs.ValueLaws.{at_zeros}
 use Rattle.certificate_check.proofs.FitLaws.{fit_told, fit_by, differ_by}

@@ -1,4 +1,4 @@
-use Rattle.std.proofs.Common.{◌≡◌, ◌<◌, ◌&&◌, ℕ, refl, length, get_or, sym, ap, subst, ◌∙◌, Vec, Global, Bor, List}
+use Rattle.std.proofs.Common.{◌≡◌, ◌<◌, ◌&&◌, ℕ, refl, length, get_or, sym, ap, ◌∙◌, Vec, Global, Bor, List}
 use Rattle.std.specs.List.{list_all}
 use Rattle.dcop_base.specs.Table.{CostTable, has}
 use Rattle.pseudotree.specs.Pseudotree.{is_within}

@@ -1,5 +1,5 @@
 use Rattle.std.proofs.Common.{sym, ◌∙◌}
-use Rattle.certificate_check.proofs.ToldLaws.{told_here, told_later, count_later, count_none}
+use Rattle.certificate_check.proofs.ToldLaws.{told_here, told_later, count_later}
 use Rattle.certificate_check.proofs.told.util_of.Goals as goal
 
 pub returns-then-eq : goal.returns-then-eq
