@@ -15,6 +15,8 @@ mod odometer;
 mod parts;
 mod scopes;
 mod sums;
+#[cfg(test)]
+mod tests;
 mod told;
 mod tree;
 
