@@ -25,7 +25,7 @@ use Rattle.solve_top.specs.Dpop.{wide_in, wide_answer, IsDpopSolved, IsAnswerBy,
 use Rattle.certificate_check.specs.Goal.{solved}
 use Rattle.solve_top.specs.Goal.{TellsBest}
 use Rattle.solve_top.specs.Input.{Input, Unread, Broken, TooLong, Whole, SourceState, IsAllOf, HadMore, IsReadFrom}
-use Rattle.solve_top.specs.Same.{DpopAnswersAreOne}
+use Rattle.solve_top.specs.Same.{AreReadAlike, DpopAnswersAreOne}
 use Rattle.solve_top.specs.Served.{task_of}
 use Rattle.solve_top.specs.Solving.{Answered, HasFitTree, IsWithinLimits, Accepts}
 use Rattle.solve_top.specs.Statuses.{status_of}
@@ -229,20 +229,33 @@ Solved-answered words text before after answer done told accepts steady =
     input-solved text words accepts before after done.input answer told steady done.read
     (task-IsAnswer words accepts.command accepts.task done.input answer accepts.asked accepts.served done.belongs)
 
--- of one input DPOP has one answer
+-- of inputs that are read alike DPOP has one answer
 module _ (optima : FirstOptimaOfTreesAreOne) (trees : DepthFirstTreesAreLinked) where
   one_of_text : (read : Result Declared Fault) (a b : Answer) → IsTextAnswer tasks.Dpop read a → IsTextAnswer tasks.Dpop read b → a ≡ b
   one_of_text (Ok d) a b of_a of_b = one_answer optima trees d a b of_a of_b
   one_of_text (Err fault) a b of_a of_b = of_a ∙ sym of_b
 
-  one_of_input : (input : Input) (a b : Answer) → IsInputAnswer tasks.Dpop input a → IsInputAnswer tasks.Dpop input b → a ≡ b
-  one_of_input Unread a b of_a of_b = absurd of_a
-  one_of_input Broken a b of_a of_b = of_a ∙ sym of_b
-  one_of_input TooLong a b of_a of_b = of_a ∙ sym of_b
-  one_of_input (Whole bytes) a b of_a of_b = one_of_text (whole_read bytes) a b of_a of_b
+  one_of_input : (input input' : Input) (a b : Answer) → AreReadAlike input input' → IsInputAnswer tasks.Dpop input a → IsInputAnswer tasks.Dpop input' b → a ≡ b
+  one_of_input Unread Unread a b alike of_a of_b = absurd of_a
+  one_of_input Unread Broken a b alike of_a of_b = absurd of_a
+  one_of_input Unread TooLong a b alike of_a of_b = absurd of_a
+  one_of_input Unread (Whole bytes') a b alike of_a of_b = absurd of_a
+  one_of_input Broken Unread a b alike of_a of_b = absurd of_b
+  one_of_input Broken Broken a b alike of_a of_b = of_a ∙ sym of_b
+  one_of_input Broken TooLong a b alike of_a of_b = cc alike
+  one_of_input Broken (Whole bytes') a b alike of_a of_b = cc alike
+  one_of_input TooLong Unread a b alike of_a of_b = absurd of_b
+  one_of_input TooLong Broken a b alike of_a of_b = cc alike
+  one_of_input TooLong TooLong a b alike of_a of_b = of_a ∙ sym of_b
+  one_of_input TooLong (Whole bytes') a b alike of_a of_b = cc alike
+  one_of_input (Whole bytes) Unread a b alike of_a of_b = absurd of_b
+  one_of_input (Whole bytes) Broken a b alike of_a of_b = cc alike
+  one_of_input (Whole bytes) TooLong a b alike of_a of_b = cc alike
+  one_of_input (Whole bytes) (Whole bytes') a b alike of_a of_b =
+      one_of_text (whole_read bytes) a b of_a (subst (λ (read : Result Declared Fault). IsTextAnswer tasks.Dpop read b) (sym alike) of_b)
 
   pub dpop_answers_one : DpopAnswersAreOne
-  dpop_answers_one words words' input a b asks asks' of_a of_b =
-      one_of_input input a b
+  dpop_answers_one words words' input input' a b asks asks' alike of_a of_b =
+      one_of_input input input' a b alike
       (task-IsAnswer words asks.command tasks.Dpop input a asks.asked asks.served of_a)
-      (task-IsAnswer words' asks'.command tasks.Dpop input b asks'.asked asks'.served of_b)
+      (task-IsAnswer words' asks'.command tasks.Dpop input' b asks'.asked asks'.served of_b)

@@ -5,8 +5,9 @@ use Rattle.solve_words.specs.Command.{answer_to}
 use Rattle.solve_report.specs.declared.answer.Answer.{Answer}
 use Rattle.solve_top.specs.declared.task.Task.TheVariants as tasks
 use Rattle.solve_top.specs.Answering.{IsAnswer}
-use Rattle.solve_top.specs.Input.{Input}
+use Rattle.solve_top.specs.Input.{Input, Whole}
 use Rattle.solve_top.specs.Served.{task_of}
+use Rattle.solve_top.specs.Whole.{whole_read}
 
 -- words that ask for DPOP
 pub record AskForDpop (words : List (List ℕ)) : Type 0 where
@@ -14,6 +15,12 @@ pub record AskForDpop (words : List (List ℕ)) : Type 0 where
   pub asked : answer_to words ≡ Ok command
   pub served : task_of command ≡ Some tasks.Dpop
 
--- whatever words ask for DPOP, one answer belongs to an input
+-- two inputs are read alike: two texts that declare the same or have the same first fault, or one and the same input
+abbrev pub AreReadAlike : Input → Input → Type 0
+AreReadAlike (Whole bytes) (Whole bytes') = whole_read bytes ≡ whole_read bytes'
+AreReadAlike input input' = input ≡ input'
+
+-- whatever words ask for DPOP, one answer belongs to inputs that are read alike
 abbrev pub DpopAnswersAreOne : Type 0
-DpopAnswersAreOne = (words words' : List (List ℕ)) (input : Input) (a b : Answer) → AskForDpop words → AskForDpop words' → IsAnswer words input a → IsAnswer words' input b → a ≡ b
+DpopAnswersAreOne = (words words' : List (List ℕ)) (input input' : Input) (a b : Answer) → AskForDpop words → AskForDpop words' → AreReadAlike input input'
+    → IsAnswer words input a → IsAnswer words' input' b → a ≡ b

@@ -98,8 +98,10 @@ fn four(alloc: Global, size: u32) -> Result<String, Fail> {
     }
     for pair in ["a b", "a c", "a d", "b c", "b d", "c d"] {
         write!(text, "table {pair} :")?;
-        for _ in 0..size * size {
-            text.push_str(" 0")?;
+        for _ in 0..size {
+            for _ in 0..size {
+                text.push_str(" 0")?;
+            }
         }
         text.push_str("\n")?;
     }
