@@ -6,8 +6,6 @@
 
 mod answer;
 mod refusal;
-#[cfg(test)]
-mod tests;
 mod tree;
 
 pub use answer::{Answer, text_of};
