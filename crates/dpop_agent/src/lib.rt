@@ -14,6 +14,8 @@ mod made;
 mod separator;
 mod stage;
 mod steps;
+#[cfg(test)]
+mod tests;
 mod util;
 mod values;
 
