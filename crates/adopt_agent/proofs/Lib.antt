@@ -7,4 +7,3 @@ pub mod StoreLaws
 pub mod AgentLaws
 pub mod MessageLaws
 pub mod CostLaws
-mod TestLaws

@@ -14,8 +14,6 @@ mod made;
 mod separator;
 mod stage;
 mod steps;
-#[cfg(test)]
-mod tests;
 mod util;
 mod values;
 
