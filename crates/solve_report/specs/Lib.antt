@@ -1,3 +1,4 @@
 pub mod Refusal
 pub mod Tree
+pub mod Verdict
 pub mod AnswerText

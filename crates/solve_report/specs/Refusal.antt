@@ -15,6 +15,10 @@ abbrev pub text_refusal : ℕ → ℕ → ℕ → List (List ℕ)
 text_refusal at kind problem =
     codes "refused" ∷ codes "text" ∷ codes "line" ∷ decimal at ∷ codes "kind" ∷ decimal kind ∷ problem_words kind problem
 
+-- `refused report line L kind K`
+abbrev pub report_refusal : ℕ → ℕ → List (List ℕ)
+report_refusal at kind = codes "refused" ∷ codes "report" ∷ codes "line" ∷ decimal at ∷ codes "kind" ∷ decimal kind ∷ []
+
 -- `refused many assignments N limit 65536`
 abbrev pub many_refusal : ℕ → List (List ℕ)
 many_refusal assignments = codes "refused" ∷ codes "many" ∷ codes "assignments" ∷ decimal assignments ∷ codes "limit" ∷ decimal 65536 ∷ []

@@ -4,10 +4,12 @@ ghost use Rattle.std.specs.Prelude.{◌≡◌, IfOk};
 ghost use Rattle.solve_report.specs.AnswerText.{HasText, answer_text};
 
 use crate::refusal::{
-    refuse_many, refuse_not_yet, refuse_read, refuse_text, refuse_total, refuse_wide, refuse_words,
+    refuse_many, refuse_not_yet, refuse_read, refuse_report, refuse_text, refuse_total,
+    refuse_wide, refuse_words,
 };
 use crate::tree::{NodeRowList, write_tree};
-use certificate_text::{Report, write_report};
+use crate::verdict::write_verdict;
+use certificate_text::{Report, Verdict, write_report};
 use dcop_base::{Bytes, NoMemory, VarId};
 use problem_text::{Names, ProblemFile, write_problem};
 use std::alloc::Global;
@@ -27,6 +29,11 @@ pub enum Answer {
         nodes: NodeRowList,
         names: Names,
     },
+    /// What came of checking a report, and the names of the problem's variables.
+    Verdict {
+        verdict: Verdict,
+        names: Names,
+    },
     /// A file, told by its canonical text; `upgrade` gives it version 2.
     Upgraded {
         file: ProblemFile,
@@ -42,6 +49,12 @@ pub enum Answer {
         line: u64,
         kind: u8,
         problem: u8,
+    },
+    /// The text of a report is refused, for the fault of this kind at this line. Lines count from 1,
+    /// at the beginning of the problem text before it.
+    ReportText {
+        line: u64,
+        kind: u8,
     },
     /// There are more assignments than plain search goes through: so many, or [`u64::MAX`] where
     /// there are more than that.
@@ -68,7 +81,7 @@ pub enum Answer {
 
 /// The exact text of an answer.
 ///
-/// It is the text of the report, of the tree or of the file, or the one line of a refusal.
+/// It is the text of the report, of the tree, of the verdict or of the file, or the one line of a refusal.
 pub fn text_of(alloc: Global, answer: &Answer) -> Result<Bytes, NoMemory>
     requires { HasText answer.now }
     ensures { IfOk result (λ text. text ≡ answer_text answer.now) }
@@ -80,6 +93,7 @@ pub fn text_of(alloc: Global, answer: &Answer) -> Result<Bytes, NoMemory>
             nodes,
             names,
         } => write_tree(alloc, *deliveries, nodes.as_slice(), names),
+        Answer::Verdict { verdict, names } => write_verdict(alloc, verdict, names),
         Answer::Upgraded { file } => write_problem(alloc, file),
         Answer::Words { at, kind } => refuse_words(alloc, *at, *kind),
         Answer::ProblemText {
@@ -87,6 +101,7 @@ pub fn text_of(alloc: Global, answer: &Answer) -> Result<Bytes, NoMemory>
             kind,
             problem,
         } => refuse_text(alloc, *line, *kind, *problem),
+        Answer::ReportText { line, kind } => refuse_report(alloc, *line, *kind),
         Answer::Many { assignments } => refuse_many(alloc, *assignments),
         Answer::WideAgent { var, cells, names } => refuse_wide(alloc, names.name(*var), *cells),
         Answer::WideTotal { cells } => refuse_total(alloc, *cells),

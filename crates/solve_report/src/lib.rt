@@ -7,6 +7,7 @@
 mod answer;
 mod refusal;
 mod tree;
+mod verdict;
 
 pub use answer::{Answer, text_of};
 pub use tree::{NodeRow, NodeRowList};

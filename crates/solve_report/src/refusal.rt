@@ -3,7 +3,7 @@
 ghost use Rattle.std.specs.Prelude.{◌≡◌, IfOk};
 ghost use Rattle.std.specs.String.{string_bytes};
 ghost use Rattle.problem_text.specs.Canonical.{line as line_of};
-ghost use Rattle.solve_report.specs.Refusal.{words_refusal, text_refusal, many_refusal, wide_refusal};
+ghost use Rattle.solve_report.specs.Refusal.{words_refusal, text_refusal, report_refusal, many_refusal, wide_refusal};
 ghost use Rattle.solve_report.specs.Refusal.{total_refusal, read_refusal, not_yet_refusal};
 
 use dcop_base::{Bytes, NoMemory};
@@ -50,6 +50,15 @@ pub(crate) fn refuse_text(
         write!(text, "refused text line {line} kind {kind}\n")?;
         Ok(bytes_of(text))
     }
+}
+
+/// `refused report line L kind K`
+pub(crate) fn refuse_report(alloc: Global, line: u64, kind: u8) -> Result<Bytes, NoMemory>
+    ensures { IfOk result (λ text. text ≡ line_of (report_refusal line kind)) }
+{
+    let mut text = String::new(alloc);
+    write!(text, "refused report line {line} kind {kind}\n")?;
+    Ok(bytes_of(text))
 }
 
 /// `refused many assignments N limit 65536`

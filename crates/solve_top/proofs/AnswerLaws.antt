@@ -21,15 +21,15 @@ use Rattle.solve_top.specs.declared.status.Status.TheVariants.{Solved, TooWide, 
 use Rattle.solve_top.specs.declared.task.Task.{Task}
 use Rattle.solve_top.specs.declared.task.Task.TheVariants as tasks
 use Rattle.solve_top.specs.Answering.{IsTaskAnswer, IsTextAnswer, IsInputAnswer, IsServedAnswer, IsCommandAnswer, IsAnswer}
-use Rattle.solve_top.specs.Dpop.{wide_in, wide_answer, IsDpopSolved, IsAnswerBy, IsDpopAnswer}
+use Rattle.solve_methods.specs.Dpop.{wide_in, wide_answer, IsDpopSolved, IsAnswerBy, IsDpopAnswer}
 use Rattle.certificate_check.specs.Goal.{solved}
-use Rattle.solve_top.specs.Goal.{TellsBest}
+use Rattle.solve_methods.specs.Goal.{TellsBest}
 use Rattle.solve_top.specs.Input.{Input, Unread, Broken, TooLong, Whole, SourceState, IsAllOf, HadMore, IsReadFrom}
 use Rattle.solve_top.specs.Same.{AreReadAlike, DpopAnswersAreOne}
 use Rattle.solve_top.specs.Served.{task_of}
 use Rattle.solve_top.specs.Solving.{Answered, HasFitTree, IsWithinLimits, Accepts}
 use Rattle.solve_top.specs.Statuses.{status_of}
-use Rattle.solve_top.specs.Tree.{IsTreeAnswer}
+use Rattle.solve_methods.specs.Tree.{IsTreeAnswer}
 use Rattle.solve_top.specs.Whole.{whole_read}
 use Rattle.solve_top.proofs.SameLaws.{one_file, report_in, one_answer}
 

@@ -1,12 +1,4 @@
 mod PassLaws
-mod TellLaws
-mod RowLaws
-mod ParentLaws
-mod PlayLaws
-mod FoundLaws
-mod AgreedLaws
-mod ChosenLaws
-mod TreeLaws
 mod SameLaws
 mod AnswerLaws
 mod ShowLaws

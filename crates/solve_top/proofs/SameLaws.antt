@@ -21,7 +21,7 @@ use Rattle.certificate_text.specs.declared.report.Ending.TheVariants.{Solved}
 use Rattle.certificate_text.specs.declared.report.Method.TheVariants.{Dpop}
 use Rattle.solve_report.specs.declared.answer.Answer.{Answer}
 use Rattle.solve_report.specs.declared.answer.Answer.TheVariants as answers
-use Rattle.solve_top.specs.Dpop.{dpop_deliveries, wide_in, IsDpopReport, IsDpopSolved, IsAnswerBy, AnswersDpop}
+use Rattle.solve_methods.specs.Dpop.{dpop_deliveries, wide_in, IsDpopReport, IsDpopSolved, IsAnswerBy, AnswersDpop}
 use Rattle.certificate_check.specs.Goal.{solved}
 
 -- the file that declares this, with these joints

@@ -13,12 +13,12 @@ use Rattle.solve_report.specs.declared.answer.Answer.{Answer}
 use Rattle.solve_report.specs.declared.answer.Answer.TheVariants as answers
 use Rattle.solve_top.specs.declared.task.Task.{Task}
 use Rattle.solve_top.specs.declared.task.Task.TheVariants as tasks
-use Rattle.solve_top.specs.Dpop.{AnswersDpop}
+use Rattle.solve_methods.specs.Dpop.{AnswersDpop}
 use Rattle.solve_top.specs.Input.{Input, Unread, Broken, TooLong, Whole}
 use Rattle.solve_top.specs.Kinds.{number_of_words, number_of_text, number_of_problem}
-use Rattle.solve_top.specs.Plain.{IsPlainReport, HasFirstOptimum, IsTooMany}
+use Rattle.solve_methods.specs.Plain.{IsPlainReport, HasFirstOptimum, IsTooMany}
 use Rattle.solve_top.specs.Served.{task_of}
-use Rattle.solve_top.specs.Tree.{AnswersTree}
+use Rattle.solve_methods.specs.Tree.{AnswersTree}
 use Rattle.solve_top.specs.Whole.{whole_read}
 
 -- the answer to a task on a text that declares this: plain has at most MAX_ASSIGNMENTS assignments to try

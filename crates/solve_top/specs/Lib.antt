@@ -4,12 +4,6 @@ pub mod Kinds
 pub mod Served
 pub mod Whole
 pub mod Texts
-pub mod Goal
-pub mod Plain
-pub mod Dpop
-pub mod Agreed
-pub mod Tree
-pub mod Found
 pub mod Answering
 pub mod Same
 pub mod Statuses

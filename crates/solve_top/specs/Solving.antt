@@ -18,9 +18,9 @@ use Rattle.solve_top.specs.declared.status.Status.TheVariants as statuses
 use Rattle.solve_top.specs.declared.task.Task.{Task}
 use Rattle.solve_top.specs.declared.task.Task.TheVariants as tasks
 use Rattle.solve_top.specs.Answering.{IsAnswer}
-use Rattle.solve_top.specs.Dpop.{wide_in}
+use Rattle.solve_methods.specs.Dpop.{wide_in}
 use Rattle.certificate_check.specs.Goal.{solved}
-use Rattle.solve_top.specs.Goal.{TellsBest}
+use Rattle.solve_methods.specs.Goal.{TellsBest}
 use Rattle.solve_top.specs.Input.{Input, SourceState, IsReadFrom}
 use Rattle.solve_top.specs.Output.{SinkState, AddsPrefix}
 use Rattle.solve_top.specs.Served.{task_of}

@@ -2,22 +2,20 @@
 
 ghost use Rattle.std.specs.Prelude.{◌≡◌, map, IfOk, string_bytes};
 ghost use Rattle.solve_report.specs.AnswerText.{HasText};
-ghost use Rattle.solve_top.specs.Goal.{TellsBest};
+ghost use Rattle.solve_methods.specs.Goal.{TellsBest};
 ghost use Rattle.solve_top.specs.Input.{source_state};
 ghost use Rattle.solve_top.specs.Answering.{IsTextAnswer};
 ghost use Rattle.solve_top.specs.Solving.{Answered};
 ghost use Rattle.solve_top.specs.Kinds.{number_of_words, number_of_text, number_of_problem};
 ghost use Rattle.solve_top.specs.Whole.{whole_read};
 
-use crate::dpop::dpop_answer;
-use crate::plain::plain_answer;
 use crate::reading::{ReadEnd, read_all};
 use crate::task::Task;
-use crate::tree::tree_answer;
 use crate::whole::read_whole;
 use dcop_base::NoMemory;
 use dcop_edge::Source;
 use problem_text::{ProblemFile, TextFault, TextKind};
+use solve_methods::{dpop_answer, plain_answer, tree_answer};
 use solve_report::Answer;
 use solve_words::{WordFault, WordKind, read_words};
 use std::alloc::Global;

@@ -7,18 +7,15 @@
 
 mod after_end;
 mod answering;
-mod dpop;
 #[cfg(test)]
 mod dpop_tests;
 mod law;
-mod plain;
 mod reading;
 mod status;
 mod task;
 #[cfg(test)]
 mod tests;
 mod top;
-mod tree;
 mod whole;
 mod writing;
 

@@ -1,0 +1,30 @@
+-- What comes of checking the text of a report on a file.
+use Rattle.std.specs.Prelude.{◌≡◌, ℕ, ◌+◌, List, Result, Ok, Err}
+use Rattle.dcop_base.specs.Whole.{IsProblem}
+use Rattle.problem_text.specs.File.{TextFile}
+use Rattle.problem_text.specs.Declarations.{Declared}
+use Rattle.problem_text.specs.Steps.{declared_by}
+use Rattle.certificate_text.specs.declared.report.Report.{Report}
+use Rattle.certificate_text.specs.ReportReading.{Fault, report_read}
+use Rattle.certificate_check.specs.Verdicts.{IsVerdict, IsExact, ShowsBest}
+use Rattle.solve_report.specs.declared.answer.Answer.{Answer}
+use Rattle.solve_report.specs.declared.answer.Answer.TheVariants as answers
+use Rattle.solve_check.specs.Kinds.{number_of_report}
+
+-- the answer to what the text of a report was read as, behind so many lines: the verdict on the report, yes exactly where its certificate holds, or its first fault, with lines that count on
+abbrev pub IsReadAnswer : TextFile → ℕ → Result Report Fault → Answer → Type 0
+IsReadAnswer file before (Ok report) (answers.Verdict verdict names) =
+    (names ≡ file.names) × IsVerdict file report verdict × IsExact file report verdict × ShowsBest file verdict
+IsReadAnswer file before (Ok report) answer = ⊥
+IsReadAnswer file before (Err fault) answer = answer ≡ answers.ReportText (before + fault.line) (number_of_report fault.kind)
+
+-- the answer to the text of a report on a file, behind so many lines
+abbrev pub IsCheckAnswer : TextFile → ℕ → List ℕ → Answer → Type 0
+IsCheckAnswer file before text answer = IsReadAnswer file before (report_read text file) answer
+
+-- the answer to the text of a report, behind the text of a problem that has so many lines and declares this
+pub record AnswersCheck (d : Declared) (before : ℕ) (text : List ℕ) (answer : Answer) : Type 0 where
+  pub file : TextFile
+  pub whole : IsProblem file.problem
+  pub declared : declared_by file ≡ d
+  pub is : IsCheckAnswer file before text answer

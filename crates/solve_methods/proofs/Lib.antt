@@ -1,0 +1,9 @@
+mod RightLaws
+mod TellLaws
+mod RowLaws
+mod ParentLaws
+mod PlayLaws
+mod FoundLaws
+mod AgreedLaws
+mod ChosenLaws
+mod TreeLaws

@@ -1,0 +1,38 @@
+-- A report whose cost is the best sum, and its bounds too, is right.
+use Rattle.std.proofs.Common.{◌≡◌, ℕ, ◌+◌, ◌≤◌, refl, sym, subst, ◌∙◌, arith}
+use Rattle.dcop_base.specs.Problem.{Dcop, IsAssignment, cost}
+use Rattle.dcop_optimum.specs.Goal.{IsGreatestSum}
+use Rattle.dcop_optimum.proofs.OptimumLaws.{optimum_same}
+use Rattle.problem_text.specs.File.{TextFile}
+use Rattle.problem_text.specs.declared.file.Goal.{Goal}
+use Rattle.problem_text.specs.declared.file.Goal.TheVariants.{Min, Max}
+use Rattle.certificate_text.specs.declared.report.Report.{Report}
+use Rattle.certificate_check.specs.Goal.{IsBestSum, IsAtMostWorse}
+use Rattle.solve_methods.specs.Goal.{IsRightReport}
+
+-- the greatest sum is one
+greatest_same : (p : Dcop) (a b : ℕ) → IsGreatestSum p a → IsGreatestSum p b → a ≡ b
+greatest_same p a b x y =
+    let below = x.highest y.attained.0 y.attained.1.0 in
+    let above = y.highest x.attained.0 x.attained.1.0 in
+    omega (arith, below, above, x.attained.1.1, y.attained.1.1)
+
+-- so is the best sum
+best_same : (goal : Goal) (p : Dcop) (a b : ℕ) → IsBestSum goal p a → IsBestSum goal p b → a ≡ b
+best_same Min p a b x y = optimum_same p a b x y
+best_same Max p a b x y = greatest_same p a b x y
+
+-- a sum is no worse than itself
+worse_self : (goal : Goal) (error a b : ℕ) → a ≡ b → IsAtMostWorse goal error a b
+worse_self Min error a b same = omega (arith, same)
+worse_self Max error a b same = omega (arith, same)
+
+pub right_of_best : (file : TextFile) (report : Report) → IsAssignment file.problem report.values → report.cost ≡ cost file.problem report.values
+    → IsBestSum file.goal file.problem report.cost → report.lower ≡ report.cost → report.upper ≡ report.cost → IsRightReport file report
+right_of_best file report assignment sum is lower upper = record {
+  assignment = assignment;
+  cost = sum;
+  enclosed = λ best other. let same = best_same file.goal file.problem report.cost best is other in (omega (arith, lower, same), omega (arith, upper, same));
+  near = λ solved best other. worse_self file.goal report.error report.cost best (best_same file.goal file.problem report.cost best is other);
+  exact = λ method. is;
+}

@@ -1,0 +1,100 @@
+-- What DPOP gives on a file.
+use Rattle.std.specs.Prelude.{◌≡◌, ℕ, Bool, ◌-◌, ◌*◌, List, length, Option, Some, None, Result, Ok, Err}
+use Rattle.dcop_base.specs.Problem.{Dcop, IsAssignment, cost}
+use Rattle.dcop_base.specs.Whole.{IsProblem}
+use Rattle.pseudotree.specs.DepthFirst.{dfs}
+use Rattle.pseudotree.specs.Width.{wide_of}
+use Rattle.pseudotree.specs.declared.width.Wide.{Wide}
+use Rattle.pseudotree.specs.declared.width.Wide.TheVariants.{Agent, Total}
+use Rattle.dcop_optimum.specs.TreeOptimum.{IsFirstOptimumOf}
+use Rattle.problem_text.specs.File.{TextFile}
+use Rattle.problem_text.specs.Declarations.{Declared}
+use Rattle.problem_text.specs.Steps.{declared_by}
+use Rattle.problem_text.specs.declared.file.Goal.{Goal}
+use Rattle.certificate_text.specs.declared.report.Report.{Report}
+use Rattle.certificate_text.specs.declared.report.Ending.TheVariants.{Solved}
+use Rattle.certificate_text.specs.declared.report.Method.TheVariants.{Dpop}
+use Rattle.solve_report.specs.declared.answer.Answer.{Answer}
+use Rattle.solve_report.specs.declared.answer.Answer.TheVariants as answers
+use Rattle.certificate_check.specs.Goal.{solved, IsBestSum}
+use Rattle.solve_methods.specs.Certified.{IsCertified}
+use Rattle.solve_methods.specs.declared.dpop.Chosen.{Chosen}
+use Rattle.solve_methods.specs.declared.dpop.DpopFault.{DpopFault}
+use Rattle.solve_methods.specs.declared.dpop.DpopFault.TheVariants as faults
+
+-- how many messages DPOP takes: one UTIL of each variable but the root, and one VALUE to it
+abbrev pub dpop_deliveries : Dcop → ℕ
+dpop_deliveries p = 2 * (length p.sizes - 1)
+
+-- what is too wide in the depth-first tree of a problem, if anything: its first agent whose joined table is, else all that is sent
+abbrev pub wide_in : Dcop → Option Wide
+wide_in p = wide_of p (dfs p)
+
+-- values of a problem are the first optimum of its depth-first tree
+abbrev pub IsFirstOfTree : Dcop → List ℕ → Type 0
+IsFirstOfTree p values = IsFirstOptimumOf p (dfs p) values
+
+-- a report of DPOP on a file, with a certificate where one is asked for: its values are the first optimum of the depth-first tree of the problem solved, and its cost is theirs in the file's problem, and is lower and upper too
+pub record IsDpopReport (file : TextFile) (certified : Bool) (report : Report) : Type 0 where
+  pub status : report.status ≡ Solved
+  pub method : report.method ≡ Dpop
+  pub goal : report.goal ≡ file.goal
+  pub error : report.error ≡ 0
+  pub deliveries : report.deliveries ≡ dpop_deliveries file.problem
+  pub first : IsFirstOfTree (solved file.goal file.problem) report.values
+  pub cost : report.cost ≡ cost file.problem report.values
+  pub lower : report.lower ≡ report.cost
+  pub upper : report.upper ≡ report.cost
+  pub certificate : IsCertified certified file report
+
+-- an answer with such a report, beside its file
+abbrev pub IsDpopSolved : TextFile → Bool → Answer → Type 0
+IsDpopSolved file certified (answers.Report report same) = (same ≡ file) × IsDpopReport file certified report
+IsDpopSolved file certified answer = ⊥
+
+-- the answer where this is too wide
+abbrev pub wide_answer : List (List ℕ) → Wide → Answer
+wide_answer names (Agent var cells) = answers.WideAgent var cells names
+wide_answer names (Total cells) = answers.WideTotal cells
+
+-- the answer of DPOP on a file in whose tree this is too wide, or nothing
+abbrev pub IsAnswerBy : TextFile → Bool → Option Wide → Answer → Type 0
+IsAnswerBy file certified (Some wide) answer = answer ≡ wide_answer file.names wide
+IsAnswerBy file certified None answer = IsDpopSolved file certified answer
+
+-- the answer of DPOP on a file: what is too wide in the depth-first tree of the problem solved, else a report
+abbrev pub IsDpopAnswer : TextFile → Bool → Answer → Type 0
+IsDpopAnswer file certified answer = IsAnswerBy file certified (wide_in (solved file.goal file.problem)) answer
+
+-- the answer of DPOP on a text that declares this: that on its file, whose joints follow from the tables
+pub record AnswersDpop (d : Declared) (certified : Bool) (answer : Answer) : Type 0 where
+  pub file : TextFile
+  pub whole : IsProblem file.problem
+  pub declared : declared_by file ≡ d
+  pub is : IsDpopAnswer file certified answer
+
+-- what the agents of a problem chose: the first optimum of its depth-first tree, with as many messages as DPOP takes
+pub record HaveAgreed (p : Dcop) (chosen : Chosen) : Type 0 where
+  pub first : IsFirstOfTree p chosen.values
+  pub deliveries : chosen.deliveries ≡ dpop_deliveries p
+
+-- what the agents of a problem chose, unless its tree is too wide or memory was wanted
+abbrev pub GivesChosen : Dcop → Result Chosen DpopFault → Type 0
+GivesChosen p (Ok chosen) = (wide_in p ≡ None) × HaveAgreed p chosen
+GivesChosen p (Err (faults.TooWide wide)) = wide_in p ≡ Some wide
+GivesChosen p (Err faults.NoMemory) = Unit {0}
+
+-- values that the agents of the problem solved chose, seen from the problem itself: an assignment whose cost is the best sum
+pub record AreBestChosen (goal : Goal) (p : Dcop) (chosen : Chosen) : Type 0 where
+  pub whole : IsProblem p
+  pub fits : wide_in (solved goal p) ≡ None
+  pub first : IsFirstOfTree (solved goal p) chosen.values
+  pub deliveries : chosen.deliveries ≡ dpop_deliveries p
+  pub assignment : IsAssignment p chosen.values
+  pub best : IsBestSum goal p (cost p chosen.values)
+
+-- the best values of a problem by its goal, unless the tree of the problem solved is too wide or memory was wanted
+abbrev pub GivesBestChosen : Goal → Dcop → Result Chosen DpopFault → Type 0
+GivesBestChosen goal p (Ok chosen) = AreBestChosen goal p chosen
+GivesBestChosen goal p (Err (faults.TooWide wide)) = IsProblem p × (wide_in (solved goal p) ≡ Some wide)
+GivesBestChosen goal p (Err faults.NoMemory) = Unit {0}

@@ -1,0 +1,58 @@
+-- The lines of a verdict, each as its words.
+use Rattle.std.specs.Prelude.{ℕ, ◌<◌, List, [], ◌∷◌, codes, ⊤}
+use Rattle.std.specs.List.{flat_map, slice_index_or}
+use Rattle.std.specs.Fmt.{decimal}
+use Rattle.problem_text.specs.Canonical.{line}
+use Rattle.certificate_text.specs.ReportText.{ending_word}
+use Rattle.certificate_text.specs.declared.verdict.Verdict.{Verdict}
+use Rattle.certificate_text.specs.declared.verdict.Verdict.TheVariants.{Yes, No}
+use Rattle.certificate_text.specs.declared.verdict.Differs.{Differs}
+use Rattle.certificate_text.specs.declared.verdict.Differs.TheVariants.{TreeRoots, TreeLoop, TreePair, Scope, Cell, Cost, Root, Lower, Upper, Error, Deliveries, Status}
+
+-- a difference all of whose variables are among so many
+abbrev pub IsNamedDifference : ℕ → Differs → Type 0
+IsNamedDifference count (TreeLoop var) = var < count
+IsNamedDifference count (TreePair one other) = (one < count) × (other < count)
+IsNamedDifference count (Scope var) = var < count
+IsNamedDifference count (Cell var cell value left right) = var < count
+IsNamedDifference count _ = ⊤
+
+-- a verdict all of whose variables are among so many
+abbrev pub IsNamedVerdict : ℕ → Verdict → Type 0
+IsNamedVerdict count (Yes cost error) = ⊤
+IsNamedVerdict count (No differs) = IsNamedDifference count differs
+
+-- the name of a variable
+abbrev pub name_in : List (List ℕ) → ℕ → List ℕ
+name_in names var = slice_index_or names var []
+
+-- `WORD left L right R`
+abbrev pub left_right : List ℕ → ℕ → ℕ → List (List ℕ)
+left_right word left right = word ∷ codes "left" ∷ decimal left ∷ codes "right" ∷ decimal right ∷ []
+
+-- what differs, behind the word `differs`
+abbrev pub difference_words : List (List ℕ) → Differs → List (List ℕ)
+difference_words names (TreeRoots count) = codes "tree" ∷ codes "roots" ∷ decimal count ∷ []
+difference_words names (TreeLoop var) = codes "tree" ∷ codes "loop" ∷ name_in names var ∷ []
+difference_words names (TreePair one other) = codes "tree" ∷ codes "pair" ∷ name_in names one ∷ name_in names other ∷ []
+difference_words names (Scope var) = codes "scope" ∷ name_in names var ∷ []
+difference_words names (Cell var cell value left right) = codes "cell" ∷ name_in names var ∷ decimal cell ∷ left_right (decimal value) left right
+difference_words names (Cost left right) = left_right (codes "cost") left right
+difference_words names (Root left right) = left_right (codes "root") left right
+difference_words names (Lower left right) = left_right (codes "lower") left right
+difference_words names (Upper left right) = left_right (codes "upper") left right
+difference_words names (Error left right) = left_right (codes "error") left right
+difference_words names (Deliveries left right) = left_right (codes "deliveries") left right
+difference_words names (Status ending) = codes "status" ∷ ending_word ending ∷ []
+
+-- the words of each line of a verdict: yes with the cost and the gap, or no with what differs
+abbrev pub verdict_lines : List (List ℕ) → Verdict → List (List (List ℕ))
+verdict_lines names (Yes cost error) =
+    (codes "status" ∷ codes "yes" ∷ []) ∷ (codes "cost" ∷ decimal cost ∷ []) ∷ (codes "error" ∷ decimal error ∷ [])
+    ∷ (codes "end" ∷ []) ∷ []
+verdict_lines names (No differs) =
+    (codes "status" ∷ codes "no" ∷ []) ∷ (codes "differs" ∷ difference_words names differs) ∷ (codes "end" ∷ []) ∷ []
+
+-- the text of a verdict
+abbrev pub verdict_text : List (List ℕ) → Verdict → List ℕ
+verdict_text names verdict = flat_map line (verdict_lines names verdict)
