@@ -6,3 +6,4 @@ pub mod Faults
 pub mod Reading
 pub mod Values
 pub mod Command
+pub mod Ranges

@@ -1,12 +1,13 @@
 //! Words read as a command.
 
-ghost use Rattle.std.specs.Prelude.{◌≡◌, ◌≤◌, List, map, not, find, position, All, bytes_eq, string_bytes};
+ghost use Rattle.std.specs.Prelude.{◌≡◌, ◌≤◌, IfOk, List, map, not, find, position, All, bytes_eq, string_bytes};
 ghost use Rattle.solve_words.specs.Options.{numbers_of};
 ghost use Rattle.solve_words.specs.Standing.{stands_with};
 ghost use Rattle.solve_words.specs.Settings.{option_of};
 ghost use Rattle.solve_words.specs.Reading.{IsWithin};
 ghost use Rattle.solve_words.specs.Values.{number_in, method_in, certificate_in, format_in, after_in};
 ghost use Rattle.solve_words.specs.Command.{command_of, Answers};
+ghost use Rattle.solve_words.specs.Ranges.{IsInRange};
 
 use crate::command::{Choice, Command, Format};
 use crate::fault::{WordFault, WordKind};
@@ -24,7 +25,8 @@ use std::alloc::Global;
 /// form and in its range. Behind all pairs it is tested, again from left to right, that each
 /// option that is given may be given with the method.
 pub fn read_words(alloc: Global, words: &[String]) -> Result<Command, WordFault>
-    ensures { Answers (map string_bytes words.now) result }
+    ensures answer { Answers (map string_bytes words.now) result }
+    ensures range { IfOk result IsInRange }
 {
     let Some((first, pairs)) = words.split_first() else {
         return Err(WordFault::Bad {
@@ -62,7 +64,8 @@ fn first_refused(settings: &[Setting], method: Choice) -> Option<usize>
 /// The command with these settings.
 fn command(verb: Verb, settings: &[Setting]) -> Command
     requires { All IsWithin settings.now }
-    ensures { result ≡ command_of verb settings.now }
+    ensures same { result ≡ command_of verb settings.now }
+    ensures range { IsInRange result }
 {
     match verb {
         Verb::Solve => Command::Solve {
@@ -96,7 +99,8 @@ fn command(verb: Verb, settings: &[Setting]) -> Command
 
 fn drill(settings: &[Setting]) -> Command
     requires { All IsWithin settings.now }
-    ensures { result ≡ command_of Verb.Drill settings.now }
+    ensures same { result ≡ command_of Verb.Drill settings.now }
+    ensures range { IsInRange result }
 {
     Command::Drill {
         method: method(settings),
