@@ -7,3 +7,8 @@ mod FoundLaws
 mod AgreedLaws
 mod ChosenLaws
 mod TreeLaws
+mod DeliveredLaws
+mod RootLaws
+mod AdoptPlayLaws
+mod AdoptBoundLaws
+mod AdoptRightLaws

@@ -1,0 +1,11 @@
+use Rattle.std.proofs.Common.{◌≡◌, ℕ, List, [], ◌∷◌, ◌++◌, map, length, sym, ap, ◌∙◌, arith}
+use Rattle.dcop_base.specs.Problem.{Dcop}
+use Rattle.delivery_core.specs.State.{views_of}
+use Rattle.solve_methods.proofs.AgreedLaws.{next-value}
+use Rattle.solve_methods.proofs.adopt.values_in.Goals as goal
+
+pub loop-index-preserved : goal.loop-index-preserved
+loop-index-preserved c =
+    c.in_ok-push.ensures.items
+    ∙ ap (λ (xs : List ℕ). xs ++ (c.value.result ∷ [])) c.loop-index.invariant
+    ∙ sym (next-value (views_of c.args.state.now.seats) c.loop-index.index c.value.result c.value.ensures)
