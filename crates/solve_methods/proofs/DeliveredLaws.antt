@@ -108,13 +108,16 @@ plays-few budget n net end (es ∷ pieces) size few plays =
     let one : Delivers ((64 * n) * n) net (after net es) = subst (λ (fs : List Event). Delivers ((64 * n) * n) net (after net fs)) plays.1 (round-few n net size) in
     plays-few budget n (after net es) end pieces (one.1 ∙ size) (omega (arith, below, one.0)) plays.2
 
+-- an agent's desk at its start
+abbrev first_desk : View → Desk
+first_desk v = record { sent = (start_of v).sends; takes = [] }
+
 -- in a start state nothing was taken
 none-taken : (made : List View) → deliveries (start_state made) ≡ 0
 none-taken [] = refl
 none-taken (v ∷ vs) =
-    let x : Desk = record { sent = (start_of v).sends; takes = [] } in
     let rest : deliveries (start_state vs) ≡ 0 = none-taken vs in
-    let all = sum_by-cons taken_by x (map (λ (w : View). record Desk { sent = (start_of w).sends; takes = [] }) vs) in
+    let all = sum_by-cons taken_by (first_desk v) (map first_desk vs) in
     omega (arith, rest, all)
 
 -- from a start state of at most 1,000 agents under a budget of at most 10,000,000 so few are delivered that they are counted
