@@ -5,7 +5,6 @@ use Rattle.std.specs.Option.{option_map}
 use Rattle.std.proofs.lemmas.List.{length-map}
 use Rattle.std.proofs.lemmas.Option.{slice_get-map, get_or_from_slice_get, same_Some}
 use Rattle.dcop_base.specs.Problem.{Dcop, IsAssignment, cost}
-use Rattle.dcop_base.specs.Whole.{IsProblem}
 use Rattle.pseudotree.specs.DepthFirst.{dfs}
 use Rattle.dcop_optimum.specs.Optimum.{IsOptimum}
 use Rattle.dcop_optimum.specs.Enclosing.{IsAtMost}
@@ -39,9 +38,9 @@ least-above least sum None below at_most = below
 least-above least sum (Some bound) below at_most = omega (arith, below, at_most)
 
 -- what the agents have reached that were played to a state, by the values and by the root's standing
-module _ (p : Dcop) (whole : IsProblem p) (error budget : ℕ) (state : CoreView) (is : HavePlayed p error budget state) where
-  root-in : 0 < length p.sizes
-  root-in = let some = whole.some in omega (arith, some)
+module _ (p : Dcop) (error budget : ℕ) (state : CoreView) (is : HavePlayed p error budget state) where
+  pub root-in : 0 < length p.sizes
+  root-in = let some = is.whole.some in omega (arith, some)
 
   pub values-assigned : (values : List ℕ) → values ≡ map value_of (views_of state.seats) → IsAssignment p values
   values-assigned values same =
@@ -53,7 +52,7 @@ module _ (p : Dcop) (whole : IsProblem p) (error budget : ℕ) (state : CoreView
   reached r top values at ending deliveries lower upper =
       let one = is.agents 0 root-in in
       let v : AdoptView = one.0 in
-      let root = root-zero p whole in
+      let root = root-zero p is.whole in
       let shown : Some (standing_of (AdoptKind v)) ≡ Some top = sym (ap (option_map standing_of) (ap (λ (views : List View). slice_get views 0) is.views ∙ one.1)) ∙ at in
       let same : standing_of (AdoptKind v) ≡ top = same_Some (standing_of (AdoptKind v)) top shown in
       let low : r.lower ≡ lower_bound v = lower ∙ sym (ap (λ (s : Standing). s.lower) same) in

@@ -53,6 +53,7 @@ module _ (p : Dcop) (whole : IsProblem p) (is_tree : IsPseudotree p (dfs p)) (li
       let delivered : deliveries is.end ≤ 74000000 = played-few budget (adopt_agents p (dfs p) error) is.end is.pieces few (omega (arith, agents, most)) is.plays in
       let counted = is.shows.delivered in
       record {
+        whole = whole;
         end = is.end;
         play = record {
           rounds = is.pieces;

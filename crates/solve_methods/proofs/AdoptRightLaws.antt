@@ -1,11 +1,11 @@
--- A report that tells what ADOPT agents of the problem solved have reached is the answer, and it is right.
+-- A report that tells what ADOPT agents of the problem solved have reached is right.
 use Rattle.std.proofs.Common.{◌≡◌, ℕ, ◌+◌, ◌-◌, ◌<◌, ◌≤◌, Bool, true, false, cond, List, length, Option, Some, None, min, refl, sym, ap, subst, ◌∙◌, arith}
 use Rattle.dcop_base.specs.Problem.{Dcop, IsAssignment, cost}
 use Rattle.dcop_base.specs.Whole.{IsProblem}
 use Rattle.dcop_optimum.specs.Optimum.{IsOptimum}
-use Rattle.dcop_optimum.specs.Goal.{turned, top_of}
+use Rattle.dcop_optimum.specs.Goal.{turned, top_of, IsGreatestSum}
 use Rattle.dcop_optimum.proofs.OptimumLaws.{some_optimum}
-use Rattle.dcop_optimum.proofs.TurnLaws.{turned_problem, sum_to_top, tells_greatest}
+use Rattle.dcop_optimum.proofs.TurnLaws.{turned_problem, sum_to_top}
 use Rattle.protocol_steps.specs.AdoptBounds.{lower_bound, upper_bound}
 use Rattle.protocol_steps.specs.Effect.{has_ended}
 use Rattle.problem_text.specs.File.{TextFile}
@@ -20,7 +20,6 @@ use Rattle.solve_methods.specs.Goal.{IsRightReport}
 use Rattle.solve_methods.specs.Adopt.{IsAdoptReport, ending_of, least_known, least_shown, lower_for, upper_for}
 use Rattle.solve_methods.specs.Reached.{HaveReached}
 use Rattle.solve_methods.specs.declared.adopt.Reached.{Reached}
-use Rattle.solve_methods.proofs.RightLaws.{greatest_same}
 
 -- an assignment of the problem solved is one of the problem
 pub solved-assigned : (goal : Goal) (p : Dcop) (values : List ℕ) → IsAssignment (solved goal p) values → IsAssignment p values
@@ -57,6 +56,15 @@ module _ (goal : Goal) (p : Dcop) (whole : IsProblem p) (error budget : ℕ) (r 
       let top = upper-top in
       omega (arith, both.0, both.1, top)
 
+-- the greatest sum and the optimum of the turned problem sum to the top sum
+greatest-is : (p : Dcop) → IsProblem p → (best : ℕ) → IsGreatestSum p best → (least : ℕ) → IsOptimum (turned p) least → best + least ≡ top_of p
+greatest-is p whole best is least optimal =
+    let high = is.highest optimal.attained.0 optimal.attained.1 in
+    let low = optimal.lowest is.attained.0 is.attained.1 in
+    let one = sum_to_top p whole optimal.attained.0 optimal.attained.1 in
+    let other = sum_to_top p whole is.attained.0 is.attained.1 in
+    omega (arith, high, low, one, other, is.attained.2, optimal.attained.2)
+
 -- bounds of the optimum of the problem solved show bounds of the best sum
 right-bounds : (goal : Goal) (p : Dcop) → IsProblem p → (lower upper : ℕ) → ((least : ℕ) → IsOptimum (solved goal p) least → (lower ≤ least) × (least ≤ upper))
     → (best : ℕ) → IsBestSum goal p best → (lower_for goal p lower upper ≤ best) × (best ≤ upper_for goal p lower upper)
@@ -64,7 +72,7 @@ right-bounds Min p whole lower upper enclosed best is = enclosed best is
 right-bounds Max p whole lower upper enclosed best is =
     let some = some_optimum (turned p) (turned_problem p whole) in
     let both = enclosed some.0 some.1 in
-    let same : best ≡ top_of p - some.0 = greatest_same p best (top_of p - some.0) is (tells_greatest p whole some.0 some.1) in
+    let same = greatest-is p whole best is some.0 some.1 in
     (omega (arith, both.1, same), omega (arith, both.0, same))
 
 -- values near the optimum of the problem solved are near the best sum
@@ -75,7 +83,7 @@ right-near Max p whole values within error near best is =
     let some = some_optimum (turned p) (turned_problem p whole) in
     let close = near some.0 some.1 in
     let sum = sum_to_top p whole values within in
-    let same : best ≡ top_of p - some.0 = greatest_same p best (top_of p - some.0) is (tells_greatest p whole some.0 some.1) in
+    let same = greatest-is p whole best is some.0 some.1 in
     omega (arith, close, sum, same)
 
 -- a solved ending comes where all have ended
@@ -88,7 +96,7 @@ pub record Tells (file : TextFile) (error : ℕ) (r : Reached) (report : Report)
   pub status : report.status ≡ r.ending
   pub method : report.method ≡ Adopt
   pub goal : report.goal ≡ file.goal
-  pub error : report.error ≡ error
+  pub error_told : report.error ≡ error
   pub deliveries : report.deliveries ≡ r.deliveries
   pub values : report.values ≡ r.values
   pub sum : report.cost ≡ cost file.problem report.values
@@ -96,52 +104,24 @@ pub record Tells (file : TextFile) (error : ℕ) (r : Reached) (report : Report)
   pub upper : report.upper ≡ upper_for file.goal file.problem r.lower r.upper
   pub certificate : report.certificate ≡ None
 
-module _ (file : TextFile) (error budget : ℕ) (r : Reached) (report : Report) (is : HaveReached (problem_solved file) error budget r) (tells : Tells file error r report) where
-  least-told : r.upper ≡ least_shown (problem_solved file) report.values is.top
-  least-told = is.upper ∙ ap (λ (values : List ℕ). least_shown (problem_solved file) values is.top) (sym tells.values)
+module _ (file : TextFile) (error budget : ℕ) (r : Reached) (report : Report) (is : HaveReached (problem_solved file) error budget r) (tells : Tells file error r report) (whole : IsProblem file.problem) where
+  told-sum : report.cost ≡ cost file.problem r.values
+  told-sum = tells.sum ∙ ap (cost file.problem) tells.values
 
-  -- it is the report of ADOPT
-  pub reached-reported : IsAdoptReport file error budget report
-  reached-reported = record {
-    end = is.end;
-    play = is.play;
-    top = is.top;
-    is_top = is.is_top;
-    status = tells.status ∙ is.ending;
-    spent = is.spent;
-    method = tells.method;
-    goal = tells.goal;
-    error_told = tells.error;
-    delivered = tells.deliveries ∙ is.delivered;
-    values = tells.values ∙ is.values;
-    sum = tells.sum;
-    lower =
-        tells.lower ∙ ap (λ (l : ℕ). lower_for file.goal file.problem l r.upper) is.lower
-        ∙ ap (λ (u : ℕ). lower_for file.goal file.problem (lower_bound is.top) u) least-told;
-    upper =
-        tells.upper ∙ ap (λ (l : ℕ). upper_for file.goal file.problem l r.upper) is.lower
-        ∙ ap (λ (u : ℕ). upper_for file.goal file.problem (lower_bound is.top) u) least-told;
-    certificate = tells.certificate;
+  -- it is right
+  pub reached-right : IsRightReport file report
+  reached-right = record {
+    assignment = subst (IsAssignment file.problem) (sym tells.values) (solved-assigned file.goal file.problem r.values is.assignment);
+    cost = tells.sum;
+    enclosed = λ best optimal.
+        let both = right-bounds file.goal file.problem whole r.lower r.upper is.enclosed best optimal in
+        let low = tells.lower in
+        let high = tells.upper in
+        (omega (arith, both.0, low), omega (arith, both.1, high));
+    near = λ ended best optimal.
+        let over : has_ended is.end ≡ true = solved-ended (has_ended is.end) (sym (tells.status ∙ is.ending) ∙ ended) in
+        let close = right-near file.goal file.problem whole r.values is.assignment error (is.near over) best optimal in
+        subst (λ (sum : ℕ). IsAtMostWorse file.goal report.error sum best) (sym told-sum)
+        (subst (λ (e : ℕ). IsAtMostWorse file.goal e (cost file.problem r.values) best) (sym tells.error_told) close);
+    exact = λ other. absurd (other tells.method);
   }
-
-  module _ (whole : IsProblem file.problem) where
-    told-sum : report.cost ≡ cost file.problem r.values
-    told-sum = tells.sum ∙ ap (cost file.problem) tells.values
-
-    -- and it is right
-    pub reached-right : IsRightReport file report
-    reached-right = record {
-      assignment = subst (IsAssignment file.problem) (sym tells.values) (solved-assigned file.goal file.problem r.values is.assignment);
-      cost = tells.sum;
-      enclosed = λ best optimal.
-          let both = right-bounds file.goal file.problem whole r.lower r.upper is.enclosed best optimal in
-          let low = tells.lower in
-          let high = tells.upper in
-          (omega (arith, both.0, low), omega (arith, both.1, high));
-      near = λ ended best optimal.
-          let over : has_ended is.end ≡ true = solved-ended (has_ended is.end) (sym (tells.status ∙ is.ending) ∙ ended) in
-          let close = right-near file.goal file.problem whole r.values is.assignment error (is.near over) best optimal in
-          subst (λ (sum : ℕ). IsAtMostWorse file.goal report.error sum best) (sym told-sum)
-          (subst (λ (e : ℕ). IsAtMostWorse file.goal e (cost file.problem r.values) best) (sym tells.error) close);
-      exact = λ other. absurd (other tells.method);
-    }

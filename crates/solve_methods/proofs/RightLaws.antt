@@ -12,7 +12,7 @@ use Rattle.solve_methods.specs.Goal.{IsRightReport}
 use Rattle.solve_methods.specs.Plain.{AreBestValues, IsPlainReport}
 
 -- the greatest sum is one
-pub greatest_same : (p : Dcop) (a b : ℕ) → IsGreatestSum p a → IsGreatestSum p b → a ≡ b
+greatest_same : (p : Dcop) (a b : ℕ) → IsGreatestSum p a → IsGreatestSum p b → a ≡ b
 greatest_same p a b x y =
     let below = x.highest y.attained.0 y.attained.1 in
     let above = y.highest x.attained.0 x.attained.1 in

@@ -1,6 +1,7 @@
 -- What the ADOPT agents of a problem have reached.
 use Rattle.std.specs.Prelude.{◌≡◌, ℕ, ◌+◌, ◌≤◌, true, false, length}
 use Rattle.dcop_base.specs.Problem.{Dcop, IsAssignment, cost}
+use Rattle.dcop_base.specs.Whole.{IsProblem}
 use Rattle.pseudotree.specs.DepthFirst.{dfs}
 use Rattle.dcop_optimum.specs.Optimum.{IsOptimum}
 use Rattle.protocol_steps.specs.Network.{Network}
@@ -15,6 +16,7 @@ use Rattle.solve_methods.specs.declared.adopt.Reached.{Reached}
 
 -- the ADOPT agents of a problem were played, for this error under this budget, to this state; where an agent has not ended, the budget is spent
 pub record HavePlayed (p : Dcop) (error budget : ℕ) (state : CoreView) : Type 0 where
+  pub whole : IsProblem p
   pub end : Network
   pub play : IsAdoptPlay p error budget end
   pub views : views_of state.seats ≡ end.views

@@ -166,6 +166,7 @@ fn play_bounds(
     tree: Tree,
     asked: Asked,
 ) -> Result<CoreState, NoMemory>
+    requires whole { IsProblem problem.now }
     requires tree { IsPseudotreeOf problem.now tree }
     requires paths { tree.paths ≡ dfs problem.now }
     requires error { asked.error ≤ CAP }
