@@ -177,7 +177,8 @@ fn play_bounds(
     adopt_bounds_enclose();
     adopt_pending();
     adopt_ends();
-    Ok(play(alloc, problem, Start::Adopt(tree, asked.error), asked.budget)?.state)
+    let start = Start::Adopt(tree, asked.error);
+    Ok(play(alloc, problem, start, asked.budget)?.state)
 }
 
 /// What the agents of a problem have reached in this state. Variable 0 is the root of its
