@@ -1,22 +1,20 @@
 -- What the root's bounds and the values show that ADOPT agents have reached.
-use Rattle.std.proofs.Common.{◌≡◌, ℕ, suc, zero, ◌+◌, ◌<◌, ◌≤◌, true, List, [], ◌∷◌, map, length, get_or, Option, Some, None, sym, ap, subst, ◌∙◌, arith}
+use Rattle.std.proofs.Common.{◌≡◌, ℕ, ◌+◌, ◌<◌, ◌≤◌, List, map, length, get_or, Option, Some, None, sym, ap, subst, ◌∙◌, arith}
 use Rattle.std.specs.List.{slice_get}
 use Rattle.std.specs.Option.{option_map}
 use Rattle.std.proofs.lemmas.List.{length-map}
 use Rattle.std.proofs.lemmas.Option.{slice_get-map, get_or_from_slice_get, same_Some}
 use Rattle.dcop_base.specs.Problem.{Dcop, IsAssignment, cost}
 use Rattle.pseudotree.specs.DepthFirst.{dfs}
-use Rattle.dcop_optimum.specs.Optimum.{IsOptimum}
 use Rattle.dcop_optimum.specs.Enclosing.{IsAtMost}
 use Rattle.dcop_optimum.proofs.JoinLaws.{within_from}
 use Rattle.protocol_steps.specs.declared.standing.Standing.{Standing}
 use Rattle.protocol_steps.specs.Adopt.{AdoptView}
 use Rattle.protocol_steps.specs.AdoptBounds.{lower_bound, upper_bound}
-use Rattle.protocol_steps.specs.Effect.{has_ended}
 use Rattle.protocol_steps.specs.View.{View, AdoptKind, value_of, standing_of}
 use Rattle.delivery_core.specs.State.{CoreView, views_of, view_at}
 use Rattle.adopt_runs.specs.Agents.{AreAgents}
-use Rattle.solve_methods.specs.Adopt.{IsRootAgent, least_known, least_shown, ending_of}
+use Rattle.solve_methods.specs.Adopt.{least_known, least_shown, ending_of}
 use Rattle.solve_methods.specs.Reached.{HavePlayed, HaveReached}
 use Rattle.solve_methods.specs.declared.adopt.Reached.{Reached}
 use Rattle.solve_methods.proofs.RootLaws.{root-zero}

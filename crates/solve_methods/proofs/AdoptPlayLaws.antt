@@ -1,6 +1,5 @@
 -- What ADOPT agents have come to that were played under a budget.
-use Rattle.std.proofs.Common.{◌≡◌, ℕ, ◌<◌, ◌≤◌, Bool, true, false, eqb, leb, ◌||◌, List, length, sym, ap, subst, ◌∙◌, inl, inr, arith}
-use Rattle.std.specs.List.{flat_map, range_with_len}
+use Rattle.std.proofs.Common.{◌≡◌, ℕ, ◌≤◌, true, false, eqb, leb, ◌||◌, List, length, sym, ap, subst, ◌∙◌, inl, inr, arith}
 use Rattle.std.proofs.lemmas.Bool.{or_cases, eqb-true, leb-true, true≢false}
 use Rattle.std.proofs.lemmas.List.{length-map}
 use Rattle.std.proofs.lemmas.List.FromFn.{length-map-range_with_len}
@@ -17,13 +16,12 @@ use Rattle.protocol_steps.specs.Network.{Network, start_state}
 use Rattle.protocol_steps.specs.Effect.{SomePending, has_ended, deliveries}
 use Rattle.delivery_core.specs.State.{CoreView}
 use Rattle.delivery_core.specs.Agents.{network_of}
-use Rattle.delivery_core.specs.Turns.{round, stops, PlaysTo, IsPlayed}
+use Rattle.delivery_core.specs.Turns.{round, stops, IsPlayed}
 use Rattle.delivery_core.specs.declared.start.Start.TheVariants.{Adopt}
 use Rattle.adopt_runs.specs.AdoptRun.{IsAdoptRun}
 use Rattle.adopt_runs.specs.PendingLaw.{AdoptPending}
 use Rattle.adopt_runs.specs.RunLaws.{HoldsOfAdopt, AdoptBoundsEnclose}
 use Rattle.adopt_ends.specs.EndLaw.{AdoptEnds}
-use Rattle.solve_methods.specs.Adopt.{IsAdoptPlay}
 use Rattle.solve_methods.specs.Reached.{HavePlayed}
 use Rattle.solve_methods.proofs.PlayLaws.{round-none, played-stops}
 use Rattle.solve_methods.proofs.DeliveredLaws.{played-few}

@@ -1,23 +1,22 @@
 -- A report that tells what ADOPT agents of the problem solved have reached is right.
-use Rattle.std.proofs.Common.{◌≡◌, ℕ, ◌+◌, ◌-◌, ◌<◌, ◌≤◌, Bool, true, false, cond, List, length, Option, Some, None, min, refl, sym, ap, subst, ◌∙◌, arith}
+use Rattle.std.proofs.Common.{◌≡◌, ℕ, ◌+◌, ◌≤◌, Bool, true, false, cond, List, Option, Some, None, refl, sym, ap, subst, ◌∙◌, arith}
 use Rattle.dcop_base.specs.Problem.{Dcop, IsAssignment, cost}
 use Rattle.dcop_base.specs.Whole.{IsProblem}
 use Rattle.dcop_optimum.specs.Optimum.{IsOptimum}
 use Rattle.dcop_optimum.specs.Goal.{turned, top_of, IsGreatestSum}
 use Rattle.dcop_optimum.proofs.OptimumLaws.{some_optimum}
 use Rattle.dcop_optimum.proofs.TurnLaws.{turned_problem, sum_to_top}
-use Rattle.protocol_steps.specs.AdoptBounds.{lower_bound, upper_bound}
+use Rattle.protocol_steps.specs.AdoptBounds.{upper_bound}
 use Rattle.protocol_steps.specs.Effect.{has_ended}
 use Rattle.problem_text.specs.File.{TextFile}
 use Rattle.problem_text.specs.declared.file.Goal.{Goal}
 use Rattle.problem_text.specs.declared.file.Goal.TheVariants.{Min, Max}
 use Rattle.certificate_text.specs.declared.report.Report.{Report}
-use Rattle.certificate_text.specs.declared.report.Ending.{Ending}
 use Rattle.certificate_text.specs.declared.report.Ending.TheVariants.{Solved, Spent}
 use Rattle.certificate_text.specs.declared.report.Method.TheVariants.{Adopt}
 use Rattle.certificate_check.specs.Goal.{solved, problem_solved, IsBestSum, IsAtMostWorse}
 use Rattle.solve_methods.specs.Goal.{IsRightReport}
-use Rattle.solve_methods.specs.Adopt.{IsAdoptReport, ending_of, least_known, least_shown, lower_for, upper_for}
+use Rattle.solve_methods.specs.Adopt.{least_known, lower_for, upper_for}
 use Rattle.solve_methods.specs.Reached.{HaveReached}
 use Rattle.solve_methods.specs.declared.adopt.Reached.{Reached}
 

@@ -1,6 +1,6 @@
 -- How many messages are delivered where playing stops: those of one round more than the budget at most.
-use Rattle.std.proofs.Common.{◌≡◌, ℕ, ◌+◌, ◌*◌, ◌<◌, ◌≤◌, min, Bool, true, false, cond, eqb, leb, ◌||◌, List, [], ◌∷◌, ◌++◌, map, length, Option, Some, None, refl, sym, ap, subst, ◌∙◌, arith}
-use Rattle.std.specs.List.{flat_map, fold, sum_by, range_with_len, slice_get, slice_set}
+use Rattle.std.proofs.Common.{◌≡◌, ℕ, ◌+◌, ◌*◌, ◌<◌, ◌≤◌, min, Bool, true, false, cond, eqb, leb, ◌||◌, List, [], ◌∷◌, map, length, Option, Some, None, refl, sym, subst, ◌∙◌, arith}
+use Rattle.std.specs.List.{flat_map, sum_by, range_with_len, slice_get, slice_set}
 use Rattle.std.proofs.lemmas.Bool.{or_parts, leb-false}
 use Rattle.std.proofs.lemmas.List.{length-map, length-set}
 use Rattle.std.proofs.lemmas.List.FromFn.{length-range_with_len}
@@ -14,7 +14,7 @@ use Rattle.protocol_steps.specs.Step.{start_of, step_of}
 use Rattle.protocol_steps.specs.Network.{Desk, Network, start_state, batch}
 use Rattle.protocol_steps.specs.Effect.{desk_after, effect, effect_at, pending, has_ended, deliveries}
 use Rattle.protocol_steps.proofs.TallyLaws.{sum-set}
-use Rattle.delivery_core.specs.Turns.{most_taken, take_some, turn_takes, event_with, turn, after, turns, round, stops, PlaysTo}
+use Rattle.delivery_core.specs.Turns.{most_taken, take_some, turn_takes, turn, after, turns, round, stops, PlaysTo}
 
 -- how many messages these takes take
 abbrev counts : List Take → ℕ
