@@ -7,3 +7,5 @@ mod FoundLaws
 mod AgreedLaws
 mod ChosenLaws
 mod TreeLaws
+mod OnceLaws
+mod ScopeLaws
