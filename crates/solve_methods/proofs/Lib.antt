@@ -9,3 +9,5 @@ mod ChosenLaws
 mod TreeLaws
 mod OnceLaws
 mod ScopeLaws
+mod UtilLaws
+pub mod OneLaws

@@ -7,7 +7,7 @@ use Rattle.std.proofs.lemmas.List.Folds.{Any-from_list_any}
 use Rattle.dcop_base.specs.Table.{CostTable, AreWithin, product, has, has_repeat, cell_place}
 use Rattle.dcop_base.specs.Problem.{Dcop}
 use Rattle.dcop_base.specs.Whole.{IsProblem}
-use Rattle.dcop_base.specs.Values.{cell_with, with_own}
+use Rattle.dcop_base.specs.Values.{with_own}
 use Rattle.pseudotree.specs.Tree.{path_of, IsTree}
 use Rattle.pseudotree.specs.Pseudotree.{IsPseudotree, touches, separator_of}
 use Rattle.pseudotree.specs.Place.{sizes_of}
@@ -85,14 +85,14 @@ values_for p (u ∷ us) (d ∷ ds) apart within =
       cc,
     )
 
--- values of all that stands above a variable, at which its table has this cell
+-- values of all that stands above a variable, at which its table has the cell of this place
 pub values_at : (p : Dcop) (paths : List (List ℕ)) → IsProblem p → IsPseudotree p paths → (i : ℕ) (t : CostTable) (k : ℕ) → t.scope ≡ separator_of p paths i → t.sizes ≡ sizes_of p t.scope → k < product t.sizes
-    → (value : ℕ → ℕ) × AreValuesAbove p paths i value × (cell_with t value ≡ get_or t.cells k 0)
+    → (value : ℕ → ℕ) × AreValuesAbove p paths i value × (cell_place t.sizes (map value t.scope) ≡ k)
 values_at p paths problem pseudo i t k scope sizes lt =
     let place = place_of_values t.sizes k lt in
     let apart : has_repeat t.scope ≡ false = ap has_repeat scope ∙ separator_apart p paths pseudo.tree i in
     let some = values_for p t.scope (values_of_cell t.sizes k) apart (subst (λ (ss : List ℕ). AreWithin ss (values_of_cell t.sizes k)) sizes place.0) in (
       some.0,
       (λ v above. some.1 v (size_some p problem v (above_in_problem p paths problem pseudo v i above))),
-      ap (λ (ds : List ℕ). get_or t.cells (cell_place t.sizes ds) 0) some.2 ∙ ap (λ (j : ℕ). get_or t.cells j 0) place.1,
+      ap (cell_place t.sizes) some.2 ∙ place.1,
     )

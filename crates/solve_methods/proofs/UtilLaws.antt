@@ -5,7 +5,7 @@ use Rattle.std.proofs.lemmas.Bool.{cases_Bool, cond-true, cond-false, or_cases, 
 use Rattle.std.proofs.lemmas.List.{get_or_default}
 use Rattle.std.proofs.lemmas.List.Sums.{sum_by-cons}
 use Rattle.std.proofs.lemmas.List.Elements.{All-nil, All-cons, All-head, All-tail, All-filter}
-use Rattle.dcop_base.specs.Table.{CostTable, has, has_repeat, product}
+use Rattle.dcop_base.specs.Table.{CostTable, has, has_repeat, product, cell_place}
 use Rattle.dcop_base.specs.Problem.{Dcop, cost}
 use Rattle.dcop_base.specs.Whole.{IsProblem}
 use Rattle.dcop_base.specs.Values.{cell_with, cost_with}
@@ -60,10 +60,10 @@ module _ (p : Dcop) (paths : List (List ℕ)) where
 module _ (p : Dcop) (paths : List (List ℕ)) (problem : IsProblem p) (pseudo : IsPseudotree p paths) where
   -- each cell of a table is the subtree optimum at some values
   pub cell_optimum : (i : ℕ) (t : CostTable) → IsOptimumTable p paths i t → (k : ℕ) → k < length t.cells
-      → (value : ℕ → ℕ) × AreValuesAbove p paths i value × (cell_with t value ≡ get_or t.cells k 0) × IsSubtreeOptimum p paths i value (get_or t.cells k 0)
+      → (value : ℕ → ℕ) × AreValuesAbove p paths i value × (cell_place t.sizes (map value t.scope) ≡ k) × IsSubtreeOptimum p paths i value (get_or t.cells k 0)
   cell_optimum i t is k lt =
       let some = values_at p paths problem pseudo i t k is.scope is.sizes (omega (arith, lt, is.full)) in
-      (some.0, some.1, some.2, subst (λ (m : ℕ). IsSubtreeOptimum p paths i some.0 m) some.2 (is.cells some.0 some.1))
+      (some.0, some.1, some.2, subst (λ (j : ℕ). IsSubtreeOptimum p paths i some.0 (get_or t.cells j 0)) some.2 (is.cells some.0 some.1))
 
   cells_capped : (i : ℕ) (t : CostTable) → IsOptimumTable p paths i t → All (λ c. c ≤ CAP) t.cells
   cells_capped i t is k d lt =
