@@ -7,6 +7,7 @@
 mod adopt;
 mod dpop;
 mod plain;
+mod tables;
 mod tree;
 
 pub use adopt::adopt_answer;
