@@ -10,4 +10,6 @@ mod TreeLaws
 mod OnceLaws
 mod ScopeLaws
 mod UtilLaws
+mod MadeLaws
+mod CertifiedLaws
 pub mod OneLaws

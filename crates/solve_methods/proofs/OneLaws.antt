@@ -12,21 +12,20 @@ use Rattle.pseudotree.specs.Preorder.{preorder_of}
 use Rattle.pseudotree.specs.Pseudotree.{IsPseudotree}
 use Rattle.dcop_optimum.specs.Subtree.{IsSubtreeOptimum}
 use Rattle.dcop_optimum.specs.TreeOptimum.{FirstOptimaOfTreesAreOne}
-use Rattle.dcop_optimum.proofs.TurnLaws.{turned_problem}
 use Rattle.dcop_optimum.proofs.DecompositionLaws.{subtree_optimum_same}
 use Rattle.problem_text.specs.File.{TextFile}
 use Rattle.problem_text.specs.declared.file.Goal.{Goal}
-use Rattle.problem_text.specs.declared.file.Goal.TheVariants.{Min, Max}
 use Rattle.certificate_text.specs.declared.certificate.Certificate.{Certificate}
 use Rattle.certificate_text.specs.declared.certificate.Certificate.TheVariants.{Tables}
 use Rattle.certificate_text.specs.declared.certificate.Util.{Util}
 use Rattle.certificate_text.specs.declared.report.Report.{Report}
 use Rattle.certificate_text.specs.declared.report.Ending.{Ending}
 use Rattle.certificate_text.specs.declared.report.Method.{Method}
-use Rattle.certificate_check.specs.Goal.{solved, problem_solved}
+use Rattle.certificate_check.specs.Goal.{problem_solved}
 use Rattle.dpop_runs.specs.Agents.{IsOptimumTable}
 use Rattle.solve_methods.specs.Certified.{IsUtilOf, IsCertifiedBy, IsCertified}
 use Rattle.solve_methods.specs.Dpop.{IsDpopReport}
+use Rattle.solve_methods.proofs.CertifiedLaws.{solved_problem}
 use Rattle.solve_methods.proofs.UtilLaws.{cell_optimum}
 
 -- a table with these parts
@@ -99,11 +98,6 @@ same_report : (r s : Report) → r.status ≡ s.status → r.method ≡ s.method
 unfolding report_with
 same_report r s =
     same_made r.status s.status r.method s.method r.goal s.goal r.error s.error r.deliveries s.deliveries r.cost s.cost r.lower s.lower r.upper s.upper r.values s.values r.certificate s.certificate
-
--- the problem solved is a problem
-pub solved_problem : (goal : Goal) (p : Dcop) → IsProblem p → IsProblem (solved goal p)
-solved_problem Min p whole = whole
-solved_problem Max p whole = turned_problem p whole
 
 module _ (optima : FirstOptimaOfTreesAreOne) (trees : DepthFirstTreesAreLinked) (file : TextFile) (whole : IsProblem file.problem) where
   -- one certificate belongs to a file
