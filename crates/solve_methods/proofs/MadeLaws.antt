@@ -1,5 +1,5 @@
 -- The tables that the agents of a problem made are those of its variables, by the nodes of its tree in preorder.
-use Rattle.std.proofs.Common.{◌≡◌, ℕ, ◌<◌, Bool, true, false, cond, List, [], ◌∷◌, length, map, get_or, Option, Some, None, IfSome, is_some, refl, sym, ap, subst, ◌∙◌, arith, All}
+use Rattle.std.proofs.Common.{◌≡◌, ℕ, ◌<◌, Bool, true, false, cond, List, [], ◌∷◌, length, map, Option, Some, None, IfSome, is_some, refl, sym, ap, subst, ◌∙◌, arith, All}
 use Rattle.std.specs.List.{AllZip}
 use Rattle.std.specs.Option.{option_map}
 use Rattle.std.proofs.lemmas.List.Elements.{All-head, All-tail, All-weaker}
@@ -13,10 +13,9 @@ use Rattle.dpop_runs.specs.Agents.{IsOptimumTable}
 use Rattle.delivery_core.specs.State.{CoreView, view_at, table_in}
 use Rattle.certificate_text.specs.declared.certificate.Certificate.{Certificate}
 use Rattle.certificate_text.specs.declared.certificate.Certificate.TheVariants.{Tables}
-use Rattle.certificate_text.specs.declared.certificate.Util.{Util}
 use Rattle.solve_report.specs.Tree.{IsNamedRow}
 use Rattle.solve_report.specs.declared.tree.NodeRow.{NodeRow}
-use Rattle.solve_methods.specs.Agreed.{HaveMade, HaveValues, cells_on, util_with, certificate_with}
+use Rattle.solve_methods.specs.Agreed.{HaveMade, cells_on, util_with, certificate_with}
 use Rattle.solve_methods.specs.Certified.{IsUtilOf, AreUtilsOf, HasUtilsOf}
 use Rattle.solve_methods.specs.Tree.{row_with, rows_with, rows_of}
 use Rattle.solve_methods.proofs.RowLaws.{preorder_below, rows_named, rows_same}

@@ -1,8 +1,7 @@
 -- One report of DPOP belongs to a file, be it certified or not.
-use Rattle.std.proofs.Common.{◌≡◌, ℕ, ◌<◌, Bool, true, false, List, [], ◌∷◌, length, get_or, Option, Some, None, refl, sym, ap, subst, ◌∙◌, arith, All}
+use Rattle.std.proofs.Common.{◌≡◌, ℕ, Bool, true, false, List, [], ◌∷◌, get_or, Option, Some, None, refl, sym, ap, subst, ◌∙◌, arith}
 use Rattle.std.specs.List.{AllZip}
 use Rattle.std.proofs.lemmas.List.{same_lists, get_or_default}
-use Rattle.std.proofs.lemmas.List.Elements.{All-head, All-tail}
 use Rattle.dcop_base.specs.Table.{CostTable}
 use Rattle.dcop_base.specs.Problem.{Dcop, cost}
 use Rattle.dcop_base.specs.Whole.{IsProblem}

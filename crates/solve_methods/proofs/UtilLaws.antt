@@ -1,14 +1,14 @@
 -- The tables of all variables in preorder: they fit the problem, and show optimal values to be so.
-use Rattle.std.proofs.Common.{◌≡◌, ℕ, ◌+◌, ◌<◌, ◌≤◌, Bool, true, false, ◌||◌, cond, eqb, List, [], ◌∷◌, length, map, get_or, Option, Some, None, IfSome, refl, sym, ap, subst, ◌∙◌, inl, inr, arith, All}
+use Rattle.std.proofs.Common.{◌≡◌, ℕ, ◌<◌, ◌≤◌, Bool, true, ◌||◌, cond, eqb, List, [], ◌∷◌, length, map, get_or, Option, Some, None, IfSome, refl, sym, ap, subst, ◌∙◌, inl, inr, arith, All}
 use Rattle.std.specs.List.{AllZip, count_by, range_with_len}
-use Rattle.std.proofs.lemmas.Bool.{cases_Bool, cond-true, cond-false, or_cases, eqb-true, true≢false}
+use Rattle.std.proofs.lemmas.Bool.{cases_Bool, cond-true, cond-false, eqb-true}
 use Rattle.std.proofs.lemmas.List.{get_or_default}
 use Rattle.std.proofs.lemmas.List.Sums.{sum_by-cons}
 use Rattle.std.proofs.lemmas.List.Elements.{All-nil, All-cons, All-head, All-tail, All-filter}
 use Rattle.dcop_base.specs.Table.{CostTable, has, has_repeat, product, cell_place}
 use Rattle.dcop_base.specs.Problem.{Dcop, cost}
 use Rattle.dcop_base.specs.Whole.{IsProblem}
-use Rattle.dcop_base.specs.Values.{cell_with, cost_with}
+use Rattle.dcop_base.specs.Values.{cell_with}
 use Rattle.dcop_base.specs.declared.number.TheConstants.{CAP}
 use Rattle.pseudotree.specs.Tree.{path_of, parent_of}
 use Rattle.pseudotree.specs.Preorder.{preorder_of}
@@ -17,13 +17,12 @@ use Rattle.pseudotree.specs.Place.{sizes_of}
 use Rattle.pseudotree.specs.Fault.{parents_of}
 use Rattle.pseudotree.proofs.PlaceLaws.{path_below, all_sized}
 use Rattle.dcop_optimum.specs.Optimum.{IsOptimum}
-use Rattle.dcop_optimum.specs.Subtree.{subtree_tables_of, AreValuesAbove, IsSubtreeOptimum}
-use Rattle.dcop_optimum.specs.Certificate.{util_of, IsTableCertificate}
+use Rattle.dcop_optimum.specs.Subtree.{AreValuesAbove, IsSubtreeOptimum}
+use Rattle.dcop_optimum.specs.Certificate.{IsTableCertificate}
 use Rattle.dcop_optimum.specs.OptimumTables.{AreOptimumTables}
 use Rattle.dcop_optimum.proofs.PreorderLaws.{has_preorder, preorder_below}
 use Rattle.dcop_optimum.proofs.OptimumTableLaws.{costs_are_within_cap, optima_make_certificates}
 use Rattle.certificate_text.specs.declared.certificate.Util.{Util}
-use Rattle.certificate_text.specs.Named.{IsNamedUtil}
 use Rattle.certificate_text.specs.Fits.{FitsUtil, FitsTables}
 use Rattle.certificate_check.specs.Told.{told, parents_told, scopes_told, cells_told}
 use Rattle.certificate_check.proofs.HoldsLaws.{map_same, table_is}

@@ -1,5 +1,4 @@
-use Rattle.std.proofs.Common.{◌≡◌, ℕ, List, [], ◌∷◌, ◌++◌, map, length, sym, ap, ◌∙◌, arith}
-use Rattle.dcop_base.specs.Problem.{Dcop}
+use Rattle.std.proofs.Common.{ℕ, List, [], ◌∷◌, ◌++◌, sym, ap, ◌∙◌}
 use Rattle.delivery_core.specs.State.{views_of}
 use Rattle.solve_methods.proofs.AgreedLaws.{next-value}
 use Rattle.solve_methods.proofs.dpop.values_in.Goals as goal
