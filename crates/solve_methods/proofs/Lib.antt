@@ -12,3 +12,9 @@ mod RootLaws
 mod AdoptPlayLaws
 mod AdoptBoundLaws
 mod AdoptRightLaws
+mod OnceLaws
+mod ScopeLaws
+mod UtilLaws
+mod MadeLaws
+mod CertifiedLaws
+pub mod OneLaws

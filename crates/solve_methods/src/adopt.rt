@@ -1,13 +1,11 @@
 //! The answer of ADOPT.
 
-ghost use Rattle.std.specs.Prelude.{◌≡◌, ◌≤◌, length, map, if◌then◌else◌, IfOk};
+ghost use Rattle.std.specs.Prelude.{◌≡◌, ◌≤◌, if◌then◌else◌, IfOk};
 ghost use Rattle.dcop_base.specs.Whole.{IsProblem};
 ghost use Rattle.dcop_base.specs.declared.number.TheConstants.{CAP};
 ghost use Rattle.pseudotree.specs.DepthFirst.{dfs};
 ghost use Rattle.pseudotree.specs.Pseudotree.{IsPseudotreeOf};
 ghost use Rattle.dcop_optimum.specs.Goal.{top_of};
-ghost use Rattle.protocol_steps.specs.View.{value_of};
-ghost use Rattle.delivery_core.specs.State.{views_of};
 ghost use Rattle.problem_text.specs.Steps.{declared_by};
 ghost use Rattle.certificate_text.specs.Named.{CanTell};
 ghost use Rattle.certificate_text.specs.declared.report.Ending.TheVariants.{Solved as solved_end, Spent as spent_end};
@@ -18,6 +16,7 @@ ghost use Rattle.solve_methods.specs.Goal.{IsRightReport, TellsRight};
 ghost use Rattle.solve_methods.specs.Reached.{HavePlayed, HaveReached};
 
 use crate::tree::{Found, find_tree};
+use crate::values::values_in;
 use adopt_ends::adopt_ends;
 use adopt_runs::{adopt_bounds_enclose, adopt_pending};
 use certificate_text::{Ending, Method, Report};
@@ -202,19 +201,6 @@ fn reached_in(
         lower: top.lower,
         upper: least_known(cost, top.upper),
     })
-}
-
-/// The values of the agents of a problem.
-fn values_in(alloc: Global, problem: &Problem, state: &CoreState) -> Result<ValList, NoMemory>
-    requires { length state.now.seats ≡ length problem.now.sizes }
-    ensures { IfOk result (λ values. values ≡ map value_of (views_of state.now.seats)) }
-{
-    let count = problem.sizes.as_slice().len();
-    let mut values = Vec::with_capacity(alloc, count)?;
-    for index in 0..count {
-        values.push(state.value(VarId(index as u32)))?;
-    }
-    Ok(ValList::from_vec(values))
 }
 
 /// How a report ends, by whether all agents have ended.

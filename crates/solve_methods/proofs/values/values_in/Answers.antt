@@ -1,7 +1,7 @@
 use Rattle.std.proofs.Common.{ℕ, List, [], ◌∷◌, ◌++◌, sym, ap, ◌∙◌}
 use Rattle.delivery_core.specs.State.{views_of}
 use Rattle.solve_methods.proofs.AgreedLaws.{next-value}
-use Rattle.solve_methods.proofs.adopt.values_in.Goals as goal
+use Rattle.solve_methods.proofs.values.values_in.Goals as goal
 
 pub loop-index-preserved : goal.loop-index-preserved
 loop-index-preserved c =
