@@ -1,22 +1,141 @@
 //! The text of a verdict.
 
-ghost use Rattle.std.specs.Prelude.{◌≡◌, length, IfOk};
-ghost use Rattle.solve_report.specs.Verdict.{IsNamedVerdict, verdict_text};
+ghost use Rattle.std.specs.Prelude.{◌≡◌, ◌∷◌, ◌++◌, ◌<◌, [], length, codes, OnOk, IfOk};
+ghost use Rattle.std.specs.List.{flat_map};
+ghost use Rattle.std.specs.Fmt.{decimal};
+ghost use Rattle.std.specs.String.{string_bytes};
+ghost use Rattle.certificate_text.specs.ReportText.{ending_word};
+ghost use Rattle.certificate_text.specs.declared.verdict.Verdict.TheVariants.{Yes, No};
+ghost use Rattle.solve_report.specs.Verdict.{IsNamedDifference, IsNamedVerdict};
+ghost use Rattle.solve_report.specs.Verdict.{name_in, left_right, difference_words, verdict_text};
 
-use certificate_text::Verdict;
-use dcop_base::{Bytes, NoMemory};
+use crate::refusal::bytes_of;
+use certificate_text::{Differs, Ending, Verdict};
+use dcop_base::{Bytes, NoMemory, Val, VarId};
 use problem_text::Names;
 use std::alloc::Global;
 
 /// The text of a verdict: `status yes`, the cost and the gap, or `status no` and the line of what
 /// differs, and then `end`.
 pub(crate) fn write_verdict(
-    _alloc: Global,
-    _verdict: &Verdict,
-    _names: &Names,
+    alloc: Global,
+    verdict: &Verdict,
+    names: &Names,
 ) -> Result<Bytes, NoMemory>
-    requires { IsNamedVerdict (length _names.now) _verdict.now }
-    ensures { IfOk result (λ text. text ≡ verdict_text _names.now _verdict.now) }
+    requires { IsNamedVerdict (length names.now) verdict.now }
+    ensures { IfOk result (λ text. text ≡ verdict_text names.now verdict.now) }
 {
-    Err(NoMemory)
+    match verdict {
+        Verdict::Yes { cost, error } => write_yes(alloc, *cost, *error),
+        Verdict::No(differs) => write_no(alloc, names, differs),
+    }
+}
+
+/// `status yes`, the cost, the gap and `end`.
+fn write_yes(alloc: Global, cost: u64, error: u64) -> Result<Bytes, NoMemory>
+    ensures { IfOk result (λ text. text ≡ verdict_text [] (Yes cost error)) }
+{
+    let mut text = String::new(alloc);
+    write!(text, "status yes\ncost {cost}\nerror {error}\nend\n")?;
+    Ok(bytes_of(text))
+}
+
+/// `status no`, the line of what differs and `end`.
+fn write_no(alloc: Global, names: &Names, differs: &Differs) -> Result<Bytes, NoMemory>
+    requires { IsNamedDifference (length names.now) differs.now }
+    ensures { IfOk result (λ text. text ≡ verdict_text names.now (No differs.now)) }
+{
+    let mut text = String::from_str(alloc, "status no\ndiffers")?;
+    write_difference(&mut text, names, differs)?;
+    text.push_str("\nend\n")?;
+    Ok(bytes_of(text))
+}
+
+/// The words of what differs, each behind a space.
+fn write_difference(text: &mut String, names: &Names, differs: &Differs) -> Result<(), NoMemory>
+    requires { IsNamedDifference (length names.now) differs.now }
+    ensures { OnOk result (string_bytes text.new
+        ≡ string_bytes text.old ++ flat_map (λ word. 32 ∷ word) (difference_words names.now differs.now)) }
+{
+    match differs {
+        Differs::TreeRoots { count } => Ok(write!(text, " tree roots {count}")?),
+        Differs::TreeLoop { var } => {
+            let name = name_of(names, *var);
+            Ok(write!(text, " tree loop {name}")?)
+        }
+        Differs::TreePair { one, other } => {
+            let one = name_of(names, *one);
+            let other = name_of(names, *other);
+            Ok(write!(text, " tree pair {one} {other}")?)
+        }
+        Differs::Scope { var } => {
+            let name = name_of(names, *var);
+            Ok(write!(text, " scope {name}")?)
+        }
+        Differs::Cell {
+            var,
+            cell,
+            value,
+            left,
+            right,
+        } => {
+            let name = name_of(names, *var);
+            write_cell(text, name, *cell, *value, *left, *right)
+        }
+        Differs::Cost { left, right } => write_number(text, "cost", *left, *right),
+        Differs::Root { left, right } => write_number(text, "root", *left, *right),
+        Differs::Lower { left, right } => write_number(text, "lower", *left, *right),
+        Differs::Upper { left, right } => write_number(text, "upper", *left, *right),
+        Differs::Error { left, right } => write_number(text, "error", *left, *right),
+        Differs::Deliveries { left, right } => write_number(text, "deliveries", *left, *right),
+        Differs::Status { ending } => {
+            let word = word_of(*ending);
+            Ok(write!(text, " status {word}")?)
+        }
+    }
+}
+
+/// The name of a variable.
+fn name_of(names: &Names, var: VarId) -> &str
+    requires { var < length names.now }
+    ensures { result.now ≡ name_in names.now var }
+{
+    names.name(var)
+}
+
+/// The name of a table's variable, a cell and a value, and the number on the left and the one on the right.
+fn write_cell(
+    text: &mut String,
+    name: &str,
+    cell: u64,
+    value: Val,
+    left: u64,
+    right: u64,
+) -> Result<(), NoMemory>
+    ensures { OnOk result (string_bytes text.new ≡ string_bytes text.old
+        ++ flat_map (λ word. 32 ∷ word) (codes "cell" ∷ name.now ∷ decimal cell ∷ left_right (decimal value) left right)) }
+{
+    let value = value.0;
+    Ok(write!(
+        text,
+        " cell {name} {cell} {value} left {left} right {right}"
+    )?)
+}
+
+/// A word, and the number on the left and the one on the right.
+fn write_number(text: &mut String, word: &str, left: u64, right: u64) -> Result<(), NoMemory>
+    ensures { OnOk result (string_bytes text.new
+        ≡ string_bytes text.old ++ flat_map (λ word. 32 ∷ word) (left_right word.now left right)) }
+{
+    Ok(write!(text, " {word} left {left} right {right}")?)
+}
+
+/// The word that tells an ending.
+fn word_of(ending: Ending) -> &'static str
+    ensures { result.now ≡ ending_word ending }
+{
+    match ending {
+        Ending::Solved => "solved",
+        Ending::Spent => "spent",
+    }
 }

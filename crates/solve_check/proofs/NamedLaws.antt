@@ -1,0 +1,115 @@
+-- Each variable of which a verdict speaks is one of the file's.
+use Rattle.std.proofs.Common.{◌≡◌, ℕ, zero, suc, ◌+◌, ◌<◌, ◌*◌, ◌-◌, Bool, true, false, cond, Option, Some, None, List, length, get_or, nat_eq, sym, ap, ◌∙◌, subst, arith, inl, inr}
+use Rattle.std.specs.Prelude.{IfSome, IsTrue, is_some}
+use Rattle.std.proofs.lemmas.Bool.{false≢true}
+use Rattle.std.specs.List.{range_with_len}
+use Rattle.std.specs.Option.{option_or}
+use Rattle.std.specs.Str.{bytes_eq}
+use Rattle.std.proofs.lemmas.List.FromFn.{length-map-range_with_len}
+use Rattle.dcop_base.specs.Problem.{Dcop, cost}
+use Rattle.dcop_base.specs.Table.{CostTable}
+use Rattle.pseudotree.specs.Pseudotree.{separator_of}
+use Rattle.dcop_optimum.specs.Certificate.{tables_on_path}
+use Rattle.problem_text.specs.File.{TextFile}
+use Rattle.certificate_text.specs.Fits.{FitsTables, FitsCertificate}
+use Rattle.certificate_text.specs.declared.certificate.Certificate.{Certificate}
+use Rattle.certificate_text.specs.declared.certificate.Certificate.TheVariants.{Tables}
+use Rattle.certificate_text.specs.declared.certificate.Util.{Util}
+use Rattle.certificate_text.specs.declared.report.Report.{Report}
+use Rattle.certificate_text.specs.declared.report.Ending.{Ending}
+use Rattle.certificate_text.specs.declared.report.Ending.TheVariants.{Solved, Spent}
+use Rattle.certificate_text.specs.declared.verdict.Verdict.{Verdict}
+use Rattle.certificate_text.specs.declared.verdict.Verdict.TheVariants.{Yes, No}
+use Rattle.certificate_text.specs.declared.verdict.Differs.{Differs}
+use Rattle.certificate_text.specs.declared.verdict.Differs.TheVariants as differences
+use Rattle.certificate_check.specs.Goal.{problem_solved}
+use Rattle.certificate_check.specs.Told.{told, parents_told, variables, root_cell}
+use Rattle.certificate_check.specs.Cells.{children_told}
+use Rattle.certificate_check.specs.Differences.{IsTreeDifference, first_of, scope_difference, value_difference, cell_difference, table_difference, cells_difference, unless_same, status_difference, bound_difference, number_difference, difference_in}
+use Rattle.certificate_check.specs.Verdicts.{IsTablesVerdict, IsVerdictOn}
+use Rattle.certificate_check.proofs.FitLaws.{told_fits}
+use Rattle.certificate_check.proofs.ExactLaws.{solved_sizes}
+use Rattle.solve_report.specs.Verdict.{IsNamedDifference, IsNamedVerdict}
+
+-- what is told, where something is, speaks of variables among so many
+abbrev AreNamed : ℕ → Option Differs → Type 0
+AreNamed n o = IfSome o (IsNamedDifference n)
+
+or-named : (n : ℕ) (a b : Option Differs) → AreNamed n a → AreNamed n b → AreNamed n (option_or a b)
+or-named n None b of_a of_b = of_b
+or-named n (Some x) b of_a of_b = of_a
+
+if-named : (n : ℕ) (t : Bool) (x : Differs) → IsNamedDifference n x → AreNamed n (cond t None (Some x))
+if-named n true x h = tt
+if-named n false x h = h
+
+then-named : (n : ℕ) (t : Bool) (x : Differs) → IsNamedDifference n x → AreNamed n (cond t (Some x) None)
+then-named n true x h = h
+then-named n false x h = tt
+
+from-named : (n : ℕ) (test : ℕ → Option Differs) (s k : ℕ) → ((i : ℕ) → i < s + k → AreNamed n (test i)) → AreNamed n (first_of test (range_with_len s k))
+from-named n test s zero each = tt
+from-named n test s (suc k) each =
+    or-named n (test s) (first_of test (range_with_len (s + 1) k)) (each s (omega arith)) (from-named n test (s + 1) k (λ i lt. each i (omega (arith, lt))))
+
+first-named : (n : ℕ) (test : ℕ → Option Differs) (k : ℕ) → ((i : ℕ) → i < k → AreNamed n (test i)) → AreNamed n (first_of test (range_with_len 0 k))
+first-named n test k each = from-named n test 0 k (λ i lt. each i (omega (arith, lt)))
+
+same-named : (n : ℕ) (differs : ℕ → ℕ → Differs) (left right : ℕ) → IsNamedDifference n (differs left right) → AreNamed n (unless_same differs left right)
+same-named n differs left right h = if-named n (nat_eq left right) (differs left right) h
+
+status-named : (n : ℕ) (ending : Ending) → AreNamed n (status_difference ending)
+status-named n Solved = tt
+status-named n Spent = tt
+
+table-named : (n : ℕ) (sizes : List ℕ) (own : List CostTable) (children : List Util) (u : Util) → u.var < n → AreNamed n (table_difference sizes own children u)
+table-named n sizes own children u lt =
+    first-named n (cell_difference sizes own children u) (length u.cells)
+    (λ k h. first-named n (value_difference sizes own children u k) (get_or sizes u.var 0) (λ d h. then-named n _ _ lt))
+
+behind-named : (f : TextFile) (r : Report) (utils : List Util) (paths : List (List ℕ)) → FitsTables (problem_solved f).sizes utils → AreNamed (length (problem_solved f).sizes) (difference_in f paths utils r)
+behind-named f r utils paths fits =
+    let p : Dcop = problem_solved f in
+    let n : ℕ = length p.sizes in
+    or-named n (first_of (scope_difference p paths utils) (variables p)) _
+    (first-named n (scope_difference p paths utils) n (λ i lt. if-named n (bytes_eq (told utils i).scope (separator_of p paths i)) (differences.Scope i) lt))
+    (or-named n (first_of (cells_difference p paths utils) (variables p)) (number_difference f (root_cell p utils) r)
+    (first-named n (cells_difference p paths utils) n (λ i lt. table-named n p.sizes (tables_on_path p paths i) (children_told paths utils i) (told utils i) (told_fits p.sizes utils i fits lt).named.own))
+    (or-named n (unless_same (λ left right. differences.Cost left right) r.cost (cost f.problem r.values)) _ (same-named n (λ left right. differences.Cost left right) r.cost (cost f.problem r.values) tt)
+    (or-named n (unless_same (λ left right. differences.Root left right) (root_cell p utils) (cost p r.values)) (bound_difference (length f.problem.sizes) r) (same-named n (λ left right. differences.Root left right) (root_cell p utils) (cost p r.values) tt)
+    (or-named n (unless_same (λ left right. differences.Lower left right) r.lower r.cost) _ (same-named n (λ left right. differences.Lower left right) r.lower r.cost tt)
+    (or-named n (unless_same (λ left right. differences.Upper left right) r.upper r.cost) _ (same-named n (λ left right. differences.Upper left right) r.upper r.cost tt)
+    (or-named n (unless_same (λ left right. differences.Error left right) r.error 0) _ (same-named n (λ left right. differences.Error left right) r.error 0 tt)
+    (or-named n (unless_same (λ left right. differences.Deliveries left right) r.deliveries (2 * (length f.problem.sizes - 1))) (status_difference r.status)
+    (same-named n (λ left right. differences.Deliveries left right) r.deliveries (2 * (length f.problem.sizes - 1)) tt) (status-named n r.status))))))))
+
+tree-named : (p : Dcop) (parents : List (Option ℕ)) (differs : Differs) → length parents ≡ length p.sizes → IsTreeDifference p parents differs → IsNamedDifference (length p.sizes) differs
+tree-named p parents (differences.TreeRoots count) many is = tt
+tree-named p parents (differences.TreeLoop var) many is = let lt = is.1.within in omega (arith, lt, many)
+tree-named p parents (differences.TreePair one other) many is = let up = is.least.split.ordered in let lt = is.least.split.within in (omega (arith, up, lt), lt)
+tree-named p parents (differences.Scope var) many is = absurd is
+tree-named p parents (differences.Cell var cell value left right) many is = absurd is
+tree-named p parents (differences.Cost left right) many is = absurd is
+tree-named p parents (differences.Root left right) many is = absurd is
+tree-named p parents (differences.Lower left right) many is = absurd is
+tree-named p parents (differences.Upper left right) many is = absurd is
+tree-named p parents (differences.Error left right) many is = absurd is
+tree-named p parents (differences.Deliveries left right) many is = absurd is
+tree-named p parents (differences.Status ending) many is = absurd is
+
+tables-named : (f : TextFile) (r : Report) (utils : List Util) (verdict : Verdict) → FitsTables (problem_solved f).sizes utils → IsTablesVerdict f r utils verdict → IsNamedVerdict (length (problem_solved f).sizes) verdict
+tables-named f r utils (Yes cost error) fits is = tt
+tables-named f r utils (No differs) fits (inl tree) =
+    let p : Dcop = problem_solved f in
+    tree-named p (parents_told p utils) differs (length-map-range_with_len (λ v. (told utils v).parent) 0 (length p.sizes)) tree
+tables-named f r utils (No differs) fits (inr behind) =
+    subst (AreNamed (length (problem_solved f).sizes)) behind.2 (behind-named f r utils behind.0 fits)
+
+-- a verdict on a report that has a certificate and fits its file
+pub verdict-named : (f : TextFile) (r : Report) (certificate : Option Certificate) (verdict : Verdict) → length f.names ≡ length f.problem.sizes → IsTrue (is_some certificate) → IfSome certificate (FitsCertificate f.problem.sizes r.method) → IfSome certificate (IsVerdictOn f r verdict) → IsNamedVerdict (length f.names) verdict
+verdict-named f r None verdict many some fits is = absurd (false≢true some)
+verdict-named f r (Some (Tables utils)) verdict many some fits is =
+    let sizes = solved_sizes f.goal f.problem in
+    let count : length (problem_solved f).sizes ≡ length f.names = ap length sizes ∙ sym many in
+    subst (λ (n : ℕ). IsNamedVerdict n verdict) count
+    (tables-named f r utils verdict (subst (λ (ss : List ℕ). FitsTables ss utils) (sym sizes) fits.1) is)

@@ -1,0 +1,14 @@
+use Rattle.std.proofs.Common.{length}
+use Rattle.std.proofs.lemmas.Result.{IfOk-weaker}
+use Rattle.problem_text.specs.File.{TextFile, IsFile}
+use Rattle.certificate_check.specs.Verdicts.{IsVerdict}
+use Rattle.solve_report.specs.Verdict.{IsNamedVerdict}
+use Rattle.solve_check.proofs.NamedLaws.{verdict-named}
+use Rattle.solve_check.proofs.checking.verdict_on.Goals as goal
+
+pub returns-clause-named : goal.returns-clause-named
+returns-clause-named c =
+    let f : TextFile = c.args.file.now in
+    let whole : IsFile f = rw (← c.file.view_is) c.file.invariant in
+    IfOk-weaker c.check.result (IsVerdict f c.args.report.now) (IsNamedVerdict (length f.names))
+    (λ verdict. verdict-named f c.args.report.now c.args.report.now.certificate verdict whole.named c.requires.0 c.requires.1.certificate) c.check.ensures.verdict
