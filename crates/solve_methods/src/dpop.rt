@@ -13,7 +13,7 @@ ghost use Rattle.solve_report.specs.AnswerText.{HasText};
 ghost use Rattle.solve_methods.specs.Agreed.{HaveValues};
 ghost use Rattle.solve_methods.specs.Dpop.{AnswersDpop, HaveAgreed, IsDpopReport, wide_answer};
 ghost use Rattle.solve_methods.specs.Dpop.{GivesBestChosen, GivesChosen, AreBestChosen};
-ghost use Rattle.solve_methods.specs.Goal.{IsRightReport, TellsRight};
+ghost use Rattle.solve_methods.specs.Goal.{TellsRight};
 
 use crate::tree::{Found, find_tree};
 use certificate_text::{Ending, Method, Report};
@@ -87,7 +87,7 @@ fn too_wide(wide: Wide, names: Names) -> Answer
 fn dpop_report(file: &ProblemFile, chosen: Chosen) -> Report
     requires { AreBestChosen file.now.goal file.now.problem chosen }
     ensures form { IsDpopReport file.now false result }
-    ensures right { IsRightReport file.now result }
+    ensures values { result.values ≡ chosen.values }
     ensures told { CanTell result file.now }
 {
     let Chosen { values, deliveries } = chosen;

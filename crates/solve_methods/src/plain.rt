@@ -1,9 +1,9 @@
 //! The answer of the plain method.
 
 ghost use Rattle.std.specs.Prelude.{◌≡◌, IfOk};
+ghost use Rattle.dcop_base.specs.Problem.{IsAssignment};
 ghost use Rattle.certificate_text.specs.Named.{CanTell};
-ghost use Rattle.solve_methods.specs.Goal.{IsRightReport};
-ghost use Rattle.solve_methods.specs.Plain.{IsPlainReport, HasFirstOptimum, AreBestValues, GivesFirst, GivesBest, IsPlainAnswer};
+ghost use Rattle.solve_methods.specs.Plain.{IsPlainReport, GivesFirst, GivesBest, IsPlainAnswer};
 
 use certificate_text::{Ending, Method, Report};
 use dcop_base::{NoMemory, Problem, ValList, cost_of};
@@ -49,10 +49,9 @@ fn first_values(alloc: Global, problem: &Problem) -> Result<ValList, PlainFault>
 
 /// The report of these values.
 fn plain_report(file: &ProblemFile, values: ValList) -> Report
-    requires { AreBestValues file.now values }
+    requires { IsAssignment file.now.problem values }
     ensures form { IsPlainReport file.now result }
-    ensures first { HasFirstOptimum file.now result }
-    ensures right { IsRightReport file.now result }
+    ensures values { result.values ≡ values }
     ensures told { CanTell result file.now }
 {
     let cost = cost_of(&file.problem, values.as_slice());
