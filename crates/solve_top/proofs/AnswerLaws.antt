@@ -1,5 +1,5 @@
 -- Which answer belongs to which words and input, case by case; and what its status says of the source.
-use Rattle.std.proofs.Common.{◌≡◌, ◌≢◌, ℕ, ◌<◌, Bool, List, Option, Some, None, Result, Ok, Err, IfOk, sym, ap, subst, arith, refl, ◌∙◌}
+use Rattle.std.proofs.Common.{take, drop, ◌≡◌, ◌≢◌, ℕ, ◌<◌, Bool, List, Option, Some, None, Result, Ok, Err, IfOk, sym, ap, subst, arith, refl, ◌∙◌}
 use Rattle.dcop_edge.specs.Faults.{Rose}
 use Rattle.dcop_base.specs.Whole.{IsProblem}
 use Rattle.pseudotree.specs.declared.width.Wide.{Wide}
@@ -27,7 +27,7 @@ use Rattle.solve_top.specs.declared.task.Task.{Task}
 use Rattle.solve_top.specs.declared.task.Task.TheVariants.{File, Check}
 use Rattle.solve_top.specs.declared.task.FileTask.{FileTask}
 use Rattle.solve_top.specs.declared.task.FileTask.TheVariants as tasks
-use Rattle.solve_top.specs.Answering.{IsFileAnswer, IsTextAnswer, IsReportAnswer, IsTaskAnswer, IsInputAnswer, IsServedAnswer, IsCommandAnswer, IsAnswer}
+use Rattle.solve_top.specs.Answering.{lines_in, IsFileAnswer, IsTextAnswer, IsReportAnswer, IsTaskAnswer, IsInputAnswer, IsServedAnswer, IsCommandAnswer, IsAnswer}
 use Rattle.solve_methods.specs.Adopt.{IsAdoptAnswer}
 use Rattle.solve_methods.specs.Dpop.{wide_in, wide_answer, IsDpopSolved, IsAnswerBy, IsDpopAnswer}
 use Rattle.certificate_check.specs.Goal.{solved}
@@ -85,8 +85,8 @@ verdict-told (verdicts.No differs) = (λ e. cc, λ e. cc, λ e. cc)
 
 -- no answer has the status of a sink that failed, or of want of memory
 pub told-status : (answer : Answer) → (status_of answer ≢ WriteFault) × (status_of answer ≢ no_memory)
-told-status (answers.Report report file) = let told = ending-told report.status in (told.0, told.1.0)
-told-status (answers.Verdict verdict names) = let told = verdict-told verdict in (told.0, told.1.0)
+told-status (answers.Report report file) = let told = ending-told report.status in (told.0, told.1)
+told-status (answers.Verdict verdict names) = let told = verdict-told verdict in (told.0, told.1)
 told-status (answers.Tree deliveries nodes names) = (λ e. cc, λ e. cc)
 told-status (answers.Upgraded file) = (λ e. cc, λ e. cc)
 told-status (answers.Words at kind) = (λ e. cc, λ e. cc)
@@ -100,8 +100,8 @@ told-status answers.NotYet = (λ e. cc, λ e. cc)
 
 -- one answer alone has the status of a source that failed
 read-alone : (answer : Answer) → status_of answer ≡ ReadFault → answer ≡ answers.Read
-read-alone (answers.Report report file) e = absurd ((ending-told report.status).1.1 e)
-read-alone (answers.Verdict verdict names) e = absurd ((verdict-told verdict).1.1 e)
+read-alone (answers.Report report file) e = absurd ((ending-told report.status).2 e)
+read-alone (answers.Verdict verdict names) e = absurd ((verdict-told verdict).2 e)
 read-alone answers.Read e = refl
 read-alone (answers.Tree deliveries nodes names) e = cc
 read-alone (answers.Upgraded file) e = cc
@@ -188,7 +188,7 @@ read-sound file before (Ok report) is = is
 read-sound file before (Err fault) is = cc is
 
 report-sound : (bytes : List ℕ) (read : Result Parts Fault) → ¬ IsReportAnswer bytes read answers.Read
-report-sound bytes (Ok parts) is = read-sound is.file _ (report_read _ is.file) is.is
+report-sound bytes (Ok parts) is = read-sound is.file (lines_in (take parts.used bytes)) (report_read (drop parts.used bytes) is.file) is.is
 report-sound bytes (Err fault) is = cc is
 
 task-sound : (task : Task) (bytes : List ℕ) → ¬ IsTaskAnswer task bytes answers.Read
@@ -245,7 +245,7 @@ solved-well status task is = subst (λ (s : Status). GoesWell s task) (sym is) t
 
 -- a task on what a text declares goes well, where it is within its limits
 file-well : (task : FileTask) (d : Declared) (answer : Answer) → IsWithinLimits task d → IsFileAnswer task d answer → GoesWell (status_of answer) (File task)
-file-well tasks.Plain d (answers.Report report file) few is = solved-well (status_of_ending report.status) (File tasks.Plain) (ap status_of_ending is.2.0.status)
+file-well tasks.Plain d (answers.Report report file) few is = solved-well (status_of_ending report.status) (File tasks.Plain) (ap status_of_ending is.2.status)
 file-well tasks.Plain d (answers.Many n) few is = absurd (omega (arith, few, is.0))
 file-well tasks.Plain d (answers.Tree deliveries nodes names) few is = absurd is
 file-well tasks.Plain d (answers.Verdict verdict names) few is = absurd is
