@@ -167,7 +167,7 @@ fn checked_reports(rt: HostRuntime) -> Result<(), Fail> {
             "",
             "",
             3,
-            "refused report line 12 kind 3\n",
+            "refused report line 13 kind 3\n",
         ),
         (
             PAW,
@@ -175,7 +175,7 @@ fn checked_reports(rt: HostRuntime) -> Result<(), Fail> {
             "util c b : a b : 2 2 2 0\n",
             "",
             3,
-            "refused report line 25 kind 1\n",
+            "refused report line 26 kind 1\n",
         ),
         (
             PAW,
@@ -183,7 +183,7 @@ fn checked_reports(rt: HostRuntime) -> Result<(), Fail> {
             "end\n",
             "",
             3,
-            "refused report line 26 kind 6\n",
+            "refused report line 27 kind 6\n",
         ),
         (PAW, "", "", "", 3, "refused report line 11 kind 6\n"),
     ];
