@@ -3,17 +3,19 @@ use Rattle.std.proofs.Common.{◌≡◌, ℕ, ◌+◌, List, [], ◌∷◌, ◌+
 use Rattle.std.specs.List.{slice_get}
 use Rattle.std.specs.Option.{option_map}
 use Rattle.std.proofs.lemmas.List.{length-map, take_more}
-use Rattle.std.proofs.lemmas.Option.{slice_get-map, slice_get_within, get_or_from_slice_get}
+use Rattle.std.proofs.lemmas.Option.{same_Some, slice_get-map, slice_get_within, get_or_from_slice_get}
 use Rattle.dcop_base.specs.Problem.{Dcop}
 use Rattle.dcop_base.specs.Whole.{IsProblem}
 use Rattle.pseudotree.specs.DepthFirst.{dfs}
 use Rattle.pseudotree.specs.Pseudotree.{IsPseudotree, IsLinked, RootedTree}
 use Rattle.pseudotree.specs.Width.{IsNarrow}
 use Rattle.protocol_steps.specs.declared.event.Event.{Event}
-use Rattle.protocol_steps.specs.View.{View, value_of}
+use Rattle.protocol_steps.specs.View.{View, value_of, table_of}
 use Rattle.dcop_optimum.specs.TreeOptimum.{IsFirstOptimumOf}
-use Rattle.dpop_runs.specs.Laws.{DpopRuns}
-use Rattle.delivery_core.specs.State.{CoreView}
+use Rattle.dcop_optimum.specs.Certificate.{util_of}
+use Rattle.dpop_runs.specs.Agents.{IsOptimumTable}
+use Rattle.dpop_runs.specs.Laws.{DpopRuns, separators_of}
+use Rattle.delivery_core.specs.State.{CoreView, table_in}
 use Rattle.delivery_core.specs.Agents.{network_of}
 use Rattle.delivery_core.specs.Turns.{PlaysTo, IsPlayed}
 use Rattle.delivery_core.specs.declared.start.Start.TheVariants.{Dpop}
@@ -40,6 +42,17 @@ module _ (p : Dcop) (whole : IsProblem p) (tree : RootedTree) (same_paths : tree
             let sum = holds.nothing_else in
             let few = whole.few in
             omega arith;
+        tables = λ i lt.
+            let made = all.tables i lt in
+            let agent = holds.agents i lt in
+            let same : agent.0 ≡ made.0 = same_Some agent.0 made.0 (sym agent.1 ∙ made.1) in
+            let paths : IsOptimumTable p (dfs p) i (util_of p (separators_of p tree.paths) all.cells i) =
+            subst (λ (ps : List (List ℕ)). IsOptimumTable p ps i (util_of p (separators_of p tree.paths) all.cells i)) same_paths
+            (agent.2.table (util_of p (separators_of p tree.paths) all.cells i) (ap table_of same ∙ made.2)) in (
+              util_of p (separators_of p tree.paths) all.cells i,
+              ap table_in (ap (λ (views : List View). slice_get views i) is.shows.views ∙ made.1) ∙ made.2,
+              paths,
+            );
       }
 
 -- the values of agents, one more

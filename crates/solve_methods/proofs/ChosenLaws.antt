@@ -1,9 +1,9 @@
 -- The answer of DPOP, from what the agents of the problem solved chose.
-use Rattle.std.proofs.Common.{◌≡◌, ℕ, ◌+◌, ◌-◌, ◌<◌, Bool, true, false, cond, ltb, List, length, Option, Some, None, Result, Ok, Err, refl, sym, ap, subst, ◌∙◌, arith}
+use Rattle.std.proofs.Common.{◌≡◌, ℕ, ◌-◌, ◌<◌, Bool, true, false, cond, ltb, List, length, Option, Some, None, is_some, Result, Ok, Err, refl, sym, ap, subst, ◌∙◌, arith}
 use Rattle.std.specs.List.{position, position_or_len, range_with_len}
 use Rattle.std.proofs.lemmas.Bool.{ltb-true}
 use Rattle.std.proofs.lemmas.List.FromFn.{length-range_with_len, length-map-range_with_len}
-use Rattle.dcop_base.specs.Problem.{Dcop, cost}
+use Rattle.dcop_base.specs.Problem.{Dcop, IsAssignment, cost}
 use Rattle.dcop_base.specs.Whole.{IsProblem}
 use Rattle.pseudotree.specs.DepthFirst.{dfs, path_in, search_of}
 use Rattle.pseudotree.specs.Width.{told, joined_cells, sent_total, first_wide, wide_by}
@@ -29,17 +29,21 @@ use Rattle.solve_methods.specs.declared.dpop.DpopFault.{DpopFault}
 use Rattle.solve_methods.specs.declared.dpop.DpopFault.TheVariants.{TooWide, NoMemory}
 
 -- for goal min the problem solved is the problem
-pub best_min : (p : Dcop) → IsProblem p → (result : Result Chosen DpopFault) → GivesChosen p result → GivesBestChosen Min p result
-best_min p whole (Ok chosen) is = record {
-  whole = whole;
-  fits = is.0;
-  first = is.1.first;
-  deliveries = is.1.deliveries;
-  assignment = is.1.first.assignment;
-  best = is.1.first.optimal;
-}
-best_min p whole (Err (TooWide wide)) is = (whole, is)
-best_min p whole (Err NoMemory) is = tt
+pub best_min : (p : Dcop) (certified : Bool) → IsProblem p → (result : Result Chosen DpopFault) → GivesChosen p certified result → GivesBestChosen Min p certified result
+best_min p certified whole (Ok chosen) is = (
+  is.1,
+  record {
+    whole = whole;
+    fits = is.0;
+    first = is.2.first;
+    deliveries = is.2.deliveries;
+    assignment = is.2.first.assignment;
+    best = is.2.first.optimal;
+    certificate = is.2.certificate;
+  },
+)
+best_min p certified whole (Err (TooWide wide)) is = (whole, is)
+best_min p certified whole (Err NoMemory) is = tt
 
 -- the first optimum of the turned problem costs the greatest sum in the problem
 greatest_of_turned : (p : Dcop) → IsProblem p → (values : List ℕ) → IsFirstOfTree (turned p) values → IsGreatestSum p (cost p values)
@@ -49,35 +53,40 @@ greatest_of_turned p whole values first =
     subst (IsGreatestSum p) left (tells_greatest p whole (cost (turned p) values) first.optimal)
 
 -- for goal max it is the turned one
-pub best_max : (p : Dcop) → IsProblem p → (result : Result Chosen DpopFault) → GivesChosen (turned p) result → GivesBestChosen Max p result
-best_max p whole (Ok chosen) is = record {
-  whole = whole;
-  fits = is.0;
-  first = is.1.first;
-  deliveries = is.1.deliveries;
-  assignment = is.1.first.assignment;
-  best = greatest_of_turned p whole chosen.values is.1.first;
-}
-best_max p whole (Err (TooWide wide)) is = (whole, is)
-best_max p whole (Err NoMemory) is = tt
+pub best_max : (p : Dcop) (certified : Bool) → IsProblem p → (result : Result Chosen DpopFault) → GivesChosen (turned p) certified result → GivesBestChosen Max p certified result
+best_max p certified whole (Ok chosen) is = (
+  is.1,
+  record {
+    whole = whole;
+    fits = is.0;
+    first = is.2.first;
+    deliveries = is.2.deliveries;
+    assignment = is.2.first.assignment;
+    best = greatest_of_turned p whole chosen.values is.2.first;
+    certificate = is.2.certificate;
+  },
+)
+best_max p certified whole (Err (TooWide wide)) is = (whole, is)
+best_max p certified whole (Err NoMemory) is = tt
 
 -- a report of what the agents chose is the answer
-pub report_answers : (file : TextFile) (report : Report) (chosen : Chosen) → AreBestChosen file.goal file.problem chosen → IsDpopReport file false report
-    → AnswersDpop (declared_by file) false (answers.Report report file)
-report_answers file report chosen best form = record {
+pub report_answers : (file : TextFile) (certified : Bool) (report : Report) (chosen : Chosen) → is_some chosen.certificate ≡ certified → AreBestChosen file.goal file.problem chosen
+    → IsDpopReport file (is_some chosen.certificate) report → AnswersDpop (declared_by file) certified (answers.Report report file)
+report_answers file certified report chosen asked best form = record {
   file = file;
   whole = best.whole;
   declared = refl;
-  is = subst (λ (wide : Option Wide). IsAnswerBy file false wide (answers.Report report file)) (sym best.fits) (refl, form);
+  is =
+      subst (λ (wide : Option Wide). IsAnswerBy file certified wide (answers.Report report file)) (sym best.fits)
+      (refl, subst (λ (b : Bool). IsDpopReport file b report) asked form);
 }
 
 -- and it is right
-pub report_right : (file : TextFile) (report : Report) (chosen : Chosen) → AreBestChosen file.goal file.problem chosen → IsDpopReport file false report → report.values ≡ chosen.values
+pub report_right : (file : TextFile) (certified : Bool) (report : Report) (chosen : Chosen) → AreBestChosen file.goal file.problem chosen → IsDpopReport file certified report → report.values ≡ chosen.values
     → IsRightReport file report
-report_right file report chosen best form values =
-    let moved : AreBestChosen file.goal file.problem (record { values = report.values; deliveries = chosen.deliveries }) =
-    subst (λ (vs : List ℕ). AreBestChosen file.goal file.problem (record { values = vs; deliveries = chosen.deliveries })) (sym values) best in
-    right_of_best file report moved.assignment form.cost (subst (IsBestSum file.goal file.problem) (sym form.cost) moved.best) form.lower form.upper
+report_right file certified report chosen best form values =
+    let sum : report.cost ≡ cost file.problem chosen.values = form.cost ∙ ap (cost file.problem) values in
+    right_of_best file report (subst (IsAssignment file.problem) (sym values) best.assignment) form.cost (subst (IsBestSum file.goal file.problem) (sym sum) best.best) form.lower form.upper
 
 -- what is too wide is the answer
 pub wide_answers : (file : TextFile) (certified : Bool) (wide : Wide) (answer : Answer) → IsProblem file.problem → wide_in (solved file.goal file.problem) ≡ Some wide → answer ≡ wide_answer file.names wide

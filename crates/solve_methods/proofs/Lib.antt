@@ -7,3 +7,14 @@ mod FoundLaws
 mod AgreedLaws
 mod ChosenLaws
 mod TreeLaws
+mod DeliveredLaws
+mod RootLaws
+mod AdoptPlayLaws
+mod AdoptBoundLaws
+mod AdoptRightLaws
+mod OnceLaws
+mod ScopeLaws
+mod UtilLaws
+mod MadeLaws
+mod CertifiedLaws
+pub mod OneLaws

@@ -1,5 +1,5 @@
 -- Agents that are played under the budget of their messages have all ended.
-use Rattle.std.proofs.Common.{◌≡◌, ℕ, zero, suc, ◌-◌, ◌*◌, ◌<◌, ◌≤◌, min, Bool, true, false, cond, eqb, leb, ◌||◌, List, [], ◌∷◌, ◌++◌, length, get_or, refl, sym, ap, subst, ◌∙◌, inl, inr, arith}
+use Rattle.std.proofs.Common.{◌≡◌, ℕ, zero, suc, ◌<◌, ◌≤◌, min, Bool, true, false, cond, eqb, leb, ◌||◌, List, [], ◌∷◌, ◌++◌, length, get_or, refl, sym, ap, subst, ◌∙◌, inl, inr, arith}
 use Rattle.std.specs.List.{flat_map, range_with_len}
 use Rattle.std.proofs.lemmas.Bool.{cases_Bool, or_cases, eqb-true, leb-true}
 use Rattle.std.proofs.lemmas.List.FromFn.{length-range_with_len, get_or-range_with_len}
@@ -43,7 +43,7 @@ turns-none net (i ∷ is) none (suc k) d lt =
     turns-none net is (sym (ap (λ (es : List Event). turns (after net es) is) parts.0) ∙ parts.1) k d (omega arith)
 
 -- after a round without an event nothing is pending
-round-none : (net : Network) → length (round net) ≡ 0 → (i j : ℕ) → i < length net.views → j < length net.views → pending net i j ≡ []
+pub round-none : (net : Network) → length (round net) ≡ 0 → (i j : ℕ) → i < length net.views → j < length net.views → pending net i j ≡ []
 round-none net none i j li lj =
     let n : ℕ = length net.views in
     let long : length (range_with_len 0 n) ≡ n = length-range_with_len 0 n in
@@ -55,7 +55,7 @@ round-none net none i j li lj =
     none_long (pending net i j) (take-none j (length (pending net i j)) (subst (λ (k : ℕ). take_some k (length (pending net i k)) ≡ []) at-j taken))
 
 -- playing stops at its end
-played-stops : (budget : ℕ) (net end : Network) (pieces : List (List Event)) → PlaysTo budget net pieces end → stops budget end ≡ true
+pub played-stops : (budget : ℕ) (net end : Network) (pieces : List (List Event)) → PlaysTo budget net pieces end → stops budget end ≡ true
 played-stops budget net end [] plays = subst (λ (n : Network). stops budget n ≡ true) plays.1 plays.0
 played-stops budget net end (es ∷ pieces) plays = played-stops budget (after net es) end pieces plays.2
 

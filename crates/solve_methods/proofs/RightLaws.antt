@@ -1,5 +1,5 @@
 -- A report whose cost is the best sum, and its bounds too, is right.
-use Rattle.std.proofs.Common.{◌≡◌, ℕ, ◌+◌, ◌≤◌, List, refl, sym, ap, subst, ◌∙◌, arith}
+use Rattle.std.proofs.Common.{◌≡◌, ℕ, List, sym, ap, subst, ◌∙◌, arith}
 use Rattle.dcop_base.specs.Problem.{Dcop, IsAssignment, cost}
 use Rattle.dcop_optimum.specs.Goal.{IsGreatestSum}
 use Rattle.dcop_optimum.proofs.OptimumLaws.{optimum_same}

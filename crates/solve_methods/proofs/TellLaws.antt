@@ -26,10 +26,15 @@ HasWord-assignment (s ∷ ss) (v ∷ vs) [] are within = absurd are
 HasWord-assignment (s ∷ ss) (v ∷ vs) (l ∷ ls) are within =
     (HasWord-label s v l are.0 within.0, HasWord-assignment ss vs ls are.1 within.1)
 
--- the names of a file can tell an assignment's report that has no certificate
-pub CanTell-assignment : (file : TextFile) (report : Report) → IsFile file → IsAssignment file.problem report.values → report.certificate ≡ None → CanTell report file
-CanTell-assignment file report whole assignment none = record {
+-- the names of a file can tell an assignment's report whose certificate, where it has one, names variables only
+pub CanTell-certified : (file : TextFile) (report : Report) → IsFile file → IsAssignment file.problem report.values → IfSome report.certificate (IsNamedCertificate (length file.names)) → CanTell report file
+CanTell-certified file report whole assignment named = record {
   many = sym (length_all_zip (λ s v. v < s) file.problem.sizes report.values assignment) ∙ sym whole.named;
   worded = HasWord-assignment file.problem.sizes report.values file.labels whole.labels assignment;
-  named = subst (λ (c : Option Certificate). IfSome c (IsNamedCertificate (length file.names))) (sym none) tt;
+  named = named;
 }
+
+-- and one that has no certificate
+pub CanTell-assignment : (file : TextFile) (report : Report) → IsFile file → IsAssignment file.problem report.values → report.certificate ≡ None → CanTell report file
+CanTell-assignment file report whole assignment none =
+    CanTell-certified file report whole assignment (subst (λ (c : Option Certificate). IfSome c (IsNamedCertificate (length file.names))) (sym none) tt)

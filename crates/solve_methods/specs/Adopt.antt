@@ -1,5 +1,5 @@
 -- What ADOPT gives on a file.
-use Rattle.std.specs.Prelude.{◌≡◌, ℕ, ◌-◌, ◌≤◌, false, List, length, Option, Some, None, if◌then◌else◌, min, slice_get}
+use Rattle.std.specs.Prelude.{◌≡◌, ℕ, ◌-◌, ◌≤◌, false, List, Option, Some, None, if◌then◌else◌, min, slice_get}
 use Rattle.std.specs.List.{flat_map}
 use Rattle.dcop_base.specs.Problem.{Dcop, cost}
 use Rattle.dcop_base.specs.Whole.{IsProblem}

@@ -26,6 +26,10 @@ pub record IsUtilOf (p : Dcop) (paths : List (List ℕ)) (i : ℕ) (u : Util) : 
 abbrev pub AreUtilsOf : Dcop → List Util → Type 0
 AreUtilsOf p utils = AllZip (IsUtilOf p (dfs p)) (preorder_of (dfs p)) utils
 
+-- a certificate has the tables of all variables of a problem
+abbrev pub HasUtilsOf : Dcop → Certificate → Type 0
+HasUtilsOf p (Tables utils) = AreUtilsOf p utils
+
 -- these tables are those of the problem solved for a file, they fit it, and they show that the report holds
 pub record AreTablesOf (file : TextFile) (report : Report) (utils : List Util) : Type 0 where
   pub tables : AreUtilsOf (problem_solved file) utils

@@ -1,5 +1,5 @@
 -- What DPOP gives on a file.
-use Rattle.std.specs.Prelude.{◌≡◌, ℕ, Bool, ◌-◌, ◌*◌, List, length, Option, Some, None, Result, Ok, Err}
+use Rattle.std.specs.Prelude.{◌≡◌, ℕ, Bool, ◌-◌, ◌*◌, List, length, Option, Some, None, IfSome, is_some, Result, Ok, Err}
 use Rattle.dcop_base.specs.Problem.{Dcop, IsAssignment, cost}
 use Rattle.dcop_base.specs.Whole.{IsProblem}
 use Rattle.pseudotree.specs.DepthFirst.{dfs}
@@ -17,7 +17,7 @@ use Rattle.certificate_text.specs.declared.report.Method.TheVariants.{Dpop}
 use Rattle.solve_report.specs.declared.answer.Answer.{Answer}
 use Rattle.solve_report.specs.declared.answer.Answer.TheVariants as answers
 use Rattle.certificate_check.specs.Goal.{solved, IsBestSum}
-use Rattle.solve_methods.specs.Certified.{IsCertified}
+use Rattle.solve_methods.specs.Certified.{HasUtilsOf, IsCertified}
 use Rattle.solve_methods.specs.declared.dpop.Chosen.{Chosen}
 use Rattle.solve_methods.specs.declared.dpop.DpopFault.{DpopFault}
 use Rattle.solve_methods.specs.declared.dpop.DpopFault.TheVariants as faults
@@ -73,16 +73,17 @@ pub record AnswersDpop (d : Declared) (certified : Bool) (answer : Answer) : Typ
   pub declared : declared_by file ≡ d
   pub is : IsDpopAnswer file certified answer
 
--- what the agents of a problem chose: the first optimum of its depth-first tree, with as many messages as DPOP takes
+-- what the agents of a problem chose: the first optimum of its depth-first tree, with as many messages as DPOP takes; a certificate, where there is one, has the tables of all variables
 pub record HaveAgreed (p : Dcop) (chosen : Chosen) : Type 0 where
   pub first : IsFirstOfTree p chosen.values
   pub deliveries : chosen.deliveries ≡ dpop_deliveries p
+  pub certificate : IfSome chosen.certificate (HasUtilsOf p)
 
--- what the agents of a problem chose, unless its tree is too wide or memory was wanted
-abbrev pub GivesChosen : Dcop → Result Chosen DpopFault → Type 0
-GivesChosen p (Ok chosen) = (wide_in p ≡ None) × HaveAgreed p chosen
-GivesChosen p (Err (faults.TooWide wide)) = wide_in p ≡ Some wide
-GivesChosen p (Err faults.NoMemory) = Unit {0}
+-- what the agents of a problem chose, with a certificate exactly where one is asked for, unless its tree is too wide or memory was wanted
+abbrev pub GivesChosen : Dcop → Bool → Result Chosen DpopFault → Type 0
+GivesChosen p certified (Ok chosen) = (wide_in p ≡ None) × (is_some chosen.certificate ≡ certified) × HaveAgreed p chosen
+GivesChosen p certified (Err (faults.TooWide wide)) = wide_in p ≡ Some wide
+GivesChosen p certified (Err faults.NoMemory) = Unit {0}
 
 -- values that the agents of the problem solved chose, seen from the problem itself: an assignment whose cost is the best sum
 pub record AreBestChosen (goal : Goal) (p : Dcop) (chosen : Chosen) : Type 0 where
@@ -92,9 +93,10 @@ pub record AreBestChosen (goal : Goal) (p : Dcop) (chosen : Chosen) : Type 0 whe
   pub deliveries : chosen.deliveries ≡ dpop_deliveries p
   pub assignment : IsAssignment p chosen.values
   pub best : IsBestSum goal p (cost p chosen.values)
+  pub certificate : IfSome chosen.certificate (HasUtilsOf (solved goal p))
 
--- the best values of a problem by its goal, unless the tree of the problem solved is too wide or memory was wanted
-abbrev pub GivesBestChosen : Goal → Dcop → Result Chosen DpopFault → Type 0
-GivesBestChosen goal p (Ok chosen) = AreBestChosen goal p chosen
-GivesBestChosen goal p (Err (faults.TooWide wide)) = IsProblem p × (wide_in (solved goal p) ≡ Some wide)
-GivesBestChosen goal p (Err faults.NoMemory) = Unit {0}
+-- the best values of a problem by its goal, with a certificate exactly where one is asked for, unless the tree of the problem solved is too wide or memory was wanted
+abbrev pub GivesBestChosen : Goal → Dcop → Bool → Result Chosen DpopFault → Type 0
+GivesBestChosen goal p certified (Ok chosen) = (is_some chosen.certificate ≡ certified) × AreBestChosen goal p chosen
+GivesBestChosen goal p certified (Err (faults.TooWide wide)) = IsProblem p × (wide_in (solved goal p) ≡ Some wide)
+GivesBestChosen goal p certified (Err faults.NoMemory) = Unit {0}

@@ -4,5 +4,6 @@ pub mod Certified
 pub mod Dpop
 pub mod Agreed
 pub mod Adopt
+pub mod Reached
 pub mod Tree
 pub mod Found

@@ -1,12 +1,10 @@
 //! The answer of DPOP.
 
-ghost use Rattle.std.specs.Prelude.{◌≡◌, false, map, IfOk};
+ghost use Rattle.std.specs.Prelude.{◌≡◌, is_some, IfOk};
 ghost use Rattle.dcop_base.specs.Problem.{IsAssignment};
 ghost use Rattle.pseudotree.specs.DepthFirst.{dfs};
 ghost use Rattle.pseudotree.specs.Pseudotree.{IsPseudotreeOf};
 ghost use Rattle.pseudotree.specs.Width.{IsNarrow};
-ghost use Rattle.protocol_steps.specs.View.{value_of};
-ghost use Rattle.delivery_core.specs.State.{views_of};
 ghost use Rattle.problem_text.specs.Steps.{declared_by};
 ghost use Rattle.certificate_text.specs.Named.{CanTell};
 ghost use Rattle.solve_report.specs.AnswerText.{HasText};
@@ -15,23 +13,27 @@ ghost use Rattle.solve_methods.specs.Dpop.{AnswersDpop, HaveAgreed, IsDpopReport
 ghost use Rattle.solve_methods.specs.Dpop.{GivesBestChosen, GivesChosen, AreBestChosen};
 ghost use Rattle.solve_methods.specs.Goal.{TellsRight};
 
-use crate::tree::{Found, find_tree};
-use certificate_text::{Ending, Method, Report};
-use dcop_base::{NoMemory, Problem, ValList, VarId, cost_of};
+use crate::tables::certificate_in;
+use crate::tree::{Found, find_tree, node_rows_if};
+use crate::values::values_in;
+use certificate_text::{Certificate, Ending, Method, Report};
+use dcop_base::{NoMemory, Problem, ValList, cost_of};
 use dcop_optimum::turn;
 use delivery_core::{CoreState, Start, play};
 use dpop_runs::dpop_runs;
 use problem_text::{Goal, Names, ProblemFile};
-use pseudotree::{Tree, Wide, widths};
+use pseudotree::{Tree, Wide, depth_first_trees_are_linked, widths};
 use solve_report::Answer;
 use std::alloc::Global;
 use token_runs::token_runs;
 
-/// The values that agents chose, and how many messages they took to do so.
+/// The values that agents chose, and how many messages they took to do so; and the tables that show
+/// the values to be optimal, where these are asked for.
 #[derive(Debug, Drop)]
 pub struct Chosen {
     values: ValList,
     deliveries: u64,
+    certificate: Option<Certificate>,
 }
 
 /// Why agents chose no values.
@@ -60,10 +62,7 @@ pub fn dpop_answer(alloc: Global, file: ProblemFile, certified: bool) -> Result<
     ensures right { IfOk result TellsRight }
     ensures told { IfOk result HasText }
 {
-    if certified {
-        return Err(NoMemory);
-    }
-    match choose_for(alloc, file.goal, &file.problem) {
+    match choose_for(alloc, file.goal, &file.problem, certified) {
         Ok(chosen) => Ok(Answer::Report {
             report: dpop_report(&file, chosen),
             file,
@@ -83,14 +82,19 @@ fn too_wide(wide: Wide, names: Names) -> Answer
     }
 }
 
-/// The report of these values.
+/// The report of these values, with their certificate where there is one.
 fn dpop_report(file: &ProblemFile, chosen: Chosen) -> Report
     requires { AreBestChosen file.now.goal file.now.problem chosen }
-    ensures form { IsDpopReport file.now false result }
+    ensures form { IsDpopReport file.now (is_some chosen.certificate) result }
     ensures values { result.values ≡ chosen.values }
     ensures told { CanTell result file.now }
 {
-    let Chosen { values, deliveries } = chosen;
+    depth_first_trees_are_linked();
+    let Chosen {
+        values,
+        deliveries,
+        certificate,
+    } = chosen;
     let cost = cost_of(&file.problem, values.as_slice());
     Report {
         status: Ending::Solved,
@@ -102,27 +106,32 @@ fn dpop_report(file: &ProblemFile, chosen: Chosen) -> Report
         lower: cost,
         upper: cost,
         values,
-        certificate: None,
+        certificate,
     }
 }
 
 /// The values that the agents of the problem solved choose: it is this one, or for goal max the
 /// turned one.
-fn choose_for(alloc: Global, goal: Goal, problem: &Problem) -> Result<Chosen, DpopFault>
-    ensures { GivesBestChosen goal problem.now result }
+fn choose_for(
+    alloc: Global,
+    goal: Goal,
+    problem: &Problem,
+    certified: bool,
+) -> Result<Chosen, DpopFault>
+    ensures { GivesBestChosen goal problem.now certified result }
 {
     // One that is read is known to be within its limits.
     let _ = problem.sizes.as_slice();
     match goal {
-        Goal::Min => choose(alloc, problem),
-        Goal::Max => choose(alloc, &turn(alloc, problem)?),
+        Goal::Min => choose(alloc, problem, certified),
+        Goal::Max => choose(alloc, &turn(alloc, problem)?, certified),
     }
 }
 
 /// The values that the agents of a problem choose. They search its depth-first tree first; where
 /// it is too wide for their tables, they choose none.
-fn choose(alloc: Global, problem: &Problem) -> Result<Chosen, DpopFault>
-    ensures { GivesChosen problem.now result }
+fn choose(alloc: Global, problem: &Problem, certified: bool) -> Result<Chosen, DpopFault>
+    ensures { GivesChosen problem.now certified result }
 {
     let Found {
         tree,
@@ -130,21 +139,30 @@ fn choose(alloc: Global, problem: &Problem) -> Result<Chosen, DpopFault>
     } = find_tree(alloc, problem)?;
     match widths(&tree, problem) {
         Some(wide) => Err(DpopFault::TooWide(wide)),
-        None => Ok(choose_on(alloc, problem, tree)?),
+        None => Ok(choose_on(alloc, problem, tree, certified)?),
     }
 }
 
-/// The values that the agents of a problem choose on its depth-first tree.
-fn choose_on(alloc: Global, problem: &Problem, tree: Tree) -> Result<Chosen, NoMemory>
+/// The values that the agents of a problem choose on its depth-first tree. The nodes of the tree are
+/// kept from them only where the values are to be certified.
+fn choose_on(
+    alloc: Global,
+    problem: &Problem,
+    tree: Tree,
+    certified: bool,
+) -> Result<Chosen, NoMemory>
     requires tree { IsPseudotreeOf problem.now tree }
     requires paths { tree.paths ≡ dfs problem.now }
     requires narrow { IsNarrow problem.now tree.paths }
-    ensures { IfOk result (HaveAgreed problem.now) }
+    ensures asked { IfOk result (λ chosen. is_some chosen.certificate ≡ certified) }
+    ensures agreed { IfOk result (HaveAgreed problem.now) }
 {
+    let nodes = node_rows_if(alloc, certified, &tree)?;
     let state = play_tables(alloc, problem, tree)?;
     Ok(Chosen {
         values: values_in(alloc, problem, &state)?,
         deliveries: state.deliveries(),
+        certificate: certificate_in(alloc, nodes, &state)?,
     })
 }
 
@@ -160,17 +178,4 @@ fn play_tables(alloc: Global, problem: &Problem, tree: Tree) -> Result<CoreState
     dpop_runs();
     let count = problem.sizes.as_slice().len() as u64;
     Ok(play(alloc, problem, Start::Dpop(tree), 2 * (count - 1))?.state)
-}
-
-/// The values of the agents of a problem.
-fn values_in(alloc: Global, problem: &Problem, state: &CoreState) -> Result<ValList, NoMemory>
-    requires { HaveValues problem.now state.now }
-    ensures { IfOk result (λ values. values ≡ map value_of (views_of state.now.seats)) }
-{
-    let count = problem.sizes.as_slice().len();
-    let mut values = Vec::with_capacity(alloc, count)?;
-    for index in 0..count {
-        values.push(state.value(VarId(index as u32)))?;
-    }
-    Ok(ValList::from_vec(values))
 }

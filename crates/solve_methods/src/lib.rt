@@ -7,7 +7,9 @@
 mod adopt;
 mod dpop;
 mod plain;
+mod tables;
 mod tree;
+mod values;
 
 pub use adopt::adopt_answer;
 pub use dpop::dpop_answer;

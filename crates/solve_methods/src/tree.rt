@@ -1,6 +1,6 @@
 //! The answer of the command `tree`.
 
-ghost use Rattle.std.specs.Prelude.{◌≡◌, ◌<◌, length, IfOk};
+ghost use Rattle.std.specs.Prelude.{◌≡◌, ◌<◌, length, Some, None, IfOk, if◌then◌else◌};
 ghost use Rattle.pseudotree.specs.DepthFirst.{dfs};
 ghost use Rattle.pseudotree.specs.Fault.{parents_of};
 ghost use Rattle.pseudotree.specs.Pseudotree.{IsPseudotreeOf, separator_at};
@@ -115,6 +115,22 @@ fn only_memory(fault: TreeFault) -> NoMemory
     match fault {
         TreeFault::NoMemory => NoMemory,
         _ => unreachable!(),
+    }
+}
+
+/// The nodes of a tree in preorder, each with its parent and its separator, where they are wanted.
+pub(crate) fn node_rows_if(
+    alloc: Global,
+    wanted: bool,
+    tree: &Tree,
+) -> Result<Option<NodeRowList>, NoMemory>
+    ensures { IfOk result (λ rows. rows ≡
+        if wanted then Some (rows_with (separator_at tree.now) tree.now.paths) else None) }
+{
+    if wanted {
+        Ok(Some(node_rows(alloc, tree)?))
+    } else {
+        Ok(None)
     }
 }
 

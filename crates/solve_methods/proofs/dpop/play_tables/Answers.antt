@@ -1,7 +1,6 @@
 use Rattle.std.proofs.Common.{◌≡◌, ℕ, ◌-◌, ◌*◌, List, length, sym, ap, subst, ◌∙◌}
 use Rattle.dcop_base.specs.Problem.{Dcop}
 use Rattle.dcop_base.specs.Whole.{IsProblem}
-use Rattle.pseudotree.specs.DepthFirst.{dfs}
 use Rattle.pseudotree.specs.Pseudotree.{IsLinked}
 use Rattle.solve_methods.proofs.AgreedLaws.{played-agreed}
 use Rattle.solve_methods.proofs.dpop.play_tables.Goals as goal

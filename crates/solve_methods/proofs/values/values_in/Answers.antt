@@ -1,8 +1,7 @@
-use Rattle.std.proofs.Common.{◌≡◌, ℕ, List, [], ◌∷◌, ◌++◌, map, length, sym, ap, ◌∙◌, arith}
-use Rattle.dcop_base.specs.Problem.{Dcop}
+use Rattle.std.proofs.Common.{ℕ, List, [], ◌∷◌, ◌++◌, sym, ap, ◌∙◌}
 use Rattle.delivery_core.specs.State.{views_of}
 use Rattle.solve_methods.proofs.AgreedLaws.{next-value}
-use Rattle.solve_methods.proofs.dpop.values_in.Goals as goal
+use Rattle.solve_methods.proofs.values.values_in.Goals as goal
 
 pub loop-index-preserved : goal.loop-index-preserved
 loop-index-preserved c =
