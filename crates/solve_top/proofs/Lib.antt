@@ -1,5 +1,6 @@
 mod PassLaws
 mod UsedLaws
+mod PrefixLaws
 mod SameLaws
 mod PrintedLaws
 mod AnswerLaws

@@ -23,6 +23,7 @@ use Rattle.solve_report.specs.declared.answer.Answer.{Answer}
 use Rattle.solve_report.specs.declared.answer.Answer.TheVariants as answers
 use Rattle.solve_methods.specs.Dpop.{dpop_deliveries, wide_in, IsDpopReport, IsDpopSolved, IsAnswerBy, AnswersDpop}
 use Rattle.certificate_check.specs.Goal.{solved}
+use Rattle.solve_methods.proofs.OneLaws.{one_report}
 
 -- the file that declares this, with these joints
 abbrev file_with : Declared → List (ℕ × ℕ) → TextFile
@@ -58,16 +59,13 @@ report_in file certified answers.Read is = absurd is
 report_in file certified answers.NotYet is = absurd is
 
 module _ (optima : FirstOptimaOfTreesAreOne) (trees : DepthFirstTreesAreLinked) (certified : Bool) where
-  -- one report of DPOP belongs to a file
-  one_report : (file : TextFile) → IsProblem file.problem → (r s : Report) → IsDpopReport file certified r → IsDpopReport file certified s → r ≡ s
-  one_report file whole r s of_r of_s = ?
-
+  -- one answer of DPOP belongs to a file in whose tree this is too wide, or nothing
   one_by : (file : TextFile) → IsProblem file.problem → (wide : Option Wide) (a b : Answer) → IsAnswerBy file certified wide a → IsAnswerBy file certified wide b → a ≡ b
   one_by file whole (Some wide) a b of_a of_b = of_a ∙ sym of_b
   one_by file whole None a b of_a of_b =
       let in_a = report_in file certified a of_a in
       let in_b = report_in file certified b of_b in
-      in_a.1 ∙ ap (λ (r : Report). answers.Report r file) (one_report file whole in_a.0 in_b.0 in_a.2 in_b.2) ∙ sym in_b.1
+      in_a.1 ∙ ap (λ (r : Report). answers.Report r file) (one_report optima trees file whole certified in_a.0 in_b.0 in_a.2 in_b.2) ∙ sym in_b.1
 
   -- one answer of DPOP belongs to what a text declares
   pub one_answer : (d : Declared) (a b : Answer) → AnswersDpop d certified a → AnswersDpop d certified b → a ≡ b

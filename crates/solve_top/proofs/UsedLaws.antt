@@ -6,7 +6,7 @@ use Rattle.problem_text.specs.Lines.{Line, has_some, lines, onto_first, numbered
 use Rattle.problem_text.specs.Reading.{Fault, Parts, line_outcome, read_on, lines_read, text_read}
 
 -- how many bytes lines have together
-abbrev total : List (List ℕ) → ℕ
+abbrev pub total : List (List ℕ) → ℕ
 total [] = 0
 total (line ∷ later) = length line + total later
 

@@ -6,7 +6,7 @@ use Rattle.dcop_edge.specs.Faults.{Rose}
 use Rattle.dcop_edge.specs.Sink.{Adds}
 use Rattle.dcop_optimum.specs.declared.plain.TheConstants.{MAX_ASSIGNMENTS}
 use Rattle.problem_text.specs.Declarations.{Declared}
-use Rattle.problem_text.specs.File.{TextFile}
+use Rattle.problem_text.specs.File.{TextFile, IsFile}
 use Rattle.problem_text.specs.Steps.{declared_by}
 use Rattle.problem_text.specs.declared.line.TheConstants.{LF}
 use Rattle.problem_text.specs.Reading.{Parts, text_read}
@@ -95,6 +95,7 @@ pub record IsPrintedFor (text : List ℕ) : Type 0 where
   pub before : List ℕ
   pub line : problem ≡ before ++ LF ∷ []
   pub file : TextFile
+  pub is_file : IsFile file
   pub report : Report
   pub printed : AnswersDpop parts.declared true (answers.Report report file)
   pub behind : text ≡ problem ++ report_text report file
