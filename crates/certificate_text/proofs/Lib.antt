@@ -2,6 +2,6 @@ pub mod ReportLaws
 mod UtilLineLaws
 mod ValueLineLaws
 mod LineAgainLaws
-mod AgainLaws
+pub mod AgainLaws
 mod LineFitsLaws
 mod FitsLaws

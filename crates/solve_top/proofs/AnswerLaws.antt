@@ -1,37 +1,46 @@
 -- Which answer belongs to which words and input, case by case; and what its status says of the source.
-use Rattle.std.proofs.Common.{◌≡◌, ◌≢◌, ℕ, ◌<◌, List, Option, Some, None, Result, Ok, Err, IfOk, sym, ap, subst, arith, refl, ◌∙◌}
+use Rattle.std.proofs.Common.{take, drop, ◌≡◌, ◌≢◌, ℕ, ◌<◌, Bool, List, Option, Some, None, Result, Ok, Err, IfOk, sym, ap, subst, arith, refl, ◌∙◌}
 use Rattle.dcop_edge.specs.Faults.{Rose}
 use Rattle.dcop_base.specs.Whole.{IsProblem}
-use Rattle.dcop_optimum.specs.TreeOptimum.{FirstOptimaOfTreesAreOne}
-use Rattle.pseudotree.specs.DepthFirst.{DepthFirstTreesAreLinked}
 use Rattle.pseudotree.specs.declared.width.Wide.{Wide}
 use Rattle.pseudotree.specs.declared.width.Wide.TheVariants.{Agent, Total}
 use Rattle.dcop_base.specs.declared.memory.NoMemory.{NoMemory}
 use Rattle.problem_text.specs.Declarations.{Declared}
 use Rattle.problem_text.specs.File.{TextFile}
-use Rattle.problem_text.specs.Reading.{Fault}
+use Rattle.problem_text.specs.Reading.{Fault, Parts, text_read}
 use Rattle.problem_text.specs.Steps.{declared_by}
 use Rattle.solve_words.specs.declared.command.Command.{Command}
 use Rattle.solve_words.specs.declared.fault.WordFault.{WordFault}
 use Rattle.solve_words.specs.declared.fault.WordFault.TheVariants as words
 use Rattle.solve_words.specs.Command.{answer_to}
+use Rattle.certificate_text.specs.declared.report.Ending.{Ending}
+use Rattle.certificate_text.specs.declared.report.Ending.TheVariants as endings
+use Rattle.certificate_text.specs.declared.report.Report.{Report}
+use Rattle.certificate_text.specs.declared.verdict.Verdict.{Verdict}
+use Rattle.certificate_text.specs.declared.verdict.Verdict.TheVariants as verdicts
+use Rattle.certificate_text.specs.ReportReading.{Fault as ReportFault, report_read}
 use Rattle.solve_report.specs.declared.answer.Answer.{Answer}
 use Rattle.solve_report.specs.declared.answer.Answer.TheVariants as answers
+use Rattle.solve_top.specs.declared.status.Status.{Status}
 use Rattle.solve_top.specs.declared.status.Status.TheVariants.{Solved, TooWide, ReadFault, WriteFault, NoMemory as no_memory}
 use Rattle.solve_top.specs.declared.task.Task.{Task}
-use Rattle.solve_top.specs.declared.task.Task.TheVariants as tasks
-use Rattle.solve_top.specs.Answering.{IsTaskAnswer, IsTextAnswer, IsInputAnswer, IsServedAnswer, IsCommandAnswer, IsAnswer}
+use Rattle.solve_top.specs.declared.task.Task.TheVariants.{File, Check}
+use Rattle.solve_top.specs.declared.task.FileTask.{FileTask}
+use Rattle.solve_top.specs.declared.task.FileTask.TheVariants as tasks
+use Rattle.solve_top.specs.Answering.{lines_in, IsFileAnswer, IsTextAnswer, IsReportAnswer, IsTaskAnswer, IsInputAnswer, IsServedAnswer, IsCommandAnswer, IsAnswer}
+use Rattle.solve_methods.specs.Adopt.{IsAdoptAnswer}
 use Rattle.solve_methods.specs.Dpop.{wide_in, wide_answer, IsDpopSolved, IsAnswerBy, IsDpopAnswer}
 use Rattle.certificate_check.specs.Goal.{solved}
-use Rattle.solve_methods.specs.Goal.{TellsBest}
+use Rattle.solve_methods.specs.Goal.{TellsRight}
 use Rattle.solve_top.specs.Input.{Input, Unread, Broken, TooLong, Whole, SourceState, IsAllOf, HadMore, IsReadFrom}
-use Rattle.solve_top.specs.Same.{AreReadAlike, DpopAnswersAreOne}
 use Rattle.solve_top.specs.Served.{task_of}
-use Rattle.solve_top.specs.Solving.{Answered, HasFitTree, IsWithinLimits, Accepts}
-use Rattle.solve_top.specs.Statuses.{status_of}
+use Rattle.solve_top.specs.Solving.{Answered, HasFitTree, IsWithinLimits, IsTextFor, Accepts, GoesWell}
+use Rattle.solve_top.specs.Statuses.{status_of, status_of_ending, status_of_verdict}
 use Rattle.solve_methods.specs.Tree.{IsTreeAnswer}
 use Rattle.solve_top.specs.Whole.{whole_read}
-use Rattle.solve_top.proofs.SameLaws.{one_file, report_in, one_answer}
+use Rattle.solve_check.specs.Checking.{IsReadAnswer}
+use Rattle.solve_top.proofs.SameLaws.{one_file, report_in}
+use Rattle.solve_top.proofs.PrintedLaws.{printed_solved}
 
 -- the answer of a task, where words ask for it
 IsAnswer-task : (words : List (List ℕ)) (command : Command) (task : Task) (input : Input) (answer : Answer)
@@ -40,72 +49,101 @@ IsAnswer-task words command task input answer asked served is =
     subst (λ (r : Result Command WordFault). IsCommandAnswer r input answer) (sym asked)
     (subst (λ (t : Option Task). IsServedAnswer t input answer) (sym served) is)
 
-task-IsAnswer : (words : List (List ℕ)) (command : Command) (task : Task) (input : Input) (answer : Answer)
+pub task-IsAnswer : (words : List (List ℕ)) (command : Command) (task : Task) (input : Input) (answer : Answer)
     → answer_to words ≡ Ok command → task_of command ≡ Some task → IsAnswer words input answer → IsInputAnswer task input answer
 task-IsAnswer words command task input answer asked served is =
     subst (λ (t : Option Task). IsServedAnswer t input answer) served
     (subst (λ (r : Result Command WordFault). IsCommandAnswer r input answer) asked is)
 
 pub Answered-task : (words : List (List ℕ)) (command : Command) (task : Task) (before after : SourceState) (input : Input) (answer : Answer)
-    → answer_to words ≡ Ok command → task_of command ≡ Some task → IsReadFrom input before after → IsInputAnswer task input answer → TellsBest answer
+    → answer_to words ≡ Ok command → task_of command ≡ Some task → IsReadFrom input before after → IsInputAnswer task input answer → TellsRight answer
     → Answered words before after answer
-Answered-task words command task before after input answer asked served read is best = record {
+Answered-task words command task before after input answer asked served read is right = record {
   input = input;
   read = read;
   belongs = IsAnswer-task words command task input answer asked served is;
-  best = best;
+  right = right;
 }
 
 -- the same on all bytes that were read, unless memory was wanted
 pub Answered-text : (words : List (List ℕ)) (command : Command) (task : Task) (before after : SourceState) (bytes slice : List ℕ) (result : Result Answer NoMemory)
     → answer_to words ≡ Ok command → task_of command ≡ Some task → IsReadFrom (Whole bytes) before after → slice ≡ bytes
-    → IfOk result (IsTextAnswer task (whole_read slice)) → IfOk result TellsBest → IfOk result (Answered words before after)
-Answered-text words command task before after bytes slice (Ok answer) asked served read same is best =
-    Answered-task words command task before after (Whole bytes) answer asked served read (subst (λ (t : List ℕ). IsTextAnswer task (whole_read t) answer) same is) best
-Answered-text words command task before after bytes slice (Err none) asked served read same is best = tt
+    → IfOk result (IsTaskAnswer task slice) → IfOk result TellsRight → IfOk result (Answered words before after)
+Answered-text words command task before after bytes slice (Ok answer) asked served read same is right =
+    Answered-task words command task before after (Whole bytes) answer asked served read (subst (λ (t : List ℕ). IsTaskAnswer task t answer) same is) right
+Answered-text words command task before after bytes slice (Err none) asked served read same is right = tt
+
+-- the status of a report is no fault
+ending-told : (ending : Ending) → (status_of_ending ending ≢ WriteFault) × (status_of_ending ending ≢ no_memory) × (status_of_ending ending ≢ ReadFault)
+ending-told endings.Solved = (λ e. cc, λ e. cc, λ e. cc)
+ending-told endings.Spent = (λ e. cc, λ e. cc, λ e. cc)
+
+-- nor is that of a verdict
+verdict-told : (verdict : Verdict) → (status_of_verdict verdict ≢ WriteFault) × (status_of_verdict verdict ≢ no_memory) × (status_of_verdict verdict ≢ ReadFault)
+verdict-told (verdicts.Yes cost error) = (λ e. cc, λ e. cc, λ e. cc)
+verdict-told (verdicts.No differs) = (λ e. cc, λ e. cc, λ e. cc)
 
 -- no answer has the status of a sink that failed, or of want of memory
 pub told-status : (answer : Answer) → (status_of answer ≢ WriteFault) × (status_of answer ≢ no_memory)
-told-status (answers.Report report file) = (λ e. cc, λ e. cc)
+told-status (answers.Report report file) = let told = ending-told report.status in (told.0, told.1)
+told-status (answers.Verdict verdict names) = let told = verdict-told verdict in (told.0, told.1)
 told-status (answers.Tree deliveries nodes names) = (λ e. cc, λ e. cc)
-told-status (answers.Many n) = (λ e. cc, λ e. cc)
-told-status (answers.WideAgent var cells names) = (λ e. cc, λ e. cc)
-told-status (answers.WideTotal cells) = (λ e. cc, λ e. cc)
 told-status (answers.Upgraded file) = (λ e. cc, λ e. cc)
 told-status (answers.Words at kind) = (λ e. cc, λ e. cc)
 told-status (answers.ProblemText line kind problem) = (λ e. cc, λ e. cc)
+told-status (answers.ReportText line kind) = (λ e. cc, λ e. cc)
+told-status (answers.Many n) = (λ e. cc, λ e. cc)
+told-status (answers.WideAgent var cells names) = (λ e. cc, λ e. cc)
+told-status (answers.WideTotal cells) = (λ e. cc, λ e. cc)
 told-status answers.Read = (λ e. cc, λ e. cc)
 told-status answers.NotYet = (λ e. cc, λ e. cc)
+
+-- one answer alone has the status of a source that failed
+read-alone : (answer : Answer) → status_of answer ≡ ReadFault → answer ≡ answers.Read
+read-alone (answers.Report report file) e = absurd ((ending-told report.status).2 e)
+read-alone (answers.Verdict verdict names) e = absurd ((verdict-told verdict).2 e)
+read-alone answers.Read e = refl
+read-alone (answers.Tree deliveries nodes names) e = cc
+read-alone (answers.Upgraded file) e = cc
+read-alone (answers.Words at kind) e = cc
+read-alone (answers.ProblemText line kind problem) e = cc
+read-alone (answers.ReportText line kind) e = cc
+read-alone (answers.Many n) e = cc
+read-alone (answers.WideAgent var cells names) e = cc
+read-alone (answers.WideTotal cells) e = cc
+read-alone answers.NotYet e = cc
 
 -- an answer of `tree` is solved
 tree-solved : (file : TextFile) (answer : Answer) → IsTreeAnswer file answer → status_of answer ≡ Solved
 tree-solved file (answers.Tree deliveries nodes names) is = refl
 tree-solved file (answers.Report report same) is = absurd is
-tree-solved file (answers.Many n) is = absurd is
-tree-solved file (answers.WideAgent var cells names) is = absurd is
-tree-solved file (answers.WideTotal cells) is = absurd is
+tree-solved file (answers.Verdict verdict names) is = absurd is
 tree-solved file (answers.Upgraded same) is = absurd is
 tree-solved file (answers.Words at kind) is = absurd is
 tree-solved file (answers.ProblemText line kind problem) is = absurd is
+tree-solved file (answers.ReportText line kind) is = absurd is
+tree-solved file (answers.Many n) is = absurd is
+tree-solved file (answers.WideAgent var cells names) is = absurd is
+tree-solved file (answers.WideTotal cells) is = absurd is
 tree-solved file answers.Read is = absurd is
 tree-solved file answers.NotYet is = absurd is
 
 -- an answer with a report of DPOP is solved
-report-solved : (file : TextFile) (answer : Answer) → IsDpopSolved file answer → status_of answer ≡ Solved
-report-solved file answer is = ap status_of (report_in file answer is).1
+report-solved : (file : TextFile) (certified : Bool) (answer : Answer) → IsDpopSolved file certified answer → status_of answer ≡ Solved
+report-solved file certified answer is = let parts = report_in file certified answer is in ap status_of parts.1 ∙ ap status_of_ending parts.2.status
 
--- an answer of DPOP is solved or too wide
+-- and so is one of DPOP where nothing is too wide
+dpop-solved : (file : TextFile) (certified : Bool) (answer : Answer) → wide_in (solved file.goal file.problem) ≡ None → IsDpopAnswer file certified answer → status_of answer ≡ Solved
+dpop-solved file certified answer none is = report-solved file certified answer (subst (λ (wide : Option Wide). IsAnswerBy file certified wide answer) none is)
+
+-- what is too wide is told by another status than that of a failed source
 wide-status : (names : List (List ℕ)) (wide : Wide) → status_of (wide_answer names wide) ≡ TooWide
 wide-status names (Agent var cells) = refl
 wide-status names (Total cells) = refl
 
-dpop-sound : (file : TextFile) (wide : Option Wide) (answer : Answer) → IsAnswerBy file wide answer → status_of answer ≢ ReadFault
-dpop-sound file None answer is = λ e. let s = report-solved file answer is in cc
-dpop-sound file (Some wide) answer is = λ e. let s = ap status_of is in let t = wide-status file.names wide in cc
-
--- and solved where nothing is too wide
-dpop-solved : (file : TextFile) (answer : Answer) → wide_in (solved file.goal file.problem) ≡ None → IsDpopAnswer file answer → status_of answer ≡ Solved
-dpop-solved file answer none is = report-solved file answer (subst (λ (wide : Option Wide). IsAnswerBy file wide answer) none is)
+dpop-sound : (file : TextFile) (certified : Bool) (wide : Option Wide) → ¬ IsAnswerBy file certified wide answers.Read
+dpop-sound file certified None is = is
+dpop-sound file certified (Some wide) is = let s = ap status_of is in let t = wide-status file.names wide in cc
 
 -- nothing is too wide in the tree of a file, where that is so of one that declares the same
 fit-none : (d : Declared) → HasFitTree d → (file : TextFile) → IsProblem file.problem → declared_by file ≡ d → wide_in (solved file.goal file.problem) ≡ None
@@ -113,41 +151,56 @@ fit-none d fit file whole declared =
     subst (λ (f : TextFile). wide_in (solved f.goal f.problem) ≡ None) (one_file fit.file file fit.whole whole (fit.declared ∙ sym declared))
     fit.fits
 
--- a task's answer to a text that was read is no failed reading
-task-sound : (task : Task) (d : Declared) (answer : Answer) → IsTaskAnswer task d answer → status_of answer ≢ ReadFault
-task-sound tasks.Plain d (answers.Report report file) is = λ e. cc
-task-sound tasks.Plain d (answers.Many n) is = λ e. cc
-task-sound tasks.Plain d (answers.Tree deliveries nodes names) is = absurd is
-task-sound tasks.Plain d (answers.Upgraded file) is = absurd is
-task-sound tasks.Plain d (answers.Words at kind) is = absurd is
-task-sound tasks.Plain d (answers.WideAgent var cells names) is = absurd is
-task-sound tasks.Plain d (answers.WideTotal cells) is = absurd is
-task-sound tasks.Plain d (answers.ProblemText line kind problem) is = absurd is
-task-sound tasks.Plain d answers.Read is = absurd is
-task-sound tasks.Plain d answers.NotYet is = absurd is
-task-sound tasks.Dpop d answer is = dpop-sound is.file (wide_in (solved is.file.goal is.file.problem)) answer is.is
-task-sound tasks.Tree d answer is = λ e. let s = tree-solved is.file answer is.is in cc
-task-sound tasks.Upgrade d (answers.Upgraded file) is = λ e. cc
-task-sound tasks.Upgrade d (answers.Report report file) is = absurd is
-task-sound tasks.Upgrade d (answers.Tree deliveries nodes names) is = absurd is
-task-sound tasks.Upgrade d (answers.Many n) is = absurd is
-task-sound tasks.Upgrade d (answers.Words at kind) is = absurd is
-task-sound tasks.Upgrade d (answers.WideAgent var cells names) is = absurd is
-task-sound tasks.Upgrade d (answers.WideTotal cells) is = absurd is
-task-sound tasks.Upgrade d (answers.ProblemText line kind problem) is = absurd is
-task-sound tasks.Upgrade d answers.Read is = absurd is
-task-sound tasks.Upgrade d answers.NotYet is = absurd is
+-- a report of ADOPT goes well
+ending-well : (error budget : ℕ) (ending : Ending) → GoesWell (status_of_ending ending) (File (tasks.Adopt error budget))
+ending-well error budget endings.Solved = tt
+ending-well error budget endings.Spent = tt
 
-text-sound : (task : Task) (read : Result Declared Fault) (answer : Answer) → IsTextAnswer task read answer → status_of answer ≢ ReadFault
-text-sound task (Ok d) answer is = task-sound task d answer is
-text-sound task (Err fault) answer is = λ e. let s = ap status_of is in cc
+adopt-well : (file : TextFile) (error budget : ℕ) (answer : Answer) → IsAdoptAnswer file error budget answer → GoesWell (status_of answer) (File (tasks.Adopt error budget))
+adopt-well file error budget (answers.Report report same) is = ending-well error budget report.status
+adopt-well file error budget (answers.Tree deliveries nodes names) is = absurd is
+adopt-well file error budget (answers.Verdict verdict names) is = absurd is
+adopt-well file error budget (answers.Upgraded same) is = absurd is
+adopt-well file error budget (answers.Words at kind) is = absurd is
+adopt-well file error budget (answers.ProblemText line kind problem) is = absurd is
+adopt-well file error budget (answers.ReportText line kind) is = absurd is
+adopt-well file error budget (answers.Many n) is = absurd is
+adopt-well file error budget (answers.WideAgent var cells names) is = absurd is
+adopt-well file error budget (answers.WideTotal cells) is = absurd is
+adopt-well file error budget answers.Read is = absurd is
+adopt-well file error budget answers.NotYet is = absurd is
+
+-- an answer to what a text declares is no failed reading
+file-sound : (task : FileTask) (d : Declared) → ¬ IsFileAnswer task d answers.Read
+file-sound tasks.Plain d is = is
+file-sound (tasks.Dpop certified) d is = dpop-sound is.file certified (wide_in (solved is.file.goal is.file.problem)) is.is
+file-sound (tasks.Adopt error budget) d is = is.is
+file-sound tasks.Tree d is = is.is
+file-sound tasks.Upgrade d is = is
+
+text-sound : (task : FileTask) (read : Result Declared Fault) → ¬ IsTextAnswer task read answers.Read
+text-sound task (Ok d) is = file-sound task d is
+text-sound task (Err fault) is = cc is
+
+-- nor is the answer of `check`
+read-sound : (file : TextFile) (before : ℕ) (read : Result Report ReportFault) → ¬ IsReadAnswer file before read answers.Read
+read-sound file before (Ok report) is = is
+read-sound file before (Err fault) is = cc is
+
+report-sound : (bytes : List ℕ) (read : Result Parts Fault) → ¬ IsReportAnswer bytes read answers.Read
+report-sound bytes (Ok parts) is = read-sound is.file (lines_in (take parts.used bytes)) (report_read (drop parts.used bytes) is.file) is.is
+report-sound bytes (Err fault) is = cc is
+
+task-sound : (task : Task) (bytes : List ℕ) → ¬ IsTaskAnswer task bytes answers.Read
+task-sound (File task) bytes is = text-sound task (whole_read bytes) is
+task-sound Check bytes is = report-sound bytes (text_read bytes) is
 
 -- only a broken input is answered by a failed reading
 input-sound : (task : Task) (input : Input) (answer : Answer) → IsInputAnswer task input answer → status_of answer ≡ ReadFault → input ≡ Broken
 input-sound task Unread answer is fault = absurd is
 input-sound task Broken answer is fault = refl
 input-sound task TooLong answer is fault = let s = ap status_of is in cc
-input-sound task (Whole bytes) answer is fault = absurd (text-sound task (whole_read bytes) answer is fault)
+input-sound task (Whole bytes) answer is fault = absurd (task-sound task bytes (subst (IsTaskAnswer task bytes) (read-alone answer fault) is))
 
 served-sound : (task : Option Task) (input : Input) (answer : Answer) → IsServedAnswer task input answer → status_of answer ≡ ReadFault → input ≡ Broken
 served-sound (Some task) input answer is fault = input-sound task input answer is fault
@@ -186,76 +239,60 @@ pub ReadFault-answered : (words : List (List ℕ)) (before after : SourceState) 
     → before.faults < after.faults → status_of answer ≡ ReadFault
 ReadFault-answered words before after answer done more = failed-input words before after done.input answer done.read done.belongs more
 
--- a task on what a text declares is solved, where it is within its limits
-task-solved : (task : Task) (d : Declared) (answer : Answer) → IsWithinLimits task d → IsTaskAnswer task d answer → status_of answer ≡ Solved
-task-solved tasks.Plain d (answers.Report report file) few is = refl
-task-solved tasks.Plain d (answers.Many n) few is = absurd (omega (arith, few, is.0))
-task-solved tasks.Plain d (answers.Tree deliveries nodes names) few is = absurd is
-task-solved tasks.Plain d (answers.Upgraded file) few is = absurd is
-task-solved tasks.Plain d (answers.Words at kind) few is = absurd is
-task-solved tasks.Plain d (answers.WideAgent var cells names) few is = absurd is
-task-solved tasks.Plain d (answers.WideTotal cells) few is = absurd is
-task-solved tasks.Plain d (answers.ProblemText line kind problem) few is = absurd is
-task-solved tasks.Plain d answers.Read few is = absurd is
-task-solved tasks.Plain d answers.NotYet few is = absurd is
-task-solved tasks.Dpop d answer few is = dpop-solved is.file answer (fit-none d few is.file is.whole is.declared) is.is
-task-solved tasks.Tree d answer few is = tree-solved is.file answer is.is
-task-solved tasks.Upgrade d (answers.Upgraded file) few is = refl
-task-solved tasks.Upgrade d (answers.Report report file) few is = absurd is
-task-solved tasks.Upgrade d (answers.Tree deliveries nodes names) few is = absurd is
-task-solved tasks.Upgrade d (answers.Many n) few is = absurd is
-task-solved tasks.Upgrade d (answers.Words at kind) few is = absurd is
-task-solved tasks.Upgrade d (answers.WideAgent var cells names) few is = absurd is
-task-solved tasks.Upgrade d (answers.WideTotal cells) few is = absurd is
-task-solved tasks.Upgrade d (answers.ProblemText line kind problem) few is = absurd is
-task-solved tasks.Upgrade d answers.Read few is = absurd is
-task-solved tasks.Upgrade d answers.NotYet few is = absurd is
+-- what is solved goes well
+solved-well : (status : Status) (task : Task) → status ≡ Solved → GoesWell status task
+solved-well status task is = subst (λ (s : Status). GoesWell s task) (sym is) tt
 
--- all of a text that is told, and accepted, is read and solved
-input-solved : (text : List ℕ) (words : List (List ℕ)) (accepts : Accepts words text) (before after : SourceState) (input : Input) (answer : Answer)
-    → before.left ≡ Some text → ¬ Rose before.faults after.faults → IsReadFrom input before after → IsInputAnswer accepts.task input answer → status_of answer ≡ Solved
-input-solved text words accepts before after Unread answer told steady read is = absurd is
-input-solved text words accepts before after Broken answer told steady read is = absurd (steady read)
-input-solved text words accepts before after TooLong answer told steady read is =
+-- a task on what a text declares goes well, where it is within its limits
+file-well : (task : FileTask) (d : Declared) (answer : Answer) → IsWithinLimits task d → IsFileAnswer task d answer → GoesWell (status_of answer) (File task)
+file-well tasks.Plain d (answers.Report report file) few is = solved-well (status_of_ending report.status) (File tasks.Plain) (ap status_of_ending is.2.status)
+file-well tasks.Plain d (answers.Many n) few is = absurd (omega (arith, few, is.0))
+file-well tasks.Plain d (answers.Tree deliveries nodes names) few is = absurd is
+file-well tasks.Plain d (answers.Verdict verdict names) few is = absurd is
+file-well tasks.Plain d (answers.Upgraded file) few is = absurd is
+file-well tasks.Plain d (answers.Words at kind) few is = absurd is
+file-well tasks.Plain d (answers.ProblemText line kind problem) few is = absurd is
+file-well tasks.Plain d (answers.ReportText line kind) few is = absurd is
+file-well tasks.Plain d (answers.WideAgent var cells names) few is = absurd is
+file-well tasks.Plain d (answers.WideTotal cells) few is = absurd is
+file-well tasks.Plain d answers.Read few is = absurd is
+file-well tasks.Plain d answers.NotYet few is = absurd is
+file-well (tasks.Dpop certified) d answer few is =
+    solved-well (status_of answer) (File (tasks.Dpop certified)) (dpop-solved is.file certified answer (fit-none d few is.file is.whole is.declared) is.is)
+file-well (tasks.Adopt error budget) d answer few is = adopt-well is.file error budget answer is.is
+file-well tasks.Tree d answer few is = solved-well (status_of answer) (File tasks.Tree) (tree-solved is.file answer is.is)
+file-well tasks.Upgrade d (answers.Upgraded file) few is = tt
+file-well tasks.Upgrade d (answers.Report report file) few is = absurd is
+file-well tasks.Upgrade d (answers.Tree deliveries nodes names) few is = absurd is
+file-well tasks.Upgrade d (answers.Verdict verdict names) few is = absurd is
+file-well tasks.Upgrade d (answers.Words at kind) few is = absurd is
+file-well tasks.Upgrade d (answers.ProblemText line kind problem) few is = absurd is
+file-well tasks.Upgrade d (answers.ReportText line kind) few is = absurd is
+file-well tasks.Upgrade d (answers.Many n) few is = absurd is
+file-well tasks.Upgrade d (answers.WideAgent var cells names) few is = absurd is
+file-well tasks.Upgrade d (answers.WideTotal cells) few is = absurd is
+file-well tasks.Upgrade d answers.Read few is = absurd is
+file-well tasks.Upgrade d answers.NotYet few is = absurd is
+
+-- so does each task on a text for it
+task-well : (task : Task) (text : List ℕ) (answer : Answer) → IsTextFor task text → IsTaskAnswer task text answer → GoesWell (status_of answer) task
+task-well (File task) text answer fits is =
+    file-well task fits.declared answer fits.within (subst (λ (r : Result Declared Fault). IsTextAnswer task r answer) fits.read is)
+task-well Check text answer fits is = solved-well (status_of answer) Check (printed_solved text answer fits is)
+
+-- all of a text that is told, and accepted, is read and goes well
+input-well : (text : List ℕ) (words : List (List ℕ)) (accepts : Accepts words text) (before after : SourceState) (input : Input) (answer : Answer)
+    → before.left ≡ Some text → ¬ Rose before.faults after.faults → IsReadFrom input before after → IsInputAnswer accepts.task input answer → GoesWell (status_of answer) accepts.task
+input-well text words accepts before after Unread answer told steady read is = absurd is
+input-well text words accepts before after Broken answer told steady read is = absurd (steady read)
+input-well text words accepts before after TooLong answer told steady read is =
     let more = subst HadMore told read.0 in absurd (omega (arith, more, accepts.short))
-input-solved text words accepts before after (Whole bytes) answer told steady read is =
+input-well text words accepts before after (Whole bytes) answer told steady read is =
     let all = subst (λ (l : Option (List ℕ)). IsAllOf bytes l after.left) told read.1 in
-    let same = subst (λ (t : List ℕ). IsTextAnswer accepts.task (whole_read t) answer) all.0 is in
-    task-solved accepts.task accepts.declared answer accepts.within (subst (λ (r : Result Declared Fault). IsTextAnswer accepts.task r answer) accepts.read same)
+    task-well accepts.task text answer accepts.fits (subst (λ (t : List ℕ). IsTaskAnswer accepts.task t answer) all.0 is)
 
-pub Solved-answered : (words : List (List ℕ)) (text : List ℕ) (before after : SourceState) (answer : Answer) → Answered words before after answer
-    → before.left ≡ Some text → Accepts words text → ¬ Rose before.faults after.faults → status_of answer ≡ Solved
-Solved-answered words text before after answer done told accepts steady =
-    input-solved text words accepts before after done.input answer told steady done.read
+pub well-answered : (words : List (List ℕ)) (text : List ℕ) (before after : SourceState) (answer : Answer) → Answered words before after answer
+    → before.left ≡ Some text → (accepts : Accepts words text) → ¬ Rose before.faults after.faults → GoesWell (status_of answer) accepts.task
+well-answered words text before after answer done told accepts steady =
+    input-well text words accepts before after done.input answer told steady done.read
     (task-IsAnswer words accepts.command accepts.task done.input answer accepts.asked accepts.served done.belongs)
-
--- of inputs that are read alike DPOP has one answer
-module _ (optima : FirstOptimaOfTreesAreOne) (trees : DepthFirstTreesAreLinked) where
-  one_of_text : (read : Result Declared Fault) (a b : Answer) → IsTextAnswer tasks.Dpop read a → IsTextAnswer tasks.Dpop read b → a ≡ b
-  one_of_text (Ok d) a b of_a of_b = one_answer optima trees d a b of_a of_b
-  one_of_text (Err fault) a b of_a of_b = of_a ∙ sym of_b
-
-  one_of_input : (input input' : Input) (a b : Answer) → AreReadAlike input input' → IsInputAnswer tasks.Dpop input a → IsInputAnswer tasks.Dpop input' b → a ≡ b
-  one_of_input Unread Unread a b alike of_a of_b = absurd of_a
-  one_of_input Unread Broken a b alike of_a of_b = absurd of_a
-  one_of_input Unread TooLong a b alike of_a of_b = absurd of_a
-  one_of_input Unread (Whole bytes') a b alike of_a of_b = absurd of_a
-  one_of_input Broken Unread a b alike of_a of_b = absurd of_b
-  one_of_input Broken Broken a b alike of_a of_b = of_a ∙ sym of_b
-  one_of_input Broken TooLong a b alike of_a of_b = cc alike
-  one_of_input Broken (Whole bytes') a b alike of_a of_b = cc alike
-  one_of_input TooLong Unread a b alike of_a of_b = absurd of_b
-  one_of_input TooLong Broken a b alike of_a of_b = cc alike
-  one_of_input TooLong TooLong a b alike of_a of_b = of_a ∙ sym of_b
-  one_of_input TooLong (Whole bytes') a b alike of_a of_b = cc alike
-  one_of_input (Whole bytes) Unread a b alike of_a of_b = absurd of_b
-  one_of_input (Whole bytes) Broken a b alike of_a of_b = cc alike
-  one_of_input (Whole bytes) TooLong a b alike of_a of_b = cc alike
-  one_of_input (Whole bytes) (Whole bytes') a b alike of_a of_b =
-      one_of_text (whole_read bytes) a b of_a (subst (λ (read : Result Declared Fault). IsTextAnswer tasks.Dpop read b) (sym alike) of_b)
-
-  pub dpop_answers_one : DpopAnswersAreOne
-  dpop_answers_one words words' input input' a b asks asks' alike of_a of_b =
-      one_of_input input input' a b alike
-      (task-IsAnswer words asks.command tasks.Dpop input a asks.asked asks.served of_a)
-      (task-IsAnswer words' asks'.command tasks.Dpop input' b asks'.asked asks'.served of_b)

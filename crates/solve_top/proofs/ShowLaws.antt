@@ -1,13 +1,13 @@
 -- What follows for a top call from an answer and from how it was shown.
-use Rattle.std.proofs.Common.{◌≡◌, ◌≢◌, ℕ, ◌<◌, ◌⊎◌, List, Some, sym, ap, refl, ◌∙◌, arith, inl, inr}
+use Rattle.std.proofs.Common.{◌≡◌, ◌≢◌, ℕ, ◌<◌, ◌⊎◌, List, Some, sym, ap, subst, refl, ◌∙◌, arith, inl, inr}
 use Rattle.dcop_edge.specs.Faults.{Rose}
 use Rattle.solve_report.specs.declared.answer.Answer.{Answer}
 use Rattle.solve_top.specs.declared.status.Status.{Status}
 use Rattle.solve_top.specs.declared.status.Status.TheVariants.{Solved, ReadFault, WriteFault, NoMemory}
 use Rattle.solve_top.specs.Input.{SourceState}
 use Rattle.solve_top.specs.Output.{SinkState}
-use Rattle.solve_top.specs.Solving.{Answered, Accepts, Shows, Solves}
-use Rattle.solve_top.proofs.AnswerLaws.{Rose-answered, ReadFault-answered, Solved-answered, told-status}
+use Rattle.solve_top.specs.Solving.{GoesWell, Answered, Accepts, Shows, Solves}
+use Rattle.solve_top.proofs.AnswerLaws.{Rose-answered, ReadFault-answered, well-answered, told-status}
 
 pub solved-so : (words : List (List ℕ)) (source source' : SourceState) (answer : Answer) → Answered words source source' answer
     → (sink sink' : SinkState) (faults faults' : ℕ) (status : Status) → Shows answer sink sink' faults faults' status → status ≢ NoMemory
@@ -39,9 +39,10 @@ source-so words source source' answer answered sink sink' faults faults' status 
 
 pub complete-so : (words : List (List ℕ)) (source source' : SourceState) (answer : Answer) → Answered words source source' answer
     → (sink sink' : SinkState) (faults faults' : ℕ) (status : Status) → Shows answer sink sink' faults faults' status
-    → (text : List ℕ) → source.left ≡ Some text → Accepts words text → ¬ Rose source.faults source'.faults → ¬ Rose faults faults'
-    → (status ≡ Solved) ⊎ (status ≡ NoMemory)
-complete-so words source source' answer answered sink sink' faults faults' status (inl none) text told accepts steady quiet = inr none.0
+    → (text : List ℕ) → source.left ≡ Some text → (accepts : Accepts words text) → ¬ Rose source.faults source'.faults → ¬ Rose faults faults'
+    → GoesWell status accepts.task
+complete-so words source source' answer answered sink sink' faults faults' status (inl none) text told accepts steady quiet =
+    subst (λ (s : Status). GoesWell s accepts.task) (sym none.0) tt
 complete-so words source source' answer answered sink sink' faults faults' status (inr (inl shown)) text told accepts steady quiet =
-    inl (shown.0.same ∙ Solved-answered words text source source' answer answered told accepts steady)
+    subst (λ (s : Status). GoesWell s accepts.task) (sym shown.0.same) (well-answered words text source source' answer answered told accepts steady)
 complete-so words source source' answer answered sink sink' faults faults' status (inr (inr cut)) text told accepts steady quiet = absurd (quiet cut.1)

@@ -1,9 +1,10 @@
 -- Which answer belongs to which words and input, in the order in which a call goes.
-use Rattle.std.specs.Prelude.{◌≡◌, ℕ, ◌≤◌, List, Option, Some, None, Result, Ok, Err}
+use Rattle.std.specs.Prelude.{◌≡◌, ℕ, ◌≤◌, ◌==◌, List, Option, Some, None, Result, Ok, Err, take, drop, count_by}
 use Rattle.dcop_base.specs.Table.{product}
 use Rattle.dcop_optimum.specs.declared.plain.TheConstants.{MAX_ASSIGNMENTS}
 use Rattle.problem_text.specs.Declarations.{Declared}
-use Rattle.problem_text.specs.Reading.{Fault}
+use Rattle.problem_text.specs.declared.line.TheConstants.{LF}
+use Rattle.problem_text.specs.Reading.{Fault, Parts, text_read}
 use Rattle.problem_text.specs.Steps.{declared_by}
 use Rattle.solve_words.specs.declared.command.Command.{Command}
 use Rattle.solve_words.specs.declared.fault.WordFault.{WordFault}
@@ -12,37 +13,59 @@ use Rattle.solve_words.specs.Command.{answer_to}
 use Rattle.solve_report.specs.declared.answer.Answer.{Answer}
 use Rattle.solve_report.specs.declared.answer.Answer.TheVariants as answers
 use Rattle.solve_top.specs.declared.task.Task.{Task}
-use Rattle.solve_top.specs.declared.task.Task.TheVariants as tasks
+use Rattle.solve_top.specs.declared.task.Task.TheVariants.{File, Check}
+use Rattle.solve_top.specs.declared.task.FileTask.{FileTask}
+use Rattle.solve_top.specs.declared.task.FileTask.TheVariants as tasks
+use Rattle.solve_methods.specs.Adopt.{AnswersAdopt}
 use Rattle.solve_methods.specs.Dpop.{AnswersDpop}
 use Rattle.solve_top.specs.Input.{Input, Unread, Broken, TooLong, Whole}
 use Rattle.solve_top.specs.Kinds.{number_of_words, number_of_text, number_of_problem}
 use Rattle.solve_methods.specs.Plain.{IsPlainReport, HasFirstOptimum, IsTooMany}
 use Rattle.solve_top.specs.Served.{task_of}
 use Rattle.solve_methods.specs.Tree.{AnswersTree}
+use Rattle.solve_check.specs.Checking.{AnswersCheck}
 use Rattle.solve_top.specs.Whole.{whole_read}
 
 -- the answer to a task on a text that declares this: plain has at most MAX_ASSIGNMENTS assignments to try
-abbrev pub IsTaskAnswer : Task → Declared → Answer → Type 0
-IsTaskAnswer tasks.Plain d (answers.Report report file) =
+abbrev pub IsFileAnswer : FileTask → Declared → Answer → Type 0
+IsFileAnswer tasks.Plain d (answers.Report report file) =
     (product d.sizes ≤ MAX_ASSIGNMENTS) × (declared_by file ≡ d) × IsPlainReport file report × HasFirstOptimum file report
-IsTaskAnswer tasks.Plain d (answers.Many assignments) = IsTooMany (product d.sizes) assignments
-IsTaskAnswer tasks.Dpop d answer = AnswersDpop d answer
-IsTaskAnswer tasks.Tree d answer = AnswersTree d answer
-IsTaskAnswer tasks.Upgrade d (answers.Upgraded file) = declared_by file ≡ record d { version = 2 }
-IsTaskAnswer task d answer = ⊥
+IsFileAnswer tasks.Plain d (answers.Many assignments) = IsTooMany (product d.sizes) assignments
+IsFileAnswer (tasks.Dpop certified) d answer = AnswersDpop d certified answer
+IsFileAnswer (tasks.Adopt error budget) d answer = AnswersAdopt d error budget answer
+IsFileAnswer tasks.Tree d answer = AnswersTree d answer
+IsFileAnswer tasks.Upgrade d (answers.Upgraded file) = declared_by file ≡ record d { version = 2 }
+IsFileAnswer task d answer = ⊥
+
+-- the answer to a problem text with this first fault
+abbrev pub refused_by : Fault → Answer
+refused_by fault = answers.ProblemText fault.line (number_of_text fault.kind) (number_of_problem fault.kind)
 
 -- the answer to a task on a text that is read as this
-abbrev pub IsTextAnswer : Task → Result Declared Fault → Answer → Type 0
-IsTextAnswer task (Ok declared) answer = IsTaskAnswer task declared answer
-IsTextAnswer task (Err fault) answer =
-    answer ≡ answers.ProblemText fault.line (number_of_text fault.kind) (number_of_problem fault.kind)
+abbrev pub IsTextAnswer : FileTask → Result Declared Fault → Answer → Type 0
+IsTextAnswer task (Ok declared) answer = IsFileAnswer task declared answer
+IsTextAnswer task (Err fault) answer = answer ≡ refused_by fault
+
+-- how many lines end in a text
+abbrev pub lines_in : List ℕ → ℕ
+lines_in bytes = count_by (λ b. b == LF) bytes
+
+-- the answer of `check` on a text whose problem is read as this: what comes of the report behind the problem's line `end`
+abbrev pub IsReportAnswer : List ℕ → Result Parts Fault → Answer → Type 0
+IsReportAnswer bytes (Ok parts) answer = AnswersCheck parts.declared (lines_in (take parts.used bytes)) (drop parts.used bytes) answer
+IsReportAnswer bytes (Err fault) answer = answer ≡ refused_by fault
+
+-- the answer to a task on a text: `check` reads a problem and the report behind it, every other task a problem to the text's last line
+abbrev pub IsTaskAnswer : Task → List ℕ → Answer → Type 0
+IsTaskAnswer (File task) bytes answer = IsTextAnswer task (whole_read bytes) answer
+IsTaskAnswer Check bytes answer = IsReportAnswer bytes (text_read bytes) answer
 
 -- the answer to a task on an input
 abbrev pub IsInputAnswer : Task → Input → Answer → Type 0
 IsInputAnswer task Unread answer = ⊥
 IsInputAnswer task Broken answer = answer ≡ answers.Read
 IsInputAnswer task TooLong answer = answer ≡ answers.ProblemText 0 9 0
-IsInputAnswer task (Whole bytes) answer = IsTextAnswer task (whole_read bytes) answer
+IsInputAnswer task (Whole bytes) answer = IsTaskAnswer task bytes answer
 
 -- the answer to a command that is served, or not yet
 abbrev pub IsServedAnswer : Option Task → Input → Answer → Type 0

@@ -1,26 +1,27 @@
 -- The answer of DPOP is one function of what was read.
-use Rattle.std.specs.Prelude.{◌≡◌, ℕ, List, Some, Ok}
+use Rattle.std.specs.Prelude.{◌≡◌, ℕ, Bool, List, Some, Ok}
 use Rattle.solve_words.specs.declared.command.Command.{Command}
 use Rattle.solve_words.specs.Command.{answer_to}
 use Rattle.solve_report.specs.declared.answer.Answer.{Answer}
-use Rattle.solve_top.specs.declared.task.Task.TheVariants as tasks
+use Rattle.solve_top.specs.declared.task.Task.TheVariants.{File}
+use Rattle.solve_top.specs.declared.task.FileTask.TheVariants as tasks
 use Rattle.solve_top.specs.Answering.{IsAnswer}
 use Rattle.solve_top.specs.Input.{Input, Whole}
 use Rattle.solve_top.specs.Served.{task_of}
 use Rattle.solve_top.specs.Whole.{whole_read}
 
--- words that ask for DPOP
-pub record AskForDpop (words : List (List ℕ)) : Type 0 where
+-- words that ask for DPOP, with a certificate or without
+pub record AskForDpop (certified : Bool) (words : List (List ℕ)) : Type 0 where
   pub command : Command
   pub asked : answer_to words ≡ Ok command
-  pub served : task_of command ≡ Some tasks.Dpop
+  pub served : task_of command ≡ Some (File (tasks.Dpop certified))
 
 -- two inputs are read alike: two texts that declare the same or have the same first fault, or one and the same input
 abbrev pub AreReadAlike : Input → Input → Type 0
 AreReadAlike (Whole bytes) (Whole bytes') = whole_read bytes ≡ whole_read bytes'
 AreReadAlike input input' = input ≡ input'
 
--- whatever words ask for DPOP, one answer belongs to inputs that are read alike
+-- whatever words ask for DPOP, all with a certificate or all without, one answer belongs to inputs that are read alike
 abbrev pub DpopAnswersAreOne : Type 0
-DpopAnswersAreOne = (words words' : List (List ℕ)) (input input' : Input) (a b : Answer) → AskForDpop words → AskForDpop words' → AreReadAlike input input'
+DpopAnswersAreOne = (certified : Bool) (words words' : List (List ℕ)) (input input' : Input) (a b : Answer) → AskForDpop certified words → AskForDpop certified words' → AreReadAlike input input'
     → IsAnswer words input a → IsAnswer words' input' b → a ≡ b

@@ -1,13 +1,18 @@
 -- What a top call does: it answers, and shows its answer.
-use Rattle.std.specs.Prelude.{◌≡◌, ℕ, ◌≤◌, ◌⊎◌, true, List, length, Some, None, Ok}
+use Rattle.std.specs.Prelude.{◌≡◌, ℕ, ◌≤◌, ◌⊎◌, true, List, [], ◌∷◌, ◌++◌, length, Some, None, Ok}
 use Rattle.dcop_base.specs.Table.{product}
 use Rattle.dcop_base.specs.Whole.{IsProblem}
 use Rattle.dcop_edge.specs.Faults.{Rose}
 use Rattle.dcop_edge.specs.Sink.{Adds}
 use Rattle.dcop_optimum.specs.declared.plain.TheConstants.{MAX_ASSIGNMENTS}
 use Rattle.problem_text.specs.Declarations.{Declared}
-use Rattle.problem_text.specs.File.{TextFile}
+use Rattle.problem_text.specs.File.{TextFile, IsFile}
 use Rattle.problem_text.specs.Steps.{declared_by}
+use Rattle.problem_text.specs.declared.line.TheConstants.{LF}
+use Rattle.problem_text.specs.Reading.{Parts, text_read}
+use Rattle.certificate_text.specs.declared.report.Report.{Report}
+use Rattle.certificate_text.specs.ReportText.{report_text}
+use Rattle.solve_report.specs.declared.answer.Answer.TheVariants as answers
 use Rattle.solve_words.specs.declared.command.Command.{Command}
 use Rattle.solve_words.specs.Command.{answer_to}
 use Rattle.solve_report.specs.declared.answer.Answer.{Answer}
@@ -16,11 +21,13 @@ use Rattle.solve_top.specs.declared.reading.TheConstants.{MAX_INPUT}
 use Rattle.solve_top.specs.declared.status.Status.{Status}
 use Rattle.solve_top.specs.declared.status.Status.TheVariants as statuses
 use Rattle.solve_top.specs.declared.task.Task.{Task}
-use Rattle.solve_top.specs.declared.task.Task.TheVariants as tasks
+use Rattle.solve_top.specs.declared.task.Task.TheVariants.{File, Check}
+use Rattle.solve_top.specs.declared.task.FileTask.{FileTask}
+use Rattle.solve_top.specs.declared.task.FileTask.TheVariants as tasks
 use Rattle.solve_top.specs.Answering.{IsAnswer}
-use Rattle.solve_methods.specs.Dpop.{wide_in}
+use Rattle.solve_methods.specs.Dpop.{wide_in, AnswersDpop}
 use Rattle.certificate_check.specs.Goal.{solved}
-use Rattle.solve_methods.specs.Goal.{TellsBest}
+use Rattle.solve_methods.specs.Goal.{TellsRight}
 use Rattle.solve_top.specs.Input.{Input, SourceState, IsReadFrom}
 use Rattle.solve_top.specs.Output.{SinkState, AddsPrefix}
 use Rattle.solve_top.specs.Served.{task_of}
@@ -32,7 +39,7 @@ pub record Answered (words : List (List ℕ)) (before after : SourceState) (answ
   pub input : Input
   pub read : IsReadFrom input before after
   pub belongs : IsAnswer words input answer
-  pub best : TellsBest answer
+  pub right : TellsRight answer
 
 -- the whole text of an answer was written, the sink is finished, and the status is the answer's
 pub record IsShown (answer : Answer) (before after : SinkState) (status : Status) : Type 0 where
@@ -66,19 +73,50 @@ pub record HasFitTree (d : Declared) : Type 0 where
   pub fits : wide_in (solved file.goal file.problem) ≡ None
 
 -- a task is within its limits: plain has no more assignments to try than it tries, and for DPOP the tree is narrow and light
-abbrev pub IsWithinLimits : Task → Declared → Type 0
+abbrev pub IsWithinLimits : FileTask → Declared → Type 0
 IsWithinLimits tasks.Plain d = product d.sizes ≤ MAX_ASSIGNMENTS
-IsWithinLimits tasks.Dpop d = HasFitTree d
+IsWithinLimits (tasks.Dpop certified) d = HasFitTree d
+IsWithinLimits (tasks.Adopt error budget) d = Unit {0}
 IsWithinLimits tasks.Tree d = Unit {0}
 IsWithinLimits tasks.Upgrade d = Unit {0}
+
+-- a text that is read whole as a problem that is within the limits of a task
+pub record IsProblemFor (task : FileTask) (text : List ℕ) : Type 0 where
+  pub declared : Declared
+  pub read : whole_read text ≡ Ok declared
+  pub within : IsWithinLimits task declared
+
+-- the text of a problem up to and with its line `end`, and behind it the report that DPOP prints for it with a certificate
+pub record IsPrintedFor (text : List ℕ) : Type 0 where
+  pub problem : List ℕ
+  pub parts : Parts
+  pub read : text_read problem ≡ Ok parts
+  pub whole : parts.used ≡ length problem
+  pub before : List ℕ
+  pub line : problem ≡ before ++ LF ∷ []
+  pub file : TextFile
+  pub is_file : IsFile file
+  pub report : Report
+  pub printed : AnswersDpop parts.declared true (answers.Report report file)
+  pub behind : text ≡ problem ++ report_text report file
+
+-- a text on which a task is served: a problem within its limits, or for `check` a problem and the report that was printed for it
+abbrev pub IsTextFor : Task → List ℕ → Type 0
+IsTextFor (File task) text = IsProblemFor task text
+IsTextFor Check text = IsPrintedFor text
 
 -- words and a text that are accepted, and that can be served
 pub record Accepts (words : List (List ℕ)) (text : List ℕ) : Type 0 where
   pub command : Command
   pub task : Task
-  pub declared : Declared
   pub asked : answer_to words ≡ Ok command
   pub served : task_of command ≡ Some task
   pub short : length text ≤ MAX_INPUT
-  pub read : whole_read text ≡ Ok declared
-  pub within : IsWithinLimits task declared
+  pub fits : IsTextFor task text
+
+-- a task that is served goes well: it is solved, or for ADOPT the budget is spent, or memory was wanted
+abbrev pub GoesWell : Status → Task → Type 0
+GoesWell statuses.Solved task = Unit {0}
+GoesWell statuses.NoMemory task = Unit {0}
+GoesWell statuses.Spent (File (tasks.Adopt error budget)) = Unit {0}
+GoesWell status task = ⊥

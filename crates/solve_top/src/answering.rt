@@ -1,21 +1,25 @@
 //! The answer to words and a source.
 
-ghost use Rattle.std.specs.Prelude.{◌≡◌, map, IfOk, string_bytes};
+ghost use Rattle.std.specs.Prelude.{◌≡◌, ◌≤◌, length, map, IfOk, string_bytes};
 ghost use Rattle.solve_report.specs.AnswerText.{HasText};
-ghost use Rattle.solve_methods.specs.Goal.{TellsBest};
+ghost use Rattle.problem_text.specs.Reading.{text_read};
+ghost use Rattle.problem_text.specs.Steps.{declared_by};
+ghost use Rattle.solve_methods.specs.Goal.{TellsRight};
 ghost use Rattle.solve_top.specs.Input.{source_state};
-ghost use Rattle.solve_top.specs.Answering.{IsTextAnswer};
+ghost use Rattle.solve_top.specs.Answering.{IsFileAnswer, IsTextAnswer, IsReportAnswer, IsTaskAnswer, lines_in};
+ghost use Rattle.solve_top.specs.Served.{IsTaskInRange};
 ghost use Rattle.solve_top.specs.Solving.{Answered};
 ghost use Rattle.solve_top.specs.Kinds.{number_of_words, number_of_text, number_of_problem};
 ghost use Rattle.solve_top.specs.Whole.{whole_read};
 
-use crate::reading::{ReadEnd, read_all};
-use crate::task::Task;
+use crate::reading::{MAX_INPUT, ReadEnd, read_all};
+use crate::task::{FileTask, Task};
 use crate::whole::read_whole;
 use dcop_base::NoMemory;
 use dcop_edge::Source;
-use problem_text::{ProblemFile, TextFault, TextKind};
-use solve_methods::{dpop_answer, plain_answer, tree_answer};
+use problem_text::{ProblemFile, TextFault, TextKind, read_problem};
+use solve_check::check_answer;
+use solve_methods::{adopt_answer, dpop_answer, plain_answer, tree_answer};
 use solve_report::Answer;
 use solve_words::{WordFault, WordKind, read_words};
 use std::alloc::Global;
@@ -41,31 +45,81 @@ pub fn answer_of<S: Source>(
         return Ok(Answer::NotYet);
     };
     match read_all(alloc, source) {
-        Ok(bytes) => text_answer(alloc, task, bytes.as_slice()),
+        Ok(bytes) => task_answer(alloc, task, bytes.as_slice()),
         Err(ReadEnd::Failed) => Ok(Answer::Read),
         Err(ReadEnd::TooLong) => Ok(fault_answer(0, TextKind::TooLong)),
         Err(ReadEnd::NoMemory) => Err(NoMemory),
     }
 }
 
-/// The answer to a task on a whole input.
-fn text_answer(alloc: Global, task: Task, bytes: &[u8]) -> Result<Answer, NoMemory>
+/// The answer to a task on all bytes of an input.
+fn task_answer(alloc: Global, task: Task, bytes: &[u8]) -> Result<Answer, NoMemory>
+    requires range { IsTaskInRange task }
+    requires short { length bytes.now ≤ MAX_INPUT }
+    ensures belongs { IfOk result (IsTaskAnswer task bytes.now) }
+    ensures right { IfOk result TellsRight }
+    ensures told { IfOk result HasText }
+{
+    match task {
+        Task::File(task) => text_answer(alloc, task, bytes),
+        Task::Check => report_answer(alloc, bytes),
+    }
+}
+
+/// The answer to a task on the problem that a whole input tells.
+fn text_answer(alloc: Global, task: FileTask, bytes: &[u8]) -> Result<Answer, NoMemory>
+    requires range { IsTaskInRange (Task.File task) }
     ensures belongs { IfOk result (IsTextAnswer task (whole_read bytes.now)) }
-    ensures best { IfOk result TellsBest }
+    ensures right { IfOk result TellsRight }
     ensures told { IfOk result HasText }
 {
     match read_whole(alloc, bytes) {
-        Ok(file) => match task {
-            Task::Plain => plain_answer(alloc, file),
-            Task::Dpop => dpop_answer(alloc, file),
-            Task::Tree => tree_answer(alloc, file),
-            Task::Upgrade => Ok(Answer::Upgraded {
-                file: upgraded(file),
-            }),
-        },
+        Ok(file) => file_answer(alloc, task, file),
         Err(TextFault::Bad { line, kind }) => Ok(fault_answer(line, kind)),
         Err(TextFault::NoMemory) => Err(NoMemory),
     }
+}
+
+/// The answer to a task on a file.
+fn file_answer(alloc: Global, task: FileTask, file: ProblemFile) -> Result<Answer, NoMemory>
+    requires range { IsTaskInRange (Task.File task) }
+    ensures belongs { IfOk result (IsFileAnswer task (declared_by file)) }
+    ensures right { IfOk result TellsRight }
+    ensures told { IfOk result HasText }
+{
+    match task {
+        FileTask::Plain => plain_answer(alloc, file),
+        FileTask::Dpop { certified } => dpop_answer(alloc, file, certified),
+        FileTask::Adopt { error, budget } => adopt_answer(alloc, file, error, budget),
+        FileTask::Tree => tree_answer(alloc, file),
+        FileTask::Upgrade => Ok(Answer::Upgraded {
+            file: upgraded(file),
+        }),
+    }
+}
+
+/// The answer of `check` on a text: what comes of the report that stands behind a problem.
+fn report_answer(alloc: Global, bytes: &[u8]) -> Result<Answer, NoMemory>
+    requires short { length bytes.now ≤ MAX_INPUT }
+    ensures belongs { IfOk result (IsReportAnswer bytes.now (text_read bytes.now)) }
+    ensures right { IfOk result TellsRight }
+    ensures told { IfOk result HasText }
+{
+    match read_problem(alloc, bytes) {
+        Ok(read) => {
+            let (before, text) = bytes.split_at(read.used);
+            check_answer(alloc, read.file, text, lines_in(before))
+        }
+        Err(TextFault::Bad { line, kind }) => Ok(fault_answer(line, kind)),
+        Err(TextFault::NoMemory) => Err(NoMemory),
+    }
+}
+
+/// How many lines end in a text.
+fn lines_in(text: &[u8]) -> u64
+    ensures { result ≡ lines_in text.now }
+{
+    text.iter().filter(|byte| **byte == b'\n').count() as u64
 }
 
 /// The file with version 2 and all else the same.

@@ -14,7 +14,8 @@ const STACK: &str = "dcop 1\nvar x 2\nvar y 2\ntable x y : 5 3 2 7\ntable x y : 
     table x : 1 0\ntable y : 2 0\nend\n";
 
 /// One table of three variables.
-const TRIPLE: &str = "dcop 2\nvar a 2\nvar b 2\nvar c 2\ntable a b c : 3 1 4 1 5 9 2 6\nend\n";
+pub(crate) const TRIPLE: &str =
+    "dcop 2\nvar a 2\nvar b 2\nvar c 2\ntable a b c : 3 1 4 1 5 9 2 6\nend\n";
 
 #[test]
 fn worked_answers(rt: HostRuntime) -> Result<(), Fail> {
@@ -132,7 +133,7 @@ fn tables_at_their_limit(rt: HostRuntime) -> Result<(), Fail> {
 
 /// A text of twelve meetings in eight slots: each likes one slot, and eight pairs must not meet in
 /// one slot. Its lines end with CR LF.
-fn timetable(alloc: Global) -> Result<String, Fail> {
+pub(crate) fn timetable(alloc: Global) -> Result<String, Fail> {
     let mut text = String::from_str(
         alloc,
         "# twelve meetings, eight slots each\r\ndcop 1\r\n\r\n",

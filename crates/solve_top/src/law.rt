@@ -5,8 +5,9 @@ ghost use Rattle.solve_top.specs.Same.{DpopAnswersAreOne};
 use dcop_optimum::first_optima_of_trees_are_one;
 use pseudotree::depth_first_trees_are_linked;
 
-/// The answer of `solve --method dpop` is one function of the file: whatever other words stand beside
-/// the method, as the number of workers, the same answer belongs to all texts of one file.
+/// The answer of `solve --method dpop` is one function of the file and of whether it is certified:
+/// whatever other words stand beside these, as the number of workers, the same answer belongs to all
+/// texts of one file.
 ///
 /// It is the contract of a call that does nothing: who needs the law calls it.
 pub fn dpop_answers_are_one()

@@ -1,12 +1,16 @@
 //! The top call of the solver: words and a source of bytes in, an answer into a sink, and a status.
 //!
 //! [`solve`] does all the work of the program. Its clauses say which answer belongs to which words
-//! and input, that the answer's whole text is written and the sink finished, that a solved report
-//! tells an assignment with the best sum of any, and when each fault may come.
+//! and input, that the answer's whole text is written and the sink finished, that what a report
+//! tells of its file is right, and when each fault may come.
 #![tactic(auto)]
 
+#[cfg(test)]
+mod adopt_tests;
 mod after_end;
 mod answering;
+#[cfg(test)]
+mod check_tests;
 #[cfg(test)]
 mod dpop_tests;
 mod law;

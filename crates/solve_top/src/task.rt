@@ -1,48 +1,79 @@
 //! The commands that are served.
 
-ghost use Rattle.std.specs.Prelude.{◌≡◌};
-ghost use Rattle.solve_top.specs.Served.{task_of};
+ghost use Rattle.std.specs.Prelude.{◌≡◌, IfSome};
+ghost use Rattle.solve_words.specs.Ranges.{IsInRange};
+ghost use Rattle.solve_top.specs.Served.{task_of, IsTaskInRange};
 
 use solve_words::{Choice, Command, Format};
 
 /// What a served command asks for.
 #[derive(Clone, Copy, Debug, PartialEq, Eq)]
 pub enum Task {
-    /// Solve a problem by the plain method.
+    /// An answer on the file of a problem.
+    File(FileTask),
+    /// Check the report that stands behind a problem.
+    Check,
+}
+
+/// What is asked on the file of a problem.
+#[derive(Clone, Copy, Debug, PartialEq, Eq)]
+pub enum FileTask {
+    /// Solve the problem by the plain method.
     Plain,
-    /// Solve a problem by DPOP.
-    Dpop,
-    /// Find the depth-first tree of a problem.
+    /// Solve the problem by DPOP, and certify the answer or not.
+    Dpop { certified: bool },
+    /// Solve the problem by ADOPT, for a requested error, with a budget of deliveries.
+    Adopt { error: u64, budget: u64 },
+    /// Find the depth-first tree of the problem.
     Tree,
-    /// Write a problem again in the newest version of its text.
+    /// Write the problem again in the newest version of its text.
     Upgrade,
 }
 
 impl Task {
     /// What a command asks for; `None` exactly where it is not served yet.
     pub fn of(command: &Command) -> Option<Task>
-        ensures { result ≡ task_of command.now }
+        requires { IsInRange command.now }
+        ensures same { result ≡ task_of command.now }
+        ensures range { IfSome result IsTaskInRange }
     {
         match command {
             Command::Solve {
                 method: Choice::Plain,
                 format: Format::Dcop,
                 ..
-            } => Some(Task::Plain),
+            } => Some(Task::File(FileTask::Plain)),
             Command::Solve {
                 method: Choice::Dpop,
+                nodes: 1,
+                certificate,
+                format: Format::Dcop,
+                ..
+            } => Some(Task::File(FileTask::Dpop {
+                certified: *certificate,
+            })),
+            Command::Solve {
+                method: Choice::Adopt,
+                error,
+                budget,
                 nodes: 1,
                 certificate: false,
                 format: Format::Dcop,
                 ..
-            } => Some(Task::Dpop),
+            } => Some(Task::File(FileTask::Adopt {
+                error: *error,
+                budget: *budget,
+            })),
             Command::Tree {
                 format: Format::Dcop,
                 ..
-            } => Some(Task::Tree),
+            } => Some(Task::File(FileTask::Tree)),
+            Command::Check {
+                format: Format::Dcop,
+            } => Some(Task::Check),
             Command::Upgrade {
                 format: Format::Dcop,
-            } => Some(Task::Upgrade),
+            } => Some(Task::File(FileTask::Upgrade)),
             _ => None,
         }
     }

@@ -5,7 +5,7 @@ ghost use Rattle.dcop_edge.specs.Faults.{Rose};
 ghost use Rattle.solve_top.specs.Input.{source_state};
 ghost use Rattle.solve_top.specs.Output.{sink_state};
 ghost use Rattle.solve_report.specs.AnswerText.{HasText};
-ghost use Rattle.solve_top.specs.Solving.{Shows, Solves, Accepts};
+ghost use Rattle.solve_top.specs.Solving.{Shows, Solves, Accepts, GoesWell};
 
 use crate::answering::answer_of;
 use crate::status::Status;
@@ -18,10 +18,14 @@ use std::alloc::Global;
 /// writes the answer to the sink, and says how it went.
 ///
 /// The words are tested before anything is read, and the whole answer is built before anything is
-/// written. `solve` reads a problem and reports an assignment with the best sum of any: with
-/// `--method plain` by trying all, with `--method dpop` by agents on a tree, unless their tables
-/// would be too wide. `tree` reads a problem and writes the tree over which its agents work, and `upgrade` reads a
-/// problem and writes it in the newest version of its text. Refusals are written to the sink too.
+/// written. `solve` reads a problem and reports an assignment: with `--method plain`, which tries
+/// all, and with `--method dpop`, by agents on a tree unless their tables would be too wide, its sum
+/// is the best of any; with `--method adopt`, by agents that agree step by step, it is at most the
+/// requested error worse than the best, or the budget of messages is spent and the report's bounds
+/// enclose the best sum. `check` reads a problem and a report behind it, and says whether the
+/// report's certificate shows that no better values exist. `tree` reads a problem and writes the
+/// tree over which its agents work, and `upgrade` reads a problem and writes it in the newest
+/// version of its text. Refusals are written to the sink too.
 ///
 /// [`Status::ReadFault`] and [`Status::WriteFault`] come only where the source or the sink failed
 /// in this call. With `WriteFault` a prefix of the answer is written, with [`Status::NoMemory`],
@@ -47,10 +51,10 @@ pub fn solve<S: Source, K: Sink>(
         (result ≡ Status.ReadFault) ⊎ (result ≡ Status.WriteFault) ⊎ (result ≡ Status.NoMemory) }
     ensures sink_failed { K.faults sink.old < K.faults sink.new → result ≡ Status.WriteFault }
     ensures complete { (text : List ℕ) → S.left source.old ≡ Some text →
-        Accepts (map string_bytes words.now) text →
+        (accepts : Accepts (map string_bytes words.now) text) →
         ¬ Rose (S.faults source.old) (S.faults source.new) →
         ¬ Rose (K.faults sink.old) (K.faults sink.new) →
-        (result ≡ Status.Solved) ⊎ (result ≡ Status.NoMemory) }
+        GoesWell result accepts.task }
 {
     let Ok(answer) = answer_of(alloc, words, source) else {
         return Status::NoMemory;

@@ -5,16 +5,16 @@ use Rattle.solve_top.proofs.answering.answer_of.Goals as goal
 
 pub returns-in-Ok-read_all-clause-answered : goal.returns-in-Ok-read_all-clause-answered
 returns-in-Ok-read_all-clause-answered g c =
-    Answered-text _ c.in-Ok.command c.in-Some.task _ _ c.in-Ok-read_all.bytes c.as_slice.result.now c.text_answer.result
-    (sym c.in-Ok.ensures) (sym c.in-Some.ensures) c.in-Ok-read_all.ensures c.as_slice.ensures
-    c.text_answer.ensures.belongs c.text_answer.ensures.best
+    Answered-text _ c.in-Ok.command c.in-Some.task _ _ c.in-Ok-read_all.bytes c.as_slice.result.now c.task_answer.result
+    (sym c.in-Ok.ensures.answer) (sym c.in-Some.ensures.same) c.in-Ok-read_all.ensures c.as_slice.ensures
+    c.task_answer.ensures.belongs c.task_answer.ensures.right
 
 pub returns-in-Err-Failed-clause-answered : goal.returns-in-Err-Failed-clause-answered
 returns-in-Err-Failed-clause-answered g c =
     Answered-task _ c.in-Ok.command c.in-Some.task _ _ Broken _
-    (sym c.in-Ok.ensures) (sym c.in-Some.ensures) (rw c.in-Err-Failed.field-0-is at c.in-Err-Failed.ensures) refl tt
+    (sym c.in-Ok.ensures.answer) (sym c.in-Some.ensures.same) (rw c.in-Err-Failed.field-0-is at c.in-Err-Failed.ensures) refl tt
 
 pub returns-in-Err-TooLong-clause-answered : goal.returns-in-Err-TooLong-clause-answered
 returns-in-Err-TooLong-clause-answered g c =
     rw c.fault_answer.ensures (Answered-task _ c.in-Ok.command c.in-Some.task _ _ TooLong _
-    (sym c.in-Ok.ensures) (sym c.in-Some.ensures) (rw c.in-Err-TooLong.field-0-is at c.in-Err-TooLong.ensures) refl tt)
+    (sym c.in-Ok.ensures.answer) (sym c.in-Some.ensures.same) (rw c.in-Err-TooLong.field-0-is at c.in-Err-TooLong.ensures) refl tt)

@@ -1,4 +1,4 @@
-use Rattle.solve_top.proofs.AnswerLaws.{dpop_answers_one}
+use Rattle.solve_top.proofs.OneLaws.{dpop_answers_one}
 use Rattle.solve_top.proofs.law.dpop_answers_are_one.Goals as goal
 
 pub returns : goal.returns
