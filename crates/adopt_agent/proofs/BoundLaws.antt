@@ -1,6 +1,7 @@
 -- The bounds of an agent, from its costs and the bounds of its children.
-use Rattle.std.proofs.Common.{◌≡◌, ℕ, zero, suc, ◌+◌, ◌-◌, ◌<◌, ◌≤◌, Bool, true, cond, nat_lt, List, [], ◌∷◌, ◌++◌, map, length, take, drop, get_or, set, replicate, Some, None, refl, sym, ap, ap₂, subst, ◌∙◌, arith}
-use Rattle.std.proofs.lemmas.Bool.{cond_both}
+use Rattle.std.proofs.Common.{◌≡◌, ℕ, zero, suc, ◌+◌, ◌-◌, ◌<◌, ◌≤◌, Bool, true, ◌&&◌, eqb, cond, nat_lt, List, [], ◌∷◌, ◌++◌, map, length, take, drop, get_or, set, replicate, Some, None, refl, sym, ap, ap₂, subst, ◌∙◌, arith}
+use Rattle.std.specs.Cmp.Lexicographic.{pointwise}
+use Rattle.std.proofs.lemmas.Bool.{and_parts, cond_both, cond-true, eqb-true, false≢true}
 use Rattle.std.proofs.lemmas.List.{length-map, length-set, length-replicate, take_at}
 use Rattle.dcop_base.specs.declared.knowledge.Private.{Private}
 use Rattle.pseudotree.specs.declared.agent.Place.{Place}
@@ -10,7 +11,7 @@ use Rattle.adopt_context.specs.Allot.{kept, reset, lower_to, raised, raise, lowe
 use Rattle.adopt_context.proofs.RowLaws.{reset_at, set_each}
 use Rattle.adopt_bounds.specs.Rows.{BoundsView}
 use Rattle.protocol_steps.specs.Adopt.{AdoptView, higher}
-use Rattle.protocol_steps.specs.AdoptBounds.{lower_of, upper_of, best_lower, best_upper}
+use Rattle.protocol_steps.specs.AdoptBounds.{at_context, lower_of, upper_of, best_lower, best_upper}
 use Rattle.protocol_steps.specs.AdoptStep.{to_allot, allotted}
 use Rattle.adopt_agent.specs.declared.stage.Stage.{Stage}
 use Rattle.adopt_agent.specs.Costs.{cost_where}
@@ -111,3 +112,27 @@ backed_new own place known bounds width none children rows = record {
   counted = ap (λ (rs : List (List Entry)). length rs) rows ∙ length-replicate own.size (replicate width blank);
   rest = subst (λ (x : Context). RestOn x bounds.rows) (sym none) (subst (λ (rs : List (List Entry)). RestOn [] rs) (sym rows) (blank_rests own.size width));
 }
+
+row_same : (x : Context) (row : List Entry) → ((k : ℕ) → part_of (get_or row k blank).context x ≡ true) → map (kept x) row ≡ row
+row_same x [] rest = refl
+row_same x (e ∷ es) rest = ap₂ (λ (f : Entry) (fs : List Entry). f ∷ fs) (cond-true (part_of e.context x) e blank (rest 0)) (row_same x es (λ k. rest (suc k)))
+
+-- nothing is forgotten where each entry rests on what is known
+pub reset_same : (x : Context) (rows : List (List Entry)) → RestOn x rows → reset x rows ≡ rows
+reset_same x [] rest = refl
+reset_same x (row ∷ rows) rest = ap₂ (λ (r : List Entry) (rs : List (List Entry)). r ∷ rs) (row_same x row (rest 0)) (reset_same x rows (λ d k. rest (suc d) k))
+
+pub at_same : (v : AdoptView) (x : Context) → v.known ≡ x → RestOn v.known v.rows → v ≡ at_context v x
+at_same v x same rest =
+    ap (λ (rows : List (List Entry)). record v { rows = rows }) (sym (reset_same v.known v.rows rest))
+    ∙ ap (λ (y : Context). record v { known = y; rows = reset y v.rows }) same
+
+-- pairs that are equal one by one
+pub pairs_same : (xs ys : Context) → pointwise (λ x y. eqb x.0 y.0 && eqb x.1 y.1) xs ys ≡ true → xs ≡ ys
+pairs_same [] [] h = refl
+pairs_same [] (y ∷ ys) h = absurd (false≢true h)
+pairs_same (x ∷ xs) [] h = absurd (false≢true h)
+pairs_same (x ∷ xs) (y ∷ ys) h =
+    let parts = and_parts (eqb x.0 y.0 && eqb x.1 y.1) (pointwise (λ x y. eqb x.0 y.0 && eqb x.1 y.1) xs ys) h in
+    let both = and_parts (eqb x.0 y.0) (eqb x.1 y.1) parts.0 in
+    ap₂ (λ (p : ℕ × ℕ) (ps : Context). p ∷ ps) (ap₂ (λ (a : ℕ) (b : ℕ). let p : ℕ × ℕ = (a, b) in p) (eqb-true x.0 y.0 both.0) (eqb-true x.1 y.1 both.1)) (pairs_same xs ys parts.1)

@@ -16,7 +16,7 @@ ghost use Rattle.adopt_agent.specs.Stage.{working};
 ghost use Rattle.adopt_agent.specs.Deed.{Gives};
 
 use crate::choose;
-use crate::costs::{are_known, copy_of, set_costs};
+use crate::costs::{are_known, are_same, copy_of, set_costs};
 use crate::stage::Stage;
 use adopt_bounds::Bounds;
 use adopt_context::AgentContext;
@@ -153,16 +153,29 @@ impl AdoptAgent {
         self.threshold = choose::lower_to(least, upper);
     }
 
-    /// Knows these values from now on: forgets the entries that do not rest on them, and restores.
-    pub(crate) fn move_to(&mut self, known: AgentContext)
+    /// Knows these values from now on: forgets the entries that do not rest on them.
+    fn rest_on(&mut self, known: AgentContext)
         requires { fits self.old known ≡ true }
-        ensures { self.new ≡ restore (at_context self.old known) }
+        ensures { self.new ≡ at_context self.old known }
     {
         set_costs(self.costs.as_mut_slice(), &self.own, &self.place, &known);
         let path = self.place.path.as_slice();
         self.whole = are_known(self.own.neighbours.as_slice(), path, &known);
         self.bounds.reset(&known);
         self.known = known;
+    }
+
+    /// Knows these values from now on, and restores. Where they were known before, nothing is
+    /// forgotten.
+    pub(crate) fn move_to(&mut self, known: AgentContext)
+        requires { fits self.old known ≡ true }
+        ensures { self.new ≡ restore (at_context self.old known) }
+    {
+        if are_same(self.known.pairs(), known.pairs()) {
+            self.restore();
+            return;
+        }
+        self.rest_on(known);
         self.restore();
     }
 

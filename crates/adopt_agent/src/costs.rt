@@ -1,6 +1,6 @@
 //! What each own value costs by the agent's own tables.
 
-ghost use Rattle.std.specs.Prelude.{◌≡◌, ℕ, ◌<◌, ◌≤◌, ◌+◌, ◌&&◌, ◌||◌, ◌==◌, length, map, is_some, slice_index, IfOk};
+ghost use Rattle.std.specs.Prelude.{◌≡◌, ℕ, ◌<◌, ◌≤◌, ◌+◌, true, ◌&&◌, ◌||◌, ◌==◌, length, map, is_some, slice_index, IfOk};
 ghost use Rattle.std.specs.List.{All, filter, list_all};
 ghost use Rattle.dcop_base.specs.Table.{AreWithin, cell_place, has, product};
 ghost use Rattle.dcop_base.specs.Values.{cell_with, cost_with, with_own};
@@ -19,6 +19,13 @@ pub(crate) fn stands_in(vars: &[VarId], sought: VarId) -> bool
     ensures { result ≡ has vars.now sought }
 {
     vars.iter().any(|var| *var == sought)
+}
+
+/// Whether these pairs are the same.
+pub(crate) fn are_same(pairs: &[(VarId, Val)], others: &[(VarId, Val)]) -> bool
+    ensures { result ≡ true → pairs.now ≡ others.now }
+{
+    pairs == others
 }
 
 /// A copy of these variables.
