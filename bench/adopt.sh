@@ -10,7 +10,8 @@
 # number of deliveries. A time of play has the making of the tree and of the agents in it, on both sides.
 # The crate of bench/adopt/crate calls `adopt_agent` and `delivery_core` and is a static library; it is
 # proved and built in a copy of the repository, where it is one more crate. The plain agent is
-# bench/adopt/plain.rs. Prints the best of nine runs each; stops with status 1 where the two differ.
+# bench/adopt/plain.rs; a second one of it is sparing: it sets its costs and forgets entries only where
+# what it knows has changed. Prints the best of fifteen runs each; stops with status 1 where the two differ.
 set -eu
 top=$(cd "$(dirname "$0")/.." && pwd)
 kit=$(dirname "$(dirname "$(readlink -f "$(command -v rt)")")")

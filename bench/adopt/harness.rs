@@ -2,7 +2,7 @@
 //!
 //! `harness TIMETABLE` takes the path of a problem text whose tables have one or two variables.
 
-use plain::{Agent, CAP, Context, Letter, Message, Parcel, Problem, Table, Tree, play};
+use plain::{Agent, Context, Letter, Message, Parcel, Played, Problem, Table, Tree, play};
 use std::hint::black_box;
 use std::time::Instant;
 
@@ -21,7 +21,7 @@ unsafe extern "C" {
     ) -> bool;
 }
 
-const RUNS: usize = 9;
+const RUNS: usize = 15;
 
 /// What stands for "none" among the numbers of a problem, and among those of letters.
 const NO_VARIABLE: u32 = u32::MAX;
@@ -196,15 +196,17 @@ fn mark_of(mark: u64, parcel: &Parcel) -> u64 {
     }
 }
 
-/// The best of some runs, in seconds.
-fn best(mut run: impl FnMut()) -> f64 {
-    (0..RUNS)
-        .map(|_| {
+/// The best of some runs of each, in seconds; they run in turn.
+fn best<const N: usize>(mut runs: [&mut dyn FnMut(); N]) -> [f64; N] {
+    let mut best = [f64::INFINITY; N];
+    for _ in 0..RUNS {
+        for (run, best) in runs.iter_mut().zip(&mut best) {
             let begin = Instant::now();
             run();
-            begin.elapsed().as_secs_f64()
-        })
-        .fold(f64::INFINITY, f64::min)
+            *best = best.min(begin.elapsed().as_secs_f64());
+        }
+    }
+    best
 }
 
 /// Stops with an error where the two differ.
@@ -233,38 +235,43 @@ fn react_plain(agent: &Agent, batches: &[Vec<Letter>], marked: bool) -> [u64; 2]
     [sent, mark]
 }
 
+/// Prints rates, and the ratios of the plain times to ours.
+fn tell(unit: &str, count: f64, our_time: f64, [plain, sparing]: [f64; 2]) {
+    println!("  {:.0} {unit} a second, plain {:.0}, ratio {:.2}; plain and sparing {:.0}, ratio {:.2}",
+        count / our_time, count / plain, plain / our_time, count / sparing, sparing / our_time);
+}
+
 /// Times one agent on these batches.
 fn time_agent(what: &str, problem: &Problem, batches: &[Vec<Letter>]) {
     let numbers = Numbers::new(problem);
     let letters = numbers_of(batches);
-    let agent = Agent::new(problem, &Tree::new(problem), FAN_AGENT, 0);
+    let [agent, sparing] = [false, true].map(|sparing| Agent::new(problem, &Tree::new(problem), FAN_AGENT, 0, sparing));
     let mut ours = [0; 2];
     let told = numbers.react(FAN_AGENT, &letters, 1, true, &mut ours);
     if !told {
         eprintln!("{what}: the batches were refused");
         std::process::exit(1);
     }
-    check(what, &ours, &react_plain(&agent, batches, true));
+    for agent in [&agent, &sparing] {
+        check(what, &ours, &react_plain(agent, batches, true));
+    }
     let times = 40;
-    let run = |times| best(|| {
-        assert!(numbers.react(FAN_AGENT, black_box(&letters), times, false, &mut [0; 2]));
-    });
-    let our_time = run(times) - run(0);
-    let plain_time = best(|| {
-        for _ in 0..times {
-            black_box(react_plain(black_box(&agent), black_box(batches), false));
-        }
-    });
+    let react = |times| assert!(numbers.react(FAN_AGENT, black_box(&letters), times, false, &mut [0; 2]));
+    let plainly = |agent| for _ in 0..times {
+        black_box(react_plain(black_box(agent), black_box(batches), false));
+    };
+    let [reading, with_reading, plain, spared] =
+        best([&mut || react(0), &mut || react(times), &mut || plainly(&agent), &mut || plainly(&sparing)]);
     let count = f64::from(times) * (batches.len() + 1) as f64;
     let messages = batches.iter().map(Vec::len).sum::<usize>() as f64 / batches.len() as f64;
     println!("one agent with 8 children and 16 values, {what} ({} batches of {messages:.1} messages):", batches.len());
-    println!("  {:.0} activations a second, plain {:.0}, ratio {:.2}", count / our_time, count / plain_time, plain_time / our_time);
+    tell("activations", count, with_reading - reading, [plain, spared]);
 }
 
 /// The first batches that the agent of the fan takes in a run of the plain agents.
 fn recorded(problem: &Problem) -> Vec<Vec<Letter>> {
     let mut batches = Vec::new();
-    play(problem, &Tree::new(problem), 0, 100_000, |me, batch| {
+    play(problem, false, 0, 100_000, |me, batch| {
         if me == FAN_AGENT && batches.len() < 500 {
             batches.push(batch.to_vec());
         }
@@ -291,6 +298,16 @@ fn alternating(seed: u64) -> Vec<Vec<Letter>> {
     batches
 }
 
+/// How many messages were delivered, and each agent's value, bounds and threshold.
+fn end_of(played: &Played) -> Vec<u64> {
+    let mut end = vec![played.deliveries];
+    for agent in &played.agents {
+        let (lower, upper) = agent.bounds();
+        end.extend([agent.value() as u64, lower, upper.unwrap_or(NO_AMOUNT), agent.threshold()]);
+    }
+    end
+}
+
 /// Times ADOPT on a problem.
 fn time_play(what: &str, problem: &Problem, budget: u64, times: u32) {
     let numbers = Numbers::new(problem);
@@ -299,26 +316,18 @@ fn time_play(what: &str, problem: &Problem, budget: u64, times: u32) {
         eprintln!("{what}: the problem was refused");
         std::process::exit(1);
     }
-    let played = play(problem, &Tree::new(problem), 0, budget, |_, _| ());
-    let mut plain = vec![played.deliveries];
-    for agent in &played.agents {
-        let (lower, upper) = agent.bounds();
-        plain.extend([agent.value() as u64, lower, upper.unwrap_or(NO_AMOUNT), agent.threshold()]);
-    }
-    check(what, &ours, &plain);
-    let our_time = best(|| {
-        assert!(numbers.play(0, black_box(budget), times, &mut ours));
-    });
-    let plain_time = best(|| {
-        for _ in 0..times {
-            let problem = black_box(problem);
-            black_box(play(problem, &Tree::new(problem), 0, black_box(budget), |_, _| ()));
-        }
-    });
+    let [played, spared] = [false, true].map(|sparing| play(problem, sparing, 0, budget, |_, _| ()));
+    check(what, &ours, &end_of(&played));
+    check(what, &ours, &end_of(&spared));
+    let mut ours = || assert!(numbers.play(0, black_box(budget), times, &mut ours));
+    let plainly = |sparing| for _ in 0..times {
+        black_box(play(black_box(problem), sparing, 0, black_box(budget), |_, _| ()));
+    };
+    let [our_time, plain, spared] = best([&mut ours, &mut || plainly(false), &mut || plainly(true)]);
     let ended = if played.agents.iter().all(Agent::has_ended) { "all ended" } else { "budget spent" };
     let count = f64::from(times) * played.deliveries as f64;
     println!("{what} ({} deliveries, {ended}):", played.deliveries);
-    println!("  {:.0} deliveries a second, plain {:.0}, ratio {:.2}", count / our_time, count / plain_time, plain_time / our_time);
+    tell("deliveries", count, our_time, [plain, spared]);
 }
 
 fn main() {
@@ -329,5 +338,4 @@ fn main() {
     time_agent("VALUE and COST in turn", &fan, &alternating(2));
     time_play("timetable", &timetable, 1_000_000, 20);
     time_play("20 variables of size 4, degree 2", &random_problem(1, 20, 4, 2, 100), 100_000, 1);
-    assert!(CAP < NO_AMOUNT);
 }

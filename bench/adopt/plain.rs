@@ -1,8 +1,11 @@
 //! ADOPT written plainly, for comparison: the same agent and the same rounds, without proofs.
+//!
+//! Each VALUE and COST sets the costs and forgets entries anew, as the agent is defined. A sparing
+//! agent does so only where what it knows has changed; that gives the same.
 
 use std::collections::VecDeque;
 
-pub const CAP: u64 = 1 << 62;
+const CAP: u64 = 1 << 62;
 
 /// The most messages of one sender that an activation of a round takes.
 const MOST_TAKEN: usize = 64;
@@ -96,6 +99,7 @@ pub struct Agent {
     me: u32,
     size: usize,
     error: u64,
+    sparing: bool,
     path: Vec<(u32, u16)>,
     neighbours: Vec<Neighbour>,
     tables: Vec<Table>,
@@ -118,7 +122,7 @@ pub struct Agent {
 }
 
 impl Agent {
-    pub fn new(problem: &Problem, tree: &Tree, me: u32, error: u64) -> Agent {
+    pub fn new(problem: &Problem, tree: &Tree, me: u32, error: u64, sparing: bool) -> Agent {
         let path: Vec<(u32, u16)> =
             tree.paths[me as usize].iter().map(|var| (*var, problem.sizes[*var as usize])).collect();
         let children: Vec<u32> = tree.children(me).collect();
@@ -134,6 +138,7 @@ impl Agent {
             me,
             size,
             error,
+            sparing,
             neighbours: neighbours.collect(),
             path,
             tables: problem.tables.iter().filter(|table| table.scope.contains(&me)).cloned().collect(),
@@ -262,6 +267,14 @@ impl Agent {
         self.restore();
     }
 
+    fn move_on(&mut self, changed: bool) {
+        if changed || !self.sparing {
+            self.reset();
+        } else {
+            self.restore();
+        }
+    }
+
     fn neighbour(&self, var: u32) -> Option<&Neighbour> {
         self.neighbours.iter().find(|near| near.var == var)
     }
@@ -278,8 +291,8 @@ impl Agent {
     fn take_value(&mut self, from: u32, value: u16) {
         let size = self.neighbour(from).and_then(|near| near.higher);
         if !self.told && size.is_some_and(|size| value < size) {
-            set(&mut self.known, from, value);
-            self.reset();
+            let changed = set(&mut self.known, from, value);
+            self.move_on(changed);
         }
     }
 
@@ -322,12 +335,13 @@ impl Agent {
     }
 
     fn learn(&mut self, rest: &Context) {
+        let mut changed = false;
         for (var, value) in rest {
             if self.neighbour(*var).is_none() || value_in(&self.known, *var).is_none() {
-                set(&mut self.known, *var, *value);
+                changed |= set(&mut self.known, *var, *value);
             }
         }
-        self.reset();
+        self.move_on(changed);
     }
 
     fn store(&mut self, at: usize, rest: &Context, lower: u64, upper: Option<u64>) {
@@ -490,10 +504,11 @@ pub struct Played {
 
 /// Each agent starts, and then rounds follow until all have ended, the budget is spent, or a round
 /// has no event. `see` sees each batch with its agent.
-pub fn play(problem: &Problem, tree: &Tree, error: u64, budget: u64, mut see: impl FnMut(u32, &[Letter])) -> Played {
+pub fn play(problem: &Problem, sparing: bool, error: u64, budget: u64, mut see: impl FnMut(u32, &[Letter])) -> Played {
+    let tree = Tree::new(problem);
     let count = problem.sizes.len();
     let make = |me: usize| Seat {
-        agent: Agent::new(problem, tree, me as u32, error),
+        agent: Agent::new(problem, &tree, me as u32, error, sparing),
         links: tree.neighbours[me].iter().map(|var| (*var, VecDeque::new())).collect(),
     };
     let mut seats: Vec<Seat> = (0..count).map(make).collect();
