@@ -1,5 +1,5 @@
 -- The ranges of a command's numbers.
-use Rattle.std.specs.Prelude.{ℕ, ◌≤◌}
+use Rattle.std.specs.Prelude.{◌≤◌}
 use Rattle.solve_words.specs.Options.{numbers_of}
 use Rattle.solve_words.specs.declared.command.Command.{Command}
 use Rattle.solve_words.specs.declared.command.Command.TheVariants.{Solve}
