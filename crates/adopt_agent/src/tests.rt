@@ -57,14 +57,13 @@ fn table(alloc: Global, scope: [u32; 2], cells: [u64; 4]) -> Result<Table, Fail>
     )?)
 }
 
-/// The problem of r, p, m and k, which are 0 to 3.
-fn middle(alloc: Global) -> Result<Problem, Fail> {
+/// The problem of so many variables of two values with these tables.
+fn problem_of(alloc: Global, count: usize, rows: &[([u32; 2], [u64; 4])]) -> Result<Problem, Fail> {
     let mut tables = Vec::new(alloc);
-    for scope in [[0, 1], [1, 2], [0, 2], [0, 3]] {
-        tables.push(table(alloc, scope, [0; 4])?)?;
+    for (scope, cells) in rows {
+        tables.push(table(alloc, *scope, *cells)?)?;
     }
-    tables.push(table(alloc, [2, 3], [5, 5, 1, 1])?)?;
-    let sizes = SizeList::from_vec(vec![in alloc; 2, 2, 2, 2]?);
+    let sizes = SizeList::from_vec(vec![in alloc; 2; count]?);
     Ok(Problem::new(alloc, sizes, TableList::from_vec(tables))?)
 }
 
@@ -313,6 +312,30 @@ fn are_sent(out: &Outbox, said: &[(u32, Said)]) -> bool {
             && is_said(&parcel.message, *message))
 }
 
+/// Starts an agent, and sees what it sends for each of these batches.
+fn run(
+    rt: &impl Abort,
+    alloc: Global,
+    agent: &mut AdoptAgent,
+    rows: &[(AllSaid, AllSaid)],
+) -> Result<(), Fail> {
+    started(rt, alloc, agent)?;
+    for (taken, sent) in rows {
+        let out = told(rt, alloc, agent, taken)?;
+        assert!(rt; are_sent(&out, sent));
+    }
+    Ok(())
+}
+
+/// The tables of r, p, m and k, which are 0 to 3.
+const MIDDLE: [([u32; 2], [u64; 4]); 5] = [
+    ([0, 1], [0; 4]),
+    ([1, 2], [0; 4]),
+    ([0, 2], [0; 4]),
+    ([0, 3], [0; 4]),
+    ([2, 3], [5, 5, 1, 1]),
+];
+
 /// What m takes in its batches A to D, and what it sends.
 const OF_MIDDLE: [(AllSaid, AllSaid); 4] = [
     (
@@ -356,17 +379,58 @@ const OF_MIDDLE: [(AllSaid, AllSaid); 4] = [
     ),
 ];
 
+/// What 1 takes below 0, the second batch in another context than the first, and what it sends.
+const OF_LEAF: [(AllSaid, AllSaid); 2] = [
+    (
+        &[(0, Said::Value(0))],
+        &[(0, Said::Cost(&[(0, 0)], 3, Some(3)))],
+    ),
+    (&[(0, Said::Terminate(&[(0, 1)]))], &[]),
+];
+
+/// What 1 takes between 0 and 2 where its child's bounds are the greatest, and what it sends.
+const AT_CAP: [(AllSaid, AllSaid); 1] = [(
+    &[
+        (0, Said::Value(0)),
+        (2, Said::Cost(&[(1, 0)], CAP, Some(CAP))),
+        (2, Said::Cost(&[(1, 1)], CAP, Some(CAP))),
+    ],
+    &[
+        (0, Said::Cost(&[(0, 0)], CAP, Some(CAP))),
+        (2, Said::Value(0)),
+        (2, Said::Threshold(CAP, &[(0, 0)])),
+    ],
+)];
+
 #[test]
 fn the_middle_agent_ends_by_the_remembered_threshold(rt: HostRuntime) -> Result<(), Fail> {
     let alloc = rt.alloc();
-    let mut agent = agent_of(&rt, alloc, &middle(alloc)?, &[4, 0, 1, 2], 2)?;
-    started(&rt, alloc, &mut agent)?;
-    for (taken, sent) in OF_MIDDLE {
-        assert!(rt; !agent.ended());
-        let out = told(&rt, alloc, &mut agent, taken)?;
-        assert!(rt; are_sent(&out, sent));
-    }
+    let problem = problem_of(alloc, 4, &MIDDLE)?;
+    let mut agent = agent_of(&rt, alloc, &problem, &[4, 0, 1, 2], 2)?;
+    run(&rt, alloc, &mut agent, &OF_MIDDLE)?;
     assert!(rt; agent.ended());
     assert!(rt; agent.value() == Val(1));
+    Ok(())
+}
+
+#[test]
+fn a_leaf_that_is_told_to_end_takes_the_last_values(rt: HostRuntime) -> Result<(), Fail> {
+    let alloc = rt.alloc();
+    let problem = problem_of(alloc, 2, &[([0, 1], [5, 3, 2, 7])])?;
+    let mut agent = agent_of(&rt, alloc, &problem, &[2, 0], 1)?;
+    run(&rt, alloc, &mut agent, &OF_LEAF)?;
+    assert!(rt; agent.ended());
+    assert!(rt; agent.value() == Val(0));
+    Ok(())
+}
+
+#[test]
+fn sums_stay_at_the_cap(rt: HostRuntime) -> Result<(), Fail> {
+    let alloc = rt.alloc();
+    let tables = [([0, 1], [5, 3, 2, 7]), ([1, 2], [0; 4])];
+    let problem = problem_of(alloc, 3, &tables)?;
+    let mut agent = agent_of(&rt, alloc, &problem, &[3, 0, 1], 1)?;
+    run(&rt, alloc, &mut agent, &AT_CAP)?;
+    assert!(rt; !agent.ended());
     Ok(())
 }
