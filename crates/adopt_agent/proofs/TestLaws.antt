@@ -1,5 +1,5 @@
 -- Batches by their senders.
-use Rattle.std.proofs.Common.{◌≡◌, ℕ, suc, true, Bool, ◌||◌, eqb, List, [], ◌∷◌, length, sym, ap, subst, ◌∙◌, inl, inr, arith}
+use Rattle.std.proofs.Common.{◌≡◌, ℕ, suc, true, Bool, ◌||◌, eqb, List, [], ◌∷◌, ap, subst, ◌∙◌, inl, inr, arith}
 use Rattle.std.specs.List.{All, Contains, list_all}
 use Rattle.std.proofs.lemmas.Bool.{cases_Bool, and_parts, eqb-true, false≢true}
 use Rattle.std.proofs.lemmas.List.Elements.{All-nil, All-cons}

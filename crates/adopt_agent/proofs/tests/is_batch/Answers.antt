@@ -1,4 +1,4 @@
-use Rattle.std.proofs.Common.{rules, ◌≡◌, ℕ, true, false, List, [], length, ◌==◌, sym, ap, ◌∙◌}
+use Rattle.std.proofs.Common.{ℕ, List, length, ◌==◌, sym, ap, ◌∙◌}
 use Rattle.std.proofs.lemmas.Bool.{false≢true}
 use Rattle.protocol_steps.specs.declared.message.Message.{Message}
 use Rattle.adopt_agent.proofs.TestLaws.{is_batch}

@@ -1,4 +1,4 @@
-use Rattle.std.proofs.Common.{rules, sym, ap, ◌∙◌}
+use Rattle.std.proofs.Common.{sym, ap, ◌∙◌}
 use Rattle.protocol_steps.specs.Adopt.{AdoptView}
 use Rattle.adopt_agent.proofs.tests.may_take.Goals as goal
 

@@ -1,4 +1,3 @@
-use Rattle.std.proofs.Common.{rules}
 use Rattle.adopt_agent.proofs.tests.place_in.Goals as goal
 
 pub returns : goal.returns

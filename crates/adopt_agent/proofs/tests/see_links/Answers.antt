@@ -1,4 +1,4 @@
-use Rattle.std.proofs.Common.{rules, ◌≡◌, ℕ, ◌<◌, true, length, List, Some, sym, ap, subst, ◌∙◌, arith}
+use Rattle.std.proofs.Common.{ℕ, length, List, ap, arith}
 use Rattle.dcop_base.specs.Problem.{Dcop}
 use Rattle.pseudotree.proofs.CheckLaws.{within_tree}
 use Rattle.adopt_agent.proofs.tests.see_links.Goals as goal

@@ -1,5 +1,5 @@
-use Rattle.std.proofs.Common.{rules, ◌≡◌, ℕ, ◌<◌, Bool, true, eqb, length, List, Option, Some, sym, ap, ◌∙◌, subst}
-use Rattle.std.specs.List.{list_any, range_with_len}
+use Rattle.std.proofs.Common.{◌≡◌, ℕ, true, length, List, sym, ap, ◌∙◌, subst}
+use Rattle.std.specs.List.{range_with_len}
 use Rattle.dcop_base.specs.Table.{has}
 use Rattle.dcop_base.specs.Graph.{neighbours, are_neighbours}
 use Rattle.dcop_base.specs.declared.knowledge.Private.{Private}
