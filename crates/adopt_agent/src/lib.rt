@@ -14,5 +14,7 @@ mod messages;
 mod range;
 mod send;
 mod stage;
+#[cfg(test)]
+mod tests;
 
 pub use agent::AdoptAgent;

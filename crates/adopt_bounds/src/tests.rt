@@ -61,3 +61,17 @@ fn bounds_are_stored_and_forgotten(rt: HostRuntime) -> Result<(), Fail> {
     );
     Ok(())
 }
+
+#[test]
+fn bounds_that_would_cross_are_not_stored(rt: HostRuntime) -> Result<(), Fail> {
+    let alloc = rt.alloc();
+    let mut bounds = of_two(alloc)?;
+    let mut context = AgentContext::new(alloc);
+    context.set(VarId(0), Val(1))?;
+    let stored = bounds.store(Val(0), VarId(3), &context, 2, Some(3))?;
+    assert!(rt; stored);
+    let stored = bounds.store(Val(0), VarId(3), &context, 4, None)?;
+    assert!(rt; !stored);
+    assert_eq!(rt; bounds.lb_of(0, Val(0)), 2);
+    Ok(())
+}
