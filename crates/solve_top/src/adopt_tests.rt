@@ -61,12 +61,10 @@ fn worked_answers_of_adopt(rt: HostRuntime) -> Result<(), Fail> {
 
 /// Whether a part stands somewhere in a text.
 fn stands_in(part: &[u8], text: &[u8]) -> bool {
-    let mut rest = text;
-    while let Some((_, later)) = rest.split_first() {
-        if rest.starts_with(part) {
+    for at in 0..text.len() {
+        if text[at..].starts_with(part) {
             return true;
         }
-        rest = later;
     }
     false
 }
