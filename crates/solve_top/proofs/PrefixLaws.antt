@@ -1,5 +1,5 @@
 -- What stands behind the line `end` of a problem text changes nothing in what is read before it.
-use Rattle.std.proofs.Common.{◌≡◌, ℕ, ◌+◌, ◌≤◌, Bool, true, false, cond, nat_eq, List, [], ◌∷◌, ◌++◌, length, count_by, Result, Ok, refl, sym, ap, ap₂, subst, ◌∙◌, arith}
+use Rattle.std.proofs.Common.{◌≡◌, ℕ, ◌+◌, Bool, true, false, cond, nat_eq, List, [], ◌∷◌, ◌++◌, length, count_by, Result, Ok, refl, sym, ap, ap₂, subst, ◌∙◌, arith}
 use Rattle.problem_text.specs.declared.line.TheConstants.{LF}
 use Rattle.problem_text.specs.Declarations.{Declared, Outcome, Declares, Ends, Fails, version_alone}
 use Rattle.problem_text.specs.Lines.{Line, has_some, words, content, lines, onto_first, numbered, with_words}

@@ -1,7 +1,7 @@
 -- What `check` answers on a problem and the report that was printed for it.
-use Rattle.std.proofs.Common.{◌≡◌, ℕ, ◌+◌, ◌*◌, ◌-◌, ◌<◌, ◌≤◌, true, List, [], ◌∷◌, ◌++◌, length, take, drop, Option, Some, None, Result, Ok, IfSome, IsTrue, is_some, refl, sym, ap, subst, ◌∙◌, arith}
+use Rattle.std.proofs.Common.{◌≡◌, ℕ, ◌<◌, ◌≤◌, true, List, [], ◌∷◌, take, drop, Option, Some, None, Result, Ok, IfSome, IsTrue, is_some, refl, sym, ap, subst, ◌∙◌, arith}
 use Rattle.std.specs.List.{AllZip}
-use Rattle.std.proofs.lemmas.List.{take_at, drop_at}
+use Rattle.std.proofs.lemmas.List.{drop_at}
 use Rattle.dcop_base.specs.Table.{AreWithin}
 use Rattle.dcop_base.specs.Problem.{Dcop, IsAssignment, cost}
 use Rattle.dcop_base.specs.Whole.{IsProblem}
@@ -11,19 +11,17 @@ use Rattle.pseudotree.specs.declared.width.Wide.{Wide}
 use Rattle.pseudotree.specs.declared.width.Wide.TheVariants.{Agent, Total}
 use Rattle.problem_text.specs.File.{TextFile, IsFile}
 use Rattle.problem_text.specs.Reading.{Parts, Fault, text_read}
-use Rattle.problem_text.specs.Steps.{declared_by}
 use Rattle.problem_text.specs.declared.file.Goal.{Goal}
 use Rattle.problem_text.specs.declared.file.Goal.TheVariants.{Min, Max}
 use Rattle.certificate_text.specs.declared.certificate.Certificate.{Certificate}
 use Rattle.certificate_text.specs.declared.certificate.Certificate.TheVariants.{Tables}
-use Rattle.certificate_text.specs.declared.report.Method.{Method}
 use Rattle.certificate_text.specs.declared.report.Method.TheVariants.{Dpop}
 use Rattle.certificate_text.specs.declared.report.Report.{Report}
 use Rattle.certificate_text.specs.declared.verdict.Verdict.{Verdict}
 use Rattle.certificate_text.specs.declared.verdict.Verdict.TheVariants.{Yes, No}
 use Rattle.certificate_text.specs.Fits.{FitsCertificate, Fits}
 use Rattle.certificate_text.specs.ReportText.{report_text}
-use Rattle.certificate_text.specs.ReportReading.{Fault as ReportFault, report_read}
+use Rattle.certificate_text.specs.ReportReading.{Fault as ReportFault}
 use Rattle.certificate_text.proofs.AgainLaws.{report-again}
 use Rattle.certificate_check.specs.Goal.{solved}
 use Rattle.certificate_check.specs.Verdicts.{IsExactOn}

@@ -1,27 +1,18 @@
 -- One file is declared by a text, and one answer of DPOP belongs to it.
-use Rattle.std.proofs.Common.{◌≡◌, ℕ, Bool, List, length, Option, Some, None, Result, Ok, Err, refl, sym, ap, ap₂, subst, ◌∙◌}
-use Rattle.dcop_base.specs.Problem.{Dcop, cost}
+use Rattle.std.proofs.Common.{◌≡◌, ℕ, Bool, List, length, Option, Some, None, sym, ap, ap₂, subst, ◌∙◌}
 use Rattle.dcop_base.specs.Whole.{IsProblem}
 use Rattle.dcop_base.specs.Graph.{AreJoints}
 use Rattle.dcop_base.proofs.UniqueLaws.{AreJoints-unique}
-use Rattle.pseudotree.specs.DepthFirst.{dfs, DepthFirstTreesAreLinked}
+use Rattle.pseudotree.specs.DepthFirst.{DepthFirstTreesAreLinked}
 use Rattle.pseudotree.specs.declared.width.Wide.{Wide}
 use Rattle.dcop_optimum.specs.TreeOptimum.{FirstOptimaOfTreesAreOne}
-use Rattle.dcop_optimum.proofs.TurnLaws.{turned_problem}
 use Rattle.problem_text.specs.File.{TextFile}
 use Rattle.problem_text.specs.Declarations.{Declared}
 use Rattle.problem_text.specs.Steps.{declared_by}
-use Rattle.problem_text.specs.declared.file.Goal.{Goal}
-use Rattle.problem_text.specs.declared.file.Goal.TheVariants.{Min, Max}
-use Rattle.certificate_text.specs.declared.certificate.Certificate.{Certificate}
 use Rattle.certificate_text.specs.declared.report.Report.{Report}
-use Rattle.certificate_text.specs.declared.report.Ending.{Ending}
-use Rattle.certificate_text.specs.declared.report.Method.{Method}
-use Rattle.certificate_text.specs.declared.report.Ending.TheVariants.{Solved}
-use Rattle.certificate_text.specs.declared.report.Method.TheVariants.{Dpop}
 use Rattle.solve_report.specs.declared.answer.Answer.{Answer}
 use Rattle.solve_report.specs.declared.answer.Answer.TheVariants as answers
-use Rattle.solve_methods.specs.Dpop.{dpop_deliveries, wide_in, IsDpopReport, IsDpopSolved, IsAnswerBy, AnswersDpop}
+use Rattle.solve_methods.specs.Dpop.{wide_in, IsDpopReport, IsDpopSolved, IsAnswerBy, AnswersDpop}
 use Rattle.certificate_check.specs.Goal.{solved}
 use Rattle.solve_methods.proofs.OneLaws.{one_report}
 

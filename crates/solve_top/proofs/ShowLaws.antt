@@ -1,9 +1,9 @@
 -- What follows for a top call from an answer and from how it was shown.
-use Rattle.std.proofs.Common.{◌≡◌, ◌≢◌, ℕ, ◌<◌, ◌⊎◌, List, Some, sym, ap, subst, refl, ◌∙◌, arith, inl, inr}
+use Rattle.std.proofs.Common.{◌≡◌, ◌≢◌, ℕ, ◌<◌, ◌⊎◌, List, Some, sym, subst, ◌∙◌, inl, inr}
 use Rattle.dcop_edge.specs.Faults.{Rose}
 use Rattle.solve_report.specs.declared.answer.Answer.{Answer}
 use Rattle.solve_top.specs.declared.status.Status.{Status}
-use Rattle.solve_top.specs.declared.status.Status.TheVariants.{Solved, ReadFault, WriteFault, NoMemory}
+use Rattle.solve_top.specs.declared.status.Status.TheVariants.{ReadFault, WriteFault, NoMemory}
 use Rattle.solve_top.specs.Input.{SourceState}
 use Rattle.solve_top.specs.Output.{SinkState}
 use Rattle.solve_top.specs.Solving.{GoesWell, Answered, Accepts, Shows, Solves}

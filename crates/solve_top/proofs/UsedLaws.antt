@@ -1,5 +1,5 @@
 -- A text that is read has no more bytes used than it has.
-use Rattle.std.proofs.Common.{◌≡◌, ℕ, ◌+◌, ◌≤◌, Bool, true, false, cond, nat_eq, List, [], ◌∷◌, length, Result, Ok, refl, ap, subst, ◌∙◌, arith}
+use Rattle.std.proofs.Common.{◌≡◌, ℕ, ◌+◌, ◌≤◌, Bool, true, false, cond, nat_eq, List, [], ◌∷◌, length, Result, Ok, refl, ap, ◌∙◌, arith}
 use Rattle.problem_text.specs.Declarations.{Declared, Outcome, Declares, Ends, Fails}
 use Rattle.problem_text.specs.declared.line.TheConstants.{LF}
 use Rattle.problem_text.specs.Lines.{Line, has_some, lines, onto_first, numbered, with_words}

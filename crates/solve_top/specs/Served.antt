@@ -1,5 +1,5 @@
 -- The commands that are served.
-use Rattle.std.specs.Prelude.{ℕ, ◌≤◌, false, Option, Some, None, ◌==◌, if◌then◌else◌}
+use Rattle.std.specs.Prelude.{◌≤◌, false, Option, Some, None, ◌==◌, if◌then◌else◌}
 use Rattle.solve_words.specs.declared.command.Command.{Command}
 use Rattle.solve_words.specs.declared.command.Command.TheVariants.{Solve, Tree, Check, Upgrade}
 use Rattle.solve_words.specs.declared.command.Choice.TheVariants.{Plain, Dpop, Adopt}

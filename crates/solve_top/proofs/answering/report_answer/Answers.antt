@@ -1,4 +1,3 @@
-use Rattle.std.proofs.Common.{refl}
 use Rattle.solve_top.proofs.UsedLaws.{text_used}
 use Rattle.solve_top.proofs.answering.report_answer.Goals as goal
 
