@@ -1,6 +1,7 @@
 mod PassLaws
 mod UsedLaws
 mod PrefixLaws
+mod BlankLaws
 mod SameLaws
 mod PrintedLaws
 mod AnswerLaws

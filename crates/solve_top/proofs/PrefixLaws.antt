@@ -26,7 +26,7 @@ step_join false b [] more some = elim some [ ]
 step_join false b (l ∷ ls) more some = refl
 
 -- the lines of a text that ends with LF, and of what stands behind it
-lines_join : (bytes rest : List ℕ) → lines ((bytes ++ LF ∷ []) ++ rest) ≡ lines (bytes ++ LF ∷ []) ++ lines rest
+pub lines_join : (bytes rest : List ℕ) → lines ((bytes ++ LF ∷ []) ++ rest) ≡ lines (bytes ++ LF ∷ []) ++ lines rest
 lines_join [] rest = refl
 lines_join (b ∷ bs) rest =
     ap (λ (ls : List (List ℕ)). cond (nat_eq b LF) ((b ∷ []) ∷ ls) (onto_first b ls)) (lines_join bs rest)

@@ -1,7 +1,6 @@
 -- What `check` answers on a problem and the report that was printed for it.
-use Rattle.std.proofs.Common.{◌≡◌, ℕ, ◌<◌, ◌≤◌, true, List, [], ◌∷◌, take, drop, Option, Some, None, Result, Ok, IfSome, IsTrue, is_some, refl, sym, ap, subst, ◌∙◌, arith}
+use Rattle.std.proofs.Common.{◌≡◌, ℕ, ◌<◌, ◌≤◌, true, List, [], ◌∷◌, ◌++◌, take, drop, Option, Some, None, Result, Ok, IfSome, IsTrue, is_some, refl, sym, ap, subst, ◌∙◌, arith}
 use Rattle.std.specs.List.{AllZip}
-use Rattle.std.proofs.lemmas.List.{drop_at}
 use Rattle.dcop_base.specs.Table.{AreWithin}
 use Rattle.dcop_base.specs.Problem.{Dcop, IsAssignment, cost}
 use Rattle.dcop_base.specs.Whole.{IsProblem}
@@ -21,7 +20,7 @@ use Rattle.certificate_text.specs.declared.verdict.Verdict.{Verdict}
 use Rattle.certificate_text.specs.declared.verdict.Verdict.TheVariants.{Yes, No}
 use Rattle.certificate_text.specs.Fits.{FitsCertificate, Fits}
 use Rattle.certificate_text.specs.ReportText.{report_text}
-use Rattle.certificate_text.specs.ReportReading.{Fault as ReportFault}
+use Rattle.certificate_text.specs.ReportReading.{Fault as ReportFault, report_read}
 use Rattle.certificate_text.proofs.AgainLaws.{report-again}
 use Rattle.certificate_check.specs.Goal.{solved}
 use Rattle.certificate_check.specs.Verdicts.{IsExactOn}
@@ -34,7 +33,9 @@ use Rattle.solve_top.specs.Answering.{lines_in, IsReportAnswer}
 use Rattle.solve_top.specs.Solving.{IsPrintedFor}
 use Rattle.solve_top.specs.Statuses.{status_of, status_of_verdict}
 use Rattle.solve_top.specs.declared.status.Status.TheVariants.{Solved}
+use Rattle.solve_top.proofs.BlankLaws.{rest_kept}
 use Rattle.solve_top.proofs.PrefixLaws.{text_kept}
+use Rattle.solve_top.proofs.UsedLaws.{text_used}
 use Rattle.solve_top.proofs.SameLaws.{one_file}
 
 -- an answer of DPOP with a report tells of its own file
@@ -102,30 +103,31 @@ read_solved file before report (answers.WideTotal cells) is certified = absurd i
 read_solved file before report answers.Read is certified = absurd is
 read_solved file before report answers.NotYet is certified = absurd is
 
--- the text of a report that was printed for a file is read as that report, and it holds
-file_solved : (file : TextFile) (before : ℕ) (report : Report) (answer : Answer) → IsFile file → IsProblem file.problem → IsDpopReport file true report
-    → IsCheckAnswer file before (report_text report file) answer → status_of answer ≡ Solved
-file_solved file before report answer is_file whole printed is =
-    let again = report-again report file is_file whole (certified_some file report report.certificate printed.certificate) (printed_fits file report whole printed) in
-    read_solved file before report answer (subst (λ (read : Result Report ReportFault). IsReadAnswer file before read answer) again is) printed.certificate
+-- the text of a report that was printed for a file is read as that report
+printed_again : (file : TextFile) (report : Report) → IsFile file → IsProblem file.problem → IsDpopReport file true report → report_read (report_text report file) file ≡ Ok report
+printed_again file report is_file whole printed =
+    report-again report file is_file whole (certified_some file report report.certificate printed.certificate) (printed_fits file report whole printed)
 
 -- so `check` says yes to a problem and the report that was printed for it
 pub printed_solved : (text : List ℕ) (answer : Answer) → IsPrintedFor text → IsReportAnswer text (text_read text) answer → status_of answer ≡ Solved
 printed_solved text answer printed is =
-    let behind : List ℕ = report_text printed.report printed.file in
+    let told_text : List ℕ = report_text printed.report printed.file in
+    let used : ℕ = printed.parts.used in
     let read : text_read text ≡ Ok printed.parts =
-    ap text_read printed.behind ∙ text_kept printed.problem printed.before behind printed.parts printed.line printed.read in
-    let checked : AnswersCheck printed.parts.declared (lines_in (take printed.parts.used text)) (drop printed.parts.used text) answer =
+    ap text_read printed.behind ∙ text_kept printed.problem printed.before told_text printed.parts printed.line printed.read in
+    let checked : AnswersCheck printed.parts.declared (lines_in (take used text)) (drop used text) answer =
     subst (λ (r : Result Parts Fault). IsReportAnswer text r answer) read is in
-    let rest : drop printed.parts.used text ≡ behind =
-    ap (drop printed.parts.used) printed.behind ∙ drop_at printed.problem behind printed.parts.used (sym printed.whole) in
     let dpop = printed.printed in
     let told = report_printed dpop.file printed.file printed.report (wide_in (solved dpop.file.goal dpop.file.problem)) dpop.is in
     let one : checked.file ≡ printed.file =
     one_file checked.file dpop.file checked.whole dpop.whole (checked.declared ∙ sym dpop.declared) ∙ sym told.0 in
     let whole : IsProblem printed.file.problem = subst (λ (f : TextFile). IsProblem f.problem) (sym told.0) dpop.whole in
     let report : IsDpopReport printed.file true printed.report = subst (λ (f : TextFile). IsDpopReport f true printed.report) (sym told.0) told.1 in
-    let before : ℕ = lines_in (take printed.parts.used text) in
-    file_solved printed.file before printed.report answer printed.is_file whole report
-    (subst (λ (f : TextFile). IsCheckAnswer f before behind answer) one
-    (subst (λ (t : List ℕ). IsCheckAnswer checked.file before t answer) rest checked.is))
+    let again : report_read (drop used (printed.problem ++ told_text)) printed.file ≡ Ok printed.report =
+    rest_kept printed.problem printed.before told_text used printed.file printed.report printed.line (text_used printed.problem printed.parts printed.read) printed.rest
+    (printed_again printed.file printed.report printed.is_file whole report) in
+    let before : ℕ = lines_in (take used text) in
+    let here : IsCheckAnswer printed.file before (drop used text) answer = subst (λ (f : TextFile). IsCheckAnswer f before (drop used text) answer) one checked.is in
+    let moved : IsCheckAnswer printed.file before (drop used (printed.problem ++ told_text)) answer =
+    subst (λ (t : List ℕ). IsCheckAnswer printed.file before (drop used t) answer) printed.behind here in
+    read_solved printed.file before printed.report answer (subst (λ (read : Result Report ReportFault). IsReadAnswer printed.file before read answer) again moved) report.certificate

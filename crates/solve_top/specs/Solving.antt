@@ -1,5 +1,5 @@
 -- What a top call does: it answers, and shows its answer.
-use Rattle.std.specs.Prelude.{◌≡◌, ℕ, ◌≤◌, ◌⊎◌, true, List, [], ◌∷◌, ◌++◌, length, Some, None, Ok}
+use Rattle.std.specs.Prelude.{◌≡◌, ℕ, ◌≤◌, ◌⊎◌, true, List, [], ◌∷◌, ◌++◌, length, drop, Some, None, Ok}
 use Rattle.dcop_base.specs.Table.{product}
 use Rattle.dcop_base.specs.Whole.{IsProblem}
 use Rattle.dcop_edge.specs.Faults.{Rose}
@@ -9,6 +9,7 @@ use Rattle.problem_text.specs.Declarations.{Declared}
 use Rattle.problem_text.specs.File.{TextFile, IsFile}
 use Rattle.problem_text.specs.Steps.{declared_by}
 use Rattle.problem_text.specs.declared.line.TheConstants.{LF}
+use Rattle.problem_text.specs.PlainLines.{plain_lines}
 use Rattle.problem_text.specs.Reading.{Parts, text_read}
 use Rattle.certificate_text.specs.declared.report.Report.{Report}
 use Rattle.certificate_text.specs.ReportText.{report_text}
@@ -86,12 +87,12 @@ pub record IsProblemFor (task : FileTask) (text : List ℕ) : Type 0 where
   pub read : whole_read text ≡ Ok declared
   pub within : IsWithinLimits task declared
 
--- the text of a problem up to and with its line `end`, and behind it the report that DPOP prints for it with a certificate
+-- the text of a problem, behind whose line `end` no line has words, also where comments are words; and behind it the report that DPOP prints for it with a certificate
 pub record IsPrintedFor (text : List ℕ) : Type 0 where
   pub problem : List ℕ
   pub parts : Parts
   pub read : text_read problem ≡ Ok parts
-  pub whole : parts.used ≡ length problem
+  pub rest : plain_lines 1 (drop parts.used problem) ≡ []
   pub before : List ℕ
   pub line : problem ≡ before ++ LF ∷ []
   pub file : TextFile

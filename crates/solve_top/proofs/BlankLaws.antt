@@ -1,0 +1,121 @@
+-- Lines without words in front of a report change nothing in what it is read as.
+use Rattle.std.proofs.Common.{◌≡◌, ℕ, ◌+◌, ◌≤◌, zero, suc, Bool, true, false, cond, nat_eq, List, [], ◌∷◌, ◌++◌, length, drop, count_by, ◌⊎◌, inl, inr, Result, Ok, Err, refl, sym, ap, subst, ◌∙◌, arith}
+use Rattle.std.specs.List.{filter}
+use Rattle.std.proofs.lemmas.List.{drop-append-le}
+use Rattle.problem_text.specs.declared.line.TheConstants.{LF}
+use Rattle.problem_text.specs.declared.file.Goal.{Goal}
+use Rattle.problem_text.specs.declared.fault.ReportKind.{ReportKind}
+use Rattle.problem_text.specs.File.{TextFile}
+use Rattle.problem_text.specs.Lines.{has_some, lines, words}
+use Rattle.problem_text.specs.PlainLines.{Plain, plain_content, plain_numbered, plain_lines}
+use Rattle.certificate_text.specs.declared.draft.Draft.{Draft}
+use Rattle.certificate_text.specs.declared.draft.Stage.{Stage}
+use Rattle.certificate_text.specs.declared.draft.Stage.TheVariants as stages
+use Rattle.certificate_text.specs.declared.report.Report.{Report}
+use Rattle.certificate_text.specs.ReportLines.{nothing_told, line_at}
+use Rattle.certificate_text.specs.ReportReading.{Fault, over_at, read_on, lines_read, report_read}
+use Rattle.solve_top.proofs.PrefixLaws.{lines_join}
+
+-- lines with the same words, whatever their numbers
+abbrev SameWords : List Plain → List Plain → Type 0
+SameWords [] [] = Unit {0}
+SameWords (x ∷ xs) (y ∷ ys) = (x.words ≡ y.words) × SameWords xs ys
+SameWords [] (y ∷ ys) = ⊥
+SameWords (x ∷ xs) [] = ⊥
+
+over_same : (s : Stage) (over over' : ℕ) (goal : Goal) (d : Draft) (r : Report) → over_at s over goal d ≡ Ok r → over_at s over' goal d ≡ Ok r
+over_same stages.Status over over' goal d r is = absurd (cc)
+over_same stages.Method over over' goal d r is = absurd (cc)
+over_same stages.Goal over over' goal d r is = absurd (cc)
+over_same stages.Error over over' goal d r is = absurd (cc)
+over_same stages.Deliveries over over' goal d r is = absurd (cc)
+over_same stages.Cost over over' goal d r is = absurd (cc)
+over_same stages.Lower over over' goal d r is = absurd (cc)
+over_same stages.Upper over over' goal d r is = absurd (cc)
+over_same stages.Values over over' goal d r is = absurd (cc)
+over_same stages.Utils over over' goal d r is = absurd (cc)
+over_same stages.End over over' goal d r is = is
+
+step_same : (n m : ℕ) (o : Result Draft ReportKind) (later later' : Draft → Result Report Fault) (r : Report)
+    → ((more : Draft) → later more ≡ Ok r → later' more ≡ Ok r) → read_on n o later ≡ Ok r → read_on m o later' ≡ Ok r
+step_same n m (Ok more) later later' r on is = on more is
+step_same n m (Err kind) later later' r on is = absurd (cc)
+
+read_same : (over over' : ℕ) (f : TextFile) (d : Draft) (xs ys : List Plain) (r : Report) → SameWords xs ys → lines_read over f d xs ≡ Ok r → lines_read over' f d ys ≡ Ok r
+read_same over over' f d [] [] r same is = over_same d.stage over over' f.goal d r is
+read_same over over' f d [] (y ∷ ys) r same is = absurd same
+read_same over over' f d (x ∷ xs) [] r same is = absurd same
+read_same over over' f d (x ∷ xs) (y ∷ ys) r same is =
+    step_same x.number y.number (line_at d.stage f d y.words) (λ more. lines_read over f more xs) (λ more. lines_read over' f more ys) r
+    (λ more on. read_same over over' f more xs ys r same.1 on)
+    (subst (λ (ws : List (List ℕ)). read_on x.number (line_at d.stage f d ws) (λ more. lines_read over f more xs) ≡ Ok r) same.0 is)
+
+kept_same : (c : Bool) (x y : Plain) (xs ys : List Plain) → x.words ≡ y.words → SameWords xs ys → SameWords (cond c (x ∷ xs) xs) (cond c (y ∷ ys) ys)
+kept_same true x y xs ys same later = (same, later)
+kept_same false x y xs ys same later = later
+
+abbrev worded : List Plain → List Plain
+worded ls = filter (λ line. has_some line.words) ls
+
+numbers_free : (n m : ℕ) (ls : List (List ℕ)) → SameWords (worded (plain_numbered n ls)) (worded (plain_numbered m ls))
+numbers_free n m [] = tt
+numbers_free n m (l ∷ ls) =
+    kept_same (has_some (words (plain_content l))) (record { number = n; words = words (plain_content l) }) (record { number = m; words = words (plain_content l) })
+    (worded (plain_numbered (n + 1) ls)) (worded (plain_numbered (m + 1) ls)) refl (numbers_free (n + 1) (m + 1) ls)
+
+numbered_join : (n : ℕ) (ls more : List (List ℕ)) → plain_numbered n (ls ++ more) ≡ plain_numbered n ls ++ plain_numbered (n + length ls) more
+numbered_join n [] more = ap (λ (k : ℕ). plain_numbered k more) (let e : n ≡ n + length {A = List ℕ} [] = omega arith in e)
+numbered_join n (l ∷ ls) more =
+    let first : Plain = record { number = n; words = words (plain_content l) } in
+    let number : (n + 1) + length ls ≡ n + length (l ∷ ls) = omega arith in
+    ap (λ (xs : List Plain). first ∷ xs) (numbered_join (n + 1) ls more)
+    ∙ ap (λ (k : ℕ). first ∷ (plain_numbered (n + 1) ls ++ plain_numbered k more)) number
+
+kept_join : (c : Bool) (x : Plain) (ls more : List Plain) → cond c (x ∷ (ls ++ more)) (ls ++ more) ≡ cond c (x ∷ ls) ls ++ more
+kept_join true x ls more = refl
+kept_join false x ls more = refl
+
+worded_join : (ls more : List Plain) → worded (ls ++ more) ≡ worded ls ++ worded more
+worded_join [] more = refl
+worded_join (x ∷ ls) more =
+    ap (λ (xs : List Plain). cond (has_some x.words) (x ∷ xs) xs) (worded_join ls more) ∙ kept_join (has_some x.words) x (worded ls) (worded more)
+
+-- bytes that end with LF and in which no line has words, in front of a report
+ended_kept : (bytes text : List ℕ) (f : TextFile) (r : Report) → plain_lines 1 (bytes ++ LF ∷ []) ≡ [] → report_read text f ≡ Ok r
+    → report_read ((bytes ++ LF ∷ []) ++ text) f ≡ Ok r
+ended_kept bytes text f r none is =
+    let tail : List ℕ = bytes ++ LF ∷ [] in
+    let number : ℕ = 1 + length (lines tail) in
+    let joined : plain_lines 1 (tail ++ text) ≡ worded (plain_numbered number (lines text)) =
+    ap (λ (ls : List (List ℕ)). worded (plain_numbered 1 ls)) (lines_join bytes text)
+    ∙ ap worded (numbered_join 1 (lines tail) (lines text))
+    ∙ worded_join (plain_numbered 1 (lines tail)) (plain_numbered number (lines text))
+    ∙ ap (λ (ls : List Plain). ls ++ worded (plain_numbered number (lines text))) none in
+    let over : ℕ = 1 + count_by (λ b. nat_eq b LF) (tail ++ text) in
+    let told : lines_read over f nothing_told (worded (plain_numbered number (lines text))) ≡ Ok r =
+    read_same (1 + count_by (λ b. nat_eq b LF) text) over f nothing_told (plain_lines 1 text) (worded (plain_numbered number (lines text))) r
+    (numbers_free 1 number (lines text)) is in
+    subst (λ (ls : List Plain). lines_read over f nothing_told ls ≡ Ok r) (sym joined) told
+
+-- what stands behind the first bytes of a text that ends with LF: nothing, or it ends with LF too
+abbrev IsTail : List ℕ → Type 0
+IsTail tail = (tail ≡ []) ⊎ ((bytes : List ℕ) × (tail ≡ bytes ++ LF ∷ []))
+
+drop_tail : (before : List ℕ) (used : ℕ) → IsTail (drop used (before ++ LF ∷ []))
+drop_tail before zero = inr (before, refl)
+drop_tail [] (suc zero) = inl refl
+drop_tail [] (suc (suc n)) = inl refl
+drop_tail (b ∷ bs) (suc n) = drop_tail bs n
+
+tail_kept : (tail text : List ℕ) (f : TextFile) (r : Report) → IsTail tail → plain_lines 1 tail ≡ [] → report_read text f ≡ Ok r → report_read (tail ++ text) f ≡ Ok r
+tail_kept tail text f r (inl empty) none is = subst (λ (t : List ℕ). report_read (t ++ text) f ≡ Ok r) (sym empty) is
+tail_kept tail text f r (inr (bytes, ends)) none is =
+    subst (λ (t : List ℕ). report_read (t ++ text) f ≡ Ok r) (sym ends)
+    (ended_kept bytes text f r (subst (λ (t : List ℕ). plain_lines 1 t ≡ []) ends none) is)
+
+-- a report behind a text that ends with LF, of which all lines behind so many bytes have no words, is read as it is alone
+pub rest_kept : (problem before text : List ℕ) (used : ℕ) (f : TextFile) (r : Report) → problem ≡ before ++ LF ∷ [] → used ≤ length problem → plain_lines 1 (drop used problem) ≡ []
+    → report_read text f ≡ Ok r → report_read (drop used (problem ++ text)) f ≡ Ok r
+rest_kept problem before text used f r ends within none is =
+    let tail : IsTail (drop used problem) = subst (λ (t : List ℕ). IsTail (drop used t)) (sym ends) (drop_tail before used) in
+    subst (λ (t : List ℕ). report_read t f ≡ Ok r) (sym (drop-append-le used problem text within)) (tail_kept (drop used problem) text f r tail none is)
