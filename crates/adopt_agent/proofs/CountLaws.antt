@@ -8,7 +8,7 @@ use Rattle.std.proofs.lemmas.List.Elements.{filter_more}
 use Rattle.std.proofs.lemmas.List.Sums.{sum_by-append}
 use Rattle.dcop_base.specs.Table.{CostTable, AreWithin, has}
 use Rattle.dcop_base.specs.Values.{cell_with, cost_with, with_own}
-use Rattle.dcop_base.specs.declared.number.TheConstants.{CAP}
+use Rattle.dcop_base.specs.Limits.{amount_limit}
 use Rattle.dcop_base.specs.declared.knowledge.Private.{Private}
 use Rattle.pseudotree.specs.declared.agent.Place.{Place}
 use Rattle.adopt_context.specs.Context.{Context, value_in, or_zero}
@@ -82,7 +82,7 @@ module _ (own : Private) (place : Place) (known : Context) (ground : IsGround ow
       let one : IsKnownTable own t = subst (IsKnownTable own) (sym e) (ground.own_fits.tables k t lt) in
       all_below d below t.scope t.sizes one.sized h
 
-cap_more : (a b c : ℕ) → a ≡ min b CAP → min (a + c) CAP ≡ min (b + c) CAP
+cap_more : (a b c : ℕ) → a ≡ min b amount_limit → min (a + c) amount_limit ≡ min (b + c) amount_limit
 cap_more a b c e = omega (arith, e)
 
 -- the cost of the tables so far at an own value

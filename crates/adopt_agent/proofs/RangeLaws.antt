@@ -5,7 +5,7 @@ use Rattle.std.proofs.lemmas.Bool.{cases_Bool, cond_both, cond-true, cond-false,
 use Rattle.std.proofs.lemmas.List.{drop_more}
 use Rattle.std.proofs.lemmas.List.Elements.{All-nil, All-cons, All-head, All-tail}
 use Rattle.dcop_base.specs.declared.knowledge.Private.{Private}
-use Rattle.dcop_base.specs.declared.problem.TheConstants.{MAX_VARIABLES, MAX_SIZE}
+use Rattle.dcop_base.specs.Limits.{variable_limit, size_limit}
 use Rattle.pseudotree.specs.declared.agent.Place.{Place}
 use Rattle.adopt_context.specs.Context.{Context, value_in, put}
 use Rattle.protocol_steps.specs.Knowledge.{IsSize}
@@ -21,18 +21,18 @@ size_next vars sizes k var lt same =
 
 -- a variable and a value within the ranges of a message
 abbrev pub InRanges : ℕ × ℕ → Type 0
-InRanges p = (p.0 < MAX_VARIABLES) × (p.1 < MAX_SIZE)
+InRanges p = (p.0 < variable_limit) × (p.1 < size_limit)
 
-pair_range : (vs ss : List ℕ) (u d : ℕ) → All (λ u. u < MAX_VARIABLES) vs → All IsSize ss → is_within (value_in (zip vs ss) u) d ≡ true → InRanges (u, d)
+pair_range : (vs ss : List ℕ) (u d : ℕ) → All (λ u. u < variable_limit) vs → All IsSize ss → is_within (value_in (zip vs ss) u) d ≡ true → InRanges (u, d)
 pair_range [] ss u d below sizes h = absurd (false≢true h)
 pair_range (v ∷ vs) [] u d below sizes h = absurd (false≢true h)
 pair_range (v ∷ vs) (s ∷ ss) u d below sizes h = elim (cases_Bool (eqb v u)) [
   | inl here ↦
       let low = ltb-true d s (sym (ap (λ (o : Option ℕ). is_within o d) (cond-true (eqb v u) (Some s) (value_in (zip vs ss) u) here)) ∙ h) in
       let most = (All-head IsSize s ss sizes).1 in
-      (subst (λ (w : ℕ). w < MAX_VARIABLES) (eqb-true v u here) (All-head (λ w. w < MAX_VARIABLES) v vs below), omega (arith, low, most))
+      (subst (λ (w : ℕ). w < variable_limit) (eqb-true v u here) (All-head (λ w. w < variable_limit) v vs below), omega (arith, low, most))
   | inr other ↦
-      pair_range vs ss u d (All-tail (λ w. w < MAX_VARIABLES) v vs below) (All-tail IsSize s ss sizes)
+      pair_range vs ss u d (All-tail (λ w. w < variable_limit) v vs below) (All-tail IsSize s ss sizes)
       (sym (ap (λ (o : Option ℕ). is_within o d) (cond-false (eqb v u) (Some s) (value_in (zip vs ss) u) other)) ∙ h)
 ]
 
@@ -45,7 +45,7 @@ fits_context own place known ground (p ∷ ps) h =
     (pair_range place.path place.path_sizes p.0 p.1 ground.placed.path.below ground.placed.path.sizes both.0)
     (fits_context own place known ground ps both.1)
 
-pub put_range : (c : Context) (v a : ℕ) → IsContext c → v < MAX_VARIABLES → a < MAX_SIZE → IsContext (put c v a)
+pub put_range : (c : Context) (v a : ℕ) → IsContext c → v < variable_limit → a < size_limit → IsContext (put c v a)
 put_range [] v a all low small = All-cons InRanges (v, a) [] (low, small) (All-nil InRanges)
 put_range (p ∷ ps) v a all low small =
     let one = All-head InRanges p ps all in

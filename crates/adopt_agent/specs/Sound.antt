@@ -1,7 +1,7 @@
 -- What holds of every ADOPT agent.
 use Rattle.std.specs.Prelude.{◌≡◌, ℕ, ◌<◌, ◌≤◌, Bool, true, List, length, slice_index}
 use Rattle.dcop_base.specs.declared.knowledge.Private.{Private}
-use Rattle.dcop_base.specs.declared.number.TheConstants.{CAP}
+use Rattle.dcop_base.specs.Limits.{amount_limit}
 use Rattle.pseudotree.specs.declared.agent.Place.{Place}
 use Rattle.adopt_context.specs.Context.{Context, names_all, part_of}
 use Rattle.adopt_context.specs.Bounds.{Entry, entry_at}
@@ -41,6 +41,6 @@ pub record IsSound (own : Private) (place : Place) (error : ℕ) (known : Contex
   pub whole_is : whole ≡ names_all known (higher (knowing own place known))
   pub backed : AreBacked own place known bounds
   pub value_below : value < own.size
-  pub error_within : error ≤ CAP
-  pub threshold_within : threshold ≤ CAP
-  pub last_within : last ≤ CAP
+  pub error_within : error ≤ amount_limit
+  pub threshold_within : threshold ≤ amount_limit
+  pub last_within : last ≤ amount_limit

@@ -2,6 +2,7 @@
 
 ghost use Rattle.std.specs.Prelude.{◌≡◌, ℕ, ◌<◌, ◌≤◌, true, [], ◌↔◌, IfOk, IsErr, OnOk, OnErr, MatchOption, Some, None};
 ghost use Rattle.std.specs.List.{All, Contains};
+ghost use Rattle.dcop_base.specs.Limits.{amount_limit};
 ghost use Rattle.adopt_context.specs.Context.{Context};
 ghost use Rattle.protocol_steps.specs.Agent.{not_started};
 ghost use Rattle.protocol_steps.specs.Knowledge.{IsKnowledge};
@@ -76,7 +77,7 @@ impl AdoptAgent {
     ) -> Result<AdoptAgent, NoMemory>
         requires known { IsKnowledge own }
         requires placed { IsPlaceFor own place }
-        requires error { error ≤ CAP }
+        requires error { error ≤ amount_limit }
         ensures { IfOk result (λ agent. agent ≡ new_adopt own place error) }
     {
         let bounds = Bounds::new(alloc, own.size, copy_of(alloc, place.children.as_slice())?)?;
@@ -120,7 +121,7 @@ impl AdoptAgent {
     /// LB: the least LB(d).
     pub(crate) fn lower_bound(&self) -> u64
         ensures bound { result ≡ lower_bound self.now }
-        ensures within { result ≤ CAP }
+        ensures within { result ≤ amount_limit }
     {
         let best = choose::best_lower(self.costs.as_slice(), &self.bounds);
         choose::lower_of(self.costs.as_slice(), &self.bounds, best)

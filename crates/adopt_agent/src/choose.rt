@@ -1,7 +1,7 @@
 //! The bounds of the own values, and the lowest value of the least.
 
 ghost use Rattle.std.specs.Prelude.{◌≡◌, ℕ, ◌+◌, ◌-◌, ◌<◌, ◌≤◌, length, max, nat_lt, slice_index, if◌then◌else◌};
-ghost use Rattle.dcop_base.specs.declared.number.TheConstants.{CAP};
+ghost use Rattle.dcop_base.specs.Limits.{amount_limit, size_limit};
 ghost use Rattle.adopt_context.specs.Allot.{lower_to};
 ghost use Rattle.adopt_context.specs.Context.{is_value};
 ghost use Rattle.adopt_context.specs.Bounds.{cap, is_below, lower_at, lowest, upper_at};
@@ -16,7 +16,7 @@ pub(crate) fn lower_of(costs: &[u64], bounds: &Bounds, d: Val) -> u64
     requires cost { d < length costs.now }
     requires row { d < length bounds.now.rows }
     ensures bound { result ≡ lower_at (slice_index costs.now) bounds.now.rows d }
-    ensures within { result ≤ CAP }
+    ensures within { result ≤ amount_limit }
 {
     bounds.lb_of(costs[usize::from(d.0)], d)
 }
@@ -52,7 +52,7 @@ fn is_below(one: Option<u64>, other: Option<u64>) -> bool
 #[tactic(auto, using(crate::proofs::LowestLaws::lowest_next))]
 pub(crate) fn best_lower(costs: &[u64], bounds: &Bounds) -> Val
     requires some { 1 ≤ length costs.now }
-    requires few { length costs.now ≤ MAX_SIZE }
+    requires few { length costs.now ≤ size_limit }
     requires rows { length bounds.now.rows ≡ length costs.now }
     ensures best { result ≡ lowest nat_lt (lower_at (slice_index costs.now) bounds.now.rows)
         (length costs.now - 1) }
@@ -75,7 +75,7 @@ pub(crate) fn best_lower(costs: &[u64], bounds: &Bounds) -> Val
 #[tactic(auto, using(crate::proofs::LowestLaws::lowest_next))]
 pub(crate) fn best_upper(costs: &[u64], whole: bool, bounds: &Bounds) -> Val
     requires some { 1 ≤ length costs.now }
-    requires few { length costs.now ≤ MAX_SIZE }
+    requires few { length costs.now ≤ size_limit }
     requires rows { length bounds.now.rows ≡ length costs.now }
     ensures best { result ≡ lowest is_below (upper_at (cost_where whole costs.now) bounds.now.rows)
         (length costs.now - 1) }
@@ -96,9 +96,9 @@ pub(crate) fn best_upper(costs: &[u64], whole: bool, bounds: &Bounds) -> Val
 
 /// The amount, or the bound where the amount is above it.
 pub(crate) fn lower_to(amount: u64, bound: Option<u64>) -> u64
-    requires { amount ≤ CAP }
+    requires { amount ≤ amount_limit }
     ensures bound { result ≡ lower_to amount bound }
-    ensures within { result ≤ CAP }
+    ensures within { result ≤ amount_limit }
 {
     match bound {
         Some(bound) => amount.min(bound),
@@ -119,11 +119,11 @@ pub(crate) fn is_value(found: Option<u64>, amount: u64) -> bool
 /// What the threshold is raised to, before it is lowered to the upper bound: at the root the lower
 /// bound and the error, elsewhere the lower bound at least.
 pub(crate) fn raised(is_root: bool, threshold: u64, lower: u64, error: u64) -> u64
-    requires threshold { threshold ≤ CAP }
-    requires lower { lower ≤ CAP }
-    requires error { error ≤ CAP }
+    requires threshold { threshold ≤ amount_limit }
+    requires lower { lower ≤ amount_limit }
+    requires error { error ≤ amount_limit }
     ensures amount { result ≡ if is_root then cap (lower + error) else max threshold lower }
-    ensures within { result ≤ CAP }
+    ensures within { result ≤ amount_limit }
 {
     if is_root {
         (lower + error).min(CAP)

@@ -2,6 +2,7 @@
 
 ghost use Rattle.std.specs.Prelude.{◌≡◌, ℕ, ◌<◌, ◌≤◌, ◌+◌, true, ◌&&◌, ◌||◌, ◌==◌, length, map, is_some, slice_index, IfOk};
 ghost use Rattle.std.specs.List.{All, filter, list_all};
+ghost use Rattle.dcop_base.specs.Limits.{amount_limit, size_limit};
 ghost use Rattle.dcop_base.specs.Table.{AreWithin, cell_place, has, product};
 ghost use Rattle.dcop_base.specs.Values.{cell_with, cost_with, with_own};
 ghost use Rattle.adopt_context.specs.Bounds.{cap};
@@ -93,7 +94,7 @@ fn place_of(scope: &[VarId], sizes: &[u16], me: VarId, d: Val, known: &AgentCont
 fn cell_at(table: &Table, me: VarId, d: Val, known: &AgentContext) -> u64
     requires { AreWithin table.now.sizes (map (with_own me d (valued known.now)) table.now.scope) }
     ensures cell { result ≡ cell_with table.now (with_own me d (valued known.now)) }
-    ensures within { result ≤ CAP }
+    ensures within { result ≤ amount_limit }
 {
     let scope = table.scope.as_slice();
     let sizes = table.sizes.as_slice();
@@ -103,11 +104,11 @@ fn cell_at(table: &Table, me: VarId, d: Val, known: &AgentContext) -> u64
 
 /// Adds a table's cells to the costs of the own values, capped.
 fn add_table(costs: &mut [u64], table: &Table, me: VarId, known: &AgentContext)
-    requires few { length costs.old ≤ MAX_SIZE }
-    requires costs { All (λ c. c ≤ CAP) costs.old }
+    requires few { length costs.old ≤ size_limit }
+    requires costs { All (λ c. c ≤ amount_limit) costs.old }
     requires within { (d : ℕ) → d < length costs.old
         → AreWithin table.now.sizes (map (with_own me d (valued known.now)) table.now.scope) }
-    ensures costs { All (λ c. c ≤ CAP) costs.new }
+    ensures costs { All (λ c. c ≤ amount_limit) costs.new }
     ensures added { (d : ℕ) → d < length costs.old → slice_index costs.new d
         ≡ cap (slice_index costs.old d + cell_with table.now (with_own me d (valued known.now))) }
 {

@@ -2,6 +2,7 @@
 
 ghost use Rattle.std.specs.Prelude.{◌≡◌, ◌<◌, ◌≤◌, ◌==◌, ◌||◌, ◌&&◌, not, nat_lt, true, is_some, IfOk, OnOk, if◌then◌else◌};
 ghost use Rattle.std.specs.List.{fold, position};
+ghost use Rattle.dcop_base.specs.Limits.{amount_limit};
 ghost use Rattle.dcop_base.specs.Table.{has};
 ghost use Rattle.adopt_context.specs.Context.{Context, or_zero, part_of, put, value_in};
 ghost use Rattle.protocol_steps.specs.declared.message.Message.TheVariants.{Value, Cost, Threshold, Terminate};
@@ -74,7 +75,7 @@ impl AdoptAgent {
     /// Remembers a threshold, where THRESHOLD is taken; it counts where its context is compatible
     /// with what is known.
     fn take_threshold(&mut self, from: VarId, amount: u64, context: &AgentContext)
-        requires { amount ≤ CAP }
+        requires { amount ≤ amount_limit }
         ensures same { IsSameAgent self.old self.new }
         ensures taken { self.new ≡ adopt_message self.old from (Threshold amount context.now) }
     {
@@ -130,7 +131,7 @@ impl AdoptAgent {
     ) -> Result<(), NoMemory>
         requires value { d < self.old.own.size }
         requires child { has self.old.place.children child ≡ true }
-        requires lower { lower ≤ CAP }
+        requires lower { lower ≤ amount_limit }
         requires upper { IsBound upper }
         ensures same { IsSameAgent self.old self.new }
         ensures stored { OnOk result (self.new ≡ stored self.old d
@@ -161,7 +162,7 @@ impl AdoptAgent {
         lower: u64,
         upper: Option<u64>,
     ) -> Result<(), NoMemory>
-        requires lower { lower ≤ CAP }
+        requires lower { lower ≤ amount_limit }
         requires upper { IsBound upper }
         ensures same { IsSameAgent self.old self.new }
         ensures taken { OnOk result

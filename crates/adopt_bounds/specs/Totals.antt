@@ -1,7 +1,7 @@
 -- The totals of a row, and what the flat lists of bounds keep.
 use Rattle.std.specs.Prelude.{◌≡◌, ℕ, ◌*◌, ◌≤◌, List, map, length, Option, Some, None, IfSome, ◌==◌, if◌then◌else◌}
 use Rattle.std.specs.List.{All, sum_by}
-use Rattle.dcop_base.specs.declared.number.TheConstants.{CAP}
+use Rattle.dcop_base.specs.Limits.{amount_limit}
 use Rattle.adopt_context.specs.Context.{Context, or_zero}
 use Rattle.adopt_context.specs.Bounds.{Entry, lower_sum}
 use Rattle.adopt_bounds.specs.Rows.{entries_of, rows_of}
@@ -30,9 +30,9 @@ pub record AreParts (count : ℕ) (lower : List ℕ) (upper : List (Option ℕ))
   pub upper_count : length upper ≡ count
   pub share_count : length share ≡ count
   pub context_count : length contexts ≡ count
-  pub lower_within : All (λ l. l ≤ CAP) lower
-  pub upper_within : All (λ u. IfSome u (λ x. x ≤ CAP)) upper
-  pub share_within : All (λ s. s ≤ CAP) share
+  pub lower_within : All (λ l. l ≤ amount_limit) lower
+  pub upper_within : All (λ u. IfSome u (λ x. x ≤ amount_limit)) upper
+  pub share_within : All (λ s. s ≤ amount_limit) share
 
 -- flat lists of bounds, with the totals of each row: of a row as wide as there are children
 pub record AreBounds (width : ℕ) (lower : List ℕ) (upper : List (Option ℕ)) (share : List ℕ) (contexts : List Context) (totals : List Totals) : Type 0 where

@@ -2,6 +2,7 @@
 
 ghost use Rattle.std.specs.Prelude.{◌≡◌, ℕ, ◌+◌, ◌*◌, ◌≤◌, List, Option, length, take, drop};
 ghost use Rattle.std.specs.List.{All, sum_by};
+ghost use Rattle.dcop_base.specs.Limits.{amount_limit};
 ghost use Rattle.adopt_context.specs.Allot.{allot, cut, raise};
 ghost use Rattle.adopt_context.specs.Context.{Context};
 ghost use Rattle.adopt_bounds.specs.Rows.{entries_of};
@@ -21,9 +22,9 @@ pub(crate) fn allot_at(
     requires lower { length lower.now ≡ length share.old }
     requires upper { length upper.now ≡ length share.old }
     requires inside { start + width ≤ length share.old }
-    requires goal { goal ≤ CAP }
-    requires share_within { All (λ s. s ≤ CAP) share.old }
-    requires lower_within { All (λ l. l ≤ CAP) lower.now }
+    requires goal { goal ≤ amount_limit }
+    requires share_within { All (λ s. s ≤ amount_limit) share.old }
+    requires lower_within { All (λ l. l ≤ amount_limit) lower.now }
     ensures before { take start share.new ≡ take start share.old }
     ensures behind { drop (start + width) share.new ≡ drop (start + width) share.old }
     ensures row { (contexts : List Context) → length contexts ≡ width
@@ -31,7 +32,7 @@ pub(crate) fn allot_at(
         (take width (drop start share.new)) contexts
         ≡ allot goal (entries_of (take width (drop start lower.now)) (take width (drop start upper.now))
         (take width (drop start share.old)) contexts) }
-    ensures share_within { All (λ s. s ≤ CAP) share.new }
+    ensures share_within { All (λ s. s ≤ amount_limit) share.new }
 {
     let (_, share) = share.split_at_mut(start);
     let (row, _) = share.split_at_mut(width);
@@ -47,13 +48,13 @@ pub(crate) fn allot_at(
 fn allot_row(share: &mut [u64], lower: &[u64], upper: &[Option<u64>], goal: u64)
     requires lower { length lower.now ≡ length share.old }
     requires upper { length upper.now ≡ length share.old }
-    requires goal { goal ≤ CAP }
-    requires share_within { All (λ s. s ≤ CAP) share.old }
-    requires lower_within { All (λ l. l ≤ CAP) lower.now }
+    requires goal { goal ≤ amount_limit }
+    requires share_within { All (λ s. s ≤ amount_limit) share.old }
+    requires lower_within { All (λ l. l ≤ amount_limit) lower.now }
     ensures entries { (contexts : List Context) → length contexts ≡ length share.old
         → entries_of lower.now upper.now share.new contexts
         ≡ allot goal (entries_of lower.now upper.now share.old contexts) }
-    ensures share_within { All (λ s. s ≤ CAP) share.new }
+    ensures share_within { All (λ s. s ≤ amount_limit) share.new }
 {
     let sum = sum_of(share);
     let goal = u128::from(goal);
@@ -66,7 +67,7 @@ fn allot_row(share: &mut [u64], lower: &[u64], upper: &[Option<u64>], goal: u64)
 
 /// The sum of the shares.
 fn sum_of(share: &[u64]) -> u128
-    requires { All (λ s. s ≤ CAP) share.now }
+    requires { All (λ s. s ≤ amount_limit) share.now }
     ensures { result ≡ sum_by (λ s. s) share.now }
 {
     let mut sum: u128 = 0;
@@ -79,11 +80,11 @@ fn sum_of(share: &[u64]) -> u128
 /// Raises the shares of a row, each to its upper bound at most and in order, by what is lacking.
 fn raise(share: &mut [u64], upper: &[Option<u64>], mut lack: u64)
     requires upper { length upper.now ≡ length share.old }
-    requires fits { sum_by (λ s. s) share.old + lack ≤ CAP }
+    requires fits { sum_by (λ s. s) share.old + lack ≤ amount_limit }
     ensures entries { (lower : List ℕ) (contexts : List Context) → length lower ≡ length share.old
         → length contexts ≡ length share.old → entries_of lower upper.now share.new contexts
         ≡ raise lack (entries_of lower upper.now share.old contexts) }
-    ensures share_within { All (λ s. s ≤ CAP) share.new }
+    ensures share_within { All (λ s. s ≤ amount_limit) share.new }
 {
     for (k, amount) in share.iter_mut().enumerate() {
         let most = *amount + lack;
@@ -96,14 +97,14 @@ fn raise(share: &mut [u64], upper: &[Option<u64>], mut lack: u64)
 /// Lowers the shares of a row, each to its lower bound at least and in order, by what is too much.
 fn cut(share: &mut [u64], lower: &[u64], mut excess: u128)
     requires lower { length lower.now ≡ length share.old }
-    requires fits { excess ≤ CAP * length share.old }
-    requires share_within { All (λ s. s ≤ CAP) share.old }
-    requires lower_within { All (λ l. l ≤ CAP) lower.now }
+    requires fits { excess ≤ amount_limit * length share.old }
+    requires share_within { All (λ s. s ≤ amount_limit) share.old }
+    requires lower_within { All (λ l. l ≤ amount_limit) lower.now }
     ensures entries { (upper : List (Option ℕ)) (contexts : List Context)
         → length upper ≡ length share.old → length contexts ≡ length share.old
         → entries_of lower.now upper share.new contexts
         ≡ cut excess (entries_of lower.now upper share.old contexts) }
-    ensures share_within { All (λ s. s ≤ CAP) share.new }
+    ensures share_within { All (λ s. s ≤ amount_limit) share.new }
 {
     for (k, amount) in share.iter_mut().enumerate() {
         let least = u128::from(*amount).saturating_sub(excess) as u64;

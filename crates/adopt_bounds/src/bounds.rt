@@ -2,6 +2,7 @@
 
 ghost use Rattle.std.specs.Prelude.{◌≡◌, ◌+◌, ◌*◌, ◌<◌, ◌≤◌, ◌==◌, true, length, replicate, None, IfOk, IfSome, OnErr, slice_set, if◌then◌else◌};
 ghost use Rattle.std.specs.List.{position};
+ghost use Rattle.dcop_base.specs.Limits.{amount_limit};
 ghost use Rattle.dcop_base.specs.Table.{has};
 ghost use Rattle.adopt_context.specs.Allot.{reset, allot};
 ghost use Rattle.adopt_context.specs.Bounds.{blank, capped, lower_at, row_at, upper_at, upper_sum};
@@ -114,7 +115,7 @@ impl Bounds {
         requires value { d < length self.now.rows }
         requires child { has self.now.children child ≡ true }
         ensures share { result ≡ (entry_of self.now d child).share }
-        ensures within { result ≤ CAP }
+        ensures within { result ≤ amount_limit }
     {
         self.share[index_of(self.children.as_slice(), d, child)]
     }
@@ -141,7 +142,7 @@ impl Bounds {
     /// they are the goal together.
     pub fn allot(&mut self, d: Val, goal: u64)
         requires value { d < length self.old.rows }
-        requires goal { goal ≤ CAP }
+        requires goal { goal ≤ amount_limit }
         ensures { self.new ≡ record self.old {
           rows = slice_set self.old.rows d (allot goal (row_at self.old.rows d));
         } }
@@ -176,8 +177,8 @@ impl Bounds {
         requires value { d < length self.old.rows }
         requires child { has self.old.children child ≡ true }
         requires compatible { compatible (entry_of self.old d child).context context.now ≡ true }
-        requires lower { lower ≤ CAP }
-        requires upper { IfSome upper (λ u. u ≤ CAP) }
+        requires lower { lower ≤ amount_limit }
+        requires upper { IfSome upper (λ u. u ≤ amount_limit) }
         ensures stored { IfOk result (λ stored. stored ≡ may_merge (entry_of self.old d child) lower upper) }
         ensures merged { IfOk result (λ stored. self.new ≡
             if stored then with_merged self.old d child context.now lower upper else self.old) }

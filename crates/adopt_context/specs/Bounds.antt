@@ -2,7 +2,7 @@
 use Rattle.std.specs.Prelude.{ℕ, suc, zero, ◌+◌, Bool, true, false, List, [], ◌∷◌, Option, Some, None, nat_lt, if◌then◌else◌, slice_index_or, min}
 use Rattle.std.specs.List.{sum_by}
 use Rattle.adopt_context.specs.Context.{Context}
-use Rattle.dcop_base.specs.declared.number.TheConstants.{CAP}
+use Rattle.dcop_base.specs.Limits.{amount_limit}
 
 -- what an agent holds of one own value and one child: bounds, of which one that is none is not there yet, the share that is allotted to the child, and the context that they rest on
 pub record Entry : Type 0 where
@@ -25,7 +25,7 @@ entry_at rows d k = slice_index_or (row_at rows d) k blank
 
 -- a number, cut off at the cap
 abbrev pub cap : ℕ → ℕ
-cap x = min x CAP
+cap x = min x amount_limit
 
 -- the sum of two bounds, which is none where one of them is
 abbrev pub plus_bound : Option ℕ → Option ℕ → Option ℕ

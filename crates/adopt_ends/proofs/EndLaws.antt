@@ -3,7 +3,7 @@ use Rattle.std.proofs.Common.{◌≡◌, ℕ, zero, suc, ◌+◌, ◌≤◌, ◌
 use Rattle.std.proofs.lemmas.Bool.{cond-true}
 use Rattle.std.proofs.lemmas.Option.{same_Some}
 use Rattle.std.proofs.lemmas.List.Sums.{sum_by-cons}
-use Rattle.dcop_base.specs.declared.number.TheConstants.{CAP}
+use Rattle.dcop_base.specs.Limits.{amount_limit}
 use Rattle.adopt_context.specs.Context.{names_all}
 use Rattle.adopt_context.specs.Bounds.{Entry, blank, cap, capped, row_at, plus_bound, lower_sum, upper_sum}
 use Rattle.adopt_context.specs.Allot.{share_sum}
@@ -34,8 +34,8 @@ row_equal (e ∷ es) h total sum le k lt =
     at (suc k) lt first later = later k (omega (arith, lt))
 
 -- where an agent has its upper bound as threshold and no sum is cut, the shares of its value are its upper bounds together
-pub end_shares : (v : AdoptView) → IsClosed v → upper_bound v ≡ Some v.threshold → names_all v.known (higher v) ≡ true → delta v v.value + lower_sum (row_at v.rows v.value) ≤ CAP
-    → (total : ℕ) → upper_sum (row_at v.rows v.value) ≡ Some total → delta v v.value + total ≤ CAP → total ≤ share_sum (row_at v.rows v.value)
+pub end_shares : (v : AdoptView) → IsClosed v → upper_bound v ≡ Some v.threshold → names_all v.known (higher v) ≡ true → delta v v.value + lower_sum (row_at v.rows v.value) ≤ amount_limit
+    → (total : ℕ) → upper_sum (row_at v.rows v.value) ≡ Some total → delta v v.value + total ≤ amount_limit → total ≤ share_sum (row_at v.rows v.value)
 end_shares v a end names low total sum fits =
     let own : ℕ = delta v v.value in
     let whole = a.whole names low in

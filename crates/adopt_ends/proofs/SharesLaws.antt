@@ -11,7 +11,7 @@ use Rattle.dcop_base.specs.Problem.{Dcop, IsAssignment}
 use Rattle.dcop_base.specs.Graph.{neighbours}
 use Rattle.dcop_base.specs.Whole.{IsProblem}
 use Rattle.dcop_base.specs.declared.knowledge.Private.{Private}
-use Rattle.dcop_base.specs.declared.number.TheConstants.{CAP}
+use Rattle.dcop_base.specs.Limits.{amount_limit}
 use Rattle.pseudotree.specs.declared.agent.Place.{Place}
 use Rattle.pseudotree.specs.Tree.{path_of, parent_of, children_of, is_variable, is_above}
 use Rattle.pseudotree.specs.Pseudotree.{IsPseudotree, IsLinked}
@@ -135,7 +135,7 @@ module _ (p : Dcop) (paths : List (List ℕ)) (problem : IsProblem p) (pseudo : 
       small = value_small p paths problem pseudo error i lt v (mid_agent i lt)
 
       -- where no sum is cut, each upper bound is a share
-      are_shares : delta v v.value + (pays i lt).total ≤ CAP → (k : ℕ) → k < length cs → (get_or row k blank).upper ≡ Some ((get_or row k blank).share)
+      are_shares : delta v v.value + (pays i lt).total ≤ amount_limit → (k : ℕ) → k < length cs → (get_or row k blank).upper ≡ Some ((get_or row k blank).share)
       are_shares fits k inside =
           let paid = pays i lt in
           let long = row_long p paths problem pseudo error i lt v (mid_agent i lt) v.value small in
@@ -182,7 +182,7 @@ module _ (p : Dcop) (paths : List (List ℕ)) (problem : IsProblem p) (pseudo : 
           }
 
       -- so its threshold is at most its share
-      under_share : delta v v.value + (pays i lt).total ≤ CAP → (k : ℕ) → k < length cs → (lc : get_or cs k 0 < length p.sizes) → (agent (get_or cs k 0) lc).threshold ≤ (get_or row k blank).share
+      under_share : delta v v.value + (pays i lt).total ≤ amount_limit → (k : ℕ) → k < length cs → (lc : get_or cs k 0 < length p.sizes) → (agent (get_or cs k 0) lc).threshold ≤ (get_or row k blank).share
       under_share fits k inside lc =
           let c : ℕ = get_or cs k 0 in
           let y : AdoptView = agent c lc in
@@ -202,7 +202,7 @@ module _ (p : Dcop) (paths : List (List ℕ)) (problem : IsProblem p) (pseudo : 
           let paid = pays i lt in
           let pay = paid.paid in
           let room = below_cap p paths problem i (values_of net) in
-          elim (cases_lt CAP (delta v d + paid.total)) [
+          elim (cases_lt amount_limit (delta v d + paid.total)) [
             | inl cut ↦ omega (arith, cut, pay, room)
             | inr fits ↦
                 let mid : Mid p paths problem pseudo error i lt v = mid_agent i lt in

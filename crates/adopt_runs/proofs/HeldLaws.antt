@@ -1,7 +1,7 @@
 -- The threshold of an ADOPT agent between its bounds, and what backTrack makes of it.
 use Rattle.std.proofs.Common.{◌≡◌, ℕ, ◌+◌, ◌-◌, ◌≤◌, true, false, cond, nat_lt, if◌then◌else◌, max, List, [], Option, Some, None, refl, sym, ap, subst, ◌∙◌, arith}
 use Rattle.std.proofs.lemmas.Bool.{cond_both, cond-true, ltb-false, true≢false, eq-eqb}
-use Rattle.dcop_base.specs.declared.number.TheConstants.{CAP}
+use Rattle.dcop_base.specs.Limits.{amount_limit}
 use Rattle.adopt_context.specs.Context.{is_value, names_all}
 use Rattle.adopt_context.specs.Bounds.{Entry, cap, capped, row_at, entry_at, plus_bound, lower_sum, upper_sum, lowest, is_below}
 use Rattle.adopt_context.specs.Allot.{lower_to, share_sum, allot}
@@ -31,7 +31,7 @@ pub record IsPaid (v : AdoptView) : Type 0 where
 
 -- where no sum is cut, the threshold is the cost of the value and what is allotted
 abbrev pub IsAllotted : AdoptView → Type 0
-IsAllotted v = names_all v.known (higher v) ≡ true → delta v v.value + lower_sum (row_at v.rows v.value) ≤ CAP
+IsAllotted v = names_all v.known (higher v) ≡ true → delta v v.value + lower_sum (row_at v.rows v.value) ≤ amount_limit
     → v.threshold ≡ delta v v.value + share_sum (row_at v.rows v.value)
 
 -- what backTrack leaves
@@ -40,10 +40,10 @@ pub record IsClosed (v : AdoptView) : Type 0 where
   pub paid : IsPaid v
   pub whole : IsAllotted v
 
-cap_low : (x : ℕ) → cap x ≤ CAP
+cap_low : (x : ℕ) → cap x ≤ amount_limit
 cap_low x = omega arith
 
-pub lower_capped : (v : AdoptView) → lower_bound v ≤ CAP
+pub lower_capped : (v : AdoptView) → lower_bound v ≤ amount_limit
 lower_capped v = cap_low (delta v (best_lower v) + lower_sum (row_at v.rows (best_lower v)))
 
 -- LB(d) is at most UB(d), and LB at most UB
@@ -73,7 +73,7 @@ restored_held v range =
       at_root = λ h. ap (λ (n : ℕ). lower_to n (upper_bound v)) (cond-true (is_root v) (cap (lower + v.error)) (max v.threshold lower) h);
     }
   where
-    within : (l e : ℕ) → l ≤ CAP → l ≤ cap (l + e)
+    within : (l e : ℕ) → l ≤ amount_limit → l ≤ cap (l + e)
     within l e h = omega (arith, h)
 
     over : (t l : ℕ) → l ≤ max t l
@@ -99,7 +99,7 @@ choose_held v range a =
     apart o t e h = true≢false (sym (ap (λ (x : Option ℕ). is_value x t) h ∙ eq-eqb t t refl) ∙ e)
 
 -- what a lower bound that is not cut leaves of a threshold
-paid_for : (t own low : ℕ) (u : Option ℕ) → cap (own + low) ≤ t → own + low ≤ CAP → IsAtMost t (capped (plus_bound (Some own) u))
+paid_for : (t own low : ℕ) (u : Option ℕ) → cap (own + low) ≤ t → own + low ≤ amount_limit → IsAtMost t (capped (plus_bound (Some own) u))
     → (lower_to (t - own) (capped u) ≡ t - own) × (low ≤ t - own) × IsAtMost (t - own) u × (own ≤ t)
 paid_for t own low None a b c = (refl, omega (arith, a, b), tt, omega (arith, a, b))
 paid_for t own low (Some u) a b c = (omega (arith, a, b, c), omega (arith, a, b), omega (arith, a, b, c), omega (arith, a, b))
@@ -123,7 +123,7 @@ module _ (v : AdoptView) where
   allotted_whole : v.value ≤ v.own.size - 1 → AreInRange v → IsHeld v → IsPaid v → IsAllotted (allotted v)
   allotted_whole within range held paid known fit =
       let own : ℕ = delta v v.value in
-      let fits : own + lower_sum row ≤ CAP = subst (λ (n : ℕ). own + n ≤ CAP) (same_rows lower_sum allot_lower v.value) fit in
+      let fits : own + lower_sum row ≤ amount_limit = subst (λ (n : ℕ). own + n ≤ amount_limit) (same_rows lower_sum allot_lower v.value) fit in
       let high : IsAtMost v.threshold (upper_of v v.value) = lowest_over v.threshold (upper_of v) (v.own.size - 1) v.value within held.high in
       let high' : IsAtMost v.threshold (capped (plus_bound (Some own) (upper_sum row))) =
       subst (λ (o : Option ℕ). IsAtMost v.threshold (capped (plus_bound o (upper_sum row)))) (cond-true (names_all v.known (higher v)) (Some own) None known) high in

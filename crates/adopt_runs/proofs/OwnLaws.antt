@@ -8,7 +8,7 @@ use Rattle.dcop_base.specs.Problem.{Dcop, cost}
 use Rattle.dcop_base.specs.Graph.{are_neighbours, neighbours, share_table, are_joined}
 use Rattle.dcop_base.specs.Whole.{IsProblem}
 use Rattle.dcop_base.specs.Values.{cell_with, cost_with, with_own}
-use Rattle.dcop_base.specs.declared.number.TheConstants.{CAP}
+use Rattle.dcop_base.specs.Limits.{amount_limit}
 use Rattle.dcop_base.proofs.ProblemLaws.{cost-le-greatest_sum}
 use Rattle.pseudotree.specs.Tree.{path_of, is_above}
 use Rattle.pseudotree.specs.Pseudotree.{IsPseudotree, is_within}
@@ -162,18 +162,18 @@ module _ (p : Dcop) (paths : List (List ℕ)) (problem : IsProblem p) (pseudo : 
             ]
 
 -- no subtree costs more than the cap
-pub below_cap : (p : Dcop) (paths : List (List ℕ)) → IsProblem p → (i : ℕ) (values : List ℕ) → below p paths i values ≤ CAP
+pub below_cap : (p : Dcop) (paths : List (List ℕ)) → IsProblem p → (i : ℕ) (values : List ℕ) → below p paths i values ≤ amount_limit
 below_cap p paths problem i values =
     let f : CostTable → ℕ = λ (t : CostTable). cell_with t (λ v. get_or values v 0) in
     let q : CostTable → Bool = λ (t : CostTable). is_owner_within paths i (owner_of paths t.scope) in
     let part : below p paths i values ≡ sum_by (λ t. cond (q t) (f t) 0) p.tables = sum_filter f q p.tables in
     let le : sum_by (λ t. cond (q t) (f t) 0) p.tables ≤ sum_by f p.tables = sum_le (λ t. cond (q t) (f t) 0) f p.tables (λ k d lt. some_part (q (get_or p.tables k d)) (f (get_or p.tables k d))) in
-    let whole : sum_by f p.tables ≤ CAP = whole_cap in
+    let whole : sum_by f p.tables ≤ amount_limit = whole_cap in
     omega (arith, part, le, whole)
   where
     some_part : (b : Bool) (x : ℕ) → cond b x 0 ≤ x
     some_part true x = omega arith
     some_part false x = omega arith
 
-    whole_cap : cost p values ≤ CAP
+    whole_cap : cost p values ≤ amount_limit
     whole_cap = let one = cost-le-greatest_sum p values in let two = problem.sums in omega (arith, one, two)

@@ -10,7 +10,7 @@ use Rattle.dcop_base.specs.Knowledge.{private_of}
 use Rattle.dcop_base.specs.Graph.{neighbours}
 use Rattle.dcop_base.specs.Whole.{IsProblem}
 use Rattle.dcop_base.specs.Values.{cost_with, with_own}
-use Rattle.dcop_base.specs.declared.number.TheConstants.{CAP}
+use Rattle.dcop_base.specs.Limits.{amount_limit}
 use Rattle.dcop_base.specs.declared.knowledge.Private.{Private}
 use Rattle.pseudotree.specs.declared.agent.Place.{Place}
 use Rattle.pseudotree.specs.Tree.{path_of, parent_of, children_of, is_above, is_variable}
@@ -231,7 +231,7 @@ module _ (p : Dcop) (paths : List (List ℕ)) (problem : IsProblem p) (pseudo : 
     known_given u x above e = listed_at p (valued v.known) u (above_in_problem p paths problem pseudo u i above) ∙ ap or_zero e
 
     -- so no sum of lower bounds is cut
-    pub not_cut : (d : ℕ) → d < get_or p.sizes i 0 → delta v d + lower_sum (row_at v.rows d) ≤ CAP
+    pub not_cut : (d : ℕ) → d < get_or p.sizes i 0 → delta v d + lower_sum (row_at v.rows d) ≤ amount_limit
     not_cut d lt =
         let mine : List ℕ = with_value known_values d in
         let low = uncut_low mine d (with_is known_values known_is d lt) (with_here known_values known_is d lt) (λ w x above e. with_above known_values known_is d lt w above ∙ known_given w x above e) in

@@ -2,7 +2,7 @@
 use Rattle.std.specs.Prelude.{◌≡◌, ℕ, ◌+◌, ◌≤◌, true, List}
 use Rattle.std.specs.List.{fold}
 use Rattle.dcop_base.specs.declared.knowledge.Private.{Private}
-use Rattle.dcop_base.specs.declared.number.TheConstants.{CAP}
+use Rattle.dcop_base.specs.Limits.{amount_limit}
 use Rattle.pseudotree.specs.declared.agent.Place.{Place}
 use Rattle.adopt_context.specs.Context.{Context, part_of, names_all}
 use Rattle.adopt_context.specs.Bounds.{Entry, row_at, entry_at, lower_sum}
@@ -24,7 +24,7 @@ pub record EntriesHold (v : AdoptView) : Type 0 where
   pub entries : (d k : ℕ) → EntryHolds v.known (entry_at v.rows d k)
   pub low : lower_bound v ≤ v.threshold
   pub high : IsAtMost v.threshold (upper_bound v)
-  pub whole : names_all v.known (higher v) ≡ true → delta v v.value + lower_sum (row_at v.rows v.value) ≤ CAP
+  pub whole : names_all v.known (higher v) ≡ true → delta v v.value + lower_sum (row_at v.rows v.value) ≤ amount_limit
       → v.threshold ≡ delta v v.value + share_sum (row_at v.rows v.value)
 
 -- an agent after its start and activations on these batches

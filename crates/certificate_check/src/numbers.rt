@@ -1,6 +1,7 @@
 //! The numbers of a report: its cost, bounds, error, deliveries and status.
 
 ghost use Rattle.std.specs.Prelude.{◌≡◌, ◌≤◌, length};
+ghost use Rattle.dcop_base.specs.Limits.{variable_limit};
 ghost use Rattle.dcop_base.specs.Problem.{IsAssignment};
 ghost use Rattle.certificate_check.specs.Goal.{solved};
 ghost use Rattle.certificate_check.specs.Differences.{number_difference, bound_difference};
@@ -44,7 +45,7 @@ pub(crate) fn number_difference(
 
 /// The first of lower bound, upper bound, error, deliveries and status that is not the right one.
 fn bound_difference(variables: usize, report: &Report) -> Option<Differs>
-    requires { variables ≤ MAX_VARIABLES }
+    requires { variables ≤ variable_limit }
     ensures { result ≡ bound_difference variables report.now }
 {
     let cost = report.cost;

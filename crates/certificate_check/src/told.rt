@@ -2,6 +2,7 @@
 
 ghost use Rattle.std.specs.Prelude.{◌≡◌, ◌==◌, ◌≤◌, length, IfOk};
 ghost use Rattle.std.specs.List.{count_by};
+ghost use Rattle.dcop_base.specs.Limits.{variable_limit};
 ghost use Rattle.dcop_base.specs.Whole.{IsProblem};
 ghost use Rattle.certificate_text.specs.Fits.{FitsTables};
 ghost use Rattle.certificate_check.specs.Told.{told, parents_told};
@@ -13,7 +14,7 @@ use std::alloc::Global;
 /// How many variables a problem has.
 pub(crate) fn variable_count(problem: &Problem) -> usize
     ensures count { result ≡ length problem.now.sizes }
-    ensures few { result ≤ MAX_VARIABLES }
+    ensures few { result ≤ variable_limit }
 {
     problem.sizes.as_slice().len()
 }

@@ -54,7 +54,7 @@ walk-read : (over number : ℕ) (f : TextFile) (d last : Draft) (wss : List (Lis
 walk-read over number f d last [] walk ends = rw (walk, ends) refl
 walk-read over number f d last (ws ∷ wss) walk ends = rw walk.1 (walk-read over (number + 1) f walk.0 last wss walk.2 ends)
 
--- the numbers of a report are at most CAP
+-- the numbers of a report are at most amount_limit
 record IsSmall (e d c l u : ℕ) : Type 0 where
   error : e ≤ 4611686018427387904
   deliveries : d ≤ 4611686018427387904

@@ -42,7 +42,7 @@ method-again Dpop = refl
 method-again Adopt = refl
 method-again Cut = refl
 
--- a number of at most CAP is read as that number
+-- a number of at most amount_limit is read as that number
 pub amount-decimal : (n : ℕ) → n ≤ 4611686018427387904 → amount_of (decimal n) ≡ Some n
 amount-decimal n h = rw (number-decimal n (omega (arith, h)), le-ltb 4611686018427387904 n h) refl
 

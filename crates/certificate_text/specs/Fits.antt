@@ -2,7 +2,7 @@
 use Rattle.std.specs.Prelude.{◌≡◌, ℕ, ◌<◌, ◌≤◌, ◌==◌, List, map, length, IfSome, slice_index, count_by, false}
 use Rattle.std.specs.List.{All, AllZip}
 use Rattle.dcop_base.specs.Table.{product, has_repeat}
-use Rattle.dcop_base.specs.declared.number.TheConstants.{CAP}
+use Rattle.dcop_base.specs.Limits.{amount_limit}
 use Rattle.problem_text.specs.File.{TextFile}
 use Rattle.certificate_text.specs.declared.certificate.Certificate.{Certificate}
 use Rattle.certificate_text.specs.declared.certificate.Certificate.TheVariants.{Tables}
@@ -17,7 +17,7 @@ pub record FitsUtil (sizes : List ℕ) (util : Util) : Type 0 where
   pub named : IsNamedUtil (length sizes) util
   pub distinct : has_repeat util.scope ≡ false
   pub many : length util.cells ≡ product (map (λ v. slice_index sizes v) util.scope)
-  pub cells : All (λ cell. cell ≤ CAP) util.cells
+  pub cells : All (λ cell. cell ≤ amount_limit) util.cells
 
 -- UTIL tables that fit variables of these sizes, with exactly one for each variable
 pub record FitsTables (sizes : List ℕ) (utils : List Util) : Type 0 where
@@ -28,13 +28,13 @@ pub record FitsTables (sizes : List ℕ) (utils : List Util) : Type 0 where
 abbrev pub FitsCertificate : List ℕ → Method → Certificate → Type 0
 FitsCertificate sizes method (Tables utils) = (method ≡ Dpop) × FitsTables sizes utils
 
--- a report fits a file: one value for each variable, below its size; numbers of at most CAP; a certificate that fits; and the file's goal
+-- a report fits a file: one value for each variable, below its size; numbers of at most amount_limit; a certificate that fits; and the file's goal
 pub record Fits (report : Report) (f : TextFile) : Type 0 where
   pub values : AllZip (λ value size. value < size) report.values f.problem.sizes
-  pub error : report.error ≤ CAP
-  pub deliveries : report.deliveries ≤ CAP
-  pub cost : report.cost ≤ CAP
-  pub lower : report.lower ≤ CAP
-  pub upper : report.upper ≤ CAP
+  pub error : report.error ≤ amount_limit
+  pub deliveries : report.deliveries ≤ amount_limit
+  pub cost : report.cost ≤ amount_limit
+  pub lower : report.lower ≤ amount_limit
+  pub upper : report.upper ≤ amount_limit
   pub certificate : IfSome report.certificate (FitsCertificate f.problem.sizes report.method)
   pub goal : report.goal ≡ f.goal

@@ -3,7 +3,7 @@ use Rattle.std.specs.Prelude.{ℕ, ◌+◌, ◌==◌, List, [], ◌∷◌, Some,
 use Rattle.problem_text.specs.declared.file.Goal.{Goal}
 use Rattle.problem_text.specs.declared.fault.ReportKind.{ReportKind}
 use Rattle.problem_text.specs.declared.fault.ReportKind.TheVariants.{NoEnd}
-use Rattle.problem_text.specs.declared.line.TheConstants.{LF}
+use Rattle.problem_text.specs.Bytes.{line_feed}
 use Rattle.problem_text.specs.File.{TextFile}
 use Rattle.problem_text.specs.PlainLines.{Plain, plain_lines}
 use Rattle.certificate_text.specs.declared.report.Report.{Report}
@@ -48,6 +48,6 @@ abbrev pub lines_read : ℕ → TextFile → Draft → List Plain → Result Rep
 lines_read over f d [] = over_at d.stage over f.goal d
 lines_read over f d (line ∷ later) = read_on line.number (line_at d.stage f d line.words) (λ more. lines_read over f more later)
 
--- what the text of a report on a file is read as; where it is over without `end`, the line is 1 plus the number of LF bytes
+-- what the text of a report on a file is read as; where it is over without `end`, the line is 1 plus the number of line_feed bytes
 abbrev pub report_read : List ℕ → TextFile → Result Report Fault
-report_read bytes f = lines_read (1 + count_by (λ b. b == LF) bytes) f nothing_told (plain_lines 1 bytes)
+report_read bytes f = lines_read (1 + count_by (λ b. b == line_feed) bytes) f nothing_told (plain_lines 1 bytes)

@@ -4,7 +4,7 @@ use Rattle.std.specs.Str.{bytes_eq}
 use Rattle.problem_text.specs.declared.fault.ReportKind.{ReportKind}
 use Rattle.problem_text.specs.Tables.{onto}
 use Rattle.dcop_base.specs.NumberWord.{number_of}
-use Rattle.dcop_base.specs.declared.number.TheConstants.{CAP}
+use Rattle.dcop_base.specs.Limits.{amount_limit}
 use Rattle.certificate_text.specs.declared.line_end.LineEnd.{LineEnd}
 use Rattle.certificate_text.specs.declared.line_end.LineEnd.TheVariants.{NoMemory, Fault}
 
@@ -28,16 +28,16 @@ abbrev pub is_alone : List ℕ → List (List ℕ) → Bool
 is_alone key (word ∷ []) = bytes_eq word key
 is_alone key _ = false
 
--- a number that is at most CAP
+-- a number that is at most amount_limit
 abbrev pub capped : Option ℕ → Option ℕ
-capped (Some n) = if nat_lt CAP n then None else Some n
+capped (Some n) = if nat_lt amount_limit n then None else Some n
 capped None = None
 
--- the number that a word writes, where it is at most CAP
+-- the number that a word writes, where it is at most amount_limit
 abbrev pub amount_of : List ℕ → Option ℕ
 amount_of word = capped (number_of word)
 
--- the numbers that these words write, where each is at most CAP
+-- the numbers that these words write, where each is at most amount_limit
 abbrev pub amounts_of : List (List ℕ) → Option (List ℕ)
 amounts_of [] = Some []
 amounts_of (word ∷ later) = onto (amount_of word) (amounts_of later)

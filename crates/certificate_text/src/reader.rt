@@ -2,6 +2,7 @@
 
 ghost use Rattle.std.specs.Prelude.{◌≡◌, ◌<◌, ◌≤◌, [], length, slice_index, codes, Ok, Err, IfOk, if◌then◌else◌};
 ghost use Rattle.std.specs.List.{All, AllZip, slice_index_or};
+ghost use Rattle.dcop_base.specs.Limits.{size_limit, variable_limit};
 ghost use Rattle.problem_text.specs.Lines.{words};
 ghost use Rattle.problem_text.specs.File.{AreLabels};
 ghost use Rattle.problem_text.specs.declared.fault.ReportKind.TheVariants.{BadLine, NotYet};
@@ -268,9 +269,9 @@ fn value_among(
 ) -> Result<Val, LineEnd>
     requires within { place < length names.now }
     requires many { length names.now ≡ length sizes.now }
-    requires few { length sizes.now ≤ MAX_VARIABLES }
+    requires few { length sizes.now ≤ variable_limit }
     requires labelled { AllZip AreLabels sizes.now labels.now }
-    requires small { All (λ size. size ≤ MAX_SIZE) sizes.now }
+    requires small { All (λ size. size ≤ size_limit) sizes.now }
     ensures { Reads result (value_line (slice_index_or names.now place [])
         (slice_index_or labels.now place []) (slice_index sizes.now place) (words text.now)) }
 {
@@ -350,7 +351,7 @@ fn tables_step(
 
 /// What is told with the line `end`, where there are so many variables.
 fn ended(draft: Draft, count: usize) -> Result<Draft, LineEnd>
-    requires { count ≤ MAX_VARIABLES }
+    requires { count ≤ variable_limit }
     ensures { Reads result (if lacks_util_of draft.utils count then Err BadLine else Ok (record draft { stage = stages.End })) }
 {
     if lacks_util(draft.utils.as_slice(), count) {

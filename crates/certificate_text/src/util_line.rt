@@ -4,6 +4,7 @@ ghost use Rattle.std.specs.Prelude.{◌≡◌, ◌<◌, ◌≤◌, ◌-◌, ◌^
 ghost use Rattle.std.specs.List.{All, list_all, before_first};
 ghost use Rattle.std.specs.Option.{option_map};
 ghost use Rattle.std.specs.Str.{bytes_eq};
+ghost use Rattle.dcop_base.specs.Limits.{variable_limit};
 ghost use Rattle.dcop_base.specs.Table.{product};
 ghost use Rattle.problem_text.specs.Lines.{words};
 ghost use Rattle.problem_text.specs.Name.{is_name};
@@ -120,7 +121,7 @@ fn has_util(utils: &[Util], var: VarId) -> bool
 
 /// Whether some variable of so many has no table among these.
 pub fn lacks_util(utils: &[Util], count: usize) -> bool
-    requires { count ≤ MAX_VARIABLES }
+    requires { count ≤ variable_limit }
     ensures { result ≡ lines.lacks_util utils.now count }
 {
     for var in 0..count {

@@ -3,6 +3,7 @@
 ghost use Rattle.std.specs.Prelude.{◌≡◌, ◌≤◌, true, length, position};
 ghost use Rattle.std.specs.List.{list_all};
 ghost use Rattle.std.specs.Str.{bytes_eq};
+ghost use Rattle.dcop_base.specs.Limits.{size_limit};
 ghost use Rattle.problem_text.specs.Lines.{words};
 ghost use Rattle.problem_text.specs.Name.{is_name};
 ghost use Rattle.certificate_text.specs.Told.{amount_of as amount_of_word, Reads};
@@ -16,7 +17,7 @@ use problem_text::{Labels, ReportKind, is_word, name_of, next_word};
 /// The value that a line `value NAME V` tells of the variable with this name, these value names
 /// and this size.
 pub fn value_of(text: &[u8], name: &str, labels: &Labels, size: u16) -> Result<Val, LineEnd>
-    requires few { length labels.now ≤ MAX_SIZE }
+    requires few { length labels.now ≤ size_limit }
     requires named { list_all is_name labels.now ≡ true }
     ensures { Reads result (value_line name.now labels.now size (words text.now)) }
 {
@@ -40,7 +41,7 @@ pub fn value_of(text: &[u8], name: &str, labels: &Labels, size: u16) -> Result<V
 
 /// The value that a word tells: by its name where there are value names, by its number otherwise.
 fn value_of_word(word: &[u8], labels: &Labels, size: u16) -> Result<Val, LineEnd>
-    requires few { length labels.now ≤ MAX_SIZE }
+    requires few { length labels.now ≤ size_limit }
     requires named { list_all is_name labels.now ≡ true }
     ensures { Reads result (value_told labels.now size word.now) }
 {
@@ -68,7 +69,7 @@ fn numbered(word: &[u8], size: u16) -> Result<Val, LineEnd>
 
 /// The value that a word names; `None` exactly where no value has that name.
 fn labelled(word: &[u8], labels: &Labels) -> Option<Val>
-    requires few { length labels.now ≤ MAX_SIZE }
+    requires few { length labels.now ≤ size_limit }
     requires named { list_all is_name labels.now ≡ true }
     ensures { result ≡ position (bytes_eq word.now) labels.now }
 {

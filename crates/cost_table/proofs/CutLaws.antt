@@ -6,7 +6,7 @@ use Rattle.std.specs.List.{All, remove, insert}
 use Rattle.std.proofs.lemmas.List.{set_past, drop_more, drop_all, length-map}
 use Rattle.std.proofs.lemmas.List.Elements.{All-set, length_all_zip}
 use Rattle.dcop_base.specs.Table.{CostTable, IsTable, product, AreWithin, cell_place}
-use Rattle.dcop_base.specs.declared.number.TheConstants.{CAP}
+use Rattle.dcop_base.specs.Limits.{amount_limit}
 use Rattle.dcop_base.proofs.TableLaws.{parts-of}
 use Rattle.cost_table.specs.Cells.{cell_of, place_in}
 use Rattle.cost_table.specs.Runs.{AreCellsAt, AreFewer, KeepsOne}
@@ -86,7 +86,7 @@ keeps-one scope sizes cells k val kept e lt at =
         sized = omega (arith, parts.sized, length-set sizes k 1);
         positive = All-set (λ s. 1 ≤ s) sizes k 1 (omega arith) parts.positive;
         full = at.count ∙ sym (product-set sizes k lt);
-        small = at.within CAP parts.small;
+        small = at.within amount_limit parts.small;
       });
       fewer = record { count = omega (arith, at.count, parts.full, product-less sizes k lt parts.positive); within = at.within };
     }

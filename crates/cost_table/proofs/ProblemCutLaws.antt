@@ -11,7 +11,7 @@ use Rattle.dcop_base.specs.Problem.{Dcop}
 use Rattle.dcop_base.specs.Faults.{cell_count, greatest_sum}
 use Rattle.dcop_base.specs.Graph.{share_table, AreConnected, AreJoints}
 use Rattle.dcop_base.specs.Whole.{IsTableOf, IsProblem}
-use Rattle.dcop_base.specs.declared.problem.TheConstants.{MAX_SIZE, MAX_COST}
+use Rattle.dcop_base.specs.Limits.{size_limit, cost_limit}
 use Rattle.dcop_base.proofs.TableLaws.{parts-of}
 use Rattle.dcop_base.proofs.FaultLaws.{greatest-le}
 use Rattle.dcop_base.proofs.ProblemLaws.{entries-of, values-fit}
@@ -130,7 +130,7 @@ cut-of sizes cut vs t s of h whole fewer =
         few = rw h.same_scope of.few;
         within = rw h.same_scope (below-same (length sizes) (length (ones_at cut sizes)) t.scope (length-ones_at cut sizes) of.within);
         sized = same;
-        cheap = fewer.within MAX_COST of.cheap;
+        cheap = fewer.within cost_limit of.cheap;
       };
       fewer = fewer;
     }
@@ -206,7 +206,7 @@ slice-whole p cut vs ss h cuts =
     record {
       some = omega (arith, long, h.some);
       few = omega (arith, long, h.few);
-      sizes = All-ones_at (λ s. (1 ≤ s) × (s ≤ MAX_SIZE)) cut p.sizes (omega arith, omega arith) h.sizes;
+      sizes = All-ones_at (λ s. (1 ≤ s) × (s ≤ size_limit)) cut p.sizes (omega arith, omega arith) h.sizes;
       tables = all-cut p.sizes cut vs p.tables ss cuts;
       cells = omega (arith, totals.0, h.cells);
       sums = omega (arith, totals.1, h.sums);

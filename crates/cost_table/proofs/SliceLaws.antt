@@ -6,7 +6,7 @@ use Rattle.std.proofs.lemmas.List.Folds.{list_any_none}
 use Rattle.std.proofs.lemmas.List.Elements.{All-append, All-take, All-drop}
 use Rattle.std.proofs.lemmas.Bool.{or_parts, or_from, ne_eqb, eq-eqb, le-ltb, not_from_true}
 use Rattle.dcop_base.specs.Table.{product, has, has_repeat, table_fault}
-use Rattle.dcop_base.specs.declared.number.TheConstants.{CAP}
+use Rattle.dcop_base.specs.Limits.{amount_limit}
 use Rattle.dcop_base.proofs.TableLaws.{AreParts, parts-of}
 
 -- nothing is wrong with a table of which the parts are right
@@ -15,7 +15,7 @@ faultless scope sizes cells parts =
     let sized : not (eqb (length sizes) (length scope)) || list_any (λ s. eqb s 0) sizes ≡ false =
     or_from _ _ (not_from_true _ (eq-eqb _ _ parts.sized)) (list_any_none (λ s. eqb s 0) sizes (λ k d h. ne_eqb (get_or sizes k d) 0 (λ e. absurd (omega (arith, e, parts.positive k d h))))) in
     let full : not (eqb (length cells) (product sizes)) ≡ false = not_from_true _ (eq-eqb _ _ parts.full) in
-    let small : list_any (λ c. ltb CAP c) cells ≡ false = list_any_none (λ c. ltb CAP c) cells (λ k d h. le-ltb CAP (get_or cells k d) (parts.small k d h)) in
+    let small : list_any (λ c. ltb amount_limit c) cells ≡ false = list_any_none (λ c. ltb amount_limit c) cells (λ k d h. le-ltb amount_limit (get_or cells k d) (parts.small k d h)) in
     rw (parts.apart, sized, full, small) refl
 
 -- without one of its items
@@ -48,5 +48,5 @@ slice-parts scope sizes cells k kept lt e count within =
       sized = omega (arith, parts.sized, length-remove sizes k lt, length-remove scope k scope-lt);
       positive = All-remove (λ s. 1 ≤ s) sizes k parts.positive;
       full = count;
-      small = within CAP parts.small;
+      small = within amount_limit parts.small;
     })

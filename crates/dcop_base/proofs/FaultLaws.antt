@@ -11,8 +11,7 @@ use Rattle.dcop_base.specs.Table.{CostTable, has_repeat, greatest}
 use Rattle.dcop_base.specs.Faults.{cell_count, greatest_sum, cells_fault, first_fault, next_fault, tables_fault}
 use Rattle.dcop_base.specs.declared.problem.ProblemFault.{ProblemFault}
 use Rattle.dcop_base.specs.declared.problem.ProblemFault.TheVariants.{ScopeLength, ScopeRange, ScopeRepeat, CellCount, TooManyCells, SumTooLarge}
-use Rattle.dcop_base.specs.declared.number.TheConstants.{CAP}
-use Rattle.dcop_base.specs.declared.problem.TheConstants.{MAX_SCOPE, MAX_COST, MAX_CELLS}
+use Rattle.dcop_base.specs.Limits.{amount_limit, scope_limit, cost_limit, cell_limit}
 use Rattle.dcop_base.specs.Totals.{AreTotals}
 use Rattle.dcop_base.specs.declared.fault.Totals.{Totals}
 use Rattle.dcop_base.proofs.TableLaws.{four-fail, none-passes}
@@ -67,30 +66,30 @@ pointwise-same (x ∷ xs) = rw (eq-eqb x x refl, pointwise-same xs)
 -- what holds of a table in which nothing is wrong behind these earlier ones
 pub record IsNext (sizes : List ℕ) (earlier : List CostTable) (t : CostTable) : Type 0 where
   pub some : 1 ≤ length t.scope
-  pub few : length t.scope ≤ MAX_SCOPE
+  pub few : length t.scope ≤ scope_limit
   pub within : All (λ v. v < length sizes) t.scope
   pub apart : has_repeat t.scope ≡ false
   pub sized : t.sizes ≡ map (λ v. get_or sizes v 0) t.scope
-  pub cheap : All (λ c. c ≤ MAX_COST) t.cells
-  pub cells : cell_count earlier + length t.cells ≤ MAX_CELLS
-  pub sums : greatest_sum earlier + greatest t.cells ≤ CAP
+  pub cheap : All (λ c. c ≤ cost_limit) t.cells
+  pub cells : cell_count earlier + length t.cells ≤ cell_limit
+  pub sums : greatest_sum earlier + greatest t.cells ≤ amount_limit
 
 two-fail : {X : Type 0} (a b : Bool) (x y : X) → cond a (Some x) (cond b (Some y) None) ≡ None → (a ≡ false) × (b ≡ false)
 two-fail true b x y e = cc
 two-fail false true x y e = cc
 two-fail false false x y e = (refl, refl)
 
-cells-none : (earlier : List CostTable) (cells : List ℕ) (o : Option ℕ) → cells_fault earlier cells o ≡ None → (o ≡ None) × (cell_count earlier + length cells ≤ MAX_CELLS) × (greatest_sum earlier + greatest cells ≤ CAP)
+cells-none : (earlier : List CostTable) (cells : List ℕ) (o : Option ℕ) → cells_fault earlier cells o ≡ None → (o ≡ None) × (cell_count earlier + length cells ≤ cell_limit) × (greatest_sum earlier + greatest cells ≤ amount_limit)
 cells-none earlier cells (Some cell) e = cc
 cells-none earlier cells None e =
-    let two = two-fail (ltb MAX_CELLS (cell_count earlier + length cells)) (ltb CAP (greatest_sum earlier + greatest cells)) (TooManyCells (length earlier)) (SumTooLarge (length earlier)) e in
+    let two = two-fail (ltb cell_limit (cell_count earlier + length cells)) (ltb amount_limit (greatest_sum earlier + greatest cells)) (TooManyCells (length earlier)) (SumTooLarge (length earlier)) e in
     (refl, ltb-false _ _ two.0, ltb-false _ _ two.1)
 
 pub next-none : (sizes : List ℕ) (earlier : List CostTable) (t : CostTable) → next_fault sizes earlier t ≡ None → IsNext sizes earlier t
 next-none sizes earlier t e =
     let place = length earlier in
-    let limit = position (λ c. ltb MAX_COST c) t.cells in
-    let tests = four-fail (eqb (length t.scope) 0 || ltb MAX_SCOPE (length t.scope)) (list_any (λ v. leb (length sizes) v) t.scope) (has_repeat t.scope) (not (pointwise nat_eq t.sizes (map (λ v. get_or sizes v 0) t.scope))) (ScopeLength place) (ScopeRange place) (ScopeRepeat place) (CellCount place) (cells_fault earlier t.cells limit) e in
+    let limit = position (λ c. ltb cost_limit c) t.cells in
+    let tests = four-fail (eqb (length t.scope) 0 || ltb scope_limit (length t.scope)) (list_any (λ v. leb (length sizes) v) t.scope) (has_repeat t.scope) (not (pointwise nat_eq t.sizes (map (λ v. get_or sizes v 0) t.scope))) (ScopeLength place) (ScopeRange place) (ScopeRepeat place) (CellCount place) (cells_fault earlier t.cells limit) e in
     let many = or_parts _ _ tests.0 in
     let ne = eqb-false (length t.scope) 0 many.0 in
     let cells = cells-none earlier t.cells limit tests.4 in
@@ -100,7 +99,7 @@ next-none sizes earlier t e =
       within = λ k d h. leb-false _ _ (none-passes (λ v. leb (length sizes) v) t.scope tests.1 k d h);
       apart = tests.2;
       sized = pointwise-true _ _ (not-false _ tests.3);
-      cheap = λ k d h. ltb-false _ _ (position-none (λ c. ltb MAX_COST c) t.cells cells.0 k d h);
+      cheap = λ k d h. ltb-false _ _ (position-none (λ c. ltb cost_limit c) t.cells cells.0 k d h);
       cells = cells.1;
       sums = cells.2;
     }
@@ -135,12 +134,12 @@ four-pass a b c d w x y z o ea eb ec ed eo = rw (ea, eb, ec, ed) eo
 pub none-next : (sizes : List ℕ) (earlier : List CostTable) (t : CostTable) → IsNext sizes earlier t → next_fault sizes earlier t ≡ None
 none-next sizes earlier t h =
     let place = length earlier in
-    let limit = position (λ c. ltb MAX_COST c) t.cells in
-    let nowhere = position-all (λ c. ltb MAX_COST c) t.cells (λ k d lt. le-ltb MAX_COST (get_or t.cells k d) (h.cheap k d lt)) in
+    let limit = position (λ c. ltb cost_limit c) t.cells in
+    let nowhere = position-all (λ c. ltb cost_limit c) t.cells (λ k d lt. le-ltb cost_limit (get_or t.cells k d) (h.cheap k d lt)) in
     let some : eqb (length t.scope) 0 ≡ false = ne_eqb (length t.scope) 0 (λ e. absurd (omega (arith, e, h.some))) in
-    let few = le-ltb MAX_SCOPE (length t.scope) h.few in
+    let few = le-ltb scope_limit (length t.scope) h.few in
     let within = list_any_none (λ v. leb (length sizes) v) t.scope (λ k d lt. lt-leb (length sizes) (get_or t.scope k d) (h.within k d lt)) in
     let own = map (λ v. get_or sizes v 0) t.scope in
     let sized : not (pointwise nat_eq t.sizes own) ≡ false = not_from_true _ (ap (λ ss. pointwise nat_eq ss own) h.sized ∙ pointwise-same own) in
-    let cells : cells_fault earlier t.cells limit ≡ None = rw (nowhere, le-ltb MAX_CELLS (cell_count earlier + length t.cells) h.cells, le-ltb CAP (greatest_sum earlier + greatest t.cells) h.sums) refl in
-    four-pass (eqb (length t.scope) 0 || ltb MAX_SCOPE (length t.scope)) (list_any (λ v. leb (length sizes) v) t.scope) (has_repeat t.scope) (not (pointwise nat_eq t.sizes own)) (ScopeLength place) (ScopeRange place) (ScopeRepeat place) (CellCount place) (cells_fault earlier t.cells limit) (or_from _ _ some few) within h.apart sized cells
+    let cells : cells_fault earlier t.cells limit ≡ None = rw (nowhere, le-ltb cell_limit (cell_count earlier + length t.cells) h.cells, le-ltb amount_limit (greatest_sum earlier + greatest t.cells) h.sums) refl in
+    four-pass (eqb (length t.scope) 0 || ltb scope_limit (length t.scope)) (list_any (λ v. leb (length sizes) v) t.scope) (has_repeat t.scope) (not (pointwise nat_eq t.sizes own)) (ScopeLength place) (ScopeRange place) (ScopeRepeat place) (CellCount place) (cells_fault earlier t.cells limit) (or_from _ _ some few) within h.apart sized cells

@@ -11,11 +11,10 @@ use Rattle.dcop_base.specs.Faults.{cell_count, greatest_sum, is_bad_size, first_
 use Rattle.dcop_base.specs.Graph.{AreJoints}
 use Rattle.dcop_base.specs.declared.problem.ProblemFault.{ProblemFault}
 use Rattle.dcop_base.specs.declared.problem.ProblemFault.TheVariants.{NoVariables, TooManyVariables}
-use Rattle.dcop_base.specs.declared.problem.TheConstants.{MAX_VARIABLES, MAX_SIZE, MAX_CELLS}
+use Rattle.dcop_base.specs.Limits.{variable_limit, size_limit, cell_limit, amount_limit}
 use Rattle.dcop_base.proofs.FaultLaws.{position-none, position-all, next-none, none-next}
 use Rattle.dcop_base.proofs.TableLaws.{parts-of, place-lt}
 use Rattle.dcop_base.specs.Whole.{IsTableOf, IsProblem}
-use Rattle.dcop_base.specs.declared.number.TheConstants.{CAP}
 
 fold-max-start : (a : ℕ) (xs : List ℕ) → a ≤ fold max a xs
 fold-max-start a [] = omega arith
@@ -35,18 +34,18 @@ pub cost-le-greatest_sum : (p : Dcop) (values : List ℕ) → cost p values ≤ 
 cost-le-greatest_sum p values = sum_by-le-sum_by (λ t. cell_at t values) (λ t. greatest t.cells) p.tables (cell_at-le-greatest values)
 
 -- no cost is above the cap
-pub cost-le-cap : (p : Dcop) (values : List ℕ) → IsProblem p → cost p values ≤ CAP
+pub cost-le-cap : (p : Dcop) (values : List ℕ) → IsProblem p → cost p values ≤ amount_limit
 cost-le-cap p values h = let most = cost-le-greatest_sum p values in omega (arith, h.sums, most)
 
 -- the cost so far is within the cap
-pub cost-so-far-le-cap : (p : Dcop) (values : List ℕ) (k : ℕ) → IsProblem p → sum_by (λ t. cell_at t values) (take k p.tables) ≤ CAP
+pub cost-so-far-le-cap : (p : Dcop) (values : List ℕ) (k : ℕ) → IsProblem p → sum_by (λ t. cell_at t values) (take k p.tables) ≤ amount_limit
 cost-so-far-le-cap p values k h =
     let part = sum_by-take-le (λ t. cell_at t values) p.tables k in
     let most = cost-le-cap p values h in
     omega (arith, part, most)
 
 -- the cost so far with the next cell is within the cap
-pub cost-more-le-cap : (p : Dcop) (values : List ℕ) (k : ℕ) (t : CostTable) → IsProblem p → k < length p.tables → t ≡ get_or p.tables k t → sum_by (λ t. cell_at t values) (take k p.tables) + cell_at t values ≤ CAP
+pub cost-more-le-cap : (p : Dcop) (values : List ℕ) (k : ℕ) (t : CostTable) → IsProblem p → k < length p.tables → t ≡ get_or p.tables k t → sum_by (λ t. cell_at t values) (take k p.tables) + cell_at t values ≤ amount_limit
 cost-more-le-cap p values k t h lt e =
     let more = sum_by_more_le (λ t. cell_at t values) p.tables k t lt in
     let same = ap (λ t. cell_at t values) e in
@@ -85,14 +84,14 @@ sizes-none (Some var) e = cc
 sizes-none None e = refl
 
 -- tables without a fault behind earlier ones within the limits: each is a problem's, and all are within the limits
-tables-none : (sizes : List ℕ) (earlier tables : List CostTable) → All IsTable tables → cell_count earlier ≤ MAX_CELLS → greatest_sum earlier ≤ CAP → tables_fault sizes earlier tables ≡ None → (All (IsTableOf sizes) tables) × (cell_count (earlier ++ tables) ≤ MAX_CELLS) × (greatest_sum (earlier ++ tables) ≤ CAP)
+tables-none : (sizes : List ℕ) (earlier tables : List CostTable) → All IsTable tables → cell_count earlier ≤ cell_limit → greatest_sum earlier ≤ amount_limit → tables_fault sizes earlier tables ≡ None → (All (IsTableOf sizes) tables) × (cell_count (earlier ++ tables) ≤ cell_limit) × (greatest_sum (earlier ++ tables) ≤ amount_limit)
 tables-none sizes earlier [] whole cells sum e =
     (All-nil (IsTableOf sizes), rw (append-nil earlier) cells, rw (append-nil earlier) sum)
 tables-none sizes earlier (t ∷ ts) whole cells sum e =
     let both = first-none (next_fault sizes earlier t) (tables_fault sizes (earlier ++ (t ∷ [])) ts) e in
     let next = next-none sizes earlier t both.0 in
-    let more-cells : cell_count (earlier ++ (t ∷ [])) ≤ MAX_CELLS = rw (sum_by_push (λ (t : CostTable). length t.cells) earlier t) next.cells in
-    let more-sum : greatest_sum (earlier ++ (t ∷ [])) ≤ CAP = rw (sum_by_push (λ (t : CostTable). greatest t.cells) earlier t) next.sums in
+    let more-cells : cell_count (earlier ++ (t ∷ [])) ≤ cell_limit = rw (sum_by_push (λ (t : CostTable). length t.cells) earlier t) next.cells in
+    let more-sum : greatest_sum (earlier ++ (t ∷ [])) ≤ amount_limit = rw (sum_by_push (λ (t : CostTable). greatest t.cells) earlier t) next.sums in
     let rest = tables-none sizes (earlier ++ (t ∷ [])) ts (All-tail IsTable t ts whole) more-cells more-sum both.1 in
     let of : IsTableOf sizes t = record {
       whole = All-head IsTable t ts whole;
@@ -107,7 +106,7 @@ tables-none sizes earlier (t ∷ ts) whole cells sum e =
 -- sizes and whole tables with which nothing is wrong are, with joints, a problem
 pub IsProblem-faultless : (sizes : List ℕ) (tables : List CostTable) (joints : List (ℕ × ℕ)) → problem_fault sizes tables ≡ None → All IsTable tables → AreJoints (length sizes) tables joints → IsProblem (record { sizes = sizes; tables = tables; joints = joints })
 IsProblem-faultless sizes tables joints e whole joined =
-    let tests = two-none (eqb (length sizes) 0) (ltb MAX_VARIABLES (length sizes)) NoVariables TooManyVariables (first_fault (sizes_fault (position is_bad_size sizes)) (tables_fault sizes [] tables)) e in
+    let tests = two-none (eqb (length sizes) 0) (ltb variable_limit (length sizes)) NoVariables TooManyVariables (first_fault (sizes_fault (position is_bad_size sizes)) (tables_fault sizes [] tables)) e in
     let parts = first-none (sizes_fault (position is_bad_size sizes)) (tables_fault sizes [] tables) tests.2 in
     let good = position-none is_bad_size sizes (sizes-none (position is_bad_size sizes) parts.0) in
     let ne = eqb-false (length sizes) 0 tests.0 in
@@ -122,23 +121,23 @@ IsProblem-faultless sizes tables joints e whole joined =
       joints = joined;
     }
   where
-    size-good : (s : ℕ) → is_bad_size s ≡ false → (1 ≤ s) × (s ≤ MAX_SIZE)
+    size-good : (s : ℕ) → is_bad_size s ≡ false → (1 ≤ s) × (s ≤ size_limit)
     size-good s e =
-        let both = or_parts (eqb s 0) (ltb MAX_SIZE s) e in
+        let both = or_parts (eqb s 0) (ltb size_limit s) e in
         let ne = eqb-false s 0 both.0 in
-        let few = ltb-false MAX_SIZE s both.1 in
+        let few = ltb-false size_limit s both.1 in
         (grind arith, few)
 
 -- the scopes of sizes and whole tables with which nothing is wrong are of the variables
 pub scopes-faultless : (sizes : List ℕ) (tables : List CostTable) → problem_fault sizes tables ≡ None → All IsTable tables → All (λ t. All (λ v. v < length sizes) t.scope) tables
 scopes-faultless sizes tables e whole =
-    let tests = two-none (eqb (length sizes) 0) (ltb MAX_VARIABLES (length sizes)) NoVariables TooManyVariables (first_fault (sizes_fault (position is_bad_size sizes)) (tables_fault sizes [] tables)) e in
+    let tests = two-none (eqb (length sizes) 0) (ltb variable_limit (length sizes)) NoVariables TooManyVariables (first_fault (sizes_fault (position is_bad_size sizes)) (tables_fault sizes [] tables)) e in
     let parts = first-none (sizes_fault (position is_bad_size sizes)) (tables_fault sizes [] tables) tests.2 in
     let limits = tables-none sizes [] tables whole (omega arith) (omega arith) parts.1 in
     λ k d h. (limits.0 k d h).within
 
 -- tables of a problem within the limits have no fault behind the earlier ones
-tables_fault-whole : (sizes : List ℕ) (earlier tables : List CostTable) → All (IsTableOf sizes) tables → cell_count (earlier ++ tables) ≤ MAX_CELLS → greatest_sum (earlier ++ tables) ≤ CAP → tables_fault sizes earlier tables ≡ None
+tables_fault-whole : (sizes : List ℕ) (earlier tables : List CostTable) → All (IsTableOf sizes) tables → cell_count (earlier ++ tables) ≤ cell_limit → greatest_sum (earlier ++ tables) ≤ amount_limit → tables_fault sizes earlier tables ≡ None
 tables_fault-whole sizes earlier [] all cells sum = refl
 tables_fault-whole sizes earlier (t ∷ ts) all cells sum =
     let of = All-head (IsTableOf sizes) t ts all in
@@ -163,13 +162,13 @@ tables_fault-whole sizes earlier (t ∷ ts) all cells sum =
 pub problem_fault-whole : (p : Dcop) → IsProblem p → problem_fault p.sizes p.tables ≡ None
 problem_fault-whole p h =
     let some : eqb (length p.sizes) 0 ≡ false = ne_eqb (length p.sizes) 0 (λ e. absurd (omega (arith, e, h.some))) in
-    let few = le-ltb MAX_VARIABLES (length p.sizes) h.few in
+    let few = le-ltb variable_limit (length p.sizes) h.few in
     let good = position-all is_bad_size p.sizes (λ k d lt. size-none (get_or p.sizes k d) (h.sizes k d lt)) in
     let tables = tables_fault-whole p.sizes [] p.tables h.tables h.cells h.sums in
     rw (some, few, good, tables) refl
   where
-    size-none : (s : ℕ) → (1 ≤ s) × (s ≤ MAX_SIZE) → is_bad_size s ≡ false
-    size-none s good = or_from (eqb s 0) (ltb MAX_SIZE s) (ne_eqb s 0 (λ e. absurd (omega (arith, e, good.0)))) (le-ltb MAX_SIZE s good.1)
+    size-none : (s : ℕ) → (1 ≤ s) × (s ≤ size_limit) → is_bad_size s ≡ false
+    size-none s good = or_from (eqb s 0) (ltb size_limit s) (ne_eqb s 0 (λ e. absurd (omega (arith, e, good.0)))) (le-ltb size_limit s good.1)
 
 -- the place of values that fit is a cell's
 pub place-of-cell : (sizes values : List ℕ) (t : CostTable) → IsTableOf sizes t → AreWithin sizes values → cell_place t.sizes (values_at t.scope values) < length t.cells

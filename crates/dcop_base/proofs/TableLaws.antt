@@ -8,7 +8,7 @@ use Rattle.std.proofs.lemmas.List.Folds.{list_any_at}
 use Rattle.std.proofs.lemmas.Bool.{cases_lt, ltb-false, eqb-true, eqb-false, both_ways, not-false, or_parts, cases_Bool}
 use Rattle.dcop_base.specs.Table.{product, has_repeat, table_fault, AreWithin, values_at, cell_place}
 use Rattle.dcop_base.specs.declared.table.TableFault.TheVariants.{Repeat, Sizes, CellCount, CellTooLarge}
-use Rattle.dcop_base.specs.declared.number.TheConstants.{CAP}
+use Rattle.dcop_base.specs.Limits.{amount_limit}
 
 -- four tests that all fail, where a chain of them gave nothing
 pub four-fail : {X : Type 0} (a b c d : Bool) (w x y z : X) (o : Option X) → cond a (Some w) (cond b (Some x) (cond c (Some y) (cond d (Some z) o))) ≡ None → (a ≡ false) × (b ≡ false) × (c ≡ false) × (d ≡ false) × (o ≡ None)
@@ -28,18 +28,18 @@ pub record AreParts (scope : List ℕ) (sizes : List ℕ) (cells : List ℕ) : T
   pub sized : length sizes ≡ length scope
   pub positive : All (λ s. 1 ≤ s) sizes
   pub full : length cells ≡ product sizes
-  pub small : All (λ c. c ≤ CAP) cells
+  pub small : All (λ c. c ≤ amount_limit) cells
 
 pub parts-of : (scope sizes cells : List ℕ) → table_fault scope sizes cells ≡ None → AreParts scope sizes cells
 parts-of scope sizes cells e =
-    let four-tests = four-fail (has_repeat scope) (not (eqb (length sizes) (length scope)) || list_any (λ s. eqb s 0) sizes) (not (eqb (length cells) (product sizes))) (list_any (λ c. ltb CAP c) cells) Repeat Sizes CellCount CellTooLarge None e in
+    let four-tests = four-fail (has_repeat scope) (not (eqb (length sizes) (length scope)) || list_any (λ s. eqb s 0) sizes) (not (eqb (length cells) (product sizes))) (list_any (λ c. ltb amount_limit c) cells) Repeat Sizes CellCount CellTooLarge None e in
     let two = or_parts _ _ four-tests.1 in
     record {
       apart = four-tests.0;
       sized = eqb-true _ _ (not-false _ two.0);
       positive = λ k d h. let ne = eqb-false (get_or sizes k d) 0 (none-passes (λ s. eqb s 0) sizes two.1 k d h) in grind arith;
       full = eqb-true _ _ (not-false _ four-tests.2);
-      small = λ k d h. ltb-false _ _ (none-passes (λ c. ltb CAP c) cells four-tests.3 k d h);
+      small = λ k d h. ltb-false _ _ (none-passes (λ c. ltb amount_limit c) cells four-tests.3 k d h);
     }
 
 -- a product of sizes above values

@@ -5,8 +5,7 @@ use Rattle.std.specs.Cmp.Lexicographic.{pointwise}
 use Rattle.dcop_base.specs.Table.{CostTable, has_repeat, greatest}
 use Rattle.dcop_base.specs.declared.problem.ProblemFault.{ProblemFault}
 use Rattle.dcop_base.specs.declared.problem.ProblemFault.TheVariants.{NoVariables, TooManyVariables, DomainSize, ScopeLength, ScopeRange, ScopeRepeat, CellCount, CostTooLarge, TooManyCells, SumTooLarge}
-use Rattle.dcop_base.specs.declared.number.TheConstants.{CAP}
-use Rattle.dcop_base.specs.declared.problem.TheConstants.{MAX_VARIABLES, MAX_SIZE, MAX_SCOPE, MAX_COST, MAX_CELLS}
+use Rattle.dcop_base.specs.Limits.{amount_limit, variable_limit, size_limit, scope_limit, cost_limit, cell_limit}
 
 -- how many cells the tables have together
 abbrev pub cell_count : List CostTable → ℕ
@@ -16,26 +15,26 @@ cell_count ts = sum_by (λ t. length t.cells) ts
 abbrev pub greatest_sum : List CostTable → ℕ
 greatest_sum ts = sum_by (λ t. greatest t.cells) ts
 
--- whether a size is no domain's: 0, or above MAX_SIZE
+-- whether a size is no domain's: 0, or above size_limit
 abbrev pub is_bad_size : ℕ → Bool
-is_bad_size size = size == 0 || nat_lt MAX_SIZE size
+is_bad_size size = size == 0 || nat_lt size_limit size
 
--- what is wrong with the cells of a table that stands behind these earlier ones; the last argument is the place of its first cell above MAX_COST, where there is one
+-- what is wrong with the cells of a table that stands behind these earlier ones; the last argument is the place of its first cell above cost_limit, where there is one
 abbrev pub cells_fault : List CostTable → List ℕ → Option ℕ → Option ProblemFault
 cells_fault earlier cells (Some cell) = Some (CostTooLarge (length earlier) cell)
 cells_fault earlier cells None =
-    if nat_lt MAX_CELLS (cell_count earlier + length cells) then Some (TooManyCells (length earlier))
-    else (if nat_lt CAP (greatest_sum earlier + greatest cells) then Some (SumTooLarge (length earlier))
+    if nat_lt cell_limit (cell_count earlier + length cells) then Some (TooManyCells (length earlier))
+    else (if nat_lt amount_limit (greatest_sum earlier + greatest cells) then Some (SumTooLarge (length earlier))
     else None)
 
 -- what is wrong with a table that stands behind these earlier ones, in a problem with these sizes
 abbrev pub next_fault : List ℕ → List CostTable → CostTable → Option ProblemFault
 next_fault sizes earlier t =
-    if length t.scope == 0 || nat_lt MAX_SCOPE (length t.scope) then Some (ScopeLength (length earlier))
+    if length t.scope == 0 || nat_lt scope_limit (length t.scope) then Some (ScopeLength (length earlier))
     else (if list_any (λ v. nat_le (length sizes) v) t.scope then Some (ScopeRange (length earlier))
     else (if has_repeat t.scope then Some (ScopeRepeat (length earlier))
     else (if not (pointwise nat_eq t.sizes (map (λ v. slice_index sizes v) t.scope)) then Some (CellCount (length earlier))
-    else cells_fault earlier t.cells (position (λ c. nat_lt MAX_COST c) t.cells))))
+    else cells_fault earlier t.cells (position (λ c. nat_lt cost_limit c) t.cells))))
 
 -- the first of two faults
 abbrev pub first_fault : Option ProblemFault → Option ProblemFault → Option ProblemFault
@@ -56,5 +55,5 @@ sizes_fault None = None
 abbrev pub problem_fault : List ℕ → List CostTable → Option ProblemFault
 problem_fault sizes tables =
     if length sizes == 0 then Some NoVariables
-    else (if nat_lt MAX_VARIABLES (length sizes) then Some TooManyVariables
+    else (if nat_lt variable_limit (length sizes) then Some TooManyVariables
     else first_fault (sizes_fault (position is_bad_size sizes)) (tables_fault sizes [] tables))

@@ -3,7 +3,7 @@ use Rattle.std.specs.Prelude.{◌≡◌, ℕ, ◌+◌, ◌*◌, ◌<◌, Bool, f
 use Rattle.std.specs.List.{list_any, AllZip, fold}
 use Rattle.dcop_base.specs.declared.table.TableFault.{TableFault}
 use Rattle.dcop_base.specs.declared.table.TableFault.TheVariants.{Repeat, Sizes, CellCount, CellTooLarge}
-use Rattle.dcop_base.specs.declared.number.TheConstants.{CAP}
+use Rattle.dcop_base.specs.Limits.{amount_limit}
 
 -- a cost table: its variables, how many values each has, and its cells, of which the last variable moves fastest
 pub record CostTable : Type 0 where
@@ -31,7 +31,7 @@ table_fault scope sizes cells =
     if has_repeat scope then Some Repeat
     else (if not (length sizes == length scope) || list_any (λ s. s == 0) sizes then Some Sizes
     else (if not (length cells == product sizes) then Some CellCount
-    else (if list_any (λ c. nat_lt CAP c) cells then Some CellTooLarge
+    else (if list_any (λ c. nat_lt amount_limit c) cells then Some CellTooLarge
     else None)))
 
 -- a table in which nothing is wrong

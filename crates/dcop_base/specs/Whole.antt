@@ -5,24 +5,23 @@ use Rattle.dcop_base.specs.Table.{CostTable, IsTable}
 use Rattle.dcop_base.specs.Problem.{Dcop}
 use Rattle.dcop_base.specs.Faults.{cell_count, greatest_sum}
 use Rattle.dcop_base.specs.Graph.{AreJoints}
-use Rattle.dcop_base.specs.declared.number.TheConstants.{CAP}
-use Rattle.dcop_base.specs.declared.problem.TheConstants.{MAX_VARIABLES, MAX_SIZE, MAX_SCOPE, MAX_COST, MAX_CELLS}
+use Rattle.dcop_base.specs.Limits.{amount_limit, variable_limit, size_limit, scope_limit, cost_limit, cell_limit}
 
 -- a table of a problem with these sizes: one to four of its variables, each with its size, and cells within the limit
 pub record IsTableOf (sizes : List ℕ) (t : CostTable) : Type 0 where
   pub whole : IsTable t
   pub some : 1 ≤ length t.scope
-  pub few : length t.scope ≤ MAX_SCOPE
+  pub few : length t.scope ≤ scope_limit
   pub within : All (λ v. v < length sizes) t.scope
   pub sized : t.sizes ≡ map (λ v. slice_index sizes v) t.scope
-  pub cheap : All (λ c. c ≤ MAX_COST) t.cells
+  pub cheap : All (λ c. c ≤ cost_limit) t.cells
 
 -- a problem within the limits, with the joints that make it connected
 pub record IsProblem (p : Dcop) : Type 0 where
   pub some : 1 ≤ length p.sizes
-  pub few : length p.sizes ≤ MAX_VARIABLES
-  pub sizes : All (λ s. (1 ≤ s) × (s ≤ MAX_SIZE)) p.sizes
+  pub few : length p.sizes ≤ variable_limit
+  pub sizes : All (λ s. (1 ≤ s) × (s ≤ size_limit)) p.sizes
   pub tables : All (IsTableOf p.sizes) p.tables
-  pub cells : cell_count p.tables ≤ MAX_CELLS
-  pub sums : greatest_sum p.tables ≤ CAP
+  pub cells : cell_count p.tables ≤ cell_limit
+  pub sums : greatest_sum p.tables ≤ amount_limit
   pub joints : AreJoints (length p.sizes) p.tables p.joints

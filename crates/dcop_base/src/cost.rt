@@ -1,6 +1,7 @@
 //! What an assignment costs.
 
 ghost use Rattle.std.specs.Prelude.{◌≡◌, ℕ, ◌≤◌};
+ghost use Rattle.dcop_base.specs.Limits.{amount_limit};
 ghost use Rattle.dcop_base.specs.Problem.{IsAssignment, cost};
 
 use crate::number::{CAP, Val};
@@ -10,7 +11,7 @@ use crate::problem::Problem;
 pub fn cost_of(problem: &Problem, values: &[Val]) -> u64
     requires { IsAssignment problem.now values.now }
     ensures cost { result ≡ cost problem.now values.now }
-    ensures within { result ≤ CAP }
+    ensures within { result ≤ amount_limit }
 {
     let mut sum: u64 = 0;
     for table in problem.tables.as_slice() {

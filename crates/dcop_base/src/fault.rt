@@ -3,6 +3,7 @@
 ghost use Rattle.std.specs.Prelude.{◌≡◌, ℕ, ◌+◌, ◌<◌, ◌≤◌, ◌^◌, List, [], map, length, None, ◌==◌, nat_eq, nat_lt, nat_le, slice_index};
 ghost use Rattle.std.specs.List.{All, list_any, position};
 ghost use Rattle.std.specs.Cmp.Lexicographic.{pointwise};
+ghost use Rattle.dcop_base.specs.Limits.{amount_limit, cell_limit, cost_limit};
 ghost use Rattle.dcop_base.specs.Table.{CostTable, IsTable, greatest};
 ghost use Rattle.dcop_base.specs.Faults.{cell_count, greatest_sum, is_bad_size, cells_fault, next_fault, tables_fault, problem_fault};
 ghost use Rattle.dcop_base.specs.Totals.{AreTotals};
@@ -71,8 +72,8 @@ fn tables_fault_of(sizes: &[u16], tables: &[Table]) -> Option<ProblemFault>
 /// The totals with one more table of these cells.
 fn totals_with(before: Totals, cells: &[u64]) -> Totals
     requires tables { before.tables < 2 ^ 63 }
-    requires cells { before.cells + length cells.now ≤ MAX_CELLS }
-    requires sum { before.sum + greatest cells.now ≤ CAP }
+    requires cells { before.cells + length cells.now ≤ cell_limit }
+    requires sum { before.sum + greatest cells.now ≤ amount_limit }
     ensures tables { result.tables ≡ before.tables + 1 }
     ensures cells { result.cells ≡ before.cells + length cells.now }
     ensures sum { result.sum ≡ before.sum + greatest cells.now }
@@ -86,8 +87,8 @@ fn totals_with(before: Totals, cells: &[u64]) -> Totals
 
 /// What is wrong with a table behind those of the totals.
 fn next_fault_of(sizes: &[u16], before: Totals, table: &Table) -> Option<ProblemFault>
-    requires cells { before.cells ≤ MAX_CELLS }
-    requires sum { before.sum ≤ CAP }
+    requires cells { before.cells ≤ cell_limit }
+    requires sum { before.sum ≤ amount_limit }
     ensures { (earlier : List CostTable) → AreTotals earlier before →
         result ≡ next_fault sizes.now earlier table.now }
 {
@@ -140,10 +141,10 @@ fn are_sizes_of(own: &[u16], sizes: &[u16], scope: &[VarId]) -> bool
 
 /// What is wrong with the cells of a table behind those of the totals.
 fn cells_fault_of(before: Totals, cells: &[u64]) -> Option<ProblemFault>
-    requires cells { before.cells ≤ MAX_CELLS }
-    requires sum { before.sum ≤ CAP }
+    requires cells { before.cells ≤ cell_limit }
+    requires sum { before.sum ≤ amount_limit }
     ensures { (earlier : List CostTable) → AreTotals earlier before →
-        result ≡ cells_fault earlier cells.now (position (λ c. nat_lt MAX_COST c) cells.now) }
+        result ≡ cells_fault earlier cells.now (position (λ c. nat_lt cost_limit c) cells.now) }
 {
     let table = before.tables;
     if let Some(cell) = too_large(cells) {
@@ -163,7 +164,7 @@ fn cells_fault_of(before: Totals, cells: &[u64]) -> Option<ProblemFault>
 
 /// The place of the first cell above [`MAX_COST`].
 fn too_large(cells: &[u64]) -> Option<usize>
-    ensures { result ≡ position (λ c. nat_lt MAX_COST c) cells.now }
+    ensures { result ≡ position (λ c. nat_lt cost_limit c) cells.now }
 {
     cells.iter().position(|cell| *cell > MAX_COST)
 }

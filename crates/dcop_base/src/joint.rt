@@ -2,6 +2,7 @@
 
 ghost use Rattle.std.specs.Prelude.{◌≡◌, ℕ, ◌-◌, ◌<◌, ◌≤◌, ◌∷◌, [], ◌==◌, false, map, length, IfOk, if◌then◌else◌};
 ghost use Rattle.std.specs.List.{All, range_with_len};
+ghost use Rattle.dcop_base.specs.Limits.{variable_limit};
 ghost use Rattle.dcop_base.specs.Graph.{AreJoints};
 ghost use Rattle.dcop_base.specs.Labels.{AreLabels, IsJoined, own_joints};
 
@@ -28,7 +29,7 @@ pub(crate) fn joints_of(
     tables: &[Table],
 ) -> Result<PairList, NoMemory>
     requires some { 1 ≤ variables }
-    requires few { variables ≤ MAX_VARIABLES }
+    requires few { variables ≤ variable_limit }
     requires within { All (λ t. All (λ v. v < variables) t.scope) tables.now }
     ensures { IfOk result (λ joints. AreJoints variables tables.now joints) }
 {
@@ -40,7 +41,7 @@ pub(crate) fn joints_of(
 
 /// Each variable as its own label.
 fn own_labels(alloc: Global, variables: usize) -> Result<Vec<VarId>, NoMemory>
-    requires { variables ≤ MAX_VARIABLES }
+    requires { variables ≤ variable_limit }
     ensures { IfOk result (λ labels. labels.items ≡ range_with_len 0 variables) }
 {
     let mut labels = Vec::with_capacity(alloc, variables)?;
@@ -102,7 +103,7 @@ fn relabel(labels: &mut [VarId], from: VarId, to: VarId)
 /// A joint from variable 0 to each other variable that is its own label, ascending.
 fn joints_to_firsts(alloc: Global, labels: &[VarId]) -> Result<Vec<(VarId, VarId)>, NoMemory>
     requires some { 1 ≤ length labels.now }
-    requires few { length labels.now ≤ MAX_VARIABLES }
+    requires few { length labels.now ≤ variable_limit }
     ensures { IfOk result (λ joints. joints.items ≡ own_joints labels.now (length labels.now - 1)) }
 {
     let mut joints = Vec::new(alloc);

@@ -1,7 +1,7 @@
 //! Variables, values and amounts: the numbers of a problem, each a type of its own.
 
 ghost use Rattle.std.specs.Prelude.{◌≡◌, ℕ, ◌+◌, ◌<◌, ◌≤◌, ◌↔◌, min, IsSome, IfSome};
-ghost use Rattle.dcop_base.specs.declared.number.TheConstants.{CAP};
+ghost use Rattle.dcop_base.specs.Limits.{amount_limit};
 
 use std::marker::Model;
 
@@ -43,7 +43,7 @@ impl Model for Amount {
 
     ghost view = { λ a. a.value };
 
-    ghost invariant = { λ a. a.value ≤ CAP };
+    ghost invariant = { λ a. a.value ≤ amount_limit };
 
     ghost inverse = { λ n. record { value = n } };
 }
@@ -51,7 +51,7 @@ impl Model for Amount {
 impl Amount {
     /// The amount of this number; `None` exactly above [`CAP`].
     pub fn new(value: u64) -> Option<Amount>
-        ensures within { IsSome result ↔ (value ≤ CAP) }
+        ensures within { IsSome result ↔ (value ≤ amount_limit) }
         ensures same { IfSome result (λ amount. amount ≡ value) }
     {
         if value <= CAP {
@@ -64,14 +64,14 @@ impl Amount {
     /// The number.
     pub fn get(self) -> u64
         ensures same { result ≡ self }
-        ensures within { result ≤ CAP }
+        ensures within { result ≤ amount_limit }
     {
         self.value
     }
 
     /// The sum, or [`CAP`] where the sum is above it.
     pub fn plus(self, other: Amount) -> Amount
-        ensures { result ≡ min (self + other) CAP }
+        ensures { result ≡ min (self + other) amount_limit }
     {
         Amount {
             value: (self.value + other.value).min(CAP),

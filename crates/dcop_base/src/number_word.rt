@@ -3,6 +3,7 @@
 ghost use Rattle.std.specs.Prelude.{◌≡◌, ◌<◌, ◌≤◌, length, IsTrue};
 ghost use Rattle.std.specs.List.{list_all};
 ghost use Rattle.std.specs.Char.{is_ascii_digit};
+ghost use Rattle.dcop_base.specs.Limits.{digit_limit};
 ghost use Rattle.dcop_base.specs.NumberWord.{number_of, value_of};
 
 /// The most digits of a number.
@@ -28,7 +29,7 @@ fn are_digits(word: &[u8]) -> bool
 }
 
 fn value_of_digits(digits: &[u8]) -> u64
-    requires short { length digits.now ≤ MAX_DIGITS }
+    requires short { length digits.now ≤ digit_limit }
     requires numeric { IsTrue (list_all is_ascii_digit digits.now) }
     ensures { result ≡ value_of digits.now }
 {

@@ -2,6 +2,7 @@
 
 ghost use Rattle.std.specs.Prelude.{◌≡◌, ℕ, ◌<◌, ◌≤◌, List, length, None, MatchResult, nat_lt, ◌==◌, min};
 ghost use Rattle.std.specs.List.{list_any, All};
+ghost use Rattle.dcop_base.specs.Limits.{amount_limit};
 ghost use Rattle.dcop_base.specs.Table.{CostTable, product, has, has_repeat, table_fault, IsTableOfParts, AreWithin, values_at, cell_at, cell_place};
 
 use crate::number::{CAP, Val, VarId};
@@ -68,7 +69,7 @@ impl Table {
         requires entries { All (λ v. v < length values.now) self.now.scope }
         requires sizes { AreWithin self.now.sizes (values_at self.now.scope values.now) }
         ensures cell { result ≡ cell_at self.now values.now }
-        ensures within { result ≤ CAP }
+        ensures within { result ≤ amount_limit }
     {
         let scope = self.scope.as_slice();
         let sizes = self.sizes.as_slice();
@@ -149,7 +150,7 @@ fn product_of(sizes: &[u16]) -> usize
 
 /// Whether a cell is above [`CAP`].
 fn exceed_cap(cells: &[u64]) -> bool
-    ensures { result ≡ list_any (λ c. nat_lt CAP c) cells.now }
+    ensures { result ≡ list_any (λ c. nat_lt amount_limit c) cells.now }
 {
     cells.iter().any(|cell| *cell > CAP)
 }

@@ -5,7 +5,7 @@ use Rattle.std.proofs.lemmas.List.Elements.{All-weaker}
 use Rattle.dcop_base.specs.Table.{product, cell_place}
 use Rattle.dcop_base.specs.Problem.{Dcop, IsAssignment, cost}
 use Rattle.dcop_base.specs.Whole.{IsProblem}
-use Rattle.dcop_base.specs.declared.problem.TheConstants.{MAX_SIZE}
+use Rattle.dcop_base.specs.Limits.{size_limit}
 use Rattle.dcop_base.proofs.TableLaws.{cell_place-lt}
 use Rattle.dcop_optimum.specs.Optimum.{IsFirstOptimum}
 use Rattle.dcop_optimum.proofs.PlaceLaws.{place_before, place_same, zeros_within}
@@ -20,7 +20,7 @@ pub record IsBestSoFar (p : Dcop) (current best : List ℕ) (least : ℕ) : Type
 
 -- zeros are an assignment
 pub zeros_assign : (p : Dcop) → IsProblem p → IsAssignment p (replicate (length p.sizes) 0)
-zeros_assign p whole = zeros_within p.sizes (All-weaker (λ s. (1 ≤ s) × (s ≤ MAX_SIZE)) (λ s. 1 ≤ s) (λ s h. h.0) p.sizes whole.sizes)
+zeros_assign p whole = zeros_within p.sizes (All-weaker (λ s. (1 ≤ s) × (s ≤ size_limit)) (λ s. 1 ≤ s) (λ s h. h.0) p.sizes whole.sizes)
 
 -- the assignment at place 0 is the best so far
 pub best_start : (p : Dcop) (current best : List ℕ) (least : ℕ) → IsAssignment p current → cell_place p.sizes current ≡ 0 → best ≡ current → least ≡ cost p current → IsBestSoFar p current best least

@@ -7,7 +7,7 @@ use Rattle.std.proofs.lemmas.List.Elements.{All-weaker, length_all_zip}
 use Rattle.dcop_base.specs.Table.{CostTable, has}
 use Rattle.dcop_base.specs.Problem.{Dcop, IsAssignment, cost}
 use Rattle.dcop_base.specs.Whole.{IsProblem}
-use Rattle.dcop_base.specs.declared.problem.TheConstants.{MAX_SIZE}
+use Rattle.dcop_base.specs.Limits.{size_limit}
 use Rattle.pseudotree.specs.Tree.{parent_of, children_of, is_variable, is_above, IsRoot}
 use Rattle.pseudotree.specs.Pseudotree.{IsPseudotree, is_within, separator_of}
 use Rattle.pseudotree.specs.Owner.{owner_of}
@@ -37,7 +37,7 @@ fixed_at paths i value xs v = cond (is_above paths v i) (value v) (get_or xs v 0
 -- some assignment with these values above i costs least
 pub some_subtree_optimum : (p : Dcop) (paths : List (List ℕ)) (i : ℕ) (value : ℕ → ℕ) → IsProblem p → AreValuesAbove p paths i value → (least : ℕ) × IsSubtreeOptimum p paths i value least
 some_subtree_optimum p paths i value problem below =
-    let sizes = All-weaker (λ s. (1 ≤ s) × (s ≤ MAX_SIZE)) (λ s. 1 ≤ s) (λ s h. h.0) p.sizes problem.sizes in
+    let sizes = All-weaker (λ s. (1 ≤ s) × (s ≤ size_limit)) (λ s. 1 ≤ s) (λ s h. h.0) p.sizes problem.sizes in
     let found = least_within p.sizes sizes (λ xs. cost_with (subtree_tables_of p paths i) (λ v. get_or (listed p (fixed_at paths i value xs)) v 0)) in
     let xs : List ℕ = found.0 in (
       cost_with (subtree_tables_of p paths i) (λ v. get_or (listed p (fixed_at paths i value xs)) v 0),

@@ -6,7 +6,7 @@ use Rattle.std.proofs.Math.Nat.{mul-le-mul_right}
 use Rattle.dcop_base.specs.Table.{product, cell_place, AreWithin}
 use Rattle.dcop_base.specs.Problem.{Dcop, IsAssignment, cost}
 use Rattle.dcop_base.specs.Whole.{IsProblem}
-use Rattle.dcop_base.specs.declared.problem.TheConstants.{MAX_SIZE}
+use Rattle.dcop_base.specs.Limits.{size_limit}
 use Rattle.dcop_base.proofs.TableLaws.{cell_place-lt}
 use Rattle.dcop_optimum.specs.Optimum.{IsOptimum, IsFirstOptimum}
 use Rattle.dcop_optimum.proofs.PlaceLaws.{within_none, within_some, place_before, before_cases}
@@ -85,7 +85,7 @@ first_from_least p xs within least = record {
 -- every problem has a first optimal assignment
 pub some_first : (p : Dcop) → IsProblem p → (xs : List ℕ) × IsFirstOptimum p xs
 some_first p whole =
-    let sizes = All-weaker (λ s. (1 ≤ s) × (s ≤ MAX_SIZE)) (λ s. 1 ≤ s) (λ s h. h.0) p.sizes whole.sizes in
+    let sizes = All-weaker (λ s. (1 ≤ s) × (s ≤ size_limit)) (λ s. 1 ≤ s) (λ s h. h.0) p.sizes whole.sizes in
     let least = least_within p.sizes sizes (λ xs. cost p xs * product p.sizes + cell_place p.sizes xs) in
     (least.0, first_from_least p least.0 least.1 least.2)
 

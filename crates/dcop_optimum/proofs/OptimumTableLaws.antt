@@ -10,7 +10,7 @@ use Rattle.std.proofs.lemmas.List.Kept.{AllPairs-filter}
 use Rattle.dcop_base.specs.Table.{CostTable, AreWithin, product, cell_place, greatest}
 use Rattle.dcop_base.specs.Problem.{Dcop, cost}
 use Rattle.dcop_base.specs.Whole.{IsProblem}
-use Rattle.dcop_base.specs.declared.number.TheConstants.{CAP}
+use Rattle.dcop_base.specs.Limits.{amount_limit}
 use Rattle.pseudotree.specs.Tree.{path_of, IsTree}
 use Rattle.pseudotree.specs.Pseudotree.{IsPseudotree, touches, separator_of}
 use Rattle.pseudotree.specs.Place.{sizes_of}
@@ -42,7 +42,7 @@ cell_greatest t value =
     ]
 
 -- some of a problem's tables cost at most the cap
-pub some_tables_within : (p : Dcop) → IsProblem p → (q : CostTable → Bool) (value : ℕ → ℕ) → cost_with (filter q p.tables) value ≤ CAP
+pub some_tables_within : (p : Dcop) → IsProblem p → (q : CostTable → Bool) (value : ℕ → ℕ) → cost_with (filter q p.tables) value ≤ amount_limit
 some_tables_within p problem q value =
     let part = sum_filter (λ (t : CostTable). cell_with t value) q p.tables in
     let le = sum_le (λ (t : CostTable). cond (q t) (cell_with t value) 0) (λ (t : CostTable). greatest t.cells) p.tables (λ k d lt.

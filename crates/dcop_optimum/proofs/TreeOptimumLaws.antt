@@ -7,7 +7,7 @@ use Rattle.std.proofs.Math.Nat.{mul-le-mul_right}
 use Rattle.dcop_base.specs.Table.{product, has, AreWithin, cell_place}
 use Rattle.dcop_base.specs.Problem.{Dcop, IsAssignment, cost}
 use Rattle.dcop_base.specs.Whole.{IsProblem}
-use Rattle.dcop_base.specs.declared.problem.TheConstants.{MAX_SIZE}
+use Rattle.dcop_base.specs.Limits.{size_limit}
 use Rattle.dcop_base.proofs.TableLaws.{cell_place-lt}
 use Rattle.pseudotree.specs.Preorder.{preorder_of}
 use Rattle.pseudotree.specs.Pseudotree.{IsPseudotree}
@@ -67,7 +67,7 @@ module _ (p : Dcop) (paths : List (List ℕ)) (problem : IsProblem p) (pseudo : 
 
   some_first_of_tree : (xs : List ℕ) × IsFirstOptimumOf p paths xs
   some_first_of_tree =
-      let sizes = All-weaker (λ s. (1 ≤ s) × (s ≤ MAX_SIZE)) (λ s. 1 ≤ s) (λ s h. h.0) p.sizes problem.sizes in
+      let sizes = All-weaker (λ s. (1 ≤ s) × (s ≤ size_limit)) (λ s. 1 ≤ s) (λ s h. h.0) p.sizes problem.sizes in
       let least = least_within p.sizes sizes (λ xs. cost p xs * product (sizes_of p (preorder_of paths)) + cell_place (sizes_of p (preorder_of paths)) (in_preorder paths xs)) in
       (least.0, first_from_measure least.0 least.1 least.2)
 

@@ -7,8 +7,7 @@ use Rattle.std.proofs.lemmas.List.Elements.{All-nil, All-cons, All-head, All-tai
 use Rattle.std.proofs.lemmas.List.Folds.{list_any_none}
 use Rattle.dcop_base.specs.Table.{CostTable, product, has_repeat, table_fault, AreWithin, values_at, cell_place, cell_at, greatest}
 use Rattle.dcop_base.specs.Whole.{IsTableOf}
-use Rattle.dcop_base.specs.declared.number.TheConstants.{CAP}
-use Rattle.dcop_base.specs.declared.problem.TheConstants.{MAX_COST}
+use Rattle.dcop_base.specs.Limits.{amount_limit, cost_limit}
 use Rattle.dcop_base.specs.declared.table.TableFault.TheVariants.{Repeat, Sizes, CellCount, CellTooLarge}
 use Rattle.dcop_optimum.specs.Goal.{turned_table}
 use Rattle.dcop_base.proofs.TableLaws.{parts-of, place-lt}
@@ -21,12 +20,12 @@ other_tests false true c d c' d' none count small = absurd (cc)
 other_tests false false c d c' d' none count small = rw (count, small) refl
 
 -- a whole table stays whole with as many other cells within the cap
-whole_with : (scope sizes cells others : List ℕ) → table_fault scope sizes cells ≡ None → length others ≡ length cells → All (λ c. c ≤ CAP) others → table_fault scope sizes others ≡ None
+whole_with : (scope sizes cells others : List ℕ) → table_fault scope sizes cells ≡ None → length others ≡ length cells → All (λ c. c ≤ amount_limit) others → table_fault scope sizes others ≡ None
 whole_with scope sizes cells others whole long small =
     let full = (parts-of scope sizes cells whole).full in
     let count = not_from_true (length others == product sizes) (eq-eqb (length others) (product sizes) (long ∙ full)) in
-    let capped = list_any_none (λ c. nat_lt CAP c) others (All-weaker (λ c. c ≤ CAP) (λ c. nat_lt CAP c ≡ false) (λ c h. le-ltb CAP c h) others small) in
-    other_tests (has_repeat scope) (not (length sizes == length scope) || list_any (λ s. s == 0) sizes) (not (length cells == product sizes)) (list_any (λ c. nat_lt CAP c) cells) (not (length others == product sizes)) (list_any (λ c. nat_lt CAP c) others) whole count capped
+    let capped = list_any_none (λ c. nat_lt amount_limit c) others (All-weaker (λ c. c ≤ amount_limit) (λ c. nat_lt amount_limit c ≡ false) (λ c h. le-ltb amount_limit c h) others small) in
+    other_tests (has_repeat scope) (not (length sizes == length scope) || list_any (λ s. s == 0) sizes) (not (length cells == product sizes)) (list_any (λ c. nat_lt amount_limit c) cells) (not (length others == product sizes)) (list_any (λ c. nat_lt amount_limit c) others) whole count capped
 
 -- the greatest so far is at most the greatest
 fold-max_start : (most : ℕ) (cells : List ℕ) → most ≤ fold max most cells
@@ -66,15 +65,15 @@ greatest-turned t = greatest_bound (greatest t.cells) (turned_table t).cells (ce
 -- a whole table, turned, is whole
 pub turned_fault : (scope sizes cells : List ℕ) → table_fault scope sizes cells ≡ None → table_fault scope sizes (map (λ c. greatest cells - c) cells) ≡ None
 turned_fault scope sizes cells whole =
-    let top = greatest_bound CAP cells (parts-of scope sizes cells whole).small in
+    let top = greatest_bound amount_limit cells (parts-of scope sizes cells whole).small in
     whole_with scope sizes cells (map (λ c. greatest cells - c) cells) whole (length-map cells (λ c. greatest cells - c))
-    (All-weaker (λ c. c ≤ greatest cells) (λ c. c ≤ CAP) (λ c h. omega arith) (map (λ c. greatest cells - c) cells) (cells_less_below (greatest cells) cells))
+    (All-weaker (λ c. c ≤ greatest cells) (λ c. c ≤ amount_limit) (λ c h. omega arith) (map (λ c. greatest cells - c) cells) (cells_less_below (greatest cells) cells))
 
 -- a table of a problem, turned, is one too
 pub turned_whole : (sizes : List ℕ) (t : CostTable) → IsTableOf sizes t → IsTableOf sizes (turned_table t)
 turned_whole sizes t of =
-    let top = greatest_bound MAX_COST t.cells of.cheap in
-    let cheap : All (λ c. c ≤ MAX_COST) (turned_table t).cells = All-weaker (λ c. c ≤ greatest t.cells) (λ c. c ≤ MAX_COST) (λ c h. omega arith) (turned_table t).cells (cells_less_below (greatest t.cells) t.cells) in
+    let top = greatest_bound cost_limit t.cells of.cheap in
+    let cheap : All (λ c. c ≤ cost_limit) (turned_table t).cells = All-weaker (λ c. c ≤ greatest t.cells) (λ c. c ≤ cost_limit) (λ c h. omega arith) (turned_table t).cells (cells_less_below (greatest t.cells) t.cells) in
     record {
       whole = turned_fault t.scope t.sizes t.cells of.whole;
       some = of.some;

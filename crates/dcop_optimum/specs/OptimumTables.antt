@@ -4,7 +4,7 @@ use Rattle.std.specs.List.{range_with_len}
 use Rattle.dcop_base.specs.Table.{product}
 use Rattle.dcop_base.specs.Problem.{Dcop, cost}
 use Rattle.dcop_base.specs.Whole.{IsProblem}
-use Rattle.dcop_base.specs.declared.number.TheConstants.{CAP}
+use Rattle.dcop_base.specs.Limits.{amount_limit}
 use Rattle.pseudotree.specs.Pseudotree.{IsPseudotree, separator_of}
 use Rattle.pseudotree.specs.Fault.{parents_of}
 use Rattle.dcop_optimum.specs.Optimum.{IsOptimum}
@@ -27,9 +27,9 @@ OptimaMakeCertificates = (p : Dcop) (paths scopes cells : List (List ℕ)) (valu
 
 -- what a subtree costs, and what a variable's own tables and its children's subtree optima cost together, is at most the cap
 pub record AreWithinCap (p : Dcop) (paths : List (List ℕ)) : Type 0 where
-  pub subtree : (i : ℕ) (value : ℕ → ℕ) → cost_with (subtree_tables_of p paths i) value ≤ CAP
+  pub subtree : (i : ℕ) (value : ℕ → ℕ) → cost_with (subtree_tables_of p paths i) value ≤ amount_limit
   pub best : (i : ℕ) (value : ℕ → ℕ) (optima : ℕ → ℕ → ℕ) (d : ℕ) → i < length p.sizes → AreValuesAbove p paths i value
-      → AreChildOptima p paths i value optima → d < slice_index p.sizes i → best_cost_at p paths i value optima d ≤ CAP
+      → AreChildOptima p paths i value optima → d < slice_index p.sizes i → best_cost_at p paths i value optima d ≤ amount_limit
 
 -- in every pseudotree of every problem
 abbrev pub CostsAreWithinCap : Type 0

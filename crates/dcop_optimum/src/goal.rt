@@ -1,6 +1,7 @@
 //! The turned problem, for the goal of a greatest sum.
 
 ghost use Rattle.std.specs.Prelude.{◌≡◌, ◌-◌, ◌≤◌, IfOk, All, map};
+ghost use Rattle.dcop_base.specs.Limits.{amount_limit};
 ghost use Rattle.dcop_base.specs.Table.{greatest};
 ghost use Rattle.dcop_base.specs.Faults.{greatest_sum};
 ghost use Rattle.dcop_optimum.specs.Goal.{turned_table, turned, top_of, SumToTop, TellsGreatest};
@@ -11,7 +12,7 @@ use std::alloc::Global;
 /// The top sum: the sum of the tables' greatest cells, which no assignment's cost exceeds.
 pub fn top_sum(problem: &Problem) -> u64
     ensures sum { result ≡ top_of problem.now }
-    ensures within { result ≤ CAP }
+    ensures within { result ≤ amount_limit }
 {
     sum_of_greatest(problem.tables.as_slice())
 }
@@ -70,7 +71,7 @@ fn cells_less(alloc: Global, cells: &[u64], top: u64) -> Result<Vec<u64>, NoMemo
 
 /// The sum of the tables' greatest cells.
 fn sum_of_greatest(tables: &[Table]) -> u64
-    requires { greatest_sum tables.now ≤ CAP }
+    requires { greatest_sum tables.now ≤ amount_limit }
     ensures { result ≡ greatest_sum tables.now }
 {
     tables

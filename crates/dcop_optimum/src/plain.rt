@@ -1,6 +1,7 @@
 //! The plain solver: the best of all assignments, by trying each.
 
 ghost use Rattle.std.specs.Prelude.{◌≡◌, ℕ, ◌+◌, ◌<◌, ◌≤◌, ◌↔◌, min, IfOk, OnOk, MatchBool};
+ghost use Rattle.dcop_base.specs.Limits.{assignment_limit};
 ghost use Rattle.dcop_base.specs.Table.{product, cell_place, AreWithin};
 ghost use Rattle.dcop_base.specs.Problem.{cost, IsAssignment};
 ghost use Rattle.dcop_optimum.specs.Optimum.{assignment_count, IsOptimum, IsFirstOptimum};
@@ -63,9 +64,9 @@ pub fn least_plain(alloc: Global, problem: &Problem) -> Result<Best, PlainFault>
     ensures cost { IfOk result (λ best. best.cost ≡ cost problem.now best.values) }
     ensures optimum { IfOk result (λ best. IsOptimum problem.now best.cost) }
     ensures first { IfOk result (λ best. IsFirstOptimum problem.now best.values) }
-    ensures few { OnOk result (assignment_count problem.now ≤ MAX_ASSIGNMENTS) }
+    ensures few { OnOk result (assignment_count problem.now ≤ assignment_limit) }
     ensures many { (assignments : ℕ) → (result ≡ Err (PlainFault.TooMany assignments))
-        ↔ ((MAX_ASSIGNMENTS < assignment_count problem.now)
+        ↔ ((assignment_limit < assignment_count problem.now)
         × (assignments ≡ min (assignment_count problem.now) u64.MAX)) }
 {
     let assignments = assignments_of(problem.sizes.as_slice());

@@ -3,7 +3,7 @@ use Rattle.std.specs.Prelude.{◌≤◌, List, map, length}
 use Rattle.std.specs.List.{range_with_len}
 use Rattle.dcop_base.specs.Problem.{Dcop}
 use Rattle.dcop_base.specs.Knowledge.{private_of}
-use Rattle.dcop_base.specs.declared.number.TheConstants.{CAP}
+use Rattle.dcop_base.specs.Limits.{amount_limit}
 use Rattle.pseudotree.specs.Pseudotree.{RootedTree, IsPseudotreeOf, IsLinked}
 use Rattle.protocol_steps.specs.Token.{new_token}
 use Rattle.protocol_steps.specs.View.{View, TokenKind}
@@ -21,7 +21,7 @@ pub record IsTreeFor (p : Dcop) (tree : RootedTree) : Type 0 where
 abbrev pub IsStartFor : Dcop → Start → Type 0
 IsStartFor p Token = Unit {0}
 IsStartFor p (Dpop tree) = IsTreeFor p tree
-IsStartFor p (Adopt tree error) = IsTreeFor p tree × (error ≤ CAP)
+IsStartFor p (Adopt tree error) = IsTreeFor p tree × (error ≤ amount_limit)
 
 -- the views of the agents of a start, as they are made
 abbrev pub agents_of : Dcop → Start → List View

@@ -1,6 +1,7 @@
 -- When a core state is a network state.
 use Rattle.std.specs.Prelude.{◌≡◌, ℕ, ◌<◌, List, map, length, None, min}
 use Rattle.std.specs.List.{last_or}
+use Rattle.dcop_base.specs.Limits.{count_limit}
 use Rattle.protocol_steps.specs.declared.message.Message.{Message}
 use Rattle.protocol_steps.specs.Network.{Network, link, waiting}
 use Rattle.protocol_steps.specs.Effect.{deliveries}
@@ -8,7 +9,7 @@ use Rattle.delivery_core.specs.State.{CoreView, waiting_from, inbox_at, last_sen
 
 -- the most deliveries that are counted, 2^64 - 1
 abbrev pub most_counted : ℕ
-most_counted = 18446744073709551615
+most_counted = count_limit
 
 -- messages as letters of one sender
 abbrev pub letters_of : ℕ → List Message → List (ℕ × Message)

@@ -2,6 +2,7 @@
 
 ghost use Rattle.std.specs.Prelude.{◌≡◌, ◌≤◌, [], IfOk, OnOk, OnErr, MatchOption, Some, None};
 ghost use Rattle.std.specs.List.{All};
+ghost use Rattle.dcop_base.specs.Limits.{amount_limit};
 ghost use Rattle.protocol_steps.specs.Token.{new_token};
 ghost use Rattle.protocol_steps.specs.Dpop.{new_dpop};
 ghost use Rattle.protocol_steps.specs.Adopt.{new_adopt};
@@ -76,7 +77,7 @@ impl Agent {
     ) -> Result<Agent, NoMemory>
         requires known { IsKnowledge own }
         requires placed { IsPlaceFor own place }
-        requires error { error ≤ CAP }
+        requires error { error ≤ amount_limit }
         ensures { IfOk result (λ agent. agent ≡ AdoptKind (new_adopt own place error)) }
     {
         let agent = AdoptAgent::new(alloc, own, place, error)?;

@@ -1,6 +1,7 @@
 //! Replaying a list of events.
 
 ghost use Rattle.std.specs.Prelude.{◌≡◌, ◌≤◌, length, IfOk};
+ghost use Rattle.dcop_base.specs.Limits.{variable_limit};
 ghost use Rattle.delivery_core.specs.Agents.{IsStartFor, network_of};
 ghost use Rattle.delivery_core.specs.Shown.{IsCore};
 ghost use Rattle.delivery_core.specs.Faults.{Replays};
@@ -40,7 +41,7 @@ impl From<NoMemory> for ReplayFault {
 pub(crate) fn begin(alloc: Global, problem: &Problem, start: &Start) -> Result<CoreState, NoMemory>
     requires { IsStartFor problem.now start.now }
     ensures core { IfOk result (λ state. IsCore problem.now (network_of problem.now start.now) state) }
-    ensures few { IfOk result (λ state. length state.seats ≤ MAX_VARIABLES) }
+    ensures few { IfOk result (λ state. length state.seats ≤ variable_limit) }
 {
     let mut seats = make(alloc, problem, start)?;
     start_all(alloc, seats.as_mut_slice())?;

@@ -1,6 +1,7 @@
 //! Which agents are run, and their start.
 
 ghost use Rattle.std.specs.Prelude.{◌≡◌, ℕ, ◌+◌, ◌<◌, ◌≤◌, List, length, map, IfOk, OnOk};
+ghost use Rattle.dcop_base.specs.Limits.{variable_limit};
 ghost use Rattle.dcop_base.specs.Problem.{Dcop};
 ghost use Rattle.dcop_base.specs.Whole.{IsProblem};
 ghost use Rattle.dcop_base.specs.Knowledge.{private_of};
@@ -88,7 +89,7 @@ fn make_seat(alloc: Global, problem: &Problem, start: &Start, me: VarId) -> Resu
 pub(crate) fn make(alloc: Global, problem: &Problem, start: &Start) -> Result<Vec<Seat>, NoMemory>
     requires { IsStartFor problem.now start.now }
     ensures made { IfOk result (λ seats. seats.items ≡ map new_seat (agents_of problem.now start.now)) }
-    ensures few { IfOk result (λ seats. length seats.items ≤ MAX_VARIABLES) }
+    ensures few { IfOk result (λ seats. length seats.items ≤ variable_limit) }
 {
     let mut seats = Vec::new(alloc);
     for me in 0..problem.sizes.as_slice().len() {
@@ -101,7 +102,7 @@ pub(crate) fn make(alloc: Global, problem: &Problem, start: &Start) -> Result<Ve
 fn start_one(alloc: Global, seats: &mut [Seat], me: usize) -> Result<(), NoMemory>
     requires begun { (p : Dcop) × (made : List View) × Begun p made me seats.old }
     requires inside { me < length seats.old }
-    requires few { length seats.old ≤ MAX_VARIABLES }
+    requires few { length seats.old ≤ variable_limit }
     ensures { OnOk result (Starts me seats.old (me + 1) seats.new) }
 {
     let out = seats[me].begin(alloc)?;
@@ -111,7 +112,7 @@ fn start_one(alloc: Global, seats: &mut [Seat], me: usize) -> Result<(), NoMemor
 /// All agents start, in ascending order.
 pub(crate) fn start_all(alloc: Global, seats: &mut [Seat]) -> Result<(), NoMemory>
     requires begun { (p : Dcop) × (made : List View) × Begun p made 0 seats.old }
-    requires few { length seats.old ≤ MAX_VARIABLES }
+    requires few { length seats.old ≤ variable_limit }
     ensures { OnOk result (Starts 0 seats.old (length seats.old) seats.new) }
 {
     for me in 0..seats.len() {

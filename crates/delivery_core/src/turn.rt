@@ -1,6 +1,7 @@
 //! Playing in rounds.
 
 ghost use Rattle.std.specs.Prelude.{◌≡◌, ◌<◌, ◌≤◌, [], length, IfOk, OnOk};
+ghost use Rattle.dcop_base.specs.Limits.{variable_limit};
 ghost use Rattle.delivery_core.specs.Agents.{IsStartFor, network_of};
 ghost use Rattle.delivery_core.specs.Turns.{IsPlayed};
 ghost use Rattle.delivery_core.specs.Shown.{IsSomeCore};
@@ -31,7 +32,7 @@ fn take_turn(
 ) -> Result<(), NoMemory>
     requires core { IsSomeCore state.old }
     requires inside { me < length state.old.seats }
-    requires few { length state.old.seats ≤ MAX_VARIABLES }
+    requires few { length state.old.seats ≤ variable_limit }
     ensures { OnOk result (TakesTurn me state.old events.old.items state.new events.new.items) }
 {
     let takes = state.takes(alloc, me)?;
@@ -50,7 +51,7 @@ fn take_turn(
 /// A round: the turns of all agents in ascending order.
 fn play_round(alloc: Global, state: &mut CoreState, events: &mut Vec<Event>) -> Result<(), NoMemory>
     requires core { IsSomeCore state.old }
-    requires few { length state.old.seats ≤ MAX_VARIABLES }
+    requires few { length state.old.seats ≤ variable_limit }
     ensures { OnOk result (PlaysRound state.old events.old.items state.new events.new.items) }
 {
     for me in 0..state.count() {
@@ -74,7 +75,7 @@ fn play_rounds(
     events: &mut Vec<Event>,
 ) -> Result<(), NoMemory>
     requires core { IsSomeCore state.old }
-    requires few { length state.old.seats ≤ MAX_VARIABLES }
+    requires few { length state.old.seats ≤ variable_limit }
     requires empty { events.old.items ≡ [] }
     ensures { OnOk result (PlaysOut budget state.old state.new events.new.items) }
 {

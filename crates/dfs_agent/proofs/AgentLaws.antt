@@ -7,7 +7,7 @@ use Rattle.std.proofs.lemmas.List.{at_drop_more, at_drop_all, append-nil, length
 use Rattle.std.proofs.lemmas.List.Folds.{concat-append}
 use Rattle.std.proofs.lemmas.List.Elements.{All-append, All-same}
 use Rattle.dcop_base.specs.declared.knowledge.Private.{Private}
-use Rattle.dcop_base.specs.declared.problem.TheConstants.{MAX_VARIABLES}
+use Rattle.dcop_base.specs.Limits.{variable_limit}
 use Rattle.adopt_context.specs.Context.{is_value}
 use Rattle.protocol_steps.specs.declared.message.Message.{Message}
 use Rattle.protocol_steps.specs.Agent.{Stepped, next_letter}
@@ -28,11 +28,11 @@ concat_push : (kept : List (List ℕ)) (visited : List ℕ) → concat (kept ++ 
 concat_push kept visited = concat-append kept (visited ∷ []) ∙ ap (λ xs. concat kept ++ xs) (append-nil visited)
 
 -- one more subtree, of so many variables that they may be kept
-more_others : (kept : List (List ℕ)) (visited : List ℕ) → AreOthers (concat kept) → length (concat kept) + length visited ≤ most_others → All (λ v. v < MAX_VARIABLES) visited → AreOthers (concat (kept ++ (visited ∷ [])))
+more_others : (kept : List (List ℕ)) (visited : List ℕ) → AreOthers (concat kept) → length (concat kept) + length visited ≤ most_others → All (λ v. v < variable_limit) visited → AreOthers (concat (kept ++ (visited ∷ [])))
 more_others kept visited others few below =
     subst AreOthers (sym (concat_push kept visited)) (record {
       few = rw (length-append (concat kept) visited) few;
-      below = All-append (λ v. v < MAX_VARIABLES) (concat kept) visited others.below below;
+      below = All-append (λ v. v < variable_limit) (concat kept) visited others.below below;
     })
 
 few_kept : (a b : Bool) (n : ℕ) → (true && a && b && nat_le n most_others) ≡ true → n ≤ most_others
@@ -41,7 +41,7 @@ few_kept true false n h = absurd (false≢true h)
 few_kept false b n h = absurd (false≢true h)
 
 -- an agent that keeps a subtree stays sound
-pub keeps_sound : (own : Private) (stage : Stage) (path : List ℕ) (kept new : List (List ℕ)) (from : ℕ) (visited : List ℕ) → IsSound own stage path kept → takes_done (view_at own stage path kept) from visited ≡ true → All (λ v. v < MAX_VARIABLES) visited → new ≡ kept ++ (visited ∷ []) → IsSound own stage path new
+pub keeps_sound : (own : Private) (stage : Stage) (path : List ℕ) (kept new : List (List ℕ)) (from : ℕ) (visited : List ℕ) → IsSound own stage path kept → takes_done (view_at own stage path kept) from visited ≡ true → All (λ v. v < variable_limit) visited → new ≡ kept ++ (visited ∷ []) → IsSound own stage path new
 keeps_sound own Waiting path kept new from visited s h below e = absurd (false≢true h)
 keeps_sound own Closed path kept new from visited s h below e = absurd (false≢true h)
 keeps_sound own (Open child) path kept new from visited s h below e =

@@ -2,7 +2,7 @@
 use Rattle.std.specs.Prelude.{◌≡◌, ℕ, ◌<◌, ◌≤◌, List, length}
 use Rattle.std.specs.List.{All, concat}
 use Rattle.dcop_base.specs.declared.knowledge.Private.{Private}
-use Rattle.dcop_base.specs.declared.problem.TheConstants.{MAX_VARIABLES}
+use Rattle.dcop_base.specs.Limits.{variable_limit}
 use Rattle.protocol_steps.specs.Token.{token_place}
 use Rattle.protocol_steps.specs.TokenStep.{most_others}
 use Rattle.protocol_steps.specs.Laws.{IsParentBeside}
@@ -13,7 +13,7 @@ use Rattle.dfs_agent.specs.Stage.{view_at, place_at}
 -- variables that a token names besides the agent
 pub record AreOthers (vs : List ℕ) : Type 0 where
   pub few : length vs ≤ most_others
-  pub below : All (λ v. v < MAX_VARIABLES) vs
+  pub below : All (λ v. v < variable_limit) vs
 
 -- an agent at a stage: its parent is a neighbour, its lists are short enough to be sent, and it has a place exactly where it has ended
 pub record IsSound (own : Private) (stage : Stage) (path : List ℕ) (kept : List (List ℕ)) : Type 0 where

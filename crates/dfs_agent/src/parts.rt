@@ -2,6 +2,7 @@
 
 ghost use Rattle.std.specs.Prelude.{◌≡◌, ◌<◌, ◌≤◌, [], ◌∷◌, ◌++◌, not, length, take, IfOk};
 ghost use Rattle.std.specs.List.{All, concat, filter, flat_map};
+ghost use Rattle.dcop_base.specs.Limits.{variable_limit};
 ghost use Rattle.dcop_base.specs.Table.{has};
 ghost use Rattle.protocol_steps.specs.Agent.{last_of};
 ghost use Rattle.protocol_steps.specs.TokenStep.{done_for};
@@ -17,7 +18,7 @@ use std::alloc::Global;
 
 /// How many variables these lists have together.
 pub(crate) fn count_of(lists: &[VarList]) -> usize
-    requires { length (concat lists.now) ≤ MAX_VARIABLES }
+    requires { length (concat lists.now) ≤ variable_limit }
     ensures { result ≡ length (concat lists.now) }
 {
     let mut count = 0;
@@ -67,8 +68,8 @@ pub(crate) fn place_of(
     path: &[VarId],
     kept: &[VarList],
 ) -> Result<Place, NoMemory>
-    requires neighbours { All (λ v. v < MAX_VARIABLES) own.now.neighbours }
-    requires path { All (λ v. v < MAX_VARIABLES) path.now }
+    requires neighbours { All (λ v. v < variable_limit) own.now.neighbours }
+    requires path { All (λ v. v < variable_limit) path.now }
     ensures { IfOk result (λ place. place ≡ (record {
       me = own.now.me;
       path = path.now;
@@ -94,7 +95,7 @@ pub(crate) fn token_for(
     me: VarId,
 ) -> Result<Parcel, NoMemory>
     requires path { AreOthers path.now }
-    requires me { me < MAX_VARIABLES }
+    requires me { me < variable_limit }
     ensures { IfOk result (λ parcel. parcel ≡ (child, Token (path.now ++ (me ∷ [])))) }
 {
     let mut through = Vec::from_slice(alloc, path)?;
@@ -115,7 +116,7 @@ pub(crate) fn done_for(
     kept: &[VarList],
 ) -> Result<Option<Parcel>, NoMemory>
     requires kept { AreOthers (concat kept.now) }
-    requires me { me < MAX_VARIABLES }
+    requires me { me < variable_limit }
     ensures { IfOk result (λ parcel. sent parcel
         ≡ done_for (last_of path.now) (me ∷ concat kept.now)) }
 {

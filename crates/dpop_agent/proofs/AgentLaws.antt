@@ -18,7 +18,7 @@ use Rattle.dpop_agent.specs.declared.stage.Stage.{Stage}
 use Rattle.dpop_agent.specs.declared.stage.Stage.TheVariants.{Ended}
 use Rattle.dpop_agent.specs.Stage.{phase_at, view_at, working}
 use Rattle.dpop_agent.specs.Keeping.{keeping}
-use Rattle.pseudotree.specs.declared.width.TheConstants.{MAX_JOINED_CELLS}
+use Rattle.dcop_base.specs.Limits.{joined_limit}
 use Rattle.dpop_agent.specs.Joint.{IsJoint, IsJointWhereMay}
 use Rattle.dpop_agent.specs.Sound.{IsSound}
 use Rattle.dpop_agent.specs.Deed.{Gives, parcels_up}
@@ -94,7 +94,7 @@ pub joined_sound : (own : Private) (place : Place) (stage : Stage) (kept now : L
 joined_sound own place stage kept now before made j m sound phase same joint is =
     let here : IsJointWhereMay (keeping own place kept) (Some j) = subst (λ (es : List (Option CostTable)). IsJointWhereMay (keeping own place es) (Some j)) same joint in
     let util : m ≡ util_table (keeping own place kept) = is ∙ ap (λ (es : List (Option CostTable)). util_table (keeping own place es)) same in
-    let all = (and_parts (list_all is_some kept) (nat_le (joined_cells_with (keeping own place kept) (kept_scopes (keeping own place kept))) MAX_JOINED_CELLS) here.0).0 in
+    let all = (and_parts (list_all is_some kept) (nat_le (joined_cells_with (keeping own place kept) (kept_scopes (keeping own place kept))) joined_limit) here.0).0 in
     record {
       keeper = sound.keeper;
       joint = λ t e. subst (λ (u : CostTable). IsJoint (keeping own place kept) u) (same_table j t e) here.1;

@@ -7,7 +7,7 @@ use Rattle.std.proofs.lemmas.List.Folds.{list_any_at, list_any-append}
 use Rattle.std.proofs.lemmas.List.Elements.{All-nil, All-cons, All-head, All-tail, All-map}
 use Rattle.dcop_base.specs.Table.{CostTable, IsTableOfParts, AreWithin, has, has_repeat, product, cell_place}
 use Rattle.dcop_base.specs.declared.knowledge.Private.{Private}
-use Rattle.dcop_base.specs.declared.problem.TheConstants.{MAX_VARIABLES, MAX_SIZE}
+use Rattle.dcop_base.specs.Limits.{variable_limit, size_limit}
 use Rattle.dpop_agent.proofs.JointLaws.{lowest_is}
 use Rattle.dcop_base.proofs.TableLaws.{cell_place-lt}
 use Rattle.pseudotree.specs.declared.agent.Place.{Place}
@@ -335,18 +335,18 @@ module _ (own : Private) (place : Place) (kept : List (Option CostTable)) (keepe
       let t : CostTable = get_or (flat_map there kept) k d in
       subst (λ (ss : List ℕ). LiesIn now.scope ss t) (sym (same_sizes ∙ is.same_sizes)) (subst (λ (vs : List ℕ). LiesIn vs (over_sizes view) t) (sym (same_scope ∙ is.same_scope)) (kept_lies k d lt))
 
-  over_below : (u : ℕ) → has (over_of view) u ≡ true → u < MAX_VARIABLES
-  over_below = over_cases (λ u. u < MAX_VARIABLES) (λ u h. had_of (λ u. u < MAX_VARIABLES) place.path u keeper.placed.path.below h) keeper.known.me_below
+  over_below : (u : ℕ) → has (over_of view) u ≡ true → u < variable_limit
+  over_below = over_cases (λ u. u < variable_limit) (λ u h. had_of (λ u. u < variable_limit) place.path u keeper.placed.path.below h) keeper.known.me_below
 
   -- the variables of kept tables are within their range
-  pub kept_below : All (λ (t : CostTable). All (λ u. u < MAX_VARIABLES) t.scope) (flat_map there kept)
+  pub kept_below : All (λ (t : CostTable). All (λ u. u < variable_limit) t.scope) (flat_map there kept)
   kept_below k d lt =
       let t : CostTable = get_or (flat_map there kept) k d in
       let among = (kept_lies k d lt).among in
-      all_had (λ u. u < MAX_VARIABLES) t.scope (λ u h. over_below u (had_of (λ u. has (over_of view) u ≡ true) t.scope u among h))
+      all_had (λ u. u < variable_limit) t.scope (λ u h. over_below u (had_of (λ u. has (over_of view) u ≡ true) t.scope u among h))
 
   -- the best value is within its range
-  pub best_small : (value : ℕ → ℕ) → best_value view value < MAX_SIZE
+  pub best_small : (value : ℕ → ℕ) → best_value view value < size_limit
   best_small value =
       let size = keeper.known.size in
       let low = size.0 in

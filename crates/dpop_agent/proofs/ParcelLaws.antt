@@ -6,7 +6,7 @@ use Rattle.std.proofs.lemmas.List.{drop_more}
 use Rattle.std.proofs.lemmas.List.Elements.{All-nil, All-cons, All-head, All-tail}
 use Rattle.dcop_base.specs.Table.{CostTable, has}
 use Rattle.dcop_base.specs.Values.{with_own}
-use Rattle.dcop_base.specs.declared.problem.TheConstants.{MAX_VARIABLES, MAX_SIZE}
+use Rattle.dcop_base.specs.Limits.{variable_limit, size_limit}
 use Rattle.adopt_context.specs.Context.{Context, value_in, or_zero}
 use Rattle.protocol_steps.specs.declared.message.Message.{Message}
 use Rattle.protocol_steps.specs.declared.message.Message.TheVariants.{ValueAll}
@@ -48,22 +48,22 @@ module _ (value : ℕ → ℕ) (children : List ℕ) (kept : List (Option CostTa
       ap (λ (ps : List (ℕ × Message)). ps ++ rest) same ∙ ap (λ (ps : List (ℕ × Message)). old ++ ps) (sym next) ∙ before
 
 -- the values of variables that a message may name
-valued_small : (c : Context) (u : ℕ) → IsContext c → valued c u < MAX_SIZE
+valued_small : (c : Context) (u : ℕ) → IsContext c → valued c u < size_limit
 valued_small [] u is = omega arith
 valued_small (p ∷ ps) u is =
-    let here = (All-head (λ (p : ℕ × ℕ). (p.0 < MAX_VARIABLES) × (p.1 < MAX_SIZE)) p ps is).1 in
-    let rest = valued_small ps u (All-tail (λ (p : ℕ × ℕ). (p.0 < MAX_VARIABLES) × (p.1 < MAX_SIZE)) p ps is) in
-    cond_both (eqb p.0 u) (Some p.1) (value_in ps u) (λ (o : Option ℕ). or_zero o < MAX_SIZE) (λ _. here) (λ _. rest)
+    let here = (All-head (λ (p : ℕ × ℕ). (p.0 < variable_limit) × (p.1 < size_limit)) p ps is).1 in
+    let rest = valued_small ps u (All-tail (λ (p : ℕ × ℕ). (p.0 < variable_limit) × (p.1 < size_limit)) p ps is) in
+    cond_both (eqb p.0 u) (Some p.1) (value_in ps u) (λ (o : Option ℕ). or_zero o < size_limit) (λ _. here) (λ _. rest)
 
 abbrev small_test : ℕ × ℕ → Bool
-small_test p = ltb p.0 MAX_VARIABLES && ltb p.1 MAX_SIZE
+small_test p = ltb p.0 variable_limit && ltb p.1 size_limit
 
 from_tests : (c : Context) → list_all small_test c ≡ true → IsContext c
-from_tests [] h = All-nil (λ (p : ℕ × ℕ). (p.0 < MAX_VARIABLES) × (p.1 < MAX_SIZE))
+from_tests [] h = All-nil (λ (p : ℕ × ℕ). (p.0 < variable_limit) × (p.1 < size_limit))
 from_tests (p ∷ ps) h =
     let parts = and_parts (small_test p) (list_all small_test ps) h in
-    let both = and_parts (ltb p.0 MAX_VARIABLES) (ltb p.1 MAX_SIZE) parts.0 in
-    All-cons (λ (p : ℕ × ℕ). (p.0 < MAX_VARIABLES) × (p.1 < MAX_SIZE)) p ps (ltb-true p.0 MAX_VARIABLES both.0, ltb-true p.1 MAX_SIZE both.1) (from_tests ps parts.1)
+    let both = and_parts (ltb p.0 variable_limit) (ltb p.1 size_limit) parts.0 in
+    All-cons (λ (p : ℕ × ℕ). (p.0 < variable_limit) × (p.1 < size_limit)) p ps (ltb-true p.0 variable_limit both.0, ltb-true p.1 size_limit both.1) (from_tests ps parts.1)
 
 had : (P : ℕ → Type 0) (xs : List ℕ) (u : ℕ) → All P xs → has xs u ≡ true → P u
 had P [] u all h = absurd (true≢false (sym h))
@@ -73,11 +73,11 @@ had P (x ∷ xs) u all h = elim (or_cases (eqb x u) (has xs u) h) [
 ]
 
 -- what a child is told is within its range
-pub told_in_range : (scope : List ℕ) (me best : ℕ) (values c : Context) → c ≡ context_of scope (with_own me best (valued values)) → All (λ u. u < MAX_VARIABLES) scope → best < MAX_SIZE → IsContext values → IsContext c
+pub told_in_range : (scope : List ℕ) (me best : ℕ) (values c : Context) → c ≡ context_of scope (with_own me best (valued values)) → All (λ u. u < variable_limit) scope → best < size_limit → IsContext values → IsContext c
 told_in_range scope me best values c e below small range =
     subst IsContext (sym e)
     (from_tests (context_of scope (with_own me best (valued values)))
     (all-context_of small_test scope (with_own me best (valued values)) (λ u there.
-    let low = had (λ u. u < MAX_VARIABLES) scope u below there in
-    let value : with_own me best (valued values) u < MAX_SIZE = cond_both (eqb u me) best (valued values u) (λ (x : ℕ). x < MAX_SIZE) (λ _. small) (λ _. valued_small values u range) in
-    and_from (ltb u MAX_VARIABLES) (ltb (with_own me best (valued values) u) MAX_SIZE) (lt-ltb u MAX_VARIABLES low) (lt-ltb (with_own me best (valued values) u) MAX_SIZE value))))
+    let low = had (λ u. u < variable_limit) scope u below there in
+    let value : with_own me best (valued values) u < size_limit = cond_both (eqb u me) best (valued values u) (λ (x : ℕ). x < size_limit) (λ _. small) (λ _. valued_small values u range) in
+    and_from (ltb u variable_limit) (ltb (with_own me best (valued values) u) size_limit) (lt-ltb u variable_limit low) (lt-ltb (with_own me best (valued values) u) size_limit value))))

@@ -6,10 +6,9 @@ use Rattle.std.proofs.lemmas.Bool.{and_parts, cond_both, leb-true}
 use Rattle.std.proofs.lemmas.List.Elements.{All-filter}
 use Rattle.dcop_base.specs.Table.{CostTable, IsTable, has, product}
 use Rattle.dcop_base.specs.declared.knowledge.Private.{Private}
-use Rattle.dcop_base.specs.declared.problem.TheConstants.{MAX_VARIABLES}
+use Rattle.dcop_base.specs.Limits.{variable_limit, joined_limit}
 use Rattle.dcop_base.proofs.TableLaws.{parts-of}
 use Rattle.pseudotree.specs.declared.agent.Place.{Place}
-use Rattle.pseudotree.specs.declared.width.TheConstants.{MAX_JOINED_CELLS}
 use Rattle.protocol_steps.specs.Ranges.{AreVariables, AreCells}
 use Rattle.protocol_steps.specs.Dpop.{DpopView, kept_scopes, joined_cells_with, separator, size_of, util_table}
 use Rattle.protocol_steps.specs.DpopJoin.{can_join}
@@ -33,7 +32,7 @@ module _ (own : Private) (place : Place) (kept : List (Option CostTable)) (keepe
       let count = filter_short near place.path in
       subst AreVariables (sym (ap (λ (u : CostTable). u.scope) is)) (record {
         few = omega (arith, few, count);
-        below = All-filter near (λ u. u < MAX_VARIABLES) place.path path.below;
+        below = All-filter near (λ u. u < variable_limit) place.path path.below;
       })
 
   pub util_cells : IsTable t → can_join (keeping own place kept) ≡ true → AreCells t.cells
@@ -41,8 +40,8 @@ module _ (own : Private) (place : Place) (kept : List (Option CostTable)) (keepe
       let v : DpopView = keeping own place kept in
       let parts = parts-of t.scope t.sizes t.cells whole in
       let full = parts.full ∙ ap (λ (u : CostTable). product u.sizes) is in
-      let both = and_parts (list_all is_some kept) (nat_le (joined_cells_with v (kept_scopes v)) MAX_JOINED_CELLS) can in
-      let narrow = leb-true (joined_cells_with v (kept_scopes v)) MAX_JOINED_CELLS both.1 in
+      let both = and_parts (list_all is_some kept) (nat_le (joined_cells_with v (kept_scopes v)) joined_limit) can in
+      let narrow = leb-true (joined_cells_with v (kept_scopes v)) joined_limit both.1 in
       let one = keeper.known.size.0 in
       let less = mul-le-mul_right (product (map (size_of v) (separator v))) one in
       record { few = omega (arith, full, narrow, less); below = parts.small }

@@ -11,7 +11,7 @@ use Rattle.dcop_base.specs.Table.{CostTable, IsTableOfParts, has, has_repeat, pr
 use Rattle.dcop_base.specs.declared.knowledge.Private.{Private}
 use Rattle.dcop_base.proofs.FaultLaws.{pointwise-true}
 use Rattle.pseudotree.specs.declared.agent.Place.{Place}
-use Rattle.pseudotree.specs.declared.width.TheConstants.{MAX_JOINED_CELLS}
+use Rattle.dcop_base.specs.Limits.{joined_limit}
 use Rattle.pseudotree.proofs.NestLaws.{has_filter}
 use Rattle.cost_table.proofs.SliceLaws.{faultless}
 use Rattle.protocol_steps.specs.declared.message.Message.{Message}
@@ -75,7 +75,7 @@ passed : (own : Private) (place : Place) (kept : List (Option CostTable)) (k : �
 passed own place kept k scope cells taken =
     let v : DpopView = keeping own place kept in
     let due : List ℕ = filter (has scope) place.path ++ (own.me ∷ []) in
-    let tests = four_pass (is_open (slice_get kept k)) (pointwise eqb scope due) (eqb (length cells) (product (map (size_of v) scope))) (nat_le (joined_cells_with v (scope ∷ kept_scopes v)) MAX_JOINED_CELLS) taken in
+    let tests = four_pass (is_open (slice_get kept k)) (pointwise eqb scope due) (eqb (length cells) (product (map (size_of v) scope))) (nat_le (joined_cells_with v (scope ∷ kept_scopes v)) joined_limit) taken in
     record {
       free = open_is (slice_get kept k) tests.0;
       ordered = pointwise-true scope due tests.1;

@@ -4,7 +4,7 @@ use Rattle.dcop_base.specs.Table.{CostTable, AreWithin, product}
 use Rattle.dcop_base.specs.Values.{cell_with, cost_with}
 use Rattle.adopt_context.specs.Bounds.{cap}
 use Rattle.protocol_steps.specs.Dpop.{DpopView, own_tables, kept_tables, kept_scopes, joined_cells_with, size_of, separator}
-use Rattle.pseudotree.specs.declared.width.TheConstants.{MAX_JOINED_CELLS}
+use Rattle.dcop_base.specs.Limits.{joined_limit}
 use Rattle.protocol_steps.specs.DpopJoin.{can_join}
 
 -- a table over these variables with these sizes, of which each cell is this cost of the same values, capped
@@ -29,13 +29,13 @@ over_sizes v = map (size_of v) (over_of v)
 
 -- a joined table of zeros over these variables exactly where it is not too wide
 abbrev pub IsZeroOver : List ℕ → List ℕ → Option CostTable → Type 0
-IsZeroOver over sizes None = MAX_JOINED_CELLS < product sizes
-IsZeroOver over sizes (Some t) = (product sizes ≤ MAX_JOINED_CELLS) × IsCostOf over sizes (λ value. 0) t
+IsZeroOver over sizes None = joined_limit < product sizes
+IsZeroOver over sizes (Some t) = (product sizes ≤ joined_limit) × IsCostOf over sizes (λ value. 0) t
 
 -- an agent's joined table of zeros exactly where it is not too wide
 abbrev pub IsZeroWhereNarrow : DpopView → Option CostTable → Type 0
-IsZeroWhereNarrow v None = MAX_JOINED_CELLS < joined_cells_with v (kept_scopes v)
-IsZeroWhereNarrow v (Some t) = (joined_cells_with v (kept_scopes v) ≤ MAX_JOINED_CELLS) × IsCostOf (over_of v) (over_sizes v) (λ value. 0) t
+IsZeroWhereNarrow v None = joined_limit < joined_cells_with v (kept_scopes v)
+IsZeroWhereNarrow v (Some t) = (joined_cells_with v (kept_scopes v) ≤ joined_limit) × IsCostOf (over_of v) (over_sizes v) (λ value. 0) t
 
 -- the joined table of an agent: the sum of its own tables and its children's tables
 abbrev pub IsJoint : DpopView → CostTable → Type 0

@@ -4,7 +4,7 @@ use Rattle.std.specs.List.{All}
 use Rattle.dcop_base.specs.Table.{CostTable}
 use Rattle.dcop_base.specs.declared.knowledge.Private.{Private}
 use Rattle.pseudotree.specs.declared.agent.Place.{Place}
-use Rattle.pseudotree.specs.declared.width.TheConstants.{MAX_JOINED_CELLS}
+use Rattle.dcop_base.specs.Limits.{joined_limit}
 use Rattle.protocol_steps.specs.Knowledge.{IsKnowledge}
 use Rattle.protocol_steps.specs.Placing.{IsPlaceFor}
 use Rattle.protocol_steps.specs.Dpop.{DpopView, kept_scopes, joined_cells_with, util_table}
@@ -40,7 +40,7 @@ pub record MayRemake (own : Private) (place : Place) (kept : List (Option Made))
   pub inside : All (λ u. u < length kept) place.children
   pub all : All (λ u. is_some (sent_at kept u) ≡ true) place.children
   pub tables : All (λ u. MayKeep own place (sent_at kept u)) place.children
-  pub narrow : joined_count (with_sent own place kept) ≤ MAX_JOINED_CELLS
+  pub narrow : joined_count (with_sent own place kept) ≤ joined_limit
 
 -- what is made anew: the joined table and the UTIL table
 pub record IsRemade (v : DpopView) (made : Made) : Type 0 where

@@ -3,6 +3,7 @@
 ghost use Rattle.std.specs.Prelude.{◌≡◌, ◌<◌, ◌≤◌, [], ◌∷◌, ◌++◌, ◌&&◌, ◌==◌, length, map, nat_eq, nat_le, Option, IfOk, slice_get};
 ghost use Rattle.std.specs.List.{All, filter, list_all, zip};
 ghost use Rattle.std.specs.Cmp.Lexicographic.{pointwise};
+ghost use Rattle.dcop_base.specs.Limits.{joined_limit};
 ghost use Rattle.dcop_base.specs.Table.{has, product};
 ghost use Rattle.adopt_context.specs.Context.{value_in};
 ghost use Rattle.protocol_steps.specs.declared.message.Message.TheVariants.{Util};
@@ -104,7 +105,7 @@ fn has_cells(
     count: usize,
 ) -> Result<bool, NoMemory>
     requires sized { length place.now.path_sizes ≡ length place.now.path }
-    requires few { count ≤ MAX_JOINED_CELLS }
+    requires few { count ≤ joined_limit }
     ensures { IfOk result (λ holds. holds
         ≡ (count == product (map (size_of (keeping own.now place.now [])) scope.now))) }
 {
@@ -114,7 +115,7 @@ fn has_cells(
 
 /// Whether a table of these sizes has so many cells.
 fn are_cells_of(sizes: &[u16], count: usize) -> bool
-    requires { count ≤ MAX_JOINED_CELLS }
+    requires { count ≤ joined_limit }
     ensures { result ≡ (count == product sizes.now) }
 {
     match cells_of(sizes, MAX_JOINED_CELLS) {
@@ -134,7 +135,7 @@ fn is_narrow(
     requires { length place.now.path_sizes ≡ length place.now.path }
     ensures { IfOk result (λ holds. holds
         ≡ nat_le (joined_cells_with (keeping own.now place.now kept.now)
-        (scope.now ∷ kept_scopes (keeping own.now place.now kept.now))) MAX_JOINED_CELLS) }
+        (scope.now ∷ kept_scopes (keeping own.now place.now kept.now))) joined_limit) }
 {
     let over = variables_with(alloc, own, place, kept, scope)?;
     let sizes = sizes_of(alloc, own, place, over.as_slice())?;
@@ -152,7 +153,7 @@ fn takes(
     cells: &[u64],
 ) -> Result<bool, NoMemory>
     requires sized { length place.now.path_sizes ≡ length place.now.path }
-    requires few { length cells.now ≤ MAX_JOINED_CELLS }
+    requires few { length cells.now ≤ joined_limit }
     ensures { IfOk result (λ holds. holds
         ≡ takes_util (keeping own.now place.now kept.now) child scope.now cells.now) }
 {

@@ -2,6 +2,7 @@
 
 ghost use Rattle.std.specs.Prelude.{◌≡◌, ◌<◌, length, map, IfOk};
 ghost use Rattle.std.specs.List.{All, flat_map, zip};
+ghost use Rattle.dcop_base.specs.Limits.{size_limit, variable_limit};
 ghost use Rattle.dcop_base.specs.Values.{with_own};
 ghost use Rattle.protocol_steps.specs.declared.message.Message.TheVariants.{ValueAll};
 ghost use Rattle.protocol_steps.specs.Ranges.{IsContext};
@@ -52,8 +53,8 @@ fn parcel_for(
     best: Val,
     values: &AgentContext,
 ) -> Result<Parcel, NoMemory>
-    requires scope { All (λ u. u < MAX_VARIABLES) scope.now }
-    requires best { best < MAX_SIZE }
+    requires scope { All (λ u. u < variable_limit) scope.now }
+    requires best { best < size_limit }
     requires range { IsContext values.now }
     ensures { IfOk result (λ parcel. parcel
         ≡ (child, ValueAll (context_of scope.now (with_own me best (valued values.now))))) }
@@ -75,8 +76,8 @@ pub(crate) fn values_for(
     values: &AgentContext,
 ) -> Result<Vec<Parcel>, NoMemory>
     requires counted { length kept.now ≡ length children.now }
-    requires scopes { All (λ t. All (λ u. u < MAX_VARIABLES) t.scope) (flat_map there kept.now) }
-    requires best { best < MAX_SIZE }
+    requires scopes { All (λ t. All (λ u. u < variable_limit) t.scope) (flat_map there kept.now) }
+    requires best { best < size_limit }
     requires range { IsContext values.now }
     ensures { IfOk result (λ parcels. parcels.items
         ≡ flat_map (λ kept. map (λ t. (

@@ -14,7 +14,7 @@ use Rattle.dcop_base.specs.Problem.{Dcop}
 use Rattle.dcop_base.specs.Graph.{are_neighbours, neighbours}
 use Rattle.dcop_base.specs.Whole.{IsProblem}
 use Rattle.dcop_base.specs.Values.{with_own}
-use Rattle.pseudotree.specs.declared.width.TheConstants.{MAX_JOINED_CELLS}
+use Rattle.dcop_base.specs.Limits.{joined_limit}
 use Rattle.pseudotree.specs.Tree.{path_of, parent_of, children_of, is_variable, is_above}
 use Rattle.pseudotree.specs.Pseudotree.{IsPseudotree, IsLinked, is_within, touches, separator_of}
 use Rattle.pseudotree.specs.Place.{sizes_of}
@@ -125,14 +125,14 @@ module _ (p : Dcop) (paths : List (List ℕ)) (problem : IsProblem p) (pseudo : 
       told c = (c, values_for_child p paths plan.value c)
 
   -- the joined table is not too wide
-  fits : (i : ℕ) → i < length paths → leb (joined_cells_with (full p paths plan.table i) (kept_scopes (full p paths plan.table i))) MAX_JOINED_CELLS ≡ true
+  fits : (i : ℕ) → i < length paths → leb (joined_cells_with (full p paths plan.table i) (kept_scopes (full p paths plan.table i))) joined_limit ≡ true
   fits i lt =
       let size : ℕ = get_or p.sizes i 0 in
       let sizes : map (size_of (full p paths plan.table i)) (separator (full p paths plan.table i)) ≡ sizes_of p (separator_of p paths i) =
       ap (λ (vs : List ℕ). map (size_of (view_with p paths i false [] None 0)) vs) (full_separator p paths problem pseudo plan.table plan.table_is i)
       ∙ sizes_are p paths problem pseudo i (separator_of p paths i) (separator_within p paths problem pseudo i) in
-      le-leb (joined_cells_with (full p paths plan.table i) (kept_scopes (full p paths plan.table i))) MAX_JOINED_CELLS
-      (subst (λ (n : ℕ). n ≤ MAX_JOINED_CELLS) (sym (ap (λ (ss : List ℕ). size * product ss) sizes)) (narrow i lt))
+      le-leb (joined_cells_with (full p paths plan.table i) (kept_scopes (full p paths plan.table i))) joined_limit
+      (subst (λ (n : ℕ). n ≤ joined_limit) (sym (ap (λ (ss : List ℕ). size * product ss) sizes)) (narrow i lt))
 
   sent_as : (i : ℕ) → i < length paths → (o : Option ℕ) → parent_of paths i ≡ o
       → send_up (view_with p paths i false (all_kept i) (Some (plan.table i)) 0) (plan.table i) o ≡ joins plan i o
@@ -153,13 +153,13 @@ module _ (p : Dcop) (paths : List (List ℕ)) (problem : IsProblem p) (pseudo : 
       elim (cases_Bool (list_all up xs)) [
         | inr not_so ↦
             cond-false (can_join v) (send_up (record v { made = Some (util_table v) }) (util_table v) (parent_of paths i)) (quiet v)
-            (and_left (list_all is_some (map (kept_if plan.table up) xs)) (leb (joined_cells_with v (kept_scopes v)) MAX_JOINED_CELLS) (somes plan.table up xs ∙ not_so))
+            (and_left (list_all is_some (map (kept_if plan.table up) xs)) (leb (joined_cells_with v (kept_scopes v)) joined_limit) (somes plan.table up xs ∙ not_so))
             ∙ sym (cond-false (list_all up xs) (joins plan i (parent_of paths i)) (quiet v) not_so)
         | inl is_so ↦
             let w : DpopView = full p paths plan.table i in
             ap (λ (kept : List (Option CostTable)). join (view_with p paths i false kept None 0)) (kept_full plan.table up xs is_so)
             ∙ cond-true (can_join w) (send_up (record w { made = Some (util_table w) }) (util_table w) (parent_of paths i)) (quiet w)
-            (and_from (list_all is_some (all_kept i)) (leb (joined_cells_with w (kept_scopes w)) MAX_JOINED_CELLS) (all_some plan.table xs) (fits i lt))
+            (and_from (list_all is_some (all_kept i)) (leb (joined_cells_with w (kept_scopes w)) joined_limit) (all_some plan.table xs) (fits i lt))
             ∙ ap (λ (t : CostTable). send_up (view_with p paths i false (all_kept i) (Some t) 0) t (parent_of paths i)) (sym (plan.table_is i lt))
             ∙ sent_as i lt (parent_of paths i) refl
             ∙ sym (cond-true (list_all up xs) (joins plan i (parent_of paths i)) (quiet v) is_so)
@@ -186,7 +186,7 @@ module _ (p : Dcop) (paths : List (List ℕ)) (problem : IsProblem p) (pseudo : 
   -- the joined table of what is kept is not wider than that of all
   narrow_enough : (i c : ℕ) → i < length paths → parent_of paths c ≡ Some i → (up : ℕ → Bool)
       → joined_cells_with (view_with p paths i false (map (kept_if plan.table up) (children_of paths i)) None 0)
-      (separator_of p paths c ∷ kept_scopes (view_with p paths i false (map (kept_if plan.table up) (children_of paths i)) None 0)) ≤ MAX_JOINED_CELLS
+      (separator_of p paths c ∷ kept_scopes (view_with p paths i false (map (kept_if plan.table up) (children_of paths i)) None 0)) ≤ joined_limit
   narrow_enough i c lt parent up =
       let xs : List ℕ = children_of paths i in
       let S : List ℕ = separator_of p paths c in
@@ -225,7 +225,7 @@ module _ (p : Dcop) (paths : List (List ℕ)) (problem : IsProblem p) (pseudo : 
       subst (λ (ss : List ℕ). product (map (size_of v) (filter test (path_of paths i))) ≤ product ss) all le in
       let times = mul-le-mul_left (get_or p.sizes i 0) whole in
       let limit = narrow i lt in
-      subst (λ (ss : List (List ℕ)). joined_cells_with v (S ∷ ss) ≤ MAX_JOINED_CELLS) (sym scopes) (omega (arith, times, limit))
+      subst (λ (ss : List (List ℕ)). joined_cells_with v (S ∷ ss) ≤ joined_limit) (sym scopes) (omega (arith, times, limit))
 
   -- UTIL of a child is taken, and kept in its place
   pub util_taken : (i c : ℕ) → i < length paths → parent_of paths c ≡ Some i → (up : ℕ → Bool) → up c ≡ false
@@ -252,9 +252,9 @@ module _ (p : Dcop) (paths : List (List ℕ)) (problem : IsProblem p) (pseudo : 
       (subst (λ (s : List ℕ). pointwise nat_eq S s ≡ true) (child_separator i c parent) (equal_to_self S)) in
       let count : eqb (length t.cells) (product (map (size_of v) t.scope)) ≡ true =
       eq-eqb (length t.cells) (product (map (size_of v) t.scope)) (cells_full p paths problem pseudo plan.table plan.table_is c lt_c ∙ ap product (sym sizes)) in
-      let wide : leb (joined_cells_with v (t.scope ∷ kept_scopes v)) MAX_JOINED_CELLS ≡ true =
-      le-leb (joined_cells_with v (t.scope ∷ kept_scopes v)) MAX_JOINED_CELLS
-      (subst (λ (s : List ℕ). joined_cells_with v (s ∷ kept_scopes v) ≤ MAX_JOINED_CELLS) (sym scope) (narrow_enough i c lt parent up)) in
+      let wide : leb (joined_cells_with v (t.scope ∷ kept_scopes v)) joined_limit ≡ true =
+      le-leb (joined_cells_with v (t.scope ∷ kept_scopes v)) joined_limit
+      (subst (λ (s : List ℕ). joined_cells_with v (s ∷ kept_scopes v) ≤ joined_limit) (sym scope) (narrow_enough i c lt parent up)) in
       let takes : takes_util v k t.scope t.cells ≡ true = four _ _ _ _ (ap is_open open_there) shaped count wide in
       let kept : set (map (kept_if plan.table up) xs) k (Some t) ≡ map (kept_if plan.table (mark up c)) xs =
       ap (λ (o : Option CostTable). set (map (kept_if plan.table up) xs) k o) (sym (cond-true (mark up c c) (Some t) None (mark_here up c)))

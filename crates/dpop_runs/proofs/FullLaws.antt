@@ -10,7 +10,7 @@ use Rattle.dcop_base.specs.Problem.{Dcop}
 use Rattle.dcop_base.specs.Graph.{are_neighbours, neighbours}
 use Rattle.dcop_base.specs.Whole.{IsProblem}
 use Rattle.dcop_base.specs.Values.{cell_with, cost_with, with_own}
-use Rattle.dcop_base.specs.declared.number.TheConstants.{CAP}
+use Rattle.dcop_base.specs.Limits.{amount_limit}
 use Rattle.dcop_base.proofs.JointLaws.{eqb-swap}
 use Rattle.pseudotree.specs.Tree.{path_of, parent_of, children_of, is_variable, is_above}
 use Rattle.pseudotree.specs.Pseudotree.{IsPseudotree, is_within, separator_of}
@@ -106,7 +106,7 @@ pub any_map : (q : List ℕ → Bool) (scope : ℕ → List ℕ) (xs : List ℕ)
 any_map q scope [] = refl
 any_map q scope (x ∷ xs) = ap (λ (b : Bool). q (scope x) || b) (any_map q scope xs)
 
-cap_is : (x : ℕ) → x ≤ CAP → cap x ≡ x
+cap_is : (x : ℕ) → x ≤ amount_limit → cap x ≡ x
 cap_is x le = omega (arith, le)
 
 pub child_is : (paths : List (List ℕ)) (i c : ℕ) → has (children_of paths i) c ≡ true → parent_of paths c ≡ Some i

@@ -4,8 +4,7 @@ use Rattle.std.specs.List.{fold, list_any, filter}
 use Rattle.std.proofs.lemmas.Bool.Decides.{nat_tests}
 use Rattle.dcop_base.specs.Table.{CostTable, product, greatest}
 use Rattle.dcop_base.specs.Faults.{cell_count, greatest_sum}
-use Rattle.dcop_base.specs.declared.number.TheConstants.{CAP}
-use Rattle.dcop_base.specs.declared.problem.TheConstants.{MAX_COST, MAX_CELLS}
+use Rattle.dcop_base.specs.Limits.{amount_limit, cost_limit, cell_limit}
 use Rattle.problem_text.specs.Lines.{words, between_blanks, has_some, is_blank, onto_first}
 use Rattle.problem_text.specs.Tables.{onto, cells_fault}
 use Rattle.problem_text.specs.Cells.{summary}
@@ -53,13 +52,13 @@ exceed-greatest m cells = sym (exceed-from m 0 cells ∙ ap (λ t. t || list_any
 abbrev pub fault_told : List CostTable → ℕ → Summary → Option TextKind
 fault_told earlier product s =
     if not (s.count == product) then Some (Problem 6)
-    else (if nat_lt MAX_COST s.greatest then Some (Problem 7)
-    else (if nat_lt MAX_CELLS (cell_count earlier + s.count) then Some (Problem 9)
-    else (if nat_lt CAP (greatest_sum earlier + s.greatest) then Some (Problem 8)
+    else (if nat_lt cost_limit s.greatest then Some (Problem 7)
+    else (if nat_lt cell_limit (cell_count earlier + s.count) then Some (Problem 9)
+    else (if nat_lt amount_limit (greatest_sum earlier + s.greatest) then Some (Problem 8)
     else None)))
 
 pub fault-told : (earlier : List CostTable) (t : CostTable) (sizes : List ℕ) (s : Summary) → t.sizes ≡ sizes → summary t.cells ≡ s → cells_fault earlier t ≡ fault_told earlier (product sizes) s
-fault-told earlier t sizes s same told = rw (← same, ← told, exceed-greatest MAX_COST t.cells) refl
+fault-told earlier t sizes s same told = rw (← same, ← told, exceed-greatest cost_limit t.cells) refl
 
 words-tail : (word : List ℕ) (ws : List (List ℕ)) → length (filter has_some ws) ≤ length (filter has_some (word ∷ ws))
 words-tail [] ws = omega arith

@@ -12,8 +12,7 @@ use Rattle.std.proofs.lemmas.Bool.{or_parts, not-false, ltb-false, leb-false, eq
 use Rattle.dcop_base.specs.Table.{CostTable, product, greatest, has_repeat}
 use Rattle.dcop_base.specs.Faults.{is_bad_size, next_fault, tables_fault, first_fault, cell_count, greatest_sum}
 use Rattle.dcop_base.specs.NumberWord.{number_of}
-use Rattle.dcop_base.specs.declared.number.TheConstants.{CAP}
-use Rattle.dcop_base.specs.declared.problem.TheConstants.{MAX_VARIABLES, MAX_COST, MAX_CELLS}
+use Rattle.dcop_base.specs.Limits.{amount_limit, variable_limit, cost_limit, cell_limit}
 use Rattle.dcop_base.specs.declared.problem.ProblemFault.{ProblemFault}
 use Rattle.dcop_base.proofs.FaultLaws.{next-none, none-next, position-none, position-all}
 use Rattle.dcop_base.proofs.TableLaws.{four-fail, none-passes}
@@ -136,8 +135,8 @@ two-none false false x y e = (refl, refl)
 variable-draft : (d more : Declared) (name : List ℕ) (values : List (List ℕ)) (size : ℕ) → IsDraft d → is_name name ≡ true → is_among d.names name ≡ false → AreLabels size values → (nat_lt 0 (length values) ≡ true → d.version ≡ 2) → variable d name values size ≡ Declares more → IsDraft more
 variable-draft d more name values size draft named fresh labels second e =
     let parts = unless-declares (size_fault (length d.sizes) size) (with_variable d name values size) more e in
-    let tests = two-none (nat_le MAX_VARIABLES (length d.sizes)) (is_bad_size size) (Problem 10) (Problem 2) parts.0 in
-    subst IsDraft parts.1 (draft-variable d name values size draft (record { name = named; fresh = fresh; room = leb-false MAX_VARIABLES (length d.sizes) tests.0; size = tests.1; labels = labels; second = second }))
+    let tests = two-none (nat_le variable_limit (length d.sizes)) (is_bad_size size) (Problem 10) (Problem 2) parts.0 in
+    subst IsDraft parts.1 (draft-variable d name values size draft (record { name = named; fresh = fresh; room = leb-false variable_limit (length d.sizes) tests.0; size = tests.1; labels = labels; second = second }))
 
 values-draft : (d more : Declared) (name : List ℕ) (ws : List (List ℕ)) → IsDraft d → d.version ≡ 2 → with_values d name ws ≡ Declares more → IsDraft more
 values-draft d more name ws draft two e =
@@ -199,16 +198,16 @@ cells-draft d more scope None draft some few within apart two e = absurd (cc e)
 cells-draft d more scope (Some cells) draft some few within apart two e =
     let t : CostTable = record { scope = scope; sizes = map (λ v. get_or d.sizes v 0) scope; cells = cells } in
     let parts = unless-declares (cells_fault d.tables t) (with_table d t) more e in
-    let tests = four-fail (not (nat_eq (length cells) (product t.sizes))) (list_any (λ c. nat_lt MAX_COST c) cells) (nat_lt MAX_CELLS (cell_count d.tables + length cells)) (nat_lt CAP (greatest_sum d.tables + greatest cells)) (Problem 6) (Problem 7) (Problem 9) (Problem 8) None parts.0 in
+    let tests = four-fail (not (nat_eq (length cells) (product t.sizes))) (list_any (λ c. nat_lt cost_limit c) cells) (nat_lt cell_limit (cell_count d.tables + length cells)) (nat_lt amount_limit (greatest_sum d.tables + greatest cells)) (Problem 6) (Problem 7) (Problem 9) (Problem 8) None parts.0 in
     let next = none-next d.sizes d.tables t (record {
       some = some;
       few = few;
       within = within;
       apart = apart;
       sized = refl;
-      cheap = λ k v h. ltb-false MAX_COST (get_or cells k v) (none-passes (λ c. nat_lt MAX_COST c) cells tests.1 k v h);
-      cells = ltb-false MAX_CELLS (cell_count d.tables + length cells) tests.2;
-      sums = ltb-false CAP (greatest_sum d.tables + greatest cells) tests.3;
+      cheap = λ k v h. ltb-false cost_limit (get_or cells k v) (none-passes (λ c. nat_lt cost_limit c) cells tests.1 k v h);
+      cells = ltb-false cell_limit (cell_count d.tables + length cells) tests.2;
+      sums = ltb-false amount_limit (greatest_sum d.tables + greatest cells) tests.3;
     }) in
     subst IsDraft parts.1 (draft-table d t draft next two)
 

@@ -12,8 +12,7 @@ use Rattle.dcop_base.specs.Table.{CostTable, has_repeat, product, table_fault, g
 use Rattle.dcop_base.specs.Faults.{is_bad_size, cell_count, greatest_sum}
 use Rattle.dcop_base.specs.declared.table.TableFault.{TableFault}
 use Rattle.dcop_base.specs.declared.table.TableFault.TheVariants.{Repeat, Sizes, CellCount, CellTooLarge}
-use Rattle.dcop_base.specs.declared.number.TheConstants.{CAP}
-use Rattle.dcop_base.specs.declared.problem.TheConstants.{MAX_COST, MAX_CELLS}
+use Rattle.dcop_base.specs.Limits.{amount_limit, cost_limit, cell_limit}
 use Rattle.dcop_base.proofs.FaultLaws.{position-none}
 use Rattle.dcop_base.proofs.TableLaws.{four-fail}
 use Rattle.problem_text.specs.declared.fault.TextKind.TheVariants.{Problem}
@@ -72,12 +71,12 @@ table-chain repeat sized empty many dear w x y z a b c d e = rw (a, b, c, d, e) 
 -- a table whose cells have no fault is whole
 pub table-whole : (d : Declared) (scope sizes cells : List ℕ) → IsDraft d → All (λ v. v < length d.sizes) scope → has_repeat scope ≡ false → sizes ≡ map (λ v. get_or d.sizes v 0) scope → cells_fault d.tables (record { scope = scope; sizes = sizes; cells = cells }) ≡ None → table_fault scope sizes cells ≡ None
 table-whole d scope sizes cells draft within apart own none =
-    let tests = four-fail (not (nat_eq (length cells) (product sizes))) (list_any (λ c. nat_lt MAX_COST c) cells) (nat_lt MAX_CELLS (cell_count d.tables + length cells)) (nat_lt CAP (greatest_sum d.tables + greatest cells)) (Problem 6) (Problem 7) (Problem 9) (Problem 8) None none in
-    let cheap : nat_lt MAX_COST (greatest cells) ≡ false = sym (exceed-greatest MAX_COST cells) ∙ tests.1 in
-    let within_cap : nat_lt CAP (greatest cells) ≡ false = grind (arith, nat_tests, cheap) in
+    let tests = four-fail (not (nat_eq (length cells) (product sizes))) (list_any (λ c. nat_lt cost_limit c) cells) (nat_lt cell_limit (cell_count d.tables + length cells)) (nat_lt amount_limit (greatest_sum d.tables + greatest cells)) (Problem 6) (Problem 7) (Problem 9) (Problem 8) None none in
+    let cheap : nat_lt cost_limit (greatest cells) ≡ false = sym (exceed-greatest cost_limit cells) ∙ tests.1 in
+    let within_cap : nat_lt amount_limit (greatest cells) ≡ false = grind (arith, nat_tests, cheap) in
     let many : nat_eq (length sizes) (length scope) ≡ true = eq-eqb (length sizes) (length scope) (ap length own ∙ length-map scope (λ v. get_or d.sizes v 0)) in
     let some : list_any (λ s. nat_eq s 0) sizes ≡ false = rw own (no-zero d.sizes scope (position-none is_bad_size d.sizes draft.sizes) within) in
-    table-chain (has_repeat scope) (nat_eq (length sizes) (length scope)) (list_any (λ s. nat_eq s 0) sizes) (nat_eq (length cells) (product sizes)) (list_any (λ c. nat_lt CAP c) cells) Repeat Sizes CellCount CellTooLarge apart many some (not-false (nat_eq (length cells) (product sizes)) tests.0) (exceed-greatest CAP cells ∙ within_cap)
+    table-chain (has_repeat scope) (nat_eq (length sizes) (length scope)) (list_any (λ s. nat_eq s 0) sizes) (nat_eq (length cells) (product sizes)) (list_any (λ c. nat_lt amount_limit c) cells) Repeat Sizes CellCount CellTooLarge apart many some (not-false (nat_eq (length cells) (product sizes)) tests.0) (exceed-greatest amount_limit cells ∙ within_cap)
 
 -- the sizes of a scope's variables, as they are read of a draft
 pub own-sizes : (own given inside drafted vs scope : List ℕ) → own ≡ map (λ v. get_or given v 0) vs → given ≡ inside → inside ≡ drafted → vs ≡ scope → own ≡ map (λ v. get_or drafted v 0) scope

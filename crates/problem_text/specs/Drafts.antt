@@ -3,8 +3,7 @@ use Rattle.std.specs.Prelude.{◌≡◌, ℕ, ◌≤◌, true, ◌||◌, ◌⊎�
 use Rattle.std.specs.List.{list_all, AllZip, IsDistinct, position}
 use Rattle.std.specs.Str.{bytes_eq}
 use Rattle.dcop_base.specs.Faults.{is_bad_size, tables_fault, cell_count, greatest_sum}
-use Rattle.dcop_base.specs.declared.number.TheConstants.{CAP}
-use Rattle.dcop_base.specs.declared.problem.TheConstants.{MAX_VARIABLES, MAX_CELLS}
+use Rattle.dcop_base.specs.Limits.{amount_limit, variable_limit, cell_limit}
 use Rattle.problem_text.specs.Name.{is_name}
 use Rattle.problem_text.specs.File.{is_max, has_wide_table, has_labels, AreLabels}
 use Rattle.problem_text.specs.Declarations.{Declared}
@@ -17,7 +16,7 @@ pub record IsDraft (d : Declared) : Type 0 where
   pub distinct : IsDistinct bytes_eq d.names
   pub names : list_all is_name d.names ≡ true
   pub labels : AllZip AreLabels d.sizes d.labels
-  pub few : length d.sizes ≤ MAX_VARIABLES
+  pub few : length d.sizes ≤ variable_limit
   pub sizes : position is_bad_size d.sizes ≡ None
   pub tables : tables_fault d.sizes [] d.tables ≡ None
 
@@ -25,6 +24,6 @@ pub record IsDraft (d : Declared) : Type 0 where
 pub record IsCounted (count total : ℕ) (d : Declared) : Type 0 where
   pub draft : IsDraft d
   pub cells : count ≡ cell_count d.tables
-  pub room : count ≤ MAX_CELLS
+  pub room : count ≤ cell_limit
   pub sum : total ≡ greatest_sum d.tables
-  pub fits : total ≤ CAP
+  pub fits : total ≤ amount_limit

@@ -1,7 +1,7 @@
 -- A text as lines, and a line as words.
 use Rattle.std.specs.Prelude.{ℕ, ◌+◌, Bool, true, false, ◌||◌, List, [], ◌∷◌, length, ◌==◌, if◌then◌else◌}
 use Rattle.std.specs.List.{filter, before_first}
-use Rattle.problem_text.specs.declared.line.TheConstants.{LF, CR, HASH}
+use Rattle.problem_text.specs.Bytes.{line_feed, carriage_return, hash_sign}
 
 -- whether a list has an element
 abbrev pub has_some : {X : Type 0} → List X → Bool
@@ -13,10 +13,10 @@ abbrev pub onto_first : ℕ → List (List ℕ) → List (List ℕ)
 onto_first b [] = (b ∷ []) ∷ []
 onto_first b (piece ∷ pieces) = (b ∷ piece) ∷ pieces
 
--- a text cut behind each LF: its lines, each with its LF; a last one without LF is there where it is not empty
+-- a text cut behind each line_feed: its lines, each with its line_feed; a last one without line_feed is there where it is not empty
 abbrev pub lines : List ℕ → List (List ℕ)
 lines [] = []
-lines (b ∷ bs) = if b == LF then (b ∷ []) ∷ lines bs else onto_first b (lines bs)
+lines (b ∷ bs) = if b == line_feed then (b ∷ []) ∷ lines bs else onto_first b (lines bs)
 
 -- bytes without their last one, where that is this byte
 abbrev pub without_last : ℕ → List ℕ → List ℕ
@@ -26,11 +26,11 @@ without_last b (x ∷ y ∷ ys) = x ∷ without_last b (y ∷ ys)
 
 -- bytes up to where a comment begins
 abbrev pub before_comment : List ℕ → List ℕ
-before_comment bytes = before_first (λ b. b == HASH) bytes
+before_comment bytes = before_first (λ b. b == hash_sign) bytes
 
--- what a line says: its LF, then one CR at its end, then its comment are dropped
+-- what a line says: its line_feed, then one carriage_return at its end, then its comment are dropped
 abbrev pub content : List ℕ → List ℕ
-content line = before_comment (without_last CR (without_last LF line))
+content line = before_comment (without_last carriage_return (without_last line_feed line))
 
 -- whether a byte divides words: space or tab
 abbrev pub is_blank : ℕ → Bool

@@ -2,7 +2,7 @@
 use Rattle.std.specs.Prelude.{ℕ, Bool, false, ◌&&◌, ◌||◌, List, [], ◌∷◌, length, ◌==◌, nat_le}
 use Rattle.std.specs.Char.{is_ascii_alphabetic, is_ascii_alphanumeric}
 use Rattle.std.specs.List.{list_all}
-use Rattle.problem_text.specs.declared.name.TheConstants.{MAX_NAME}
+use Rattle.dcop_base.specs.Limits.{name_limit}
 
 -- a byte that may begin a name: an ASCII letter or `_`
 abbrev pub is_name_start : ℕ → Bool
@@ -12,7 +12,7 @@ is_name_start byte = is_ascii_alphabetic byte || byte == 95
 abbrev pub is_name_byte : ℕ → Bool
 is_name_byte byte = is_ascii_alphanumeric byte || byte == 95 || byte == 45 || byte == 46
 
--- whether a word is a name: 1 to MAX_NAME bytes of a name, of which the first may begin one
+-- whether a word is a name: 1 to name_limit bytes of a name, of which the first may begin one
 abbrev pub is_name : List ℕ → Bool
 is_name [] = false
-is_name (byte ∷ bytes) = is_name_start byte && list_all is_name_byte bytes && nat_le (length (byte ∷ bytes)) MAX_NAME
+is_name (byte ∷ bytes) = is_name_start byte && list_all is_name_byte bytes && nat_le (length (byte ∷ bytes)) name_limit

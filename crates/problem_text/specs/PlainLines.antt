@@ -1,13 +1,13 @@
 -- A text as lines in which no byte begins a comment.
 use Rattle.std.specs.Prelude.{◌≡◌, ℕ, ◌+◌, List, [], ◌∷◌, Option, Some, None}
 use Rattle.std.specs.List.{filter}
-use Rattle.problem_text.specs.declared.line.TheConstants.{LF, CR}
+use Rattle.problem_text.specs.Bytes.{line_feed, carriage_return}
 use Rattle.problem_text.specs.declared.plain_line.PlainLine.{PlainLine}
 use Rattle.problem_text.specs.Lines.{has_some, lines, without_last, words}
 
--- what a line says: its LF, then one CR at its end are dropped
+-- what a line says: its line_feed, then one carriage_return at its end are dropped
 abbrev pub plain_content : List ℕ → List ℕ
-plain_content line = without_last CR (without_last LF line)
+plain_content line = without_last carriage_return (without_last line_feed line)
 
 -- a line: its number and its words
 pub record Plain : Type 0 where

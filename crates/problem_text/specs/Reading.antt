@@ -2,7 +2,7 @@
 use Rattle.std.specs.Prelude.{ℕ, ◌+◌, Bool, ◌&&◌, List, [], ◌∷◌, Result, Ok, Err, ◌==◌, if◌then◌else◌, codes, count_by}
 use Rattle.problem_text.specs.declared.fault.TextKind.{TextKind}
 use Rattle.problem_text.specs.declared.fault.TextKind.TheVariants.{BadWord, NoEnd}
-use Rattle.problem_text.specs.declared.line.TheConstants.{LF}
+use Rattle.problem_text.specs.Bytes.{line_feed}
 use Rattle.std.specs.Str.{bytes_eq}
 use Rattle.problem_text.specs.Lines.{Line, lines, numbered, with_words}
 use Rattle.problem_text.specs.Declarations.{Declared, version_alone, Outcome, Declares, Ends, Fails}
@@ -45,7 +45,7 @@ lines_read over before d [] = Err (record { line = over; kind = NoEnd })
 lines_read over before d (line ∷ later) =
     read_on line d (line_outcome before d line.words) (λ more. lines_read over (before + 1) more later)
 
--- what a text is read as; where it is over without `end`, the line is 1 plus the number of LF bytes
+-- what a text is read as; where it is over without `end`, the line is 1 plus the number of line_feed bytes
 abbrev pub text_read : List ℕ → Result Parts Fault
 text_read bytes =
-    lines_read (1 + count_by (λ b. b == LF) bytes) 0 (version_alone 1) (with_words (numbered 1 0 (lines bytes)))
+    lines_read (1 + count_by (λ b. b == line_feed) bytes) 0 (version_alone 1) (with_words (numbered 1 0 (lines bytes)))

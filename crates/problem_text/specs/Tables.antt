@@ -4,8 +4,7 @@ use Rattle.std.specs.List.{list_any, position, before_first, after_first}
 use Rattle.dcop_base.specs.Table.{CostTable, product, has_repeat, greatest}
 use Rattle.dcop_base.specs.Faults.{cell_count, greatest_sum}
 use Rattle.dcop_base.specs.NumberWord.{number_of}
-use Rattle.dcop_base.specs.declared.number.TheConstants.{CAP}
-use Rattle.dcop_base.specs.declared.problem.TheConstants.{MAX_SCOPE, MAX_COST, MAX_CELLS}
+use Rattle.dcop_base.specs.Limits.{amount_limit, scope_limit, cost_limit, cell_limit}
 use Rattle.problem_text.specs.declared.fault.TextKind.{TextKind}
 use Rattle.problem_text.specs.declared.fault.TextKind.TheVariants.{BadWord, BadNumber, UnknownName, Problem}
 use Rattle.std.specs.Str.{bytes_eq}
@@ -28,15 +27,15 @@ numbers_of (word ∷ later) = onto (number_of word) (numbers_of later)
 
 -- the most variables that a table has in this version
 abbrev pub most_names : ℕ → ℕ
-most_names version = if version == 1 then 2 else MAX_SCOPE
+most_names version = if version == 1 then 2 else scope_limit
 
 -- the first fault of a table's cells, behind these tables
 abbrev pub cells_fault : List CostTable → CostTable → Option TextKind
 cells_fault earlier t =
     if not (length t.cells == product t.sizes) then Some (Problem 6)
-    else (if list_any (λ c. nat_lt MAX_COST c) t.cells then Some (Problem 7)
-    else (if nat_lt MAX_CELLS (cell_count earlier + length t.cells) then Some (Problem 9)
-    else (if nat_lt CAP (greatest_sum earlier + greatest t.cells) then Some (Problem 8)
+    else (if list_any (λ c. nat_lt cost_limit c) t.cells then Some (Problem 7)
+    else (if nat_lt cell_limit (cell_count earlier + length t.cells) then Some (Problem 9)
+    else (if nat_lt amount_limit (greatest_sum earlier + greatest t.cells) then Some (Problem 8)
     else None)))
 
 -- a further table

@@ -3,7 +3,7 @@ use Rattle.std.specs.Prelude.{ℕ, Bool, false, not, ◌&&◌, ◌||◌, List, [
 use Rattle.std.specs.List.{list_all}
 use Rattle.dcop_base.specs.Faults.{is_bad_size}
 use Rattle.dcop_base.specs.NumberWord.{number_of}
-use Rattle.dcop_base.specs.declared.problem.TheConstants.{MAX_VARIABLES}
+use Rattle.dcop_base.specs.Limits.{variable_limit}
 use Rattle.problem_text.specs.declared.file.Goal.TheVariants.{Min, Max}
 use Rattle.problem_text.specs.declared.fault.TextKind.{TextKind}
 use Rattle.problem_text.specs.declared.fault.TextKind.TheVariants.{BadHeader, BadWord, BadNumber, NameTwice, Problem}
@@ -33,7 +33,7 @@ goal_line is_second d _ = Fails BadWord
 -- the first fault of a further variable's size, behind so many variables
 abbrev pub size_fault : ℕ → ℕ → Option TextKind
 size_fault many size =
-    if nat_le MAX_VARIABLES many then Some (Problem 10)
+    if nat_le variable_limit many then Some (Problem 10)
     else (if is_bad_size size then Some (Problem 2)
     else None)
 

@@ -4,6 +4,7 @@ ghost use Rattle.std.specs.Prelude.{◌≡◌, ℕ, ◌<◌, ◌≤◌, ◌∷�
 ghost use Rattle.std.specs.List.{flat_map, join_with_byte, slice_index_or, All};
 ghost use Rattle.std.specs.Fmt.{decimal};
 ghost use Rattle.std.specs.String.{string_bytes};
+ghost use Rattle.dcop_base.specs.Limits.{variable_limit};
 ghost use Rattle.problem_text.specs.Canonical.{line, goal_lines, opening_lines, variable_words, variable_lines, table_words, canonical};
 ghost use Rattle.problem_text.specs.Steps.{IsReadAs};
 
@@ -59,7 +60,7 @@ fn write_variables(
 ) -> Result<(), NoMemory>
     requires named { length names.now ≡ length sizes.now }
     requires labelled { length labels.now ≡ length sizes.now }
-    requires few { length sizes.now ≤ MAX_VARIABLES }
+    requires few { length sizes.now ≤ variable_limit }
     ensures { OnOk result (string_bytes text.new
         ≡ string_bytes text.old ++ flat_map line (variable_lines names.now sizes.now labels.now)) }
 {

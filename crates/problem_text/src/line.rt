@@ -2,6 +2,7 @@
 
 ghost use Rattle.std.specs.Prelude.{◌≡◌, length, ◌∷◌, ◌<◌, ◌+◌, ◌==◌, count_by};
 ghost use Rattle.std.specs.List.{position, position_or_len};
+ghost use Rattle.problem_text.specs.Bytes.{line_feed};
 ghost use Rattle.problem_text.specs.Lines.{before_comment, without_last, content, lines};
 ghost use Rattle.problem_text.specs.PlainLines.{plain_content};
 
@@ -73,7 +74,7 @@ fn found(bytes: &[u8], sought: u8) -> Option<usize>
 
 /// The number of the line behind a text: 1 plus the number of its LF bytes.
 pub fn line_behind(text: &[u8]) -> u64
-    ensures { result ≡ 1 + count_by (λ b. b == LF) text.now }
+    ensures { result ≡ 1 + count_by (λ b. b == line_feed) text.now }
 {
     1 + text.iter().filter(|byte| **byte == LF).count() as u64
 }

@@ -5,7 +5,7 @@ ghost use Rattle.std.specs.List.{IsDistinct, list_any};
 ghost use Rattle.std.specs.Str.{bytes_eq};
 ghost use Rattle.std.specs.String.{string_bytes};
 ghost use Rattle.problem_text.specs.Names.{with_name};
-ghost use Rattle.dcop_base.specs.declared.problem.TheConstants.{MAX_VARIABLES};
+ghost use Rattle.dcop_base.specs.Limits.{variable_limit, size_limit};
 
 use dcop_base::{MAX_SIZE, MAX_VARIABLES, NoMemory, Val, VarId};
 use indexmap::IndexSet;
@@ -61,7 +61,7 @@ impl NameSet {
 
     /// The value of this name; `None` exactly where no value has it.
     pub fn find_value(&self, name: &str) -> Option<Val>
-        requires { length self.now ≤ MAX_SIZE }
+        requires { length self.now ≤ size_limit }
         ensures { result ≡ position (bytes_eq name.now) self.now }
     {
         match self.position(name) {
@@ -95,7 +95,7 @@ impl Model for Names {
 
     ghost view = { λ n. n.list };
 
-    ghost invariant = { λ n. length n.list ≤ MAX_VARIABLES };
+    ghost invariant = { λ n. length n.list ≤ variable_limit };
 }
 
 impl Names {
@@ -111,7 +111,7 @@ impl Names {
     /// How many names there are, which is the number of variables.
     pub fn len(&self) -> usize
         ensures many { result ≡ length self.now }
-        ensures few { result ≤ MAX_VARIABLES }
+        ensures few { result ≤ variable_limit }
         ensures distinct { IsDistinct bytes_eq self.now }
     {
         self.list.len()
@@ -138,7 +138,7 @@ impl Names {
     /// Names the next variable. The answer is false, and the names stay, exactly where the name is
     /// there.
     pub fn push(&mut self, name: &str) -> Result<bool, NoMemory>
-        requires { length self.old < MAX_VARIABLES }
+        requires { length self.old < variable_limit }
         ensures added { IfOk result (λ added. added ≡ not (list_any (bytes_eq name.now) self.old)) }
         ensures names { OnOk result (self.new ≡ with_name self.old name.now) }
         ensures err { OnErr result (self.new ≡ self.old) }

@@ -1,6 +1,7 @@
 //! Files whose variables are named by their numbers.
 
 ghost use Rattle.std.specs.Prelude.{◌≡◌, ℕ, [], ◌≤◌, length, replicate, IfOk};
+ghost use Rattle.dcop_base.specs.Limits.{variable_limit};
 ghost use Rattle.problem_text.specs.File.{has_wide_table};
 ghost use Rattle.problem_text.specs.Numbered.{numbered_names, lower_version, numbered_file};
 
@@ -43,7 +44,7 @@ fn some_are_wide(tables: &[Table]) -> bool
 }
 
 fn number_names(alloc: Global, count: usize) -> Result<Names, NoMemory>
-    requires { count ≤ MAX_VARIABLES }
+    requires { count ≤ variable_limit }
     ensures { IfOk result (λ names. names ≡ numbered_names count) }
 {
     let mut names = Names::new(alloc);

@@ -13,7 +13,7 @@ use Rattle.dcop_base.specs.Problem.{Dcop}
 use Rattle.dcop_base.specs.Graph.{are_neighbours, neighbours}
 use Rattle.dcop_base.specs.Whole.{IsProblem}
 use Rattle.dcop_base.specs.Knowledge.{private_of}
-use Rattle.dcop_base.specs.declared.problem.TheConstants.{MAX_VARIABLES}
+use Rattle.dcop_base.specs.Limits.{variable_limit}
 use Rattle.dcop_base.proofs.FirstLaws.{Contains-filter, Contains-range, IsStrictlyIncreasing-range}
 use Rattle.dcop_base.proofs.JointLaws.{are_neighbours-sym}
 use Rattle.pseudotree.specs.Tree.{path_of, parent_of, children_of, is_variable, is_above, IsTree}
@@ -114,7 +114,7 @@ module _ (p : Dcop) (paths : List (List ℕ)) (problem : IsProblem p) (pseudo : 
     few = let less = short paths pseudo.tree i in_tree in let count = pseudo.sized in let few = problem.few in omega (arith, less, count, few);
     apart = no_repeat (path_of paths i) (apart_at paths pseudo.tree i);
     without = without paths pseudo.tree i;
-    below = All-weaker (λ u. u < length p.sizes) (λ u. u < MAX_VARIABLES) (λ u lt. let few = problem.few in omega (arith, lt, few)) (path_of paths i) all_below;
+    below = All-weaker (λ u. u < length p.sizes) (λ u. u < variable_limit) (λ u lt. let few = problem.few in omega (arith, lt, few)) (path_of paths i) all_below;
     sized = length-map (path_of paths i) size_at;
     sizes = All-map IsSize size_at (path_of paths i) (All-weaker (λ u. u < length p.sizes) (λ u. IsSize (size_at u)) (λ u lt. problem.sizes u 0 lt) (path_of paths i) all_below);
   }

@@ -14,7 +14,7 @@ use Rattle.dcop_base.specs.Problem.{Dcop}
 use Rattle.dcop_base.specs.Graph.{share_table, are_joined, are_neighbours, neighbours}
 use Rattle.dcop_base.specs.Whole.{IsTableOf, IsProblem}
 use Rattle.dcop_base.specs.Knowledge.{private_of}
-use Rattle.dcop_base.specs.declared.problem.TheConstants.{MAX_VARIABLES}
+use Rattle.dcop_base.specs.Limits.{variable_limit}
 use Rattle.dcop_base.proofs.KnowledgeLaws.{All-filter-range}
 use Rattle.pseudotree.proofs.NestLaws.{filter_has}
 use Rattle.pseudotree.proofs.SpreadLaws.{any_in_range}
@@ -117,7 +117,7 @@ module _ (p : Dcop) (i : ℕ) (whole : IsProblem p) (known : i < length p.sizes)
     sized = length-map (neighbours p i) size_at;
     tables = filter_gives (λ t. has t.scope i) Fits (IsKnownTable (private_of p i)) known_table p.tables all_fit;
     me_below = let few = whole.few in omega arith;
-    below = All-weaker (λ u. u < length p.sizes) (λ u. u < MAX_VARIABLES) (λ u h. let few = whole.few in omega arith) (neighbours p i) below_count;
+    below = All-weaker (λ u. u < length p.sizes) (λ u. u < variable_limit) (λ u h. let few = whole.few in omega arith) (neighbours p i) below_count;
     size = size_ok i known;
     sizes = All-map IsSize size_at (neighbours p i) (All-weaker (λ u. u < length p.sizes) (λ u. IsSize (size_at u)) size_ok (neighbours p i) below_count);
   }

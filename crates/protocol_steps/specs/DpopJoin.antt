@@ -2,7 +2,7 @@
 use Rattle.std.specs.Prelude.{ℕ, Bool, true, ◌&&◌, List, [], ◌∷◌, map, Option, Some, None, is_some, nat_le, if◌then◌else◌}
 use Rattle.std.specs.List.{list_all, flat_map, zip}
 use Rattle.dcop_base.specs.Table.{CostTable}
-use Rattle.pseudotree.specs.declared.width.TheConstants.{MAX_JOINED_CELLS}
+use Rattle.dcop_base.specs.Limits.{joined_limit}
 use Rattle.adopt_context.specs.Context.{Context}
 use Rattle.protocol_steps.specs.declared.message.Message.{Message}
 use Rattle.protocol_steps.specs.declared.message.Message.TheVariants.{Util, ValueAll}
@@ -32,7 +32,7 @@ send_up v t None = decide v []
 
 -- whether the agent may join: the tables of all children are kept, and the joined table is not too wide
 abbrev pub can_join : DpopView → Bool
-can_join v = list_all is_some v.kept && nat_le (joined_cells_with v (kept_scopes v)) MAX_JOINED_CELLS
+can_join v = list_all is_some v.kept && nat_le (joined_cells_with v (kept_scopes v)) joined_limit
 
 -- the agent joins where it may
 abbrev pub join : DpopView → Stepped DpopView

@@ -3,7 +3,7 @@ use Rattle.std.specs.Prelude.{ℕ, Bool, true, false, not, ◌&&◌, List, [], �
 use Rattle.std.specs.List.{list_all, filter, zip, position, slice_set}
 use Rattle.std.specs.Cmp.Lexicographic.{pointwise}
 use Rattle.dcop_base.specs.Table.{CostTable, has, product}
-use Rattle.pseudotree.specs.declared.width.TheConstants.{MAX_JOINED_CELLS}
+use Rattle.dcop_base.specs.Limits.{joined_limit}
 use Rattle.adopt_context.specs.Context.{Context, value_in, is_value, names_all}
 use Rattle.protocol_steps.specs.declared.message.Message.{Message}
 use Rattle.protocol_steps.specs.declared.message.Message.TheVariants.{Util, ValueAll}
@@ -31,7 +31,7 @@ takes_util v k scope cells =
     is_open (slice_get v.kept k)
     && pointwise nat_eq scope (filter (has scope) v.place.path ++ (v.own.me ∷ []))
     && (length cells == product (map (size_of v) scope))
-    && nat_le (joined_cells_with v (scope ∷ kept_scopes v)) MAX_JOINED_CELLS
+    && nat_le (joined_cells_with v (scope ∷ kept_scopes v)) joined_limit
 
 -- the table of a child is kept at its place
 abbrev pub with_table : DpopView → ℕ → List ℕ → List ℕ → DpopView

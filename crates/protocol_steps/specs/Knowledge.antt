@@ -7,12 +7,12 @@ use Rattle.dcop_base.specs.Problem.{Dcop}
 use Rattle.dcop_base.specs.Whole.{IsProblem}
 use Rattle.dcop_base.specs.Knowledge.{private_of}
 use Rattle.dcop_base.specs.declared.knowledge.Private.{Private}
-use Rattle.dcop_base.specs.declared.problem.TheConstants.{MAX_VARIABLES, MAX_SIZE}
+use Rattle.dcop_base.specs.Limits.{variable_limit, size_limit}
 use Rattle.adopt_context.specs.Context.{value_in}
 
 -- a size that a variable may have
 abbrev pub IsSize : ℕ → Type 0
-IsSize s = (1 ≤ s) × (s ≤ MAX_SIZE)
+IsSize s = (1 ≤ s) × (s ≤ size_limit)
 
 -- the variables whose sizes an agent knows, each with its size: its own one and its neighbours
 abbrev pub known_sizes : Private → List (ℕ × ℕ)
@@ -29,8 +29,8 @@ pub record IsKnowledge (own : Private) : Type 0 where
   pub apart : ¬ Contains own.neighbours own.me
   pub sized : length own.neighbour_sizes ≡ length own.neighbours
   pub tables : All (IsKnownTable own) own.tables
-  pub me_below : own.me < MAX_VARIABLES
-  pub below : All (λ u. u < MAX_VARIABLES) own.neighbours
+  pub me_below : own.me < variable_limit
+  pub below : All (λ u. u < variable_limit) own.neighbours
   pub size : IsSize own.size
   pub sizes : All IsSize own.neighbour_sizes
 

@@ -7,7 +7,7 @@ use Rattle.dcop_base.specs.Problem.{Dcop}
 use Rattle.dcop_base.specs.Whole.{IsProblem}
 use Rattle.dcop_base.specs.Knowledge.{private_of}
 use Rattle.dcop_base.specs.declared.knowledge.Private.{Private}
-use Rattle.dcop_base.specs.declared.problem.TheConstants.{MAX_VARIABLES}
+use Rattle.dcop_base.specs.Limits.{variable_limit}
 use Rattle.pseudotree.specs.Pseudotree.{IsPseudotree, IsLinked}
 use Rattle.pseudotree.specs.Place.{IsPlaceOf}
 use Rattle.pseudotree.specs.declared.agent.Place.{Place}
@@ -21,7 +21,7 @@ pub record IsPathOf (me : ℕ) (path path_sizes : List ℕ) : Type 0 where
   pub few : length path ≤ most_others
   pub apart : has_repeat path ≡ false
   pub without : has path me ≡ false
-  pub below : All (λ u. u < MAX_VARIABLES) path
+  pub below : All (λ u. u < variable_limit) path
   pub sized : length path_sizes ≡ length path
   pub sizes : All IsSize path_sizes
 

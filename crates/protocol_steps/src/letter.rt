@@ -18,7 +18,7 @@ pub struct Envelope {
 
 impl Model for Envelope {
     ghost use Rattle.std.specs.Prelude.{ℕ, ◌≤◌};
-    ghost use Rattle.dcop_base.specs.declared.number.TheConstants.{CAP};
+    ghost use Rattle.dcop_base.specs.Limits.{amount_limit};
     ghost use Rattle.protocol_steps.specs.declared.message.Message.{Message};
     ghost use Rattle.protocol_steps.specs.Ranges.{IsInRange};
 
@@ -26,7 +26,7 @@ impl Model for Envelope {
 
     ghost view = { λ e. (e.stamp, e.message) };
 
-    ghost invariant = { λ e. (e.stamp ≤ CAP) × IsInRange e.message };
+    ghost invariant = { λ e. (e.stamp ≤ amount_limit) × IsInRange e.message };
 }
 
 /// A message that an agent takes, with its sender. Contracts see the pair. The message keeps the

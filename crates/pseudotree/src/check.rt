@@ -1,6 +1,7 @@
 //! Trees from parents.
 
 ghost use Rattle.std.specs.Prelude.{◌≡◌, ◌≤◌, length, IfOk, IfErr};
+ghost use Rattle.dcop_base.specs.Limits.{variable_limit};
 ghost use Rattle.pseudotree.specs.Tree.{IsTree};
 ghost use Rattle.pseudotree.specs.Pseudotree.{IsPseudotreeOf};
 ghost use Rattle.pseudotree.specs.Fault.{AreParents, parents_of, IsFirstFault};
@@ -44,7 +45,7 @@ pub fn check_tree(
 
 /// The tree with these paths, or the least pair that is not ancestor and descendant.
 fn tree_of(alloc: Global, problem: &Problem, paths: Vec<VarList>) -> Result<Tree, TreeFault>
-    requires few { length paths.items ≤ MAX_VARIABLES }
+    requires few { length paths.items ≤ variable_limit }
     requires sized { length paths.items ≡ length problem.now.sizes }
     requires tree { IsTree paths.items }
     requires short { AreShort paths.items }

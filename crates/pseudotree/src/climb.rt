@@ -1,6 +1,7 @@
 //! The paths of a tree, found by climbing from each variable to the root.
 
 ghost use Rattle.std.specs.Prelude.{◌≡◌, ◌<◌, ◌≤◌, length, IfOk, IfErr, MatchOption};
+ghost use Rattle.dcop_base.specs.Limits.{variable_limit};
 ghost use Rattle.pseudotree.specs.Fault.{root_count, ReachesRoot};
 ghost use Rattle.pseudotree.specs.Climb.{AreKnown, LeadsTo, ArePaths, IsLoopFault};
 
@@ -17,7 +18,7 @@ pub(crate) fn root_count(parents: &[Option<VarId>]) -> u64
 
 /// The path of each variable, or the lowest variable whose parents do not reach the root.
 pub(crate) fn paths_of(alloc: Global, parents: &[Option<VarId>]) -> Result<Vec<VarList>, TreeFault>
-    requires few { length parents.now ≤ MAX_VARIABLES }
+    requires few { length parents.now ≤ variable_limit }
     requires known { AreKnown parents.now }
     ensures paths { IfOk result (λ paths. ArePaths parents.now paths.items) }
     ensures fault { IfErr result (IsLoopFault parents.now) }

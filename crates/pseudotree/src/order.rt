@@ -1,6 +1,7 @@
 //! The children of each variable of a tree, and the preorder.
 
 ghost use Rattle.std.specs.Prelude.{◌≡◌, ◌<◌, ◌≤◌, ◌-◌, ◌++◌, length, IfOk, OnOk, slice_get};
+ghost use Rattle.dcop_base.specs.Limits.{variable_limit};
 ghost use Rattle.pseudotree.specs.Tree.{path_of, children_of, is_variable};
 ghost use Rattle.pseudotree.specs.Preorder.{subtree, preorder_of};
 ghost use Rattle.pseudotree.specs.Parts.{AreChildren, AreClosed};
@@ -10,7 +11,7 @@ use std::alloc::Global;
 
 /// The children of each variable, ascending.
 pub(crate) fn all_children(alloc: Global, paths: &[VarList]) -> Result<Vec<VarList>, NoMemory>
-    requires { length paths.now ≤ MAX_VARIABLES }
+    requires { length paths.now ≤ variable_limit }
     ensures { IfOk result (λ children. AreChildren paths.now children.items) }
 {
     let mut children = Vec::with_capacity(alloc, paths.len())?;
@@ -21,7 +22,7 @@ pub(crate) fn all_children(alloc: Global, paths: &[VarList]) -> Result<Vec<VarLi
 }
 
 fn children_of(alloc: Global, paths: &[VarList], parent: VarId) -> Result<VarList, NoMemory>
-    requires { length paths.now ≤ MAX_VARIABLES }
+    requires { length paths.now ≤ variable_limit }
     ensures { IfOk result (λ children. children ≡ children_of paths.now parent) }
 {
     let mut children = Vec::new(alloc);
@@ -48,7 +49,7 @@ pub(crate) fn preorder_of(
     paths: &[VarList],
     children: &[VarList],
 ) -> Result<VarList, NoMemory>
-    requires few { length paths.now ≤ MAX_VARIABLES }
+    requires few { length paths.now ≤ variable_limit }
     requires children { AreChildren paths.now children.now }
     ensures { IfOk result (λ order. order ≡ preorder_of paths.now) }
 {

@@ -9,7 +9,7 @@ use Rattle.pseudotree.specs.DepthFirst.{dfs, path_in, search_of}
 use Rattle.pseudotree.specs.Width.{told, joined_cells, sent_total, first_wide, wide_by}
 use Rattle.pseudotree.specs.declared.width.Wide.{Wide}
 use Rattle.pseudotree.specs.declared.width.Wide.TheVariants.{Agent, Total}
-use Rattle.pseudotree.specs.declared.width.TheConstants.{MAX_JOINED_CELLS, MAX_SENT_CELLS}
+use Rattle.dcop_base.specs.Limits.{joined_limit, sent_limit}
 use Rattle.dcop_optimum.specs.Goal.{turned, top_of, IsGreatestSum}
 use Rattle.dcop_optimum.proofs.TurnLaws.{sum_to_top, tells_greatest}
 use Rattle.problem_text.specs.File.{TextFile}
@@ -118,13 +118,13 @@ position_within test xs i e =
 wide_within : (p : Dcop) (paths : List (List ℕ)) (o : Option ℕ) (var cells : ℕ) → first_wide p paths ≡ o → wide_by p paths o ≡ Some (Agent var cells) → var < length paths
 wide_within p paths (Some i) var cells first is =
     let same : i ≡ var = agent_of i var (told (joined_cells p paths i)) cells is in
-    let within = position_within (λ k. ltb MAX_JOINED_CELLS (joined_cells p paths k)) (range_with_len 0 (length paths)) i first in
+    let within = position_within (λ k. ltb joined_limit (joined_cells p paths k)) (range_with_len 0 (length paths)) i first in
     let count = length-range_with_len 0 (length paths) in
     omega arith
   where
     agent_of : (i j m n : ℕ) → Some (Agent i m) ≡ Some (Agent j n) → i ≡ j
     agent_of i j m n e = cc
-wide_within p paths None var cells first is = absurd (no_agent (ltb MAX_SENT_CELLS (sent_total p paths)) (told (sent_total p paths)) var cells is)
+wide_within p paths None var cells first is = absurd (no_agent (ltb sent_limit (sent_total p paths)) (told (sent_total p paths)) var cells is)
   where
     no_agent : (b : Bool) (m var cells : ℕ) → cond b (Some (Total m)) None ≡ Some (Agent var cells) → ⊥
     no_agent true m var cells e = cc

@@ -9,7 +9,7 @@ use Rattle.dcop_base.specs.Table.{CostTable, has, has_repeat, product, cell_plac
 use Rattle.dcop_base.specs.Problem.{Dcop, cost}
 use Rattle.dcop_base.specs.Whole.{IsProblem}
 use Rattle.dcop_base.specs.Values.{cell_with}
-use Rattle.dcop_base.specs.declared.number.TheConstants.{CAP}
+use Rattle.dcop_base.specs.Limits.{amount_limit}
 use Rattle.pseudotree.specs.Tree.{path_of, parent_of}
 use Rattle.pseudotree.specs.Preorder.{preorder_of}
 use Rattle.pseudotree.specs.Pseudotree.{IsPseudotree, touches, separator_of}
@@ -64,7 +64,7 @@ module _ (p : Dcop) (paths : List (List ℕ)) (problem : IsProblem p) (pseudo : 
       let some = values_at p paths problem pseudo i t k is.scope is.sizes (omega (arith, lt, is.full)) in
       (some.0, some.1, some.2, subst (λ (j : ℕ). IsSubtreeOptimum p paths i some.0 (get_or t.cells j 0)) some.2 (is.cells some.0 some.1))
 
-  cells_capped : (i : ℕ) (t : CostTable) → IsOptimumTable p paths i t → All (λ c. c ≤ CAP) t.cells
+  cells_capped : (i : ℕ) (t : CostTable) → IsOptimumTable p paths i t → All (λ c. c ≤ amount_limit) t.cells
   cells_capped i t is k d lt =
       let best = (cell_optimum i t is k lt).3 in
       let within = (costs_are_within_cap p paths problem pseudo).subtree i (λ v. get_or best.attained.0 v 0) in

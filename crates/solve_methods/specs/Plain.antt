@@ -2,7 +2,7 @@
 use Rattle.std.specs.Prelude.{◌≡◌, ℕ, ◌<◌, ◌≤◌, min, List, None, Result, Ok, Err}
 use Rattle.dcop_base.specs.Problem.{Dcop, cost}
 use Rattle.dcop_optimum.specs.Optimum.{IsFirstOptimum, assignment_count}
-use Rattle.dcop_optimum.specs.declared.plain.TheConstants.{MAX_ASSIGNMENTS}
+use Rattle.dcop_base.specs.Limits.{assignment_limit, count_limit}
 use Rattle.dcop_optimum.specs.declared.plain.PlainFault.{PlainFault}
 use Rattle.dcop_optimum.specs.declared.plain.PlainFault.TheVariants as faults
 use Rattle.problem_text.specs.File.{TextFile}
@@ -33,17 +33,17 @@ HasFirstOptimum file report = IsFirstOptimum (solved file.goal file.problem) rep
 
 -- a number of assignments is too many to try, and this tells it, up to 2^64 - 1
 abbrev pub IsTooMany : ℕ → ℕ → Type 0
-IsTooMany count told = (MAX_ASSIGNMENTS < count) × (told ≡ min count 18446744073709551615)
+IsTooMany count told = (assignment_limit < count) × (told ≡ min count count_limit)
 
 -- the first optimum of a problem, unless it has too many assignments or memory was wanted
 abbrev pub GivesFirst : Dcop → Result (List ℕ) PlainFault → Type 0
-GivesFirst p (Ok values) = (assignment_count p ≤ MAX_ASSIGNMENTS) × IsFirstOptimum p values
+GivesFirst p (Ok values) = (assignment_count p ≤ assignment_limit) × IsFirstOptimum p values
 GivesFirst p (Err (faults.TooMany assignments)) = IsTooMany (assignment_count p) assignments
 GivesFirst p (Err faults.NoMemory) = Unit {0}
 
 -- values of a file: the first optimum of the problem solved, whose cost in the file's problem is the best sum
 pub record AreBestValues (file : TextFile) (values : List ℕ) : Type 0 where
-  pub few : assignment_count file.problem ≤ MAX_ASSIGNMENTS
+  pub few : assignment_count file.problem ≤ assignment_limit
   pub first : IsFirstOptimum (solved file.goal file.problem) values
   pub best : IsBestSum file.goal file.problem (cost file.problem values)
 
@@ -55,7 +55,7 @@ GivesBest file (Err faults.NoMemory) = Unit {0}
 
 -- a solved report of the plain method on a file, which the file's names can tell
 pub record IsPlainSolved (file : TextFile) (report : Report) : Type 0 where
-  pub few : assignment_count file.problem ≤ MAX_ASSIGNMENTS
+  pub few : assignment_count file.problem ≤ assignment_limit
   pub form : IsPlainReport file report
   pub first : HasFirstOptimum file report
   pub right : IsRightReport file report

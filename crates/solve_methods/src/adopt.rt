@@ -2,7 +2,7 @@
 
 ghost use Rattle.std.specs.Prelude.{◌≡◌, ◌≤◌, if◌then◌else◌, IfOk};
 ghost use Rattle.dcop_base.specs.Whole.{IsProblem};
-ghost use Rattle.dcop_base.specs.declared.number.TheConstants.{CAP};
+ghost use Rattle.dcop_base.specs.Limits.{amount_limit, budget_limit};
 ghost use Rattle.pseudotree.specs.DepthFirst.{dfs};
 ghost use Rattle.pseudotree.specs.Pseudotree.{IsPseudotreeOf};
 ghost use Rattle.dcop_optimum.specs.Goal.{top_of};
@@ -59,8 +59,8 @@ pub fn adopt_answer(
     error: u64,
     budget: u64,
 ) -> Result<Answer, NoMemory>
-    requires error { error ≤ CAP }
-    requires budget { budget ≤ 10000000 }
+    requires error { error ≤ amount_limit }
+    requires budget { budget ≤ budget_limit }
     ensures belongs { IfOk result (AnswersAdopt (declared_by file) error budget) }
     ensures right { IfOk result TellsRight }
     ensures told { IfOk result HasText }
@@ -131,8 +131,8 @@ fn reach_for(
     problem: &Problem,
     asked: Asked,
 ) -> Result<Reached, NoMemory>
-    requires error { asked.error ≤ CAP }
-    requires budget { asked.budget ≤ 10000000 }
+    requires error { asked.error ≤ amount_limit }
+    requires budget { asked.budget ≤ budget_limit }
     ensures whole { IfOk result (λ _. IsProblem problem.now) }
     ensures reached { IfOk result (HaveReached (solved goal problem.now) asked.error asked.budget) }
 {
@@ -146,8 +146,8 @@ fn reach_for(
 
 /// What the agents of a problem reach on its depth-first tree.
 fn reach(alloc: Global, problem: &Problem, asked: Asked) -> Result<Reached, NoMemory>
-    requires error { asked.error ≤ CAP }
-    requires budget { asked.budget ≤ 10000000 }
+    requires error { asked.error ≤ amount_limit }
+    requires budget { asked.budget ≤ budget_limit }
     ensures { IfOk result (HaveReached problem.now asked.error asked.budget) }
 {
     let Found {
@@ -168,8 +168,8 @@ fn play_bounds(
     requires whole { IsProblem problem.now }
     requires tree { IsPseudotreeOf problem.now tree }
     requires paths { tree.paths ≡ dfs problem.now }
-    requires error { asked.error ≤ CAP }
-    requires budget { asked.budget ≤ 10000000 }
+    requires error { asked.error ≤ amount_limit }
+    requires budget { asked.budget ≤ budget_limit }
     ensures { IfOk result (HavePlayed problem.now asked.error asked.budget) }
 {
     token_runs();

@@ -1,6 +1,7 @@
 -- The words of each refusal's line.
 use Rattle.std.specs.Prelude.{ℕ, List, [], ◌∷◌, codes, ◌==◌, if◌then◌else◌}
 use Rattle.std.specs.Fmt.{decimal}
+use Rattle.dcop_base.specs.Limits.{assignment_limit, joined_limit, sent_limit}
 
 -- `refused words at A kind K`
 abbrev pub words_refusal : ℕ → ℕ → List (List ℕ)
@@ -21,16 +22,16 @@ report_refusal at kind = codes "refused" ∷ codes "report" ∷ codes "line" ∷
 
 -- `refused many assignments N limit 65536`
 abbrev pub many_refusal : ℕ → List (List ℕ)
-many_refusal assignments = codes "refused" ∷ codes "many" ∷ codes "assignments" ∷ decimal assignments ∷ codes "limit" ∷ decimal 65536 ∷ []
+many_refusal assignments = codes "refused" ∷ codes "many" ∷ codes "assignments" ∷ decimal assignments ∷ codes "limit" ∷ decimal assignment_limit ∷ []
 
 -- `refused wide agent NAME cells N limit 1048576`
 abbrev pub wide_refusal : List ℕ → ℕ → List (List ℕ)
 wide_refusal name cells =
-    codes "refused" ∷ codes "wide" ∷ codes "agent" ∷ name ∷ codes "cells" ∷ decimal cells ∷ codes "limit" ∷ decimal 1048576 ∷ []
+    codes "refused" ∷ codes "wide" ∷ codes "agent" ∷ name ∷ codes "cells" ∷ decimal cells ∷ codes "limit" ∷ decimal joined_limit ∷ []
 
 -- `refused wide total cells N limit 4194304`
 abbrev pub total_refusal : ℕ → List (List ℕ)
-total_refusal cells = codes "refused" ∷ codes "wide" ∷ codes "total" ∷ codes "cells" ∷ decimal cells ∷ codes "limit" ∷ decimal 4194304 ∷ []
+total_refusal cells = codes "refused" ∷ codes "wide" ∷ codes "total" ∷ codes "cells" ∷ decimal cells ∷ codes "limit" ∷ decimal sent_limit ∷ []
 
 -- `refused read`
 abbrev pub read_refusal : List (List ℕ)

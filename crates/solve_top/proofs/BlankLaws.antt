@@ -2,7 +2,7 @@
 use Rattle.std.proofs.Common.{◌≡◌, ℕ, ◌+◌, ◌≤◌, zero, suc, Bool, true, false, cond, nat_eq, List, [], ◌∷◌, ◌++◌, length, drop, count_by, ◌⊎◌, inl, inr, Result, Ok, Err, refl, sym, ap, subst, ◌∙◌, arith}
 use Rattle.std.specs.List.{filter}
 use Rattle.std.proofs.lemmas.List.{drop-append-le}
-use Rattle.problem_text.specs.declared.line.TheConstants.{LF}
+use Rattle.problem_text.specs.Bytes.{line_feed}
 use Rattle.problem_text.specs.declared.file.Goal.{Goal}
 use Rattle.problem_text.specs.declared.fault.ReportKind.{ReportKind}
 use Rattle.problem_text.specs.File.{TextFile}
@@ -80,28 +80,28 @@ worded_join [] more = refl
 worded_join (x ∷ ls) more =
     ap (λ (xs : List Plain). cond (has_some x.words) (x ∷ xs) xs) (worded_join ls more) ∙ kept_join (has_some x.words) x (worded ls) (worded more)
 
--- bytes that end with LF and in which no line has words, in front of a report
-ended_kept : (bytes text : List ℕ) (f : TextFile) (r : Report) → plain_lines 1 (bytes ++ LF ∷ []) ≡ [] → report_read text f ≡ Ok r
-    → report_read ((bytes ++ LF ∷ []) ++ text) f ≡ Ok r
+-- bytes that end with line_feed and in which no line has words, in front of a report
+ended_kept : (bytes text : List ℕ) (f : TextFile) (r : Report) → plain_lines 1 (bytes ++ line_feed ∷ []) ≡ [] → report_read text f ≡ Ok r
+    → report_read ((bytes ++ line_feed ∷ []) ++ text) f ≡ Ok r
 ended_kept bytes text f r none is =
-    let tail : List ℕ = bytes ++ LF ∷ [] in
+    let tail : List ℕ = bytes ++ line_feed ∷ [] in
     let number : ℕ = 1 + length (lines tail) in
     let joined : plain_lines 1 (tail ++ text) ≡ worded (plain_numbered number (lines text)) =
     ap (λ (ls : List (List ℕ)). worded (plain_numbered 1 ls)) (lines_join bytes text)
     ∙ ap worded (numbered_join 1 (lines tail) (lines text))
     ∙ worded_join (plain_numbered 1 (lines tail)) (plain_numbered number (lines text))
     ∙ ap (λ (ls : List Plain). ls ++ worded (plain_numbered number (lines text))) none in
-    let over : ℕ = 1 + count_by (λ b. nat_eq b LF) (tail ++ text) in
+    let over : ℕ = 1 + count_by (λ b. nat_eq b line_feed) (tail ++ text) in
     let told : lines_read over f nothing_told (worded (plain_numbered number (lines text))) ≡ Ok r =
-    read_same (1 + count_by (λ b. nat_eq b LF) text) over f nothing_told (plain_lines 1 text) (worded (plain_numbered number (lines text))) r
+    read_same (1 + count_by (λ b. nat_eq b line_feed) text) over f nothing_told (plain_lines 1 text) (worded (plain_numbered number (lines text))) r
     (numbers_free 1 number (lines text)) is in
     subst (λ (ls : List Plain). lines_read over f nothing_told ls ≡ Ok r) (sym joined) told
 
--- what stands behind the first bytes of a text that ends with LF: nothing, or it ends with LF too
+-- what stands behind the first bytes of a text that ends with line_feed: nothing, or it ends with line_feed too
 abbrev IsTail : List ℕ → Type 0
-IsTail tail = (tail ≡ []) ⊎ ((bytes : List ℕ) × (tail ≡ bytes ++ LF ∷ []))
+IsTail tail = (tail ≡ []) ⊎ ((bytes : List ℕ) × (tail ≡ bytes ++ line_feed ∷ []))
 
-drop_tail : (before : List ℕ) (used : ℕ) → IsTail (drop used (before ++ LF ∷ []))
+drop_tail : (before : List ℕ) (used : ℕ) → IsTail (drop used (before ++ line_feed ∷ []))
 drop_tail before zero = inr (before, refl)
 drop_tail [] (suc zero) = inl refl
 drop_tail [] (suc (suc n)) = inl refl
@@ -113,8 +113,8 @@ tail_kept tail text f r (inr (bytes, ends)) none is =
     subst (λ (t : List ℕ). report_read (t ++ text) f ≡ Ok r) (sym ends)
     (ended_kept bytes text f r (subst (λ (t : List ℕ). plain_lines 1 t ≡ []) ends none) is)
 
--- a report behind a text that ends with LF, of which all lines behind so many bytes have no words, is read as it is alone
-pub rest_kept : (problem before text : List ℕ) (used : ℕ) (f : TextFile) (r : Report) → problem ≡ before ++ LF ∷ [] → used ≤ length problem → plain_lines 1 (drop used problem) ≡ []
+-- a report behind a text that ends with line_feed, of which all lines behind so many bytes have no words, is read as it is alone
+pub rest_kept : (problem before text : List ℕ) (used : ℕ) (f : TextFile) (r : Report) → problem ≡ before ++ line_feed ∷ [] → used ≤ length problem → plain_lines 1 (drop used problem) ≡ []
     → report_read text f ≡ Ok r → report_read (drop used (problem ++ text)) f ≡ Ok r
 rest_kept problem before text used f r ends within none is =
     let tail : IsTail (drop used problem) = subst (λ (t : List ℕ). IsTail (drop used t)) (sym ends) (drop_tail before used) in

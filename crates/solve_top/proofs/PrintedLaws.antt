@@ -4,7 +4,7 @@ use Rattle.std.specs.List.{AllZip}
 use Rattle.dcop_base.specs.Table.{AreWithin}
 use Rattle.dcop_base.specs.Problem.{Dcop, IsAssignment, cost}
 use Rattle.dcop_base.specs.Whole.{IsProblem}
-use Rattle.dcop_base.specs.declared.number.TheConstants.{CAP}
+use Rattle.dcop_base.specs.Limits.{amount_limit}
 use Rattle.dcop_base.proofs.ProblemLaws.{cost-le-cap}
 use Rattle.pseudotree.specs.declared.width.Wide.{Wide}
 use Rattle.pseudotree.specs.declared.width.Wide.TheVariants.{Agent, Total}
@@ -66,7 +66,7 @@ certificate_fits file report (Some (Tables utils)) method is = (method, is.fits)
 printed_fits : (file : TextFile) (report : Report) → IsProblem file.problem → IsDpopReport file true report → Fits report file
 printed_fits file report whole is =
     let most = cost-le-cap file.problem report.values whole in
-    let cheap : report.cost ≤ CAP = omega (arith, most, is.cost) in record {
+    let cheap : report.cost ≤ amount_limit = omega (arith, most, is.cost) in record {
       values = values_fit file.goal file.problem report.values is.first.assignment;
       error = omega (arith, is.error);
       deliveries = omega (arith, is.deliveries, whole.few);

@@ -1,7 +1,7 @@
 -- A text that is read has no more bytes used than it has.
 use Rattle.std.proofs.Common.{◌≡◌, ℕ, ◌+◌, ◌≤◌, Bool, true, false, cond, nat_eq, List, [], ◌∷◌, length, Result, Ok, refl, ap, ◌∙◌, arith}
 use Rattle.problem_text.specs.Declarations.{Declared, Outcome, Declares, Ends, Fails}
-use Rattle.problem_text.specs.declared.line.TheConstants.{LF}
+use Rattle.problem_text.specs.Bytes.{line_feed}
 use Rattle.problem_text.specs.Lines.{Line, has_some, lines, onto_first, numbered, with_words}
 use Rattle.problem_text.specs.Reading.{Fault, Parts, line_outcome, read_on, lines_read, text_read}
 
@@ -21,7 +21,7 @@ step_total false b ls = onto_total b ls
 -- the lines of a text have its bytes
 lines_total : (bytes : List ℕ) → total (lines bytes) ≡ length bytes
 lines_total [] = refl
-lines_total (b ∷ bs) = step_total (nat_eq b LF) b (lines bs) ∙ ap (λ n. 1 + n) (lines_total bs) ∙ omega arith
+lines_total (b ∷ bs) = step_total (nat_eq b line_feed) b (lines bs) ∙ ap (λ n. 1 + n) (lines_total bs) ∙ omega arith
 
 -- each of these lines ends within so many bytes
 abbrev AllUsed : ℕ → List Line → Type 0

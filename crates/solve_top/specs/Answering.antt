@@ -1,9 +1,9 @@
 -- Which answer belongs to which words and input, in the order in which a call goes.
 use Rattle.std.specs.Prelude.{◌≡◌, ℕ, ◌≤◌, ◌==◌, List, Option, Some, None, Result, Ok, Err, take, drop, count_by}
 use Rattle.dcop_base.specs.Table.{product}
-use Rattle.dcop_optimum.specs.declared.plain.TheConstants.{MAX_ASSIGNMENTS}
+use Rattle.dcop_base.specs.Limits.{assignment_limit}
 use Rattle.problem_text.specs.Declarations.{Declared}
-use Rattle.problem_text.specs.declared.line.TheConstants.{LF}
+use Rattle.problem_text.specs.Bytes.{line_feed}
 use Rattle.problem_text.specs.Reading.{Fault, Parts, text_read}
 use Rattle.problem_text.specs.Steps.{declared_by}
 use Rattle.solve_words.specs.declared.command.Command.{Command}
@@ -26,10 +26,10 @@ use Rattle.solve_methods.specs.Tree.{AnswersTree}
 use Rattle.solve_check.specs.Checking.{AnswersCheck}
 use Rattle.solve_top.specs.Whole.{whole_read}
 
--- the answer to a task on a text that declares this: plain has at most MAX_ASSIGNMENTS assignments to try
+-- the answer to a task on a text that declares this: plain has at most assignment_limit assignments to try
 abbrev pub IsFileAnswer : FileTask → Declared → Answer → Type 0
 IsFileAnswer tasks.Plain d (answers.Report report file) =
-    (product d.sizes ≤ MAX_ASSIGNMENTS) × (declared_by file ≡ d) × IsPlainReport file report × HasFirstOptimum file report
+    (product d.sizes ≤ assignment_limit) × (declared_by file ≡ d) × IsPlainReport file report × HasFirstOptimum file report
 IsFileAnswer tasks.Plain d (answers.Many assignments) = IsTooMany (product d.sizes) assignments
 IsFileAnswer (tasks.Dpop certified) d answer = AnswersDpop d certified answer
 IsFileAnswer (tasks.Adopt error budget) d answer = AnswersAdopt d error budget answer
@@ -48,7 +48,7 @@ IsTextAnswer task (Err fault) answer = answer ≡ refused_by fault
 
 -- how many lines end in a text
 abbrev pub lines_in : List ℕ → ℕ
-lines_in bytes = count_by (λ b. b == LF) bytes
+lines_in bytes = count_by (λ b. b == line_feed) bytes
 
 -- the answer of `check` on a text whose problem is read as this: what comes of the report behind the problem's line `end`
 abbrev pub IsReportAnswer : List ℕ → Result Parts Fault → Answer → Type 0

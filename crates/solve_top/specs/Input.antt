@@ -1,11 +1,11 @@
 -- What a call read of its source.
 use Rattle.std.specs.Prelude.{◌≡◌, ℕ, ◌<◌, ◌≤◌, List, [], length, Option, Some, None, Result, Ok, Err}
 use Rattle.dcop_edge.specs.Faults.{Rose}
-use Rattle.solve_top.specs.declared.reading.TheConstants.{MAX_INPUT}
+use Rattle.dcop_base.specs.Limits.{input_limit}
 use Rattle.solve_top.specs.declared.reading.ReadEnd.{ReadEnd}
 use Rattle.solve_top.specs.declared.reading.ReadEnd.TheVariants as ends
 
--- nothing was read; or the source failed; or more than MAX_INPUT bytes came; or these are all the bytes that came
+-- nothing was read; or the source failed; or more than input_limit bytes came; or these are all the bytes that came
 pub data Input : Type 0 where
   Unread : Input
   Broken : Input
@@ -26,10 +26,10 @@ abbrev pub IsAllOf : List ℕ → Option (List ℕ) → Option (List ℕ) → Ty
 IsAllOf bytes None after = Unit {0}
 IsAllOf bytes (Some left) after = (bytes ≡ left) × (after ≡ Some [])
 
--- a source had more than MAX_INPUT bytes left, where it tells them
+-- a source had more than input_limit bytes left, where it tells them
 abbrev pub HadMore : Option (List ℕ) → Type 0
 HadMore None = Unit {0}
-HadMore (Some left) = MAX_INPUT < length left
+HadMore (Some left) = input_limit < length left
 
 -- what was read of a source that stood so before, and stands so afterwards: a source of which nothing was read is as it was, and only a broken one failed
 abbrev pub IsReadFrom : Input → SourceState → SourceState → Type 0
@@ -37,7 +37,7 @@ IsReadFrom Unread before after = after ≡ before
 IsReadFrom Broken before after = Rose before.faults after.faults
 IsReadFrom TooLong before after = HadMore before.left × (after.faults ≡ before.faults)
 IsReadFrom (Whole bytes) before after =
-    (length bytes ≤ MAX_INPUT) × IsAllOf bytes before.left after.left × (after.faults ≡ before.faults)
+    (length bytes ≤ input_limit) × IsAllOf bytes before.left after.left × (after.faults ≡ before.faults)
 
 -- a reading to the end gave this input, unless memory was wanted
 abbrev pub IsReading : Result (List ℕ) ReadEnd → SourceState → SourceState → Type 0

@@ -1,5 +1,6 @@
 -- The commands that are served.
 use Rattle.std.specs.Prelude.{◌≤◌, false, Option, Some, None, ◌==◌, if◌then◌else◌}
+use Rattle.dcop_base.specs.Limits.{amount_limit, budget_limit}
 use Rattle.solve_words.specs.declared.command.Command.{Command}
 use Rattle.solve_words.specs.declared.command.Command.TheVariants.{Solve, Tree, Check, Upgrade}
 use Rattle.solve_words.specs.declared.command.Choice.TheVariants.{Plain, Dpop, Adopt}
@@ -20,5 +21,5 @@ task_of _ = None
 
 -- the error and the budget of ADOPT are no greater than its options take
 abbrev pub IsTaskInRange : Task → Type 0
-IsTaskInRange (File (tasks.Adopt error budget)) = (error ≤ 4611686018427387904) × (budget ≤ 10000000)
+IsTaskInRange (File (tasks.Adopt error budget)) = (error ≤ amount_limit) × (budget ≤ budget_limit)
 IsTaskInRange _ = Unit {0}

@@ -4,11 +4,11 @@ use Rattle.dcop_base.specs.Table.{product}
 use Rattle.dcop_base.specs.Whole.{IsProblem}
 use Rattle.dcop_edge.specs.Faults.{Rose}
 use Rattle.dcop_edge.specs.Sink.{Adds}
-use Rattle.dcop_optimum.specs.declared.plain.TheConstants.{MAX_ASSIGNMENTS}
+use Rattle.dcop_base.specs.Limits.{assignment_limit, input_limit}
 use Rattle.problem_text.specs.Declarations.{Declared}
 use Rattle.problem_text.specs.File.{TextFile, IsFile}
 use Rattle.problem_text.specs.Steps.{declared_by}
-use Rattle.problem_text.specs.declared.line.TheConstants.{LF}
+use Rattle.problem_text.specs.Bytes.{line_feed}
 use Rattle.problem_text.specs.PlainLines.{plain_lines}
 use Rattle.problem_text.specs.Reading.{Parts, text_read}
 use Rattle.certificate_text.specs.declared.report.Report.{Report}
@@ -18,7 +18,6 @@ use Rattle.solve_words.specs.declared.command.Command.{Command}
 use Rattle.solve_words.specs.Command.{answer_to}
 use Rattle.solve_report.specs.declared.answer.Answer.{Answer}
 use Rattle.solve_report.specs.AnswerText.{answer_text}
-use Rattle.solve_top.specs.declared.reading.TheConstants.{MAX_INPUT}
 use Rattle.solve_top.specs.declared.status.Status.{Status}
 use Rattle.solve_top.specs.declared.status.Status.TheVariants as statuses
 use Rattle.solve_top.specs.declared.task.Task.{Task}
@@ -75,7 +74,7 @@ pub record HasFitTree (d : Declared) : Type 0 where
 
 -- a task is within its limits: plain has no more assignments to try than it tries, and for DPOP the tree is narrow and light
 abbrev pub IsWithinLimits : FileTask → Declared → Type 0
-IsWithinLimits tasks.Plain d = product d.sizes ≤ MAX_ASSIGNMENTS
+IsWithinLimits tasks.Plain d = product d.sizes ≤ assignment_limit
 IsWithinLimits (tasks.Dpop certified) d = HasFitTree d
 IsWithinLimits (tasks.Adopt error budget) d = Unit {0}
 IsWithinLimits tasks.Tree d = Unit {0}
@@ -94,7 +93,7 @@ pub record IsPrintedFor (text : List ℕ) : Type 0 where
   pub read : text_read problem ≡ Ok parts
   pub rest : plain_lines 1 (drop parts.used problem) ≡ []
   pub before : List ℕ
-  pub line : problem ≡ before ++ LF ∷ []
+  pub line : problem ≡ before ++ line_feed ∷ []
   pub file : TextFile
   pub is_file : IsFile file
   pub report : Report
@@ -112,7 +111,7 @@ pub record Accepts (words : List (List ℕ)) (text : List ℕ) : Type 0 where
   pub task : Task
   pub asked : answer_to words ≡ Ok command
   pub served : task_of command ≡ Some task
-  pub short : length text ≤ MAX_INPUT
+  pub short : length text ≤ input_limit
   pub fits : IsTextFor task text
 
 -- a task that is served goes well: it is solved, or for ADOPT the budget is spent, or memory was wanted

@@ -1,6 +1,7 @@
 //! The answer to words and a source.
 
 ghost use Rattle.std.specs.Prelude.{◌≡◌, ◌≤◌, length, map, IfOk, string_bytes};
+ghost use Rattle.dcop_base.specs.Limits.{input_limit};
 ghost use Rattle.solve_report.specs.AnswerText.{HasText};
 ghost use Rattle.problem_text.specs.Reading.{text_read};
 ghost use Rattle.problem_text.specs.Steps.{declared_by};
@@ -55,7 +56,7 @@ pub fn answer_of<S: Source>(
 /// The answer to a task on all bytes of an input.
 fn task_answer(alloc: Global, task: Task, bytes: &[u8]) -> Result<Answer, NoMemory>
     requires range { IsTaskInRange task }
-    requires short { length bytes.now ≤ MAX_INPUT }
+    requires short { length bytes.now ≤ input_limit }
     ensures belongs { IfOk result (IsTaskAnswer task bytes.now) }
     ensures right { IfOk result TellsRight }
     ensures told { IfOk result HasText }
@@ -100,7 +101,7 @@ fn file_answer(alloc: Global, task: FileTask, file: ProblemFile) -> Result<Answe
 
 /// The answer of `check` on a text: what comes of the report that stands behind a problem.
 fn report_answer(alloc: Global, bytes: &[u8]) -> Result<Answer, NoMemory>
-    requires short { length bytes.now ≤ MAX_INPUT }
+    requires short { length bytes.now ≤ input_limit }
     ensures belongs { IfOk result (IsReportAnswer bytes.now (text_read bytes.now)) }
     ensures right { IfOk result TellsRight }
     ensures told { IfOk result HasText }

@@ -1,5 +1,6 @@
 -- The table of options: their words, and the numbers that they take.
 use Rattle.std.specs.Prelude.{ℕ, List, [], ◌∷◌, Option, bytes_eq, codes, find}
+use Rattle.dcop_base.specs.Limits.{amount_limit, budget_limit, variable_limit, joined_limit}
 use Rattle.solve_words.specs.declared.options.WordOption.{WordOption}
 use Rattle.solve_words.specs.declared.options.WordOption.TheVariants.{Method, Certificate, Format, After, Number}
 use Rattle.solve_words.specs.declared.options.Numbers.{Numbers}
@@ -37,12 +38,12 @@ option_named word = find (λ option. bytes_eq (word_of option) word) options
 -- what an option's number may be, and what it is where the option is not given
 abbrev pub numbers_of : Quantity → Numbers
 numbers_of Workers = record { least = 1; most = 64; default = 1 }
-numbers_of Error = record { least = 0; most = 4611686018427387904; default = 0 }
-numbers_of Budget = record { least = 0; most = 10000000; default = 1000000 }
+numbers_of Error = record { least = 0; most = amount_limit; default = 0 }
+numbers_of Budget = record { least = 0; most = budget_limit; default = 1000000 }
 numbers_of Nodes = record { least = 1; most = 8; default = 1 }
 numbers_of Seed = record { least = 0; most = 9999999999999999999; default = 0 }
-numbers_of Vars = record { least = 1; most = 1000; default = 20 }
+numbers_of Vars = record { least = 1; most = variable_limit; default = 20 }
 numbers_of Size = record { least = 1; most = 16; default = 4 }
 numbers_of Degree = record { least = 1; most = 8; default = 2 }
 numbers_of Top = record { least = 0; most = 1000000; default = 100 }
-numbers_of Cells = record { least = 1024; most = 1048576; default = 1048576 }
+numbers_of Cells = record { least = 1024; most = joined_limit; default = joined_limit }

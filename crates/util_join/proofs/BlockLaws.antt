@@ -7,7 +7,7 @@ use Rattle.std.proofs.lemmas.List.{get_or-drop}
 use Rattle.std.proofs.lemmas.List.Elements.{All-append, All-take, All-drop}
 use Rattle.std.proofs.lemmas.Simd.{get_or-chunk, length-chunk}
 use borrow.Rule.Slice.PartMut.{put_mid, mid_of}
-use Rattle.dcop_base.specs.declared.number.TheConstants.{CAP}
+use Rattle.dcop_base.specs.Limits.{amount_limit}
 use Rattle.dcop_base.specs.Table.{CostTable, product, cell_place, AreWithin}
 use Rattle.dcop_base.proofs.TableLaws.{cell_place-lt, capped}
 use Rattle.util_kernel.specs.Lanes.{plus}
@@ -16,7 +16,7 @@ use Rattle.util_join.specs.Strides.{stride, strides, offset, last_values, IsRowS
 -- a block of which the first values of its first variable are done: so many, each with the rows of the other variables
 pub record IsPartSum (from ds sizes : List ℕ) (width step stride done : ℕ) (old new : List ℕ) : Type 0 where
   pub count : length new ≡ length old
-  pub small : All (λ n. n ≤ CAP) new
+  pub small : All (λ n. n ≤ amount_limit) new
   pub cells : (v : ℕ) (values : List ℕ) (p : ℕ) → v < done → AreWithin sizes values → p < width → get_or new ((v * product sizes + cell_place sizes values) * width + p) 0 ≡ plus (get_or old ((v * product sizes + cell_place sizes values) * width + p) 0) (get_or from (stride * v + offset ds values + step * p) 0)
   pub rest : (p : ℕ) → done * (product sizes * width) ≤ p → get_or new p 0 ≡ get_or old p 0
 
@@ -127,7 +127,7 @@ part-more from ds sizes width step stride v at size old now part at-is size-is r
     let next : (v + 1) * (product sizes * width) ≡ at + size = omega (arith, at-is, size-is) in
     record {
       count = length-put at size now part count fits ∙ so_far.count;
-      small = all-put (λ n. n ≤ CAP) at size now part so_far.small sum.small;
+      small = all-put (λ n. n ≤ amount_limit) at size now part so_far.small sum.small;
       rest = λ p h. put-above at size now part p count fits (omega (arith, next)) ∙ so_far.rest p (omega (arith, next, at-is));
       cells = λ u values p h within below. elim (cases_lt u v) [
         | inl earlier ↦ (
@@ -144,7 +144,7 @@ part-more from ds sizes width step stride v at size old now part at-is size-is r
     }
 
 -- no value done, and all
-pub part-none : (from ds sizes : List ℕ) (width step stride : ℕ) (old : List ℕ) → All (λ n. n ≤ CAP) old → IsPartSum from ds sizes width step stride 0 old old
+pub part-none : (from ds sizes : List ℕ) (width step stride : ℕ) (old : List ℕ) → All (λ n. n ≤ amount_limit) old → IsPartSum from ds sizes width step stride 0 old old
 part-none from ds sizes width step stride old small = record {
   count = refl;
   small = small;

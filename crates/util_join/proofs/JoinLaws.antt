@@ -5,7 +5,7 @@ use Rattle.std.proofs.lemmas.Bool.{cases_Bool, eqb-true, eq-eqb, le-ltb, not_fro
 use Rattle.std.proofs.lemmas.List.{length-map, take-map, drop-map}
 use Rattle.std.proofs.lemmas.List.Elements.{All-head, All-tail, All-drop, All-weaker, AllZip-get_or}
 use Rattle.std.proofs.lemmas.List.Folds.{list_any_none}
-use Rattle.dcop_base.specs.declared.number.TheConstants.{CAP}
+use Rattle.dcop_base.specs.Limits.{amount_limit}
 use Rattle.dcop_base.specs.declared.table.TableFault.TheVariants.{Repeat, Sizes, CellCount, CellTooLarge}
 use Rattle.dcop_base.specs.Table.{CostTable, IsTable, AreWithin, product, cell_place, has, has_repeat, table_fault}
 use Rattle.dcop_base.proofs.TableLaws.{AreParts, parts-of, none-passes, cell_place-lt}
@@ -28,14 +28,14 @@ nonzero s h = elim (cases_Bool (eqb s 0)) [
 
 pub whole-of : (scope sizes cells : List ℕ) → AreParts scope sizes cells → table_fault scope sizes cells ≡ None
 whole-of scope sizes cells parts =
-    all-false (has_repeat scope) (not (eqb (length sizes) (length scope))) (list_any (λ s. eqb s 0) sizes) (not (eqb (length cells) (product sizes))) (list_any (λ c. ltb CAP c) cells)
+    all-false (has_repeat scope) (not (eqb (length sizes) (length scope))) (list_any (λ s. eqb s 0) sizes) (not (eqb (length cells) (product sizes))) (list_any (λ c. ltb amount_limit c) cells)
     parts.apart
     (not_from_true (eqb (length sizes) (length scope)) (eq-eqb (length sizes) (length scope) parts.sized))
     (list_any_none (λ s. eqb s 0) sizes (All-weaker (λ s. 1 ≤ s) (λ s. eqb s 0 ≡ false) nonzero sizes parts.positive))
     (not_from_true (eqb (length cells) (product sizes)) (eq-eqb (length cells) (product sizes) parts.full))
-    (list_any_none (λ c. ltb CAP c) cells (All-weaker (λ c. c ≤ CAP) (λ c. ltb CAP c ≡ false) (λ c h. le-ltb CAP c h) cells parts.small))
+    (list_any_none (λ c. ltb amount_limit c) cells (All-weaker (λ c. c ≤ amount_limit) (λ c. ltb amount_limit c ≡ false) (λ c h. le-ltb amount_limit c h) cells parts.small))
 
-pub still-whole : (scope sizes old new : List ℕ) → table_fault scope sizes old ≡ None → length new ≡ length old → All (λ c. c ≤ CAP) new → table_fault scope sizes new ≡ None
+pub still-whole : (scope sizes old new : List ℕ) → table_fault scope sizes old ≡ None → length new ≡ length old → All (λ c. c ≤ amount_limit) new → table_fault scope sizes new ≡ None
 still-whole scope sizes old new whole count small =
     let parts = parts-of scope sizes old whole in
     whole-of scope sizes new (record { apart = parts.apart; sized = parts.sized; positive = parts.positive; full = count ∙ parts.full; small = small })

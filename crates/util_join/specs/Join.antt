@@ -6,12 +6,12 @@ use Rattle.cost_table.specs.Cells.{cell_of, place_in}
 use Rattle.util_kernel.specs.Lanes.{plus}
 use Rattle.util_join.specs.declared.joined.JoinFault.{JoinFault}
 use Rattle.util_join.specs.declared.joined.JoinFault.TheVariants.{TooWide, NoMemory}
-use Rattle.util_join.specs.declared.joined.TheConstants.{MAX_JOINED_CELLS}
+use Rattle.dcop_base.specs.Limits.{joined_limit, count_limit}
 
 -- variables with these sizes have a joined table of zeros, or exactly above the limit are too wide, with the number of cells; want of memory may come at any
 abbrev pub MakesJoined : List ℕ → List ℕ → Result CostTable JoinFault → Type 0
-MakesJoined over sizes (Ok t) = (product sizes ≤ MAX_JOINED_CELLS) × IsTableOfParts over sizes (replicate (product sizes) 0) t
-MakesJoined over sizes (Err (TooWide cells)) = (MAX_JOINED_CELLS < product sizes) × (cells ≡ min (product sizes) 18446744073709551615)
+MakesJoined over sizes (Ok t) = (product sizes ≤ joined_limit) × IsTableOfParts over sizes (replicate (product sizes) 0) t
+MakesJoined over sizes (Err (TooWide cells)) = (joined_limit < product sizes) × (cells ≡ min (product sizes) count_limit)
 MakesJoined over sizes (Err NoMemory) = Unit {0}
 
 -- the table's variables are among these, and have the sizes that these have

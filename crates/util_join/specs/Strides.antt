@@ -1,7 +1,7 @@
 -- How the place of a table's cell moves with the values of variables, which need not stand in its order.
 use Rattle.std.specs.Prelude.{◌≡◌, ℕ, ◌+◌, ◌*◌, ◌-◌, ◌<◌, ◌≤◌, ◌==◌, List, [], ◌∷◌, map, length, drop, if◌then◌else◌, slice_index}
 use Rattle.std.specs.List.{All}
-use Rattle.dcop_base.specs.declared.number.TheConstants.{CAP}
+use Rattle.dcop_base.specs.Limits.{amount_limit}
 use Rattle.dcop_base.specs.Table.{CostTable, AreWithin, product, cell_place}
 use Rattle.util_kernel.specs.Lanes.{plus}
 
@@ -34,11 +34,11 @@ pub record IsRow (ds sizes : List ℕ) (start width step : ℕ) : Type 0 where
 -- cells of a row that gained the amounts that stand one step after the other
 pub record IsRowSum (from : List ℕ) (step : ℕ) (old new : List ℕ) : Type 0 where
   pub count : length new ≡ length old
-  pub small : All (λ n. n ≤ CAP) new
+  pub small : All (λ n. n ≤ amount_limit) new
   pub cells : (p : ℕ) → p < length old → slice_index new p ≡ plus (slice_index old p) (slice_index from (step * p))
 
 -- rows of so many cells, one for each choice of values of these sizes, each of which is such a sum from the place on to which its values move
 pub record IsBlockSum (from ds sizes : List ℕ) (width step : ℕ) (old new : List ℕ) : Type 0 where
   pub count : length new ≡ length old
-  pub small : All (λ n. n ≤ CAP) new
+  pub small : All (λ n. n ≤ amount_limit) new
   pub cells : (values : List ℕ) (p : ℕ) → AreWithin sizes values → p < width → slice_index new (cell_place sizes values * width + p) ≡ plus (slice_index old (cell_place sizes values * width + p)) (slice_index from (offset ds values + step * p))

@@ -2,6 +2,7 @@
 
 ghost use Rattle.std.specs.Prelude.{◌≡◌, ℕ, ◌+◌, ◌*◌, ◌-◌, ◌<◌, ◌≤◌, length, None};
 ghost use Rattle.std.specs.List.{All};
+ghost use Rattle.dcop_base.specs.Limits.{amount_limit};
 ghost use Rattle.dcop_base.specs.Table.{product, table_fault};
 ghost use Rattle.util_join.specs.Join.{LiesIn, IsSum};
 ghost use Rattle.util_join.specs.Strides.{strides, offset, last_values, IsBlockSum};
@@ -41,8 +42,8 @@ fn add_block(
     requires inside { offset (strides table.now over.now) (last_values sizes.now)
         + row.step * (row.width - 1) < length from.now }
     requires table { product table.now.sizes ≤ usize.MAX }
-    requires cells { All (λ n. n ≤ CAP) cells.old }
-    requires from { All (λ n. n ≤ CAP) from.now }
+    requires cells { All (λ n. n ≤ amount_limit) cells.old }
+    requires from { All (λ n. n ≤ amount_limit) from.now }
     ensures { IsBlockSum from.now (strides table.now over.now) sizes.now row.width row.step
         cells.old cells.new }
 {

@@ -2,6 +2,7 @@
 
 ghost use Rattle.std.specs.Prelude.{◌≡◌, ℕ, ◌*◌, ◌-◌, ◌<◌, ◌≤◌, length, List, ◌∷◌};
 ghost use Rattle.std.specs.List.{All};
+ghost use Rattle.dcop_base.specs.Limits.{amount_limit};
 ghost use Rattle.dcop_base.specs.Table.{product};
 ghost use Rattle.util_join.specs.Strides.{IsRow, IsRowSum, strides};
 
@@ -86,8 +87,8 @@ fn extended(row: Row, size: usize, stride: usize) -> Row
 pub(crate) fn add_row(cells: &mut [u64], from: &[u64], step: usize)
     requires some { 1 ≤ length cells.old }
     requires inside { step * (length cells.old - 1) < length from.now }
-    requires cells { All (λ n. n ≤ CAP) cells.old }
-    requires from { All (λ n. n ≤ CAP) from.now }
+    requires cells { All (λ n. n ≤ amount_limit) cells.old }
+    requires from { All (λ n. n ≤ amount_limit) from.now }
     ensures { IsRowSum from.now step cells.old cells.new }
 {
     match step {
@@ -103,8 +104,8 @@ pub(crate) fn add_row(cells: &mut [u64], from: &[u64], step: usize)
 /// [`add_row`], one cell after the other.
 fn add_strided(cells: &mut [u64], from: &[u64], step: usize)
     requires inside { step * (length cells.old - 1) < length from.now }
-    requires cells { All (λ n. n ≤ CAP) cells.old }
-    requires from { All (λ n. n ≤ CAP) from.now }
+    requires cells { All (λ n. n ≤ amount_limit) cells.old }
+    requires from { All (λ n. n ≤ amount_limit) from.now }
     ensures { IsRowSum from.now step cells.old cells.new }
 {
     for k in 0..cells.len() {

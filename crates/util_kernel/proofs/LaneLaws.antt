@@ -8,7 +8,7 @@ use Rattle.std.proofs.lemmas.List.{drop-replicate}
 use lib.Lanes.{zip2, sel_l, chunk, put_chunk, top}
 use mir.Syntax.{w64}
 use Rattle.util_kernel.specs.Lanes.{plus, sums, leasts, raised}
-use Rattle.dcop_base.specs.declared.number.TheConstants.{CAP}
+use Rattle.dcop_base.specs.Limits.{amount_limit}
 
 -- the lesser of two, chosen by a test
 chosen : (x y : ℕ) → cond (ltb x y) x y ≡ min x y
@@ -27,16 +27,16 @@ pub least-block : (xs ys : List ℕ) → sel_l (map (top 63) (zip2 (λ (a b : �
 least-block xs ys = ap (λ (bs : List Bool). sel_l bs xs ys) (tops_compared w64 ltb xs ys) ∙ selected xs ys
 
 -- the sums of two blocks, of which none wraps, and each of which is capped
-sum-wraps : (x y : ℕ) → x ≤ CAP → y ≤ CAP → (x + y) % 2 ^ 64 ≡ x + y
+sum-wraps : (x y : ℕ) → x ≤ amount_limit → y ≤ amount_limit → (x + y) % 2 ^ 64 ≡ x + y
 sum-wraps x y hx hy = omega arith
 
-pub sum-block : (xs ys : List ℕ) (n : ℕ) → length xs ≡ n → length ys ≡ n → All (λ x. x ≤ CAP) xs → All (λ y. y ≤ CAP) ys → leasts (zip2 (λ (a b : ℕ). (a + b) % 2 ^ 64) xs ys) (replicate n CAP) ≡ sums xs ys
+pub sum-block : (xs ys : List ℕ) (n : ℕ) → length xs ≡ n → length ys ≡ n → All (λ x. x ≤ amount_limit) xs → All (λ y. y ≤ amount_limit) ys → leasts (zip2 (λ (a b : ℕ). (a + b) % 2 ^ 64) xs ys) (replicate n amount_limit) ≡ sums xs ys
 sum-block [] ys n ex ey hx hy = refl
 sum-block (x ∷ xs) [] n ex ey hx hy = refl
 sum-block (x ∷ xs) (y ∷ ys) zero ex ey hx hy = absurd (omega (arith, ex))
 sum-block (x ∷ xs) (y ∷ ys) (suc n) ex ey hx hy =
-    let head = ap (λ s. min s CAP) (sum-wraps x y (All-head (λ x. x ≤ CAP) x xs hx) (All-head (λ x. x ≤ CAP) y ys hy)) in
-    let tail = sum-block xs ys n (omega (arith, ex)) (omega (arith, ey)) (All-tail (λ x. x ≤ CAP) x xs hx) (All-tail (λ x. x ≤ CAP) y ys hy) in
+    let head = ap (λ s. min s amount_limit) (sum-wraps x y (All-head (λ x. x ≤ amount_limit) x xs hx) (All-head (λ x. x ≤ amount_limit) y ys hy)) in
+    let tail = sum-block xs ys n (omega (arith, ex)) (omega (arith, ey)) (All-tail (λ x. x ≤ amount_limit) x xs hx) (All-tail (λ x. x ≤ amount_limit) y ys hy) in
     cc
 
 -- a list of which the first amounts are combined with those of another, and the rest are not
@@ -120,9 +120,9 @@ get_or-combined f (suc k) (x ∷ xs) (y ∷ ys) d = get_or-combined f k xs ys d
 pub raised-is : (cell : ℕ) (xs : List ℕ) (n : ℕ) → length xs ≡ n → sums xs (replicate n cell) ≡ raised xs cell
 raised-is cell xs n e = zip2_splat plus xs n cell e
 
-pub sum-block-one : (cell : ℕ) (xs : List ℕ) (n : ℕ) → length xs ≡ n → cell ≤ CAP → All (λ x. x ≤ CAP) xs → leasts (zip2 (λ (a b : ℕ). (a + b) % 2 ^ 64) xs (replicate n cell)) (replicate n CAP) ≡ raised xs cell
+pub sum-block-one : (cell : ℕ) (xs : List ℕ) (n : ℕ) → length xs ≡ n → cell ≤ amount_limit → All (λ x. x ≤ amount_limit) xs → leasts (zip2 (λ (a b : ℕ). (a + b) % 2 ^ 64) xs (replicate n cell)) (replicate n amount_limit) ≡ raised xs cell
 sum-block-one cell xs n e h all =
-    sum-block xs (replicate n cell) n e (length-replicate n cell) all (All-replicate (λ x. x ≤ CAP) n cell h) ∙ raised-is cell xs n e
+    sum-block xs (replicate n cell) n e (length-replicate n cell) all (All-replicate (λ x. x ≤ amount_limit) n cell h) ∙ raised-is cell xs n e
 
 take-replicate_more : (cell n m : ℕ) → n ≤ m → take n (replicate m cell) ≡ replicate n cell
 take-replicate_more cell zero m h = refl

@@ -1,11 +1,11 @@
 -- Lists of amounts, element by element.
 use Rattle.std.specs.Prelude.{ℕ, ◌+◌, List, map, min}
 use Rattle.std.specs.Simd.Lanes.{zip2}
-use Rattle.dcop_base.specs.declared.number.TheConstants.{CAP}
+use Rattle.dcop_base.specs.Limits.{amount_limit}
 
--- the sum of two amounts, or CAP where it is above it
+-- the sum of two amounts, or amount_limit where it is above it
 abbrev pub plus : ℕ → ℕ → ℕ
-plus a b = min (a + b) CAP
+plus a b = min (a + b) amount_limit
 
 -- the amounts of two lists, each added to the one at its place
 abbrev pub sums : List ℕ → List ℕ → List ℕ

@@ -4,6 +4,7 @@ ghost use Rattle.std.specs.Prelude.{◌≡◌, ◌+◌, ◌≤◌, List, length}
 ghost use Rattle.std.specs.List.{All};
 ghost use Rattle.util_kernel.specs.Lanes.{sums};
 ghost use Rattle.std.specs.Simd.Lanes.{chunk, put_chunk};
+ghost use Rattle.dcop_base.specs.Limits.{amount_limit};
 
 use dcop_base::CAP;
 use std::simd::prelude::u64x8;
@@ -15,8 +16,8 @@ const LANES: usize = 8;
 /// [`CAP`].
 pub fn add_lanes(into: &mut [u64], from: &[u64])
     requires equal { length into.old ≡ length from.now }
-    requires into { All (λ n. n ≤ CAP) into.old }
-    requires from { All (λ n. n ≤ CAP) from.now }
+    requires into { All (λ n. n ≤ amount_limit) into.old }
+    requires from { All (λ n. n ≤ amount_limit) from.now }
     ensures { into.new ≡ sums into.old from.now }
 {
     let mut at = 0;
@@ -34,8 +35,8 @@ pub fn add_lanes(into: &mut [u64], from: &[u64])
 fn add_block(into: &mut [u64], from: &[u64], at: usize)
     requires equal { length into.old ≡ length from.now }
     requires room { at + LANES ≤ length into.old }
-    requires into { All (λ n. n ≤ CAP) (chunk at LANES into.old) }
-    requires from { All (λ n. n ≤ CAP) (chunk at LANES from.now) }
+    requires into { All (λ n. n ≤ amount_limit) (chunk at LANES into.old) }
+    requires from { All (λ n. n ≤ amount_limit) (chunk at LANES from.now) }
     ensures { into.new ≡ put_chunk at into.old
         (sums (chunk at LANES into.old) (chunk at LANES from.now)) }
 {

@@ -4,6 +4,7 @@ ghost use Rattle.std.specs.Prelude.{◌≡◌, ◌+◌, ◌≤◌, length};
 ghost use Rattle.std.specs.List.{All};
 ghost use Rattle.util_kernel.specs.Lanes.{raised};
 ghost use Rattle.std.specs.Simd.Lanes.{chunk, put_chunk};
+ghost use Rattle.dcop_base.specs.Limits.{amount_limit};
 
 use dcop_base::CAP;
 use std::simd::prelude::u64x8;
@@ -13,8 +14,8 @@ const LANES: usize = 8;
 
 /// Adds `cell` to each amount of `into`; a sum above [`CAP`] becomes [`CAP`].
 pub fn add_one_lanes(into: &mut [u64], cell: u64)
-    requires into { All (λ n. n ≤ CAP) into.old }
-    requires cell { cell ≤ CAP }
+    requires into { All (λ n. n ≤ amount_limit) into.old }
+    requires cell { cell ≤ amount_limit }
     ensures { into.new ≡ raised into.old cell }
 {
     let mut at = 0;
@@ -31,8 +32,8 @@ pub fn add_one_lanes(into: &mut [u64], cell: u64)
 /// Adds one amount to the block of eight from a place on.
 fn add_one_block(into: &mut [u64], cell: u64, at: usize)
     requires room { at + LANES ≤ length into.old }
-    requires into { All (λ n. n ≤ CAP) (chunk at LANES into.old) }
-    requires cell { cell ≤ CAP }
+    requires into { All (λ n. n ≤ amount_limit) (chunk at LANES into.old) }
+    requires cell { cell ≤ amount_limit }
     ensures { into.new ≡ put_chunk at into.old (raised (chunk at LANES into.old) cell) }
 {
     let sum = u64x8::from_slice(&into[at..]) + u64x8::splat(cell);

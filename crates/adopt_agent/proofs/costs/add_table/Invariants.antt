@@ -1,14 +1,14 @@
 use Rattle.std.proofs.Common.{◌≡◌, ℕ, ◌+◌, ◌<◌, ◌≤◌, get_or}
 use Rattle.std.specs.List.{All}
 use Rattle.dcop_base.specs.Values.{cell_with, with_own}
-use Rattle.dcop_base.specs.declared.number.TheConstants.{CAP}
+use Rattle.dcop_base.specs.Limits.{amount_limit}
 use Rattle.adopt_context.specs.Bounds.{cap}
 use Rattle.protocol_steps.specs.Values.{valued}
 use Rattle.adopt_agent.proofs.costs.add_table.Given as goal
 
 abbrev pub invariant-loop-d : goal.invariant-loop-d
 invariant-loop-d l = record {
-  within : All (λ c. c ≤ CAP) l.costs;
+  within : All (λ c. c ≤ amount_limit) l.costs;
   done : (e : ℕ) → e < l.d → get_or l.costs e 0 ≡ cap (get_or l.fn.costs e 0 + cell_with l.table (with_own l.me e (valued l.known)));
   left : (e : ℕ) → l.d ≤ e → get_or l.costs e 0 ≡ get_or l.fn.costs e 0;
 }

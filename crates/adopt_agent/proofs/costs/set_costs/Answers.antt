@@ -2,7 +2,7 @@ use Rattle.std.proofs.Common.{◌≡◌, ℕ, ◌<◌, ◌≤◌, ◌&&◌, ◌|
 use Rattle.std.specs.List.{All, list_all}
 use Rattle.dcop_base.specs.Table.{CostTable, has}
 use Rattle.dcop_base.specs.Values.{with_own}
-use Rattle.dcop_base.specs.declared.number.TheConstants.{CAP}
+use Rattle.dcop_base.specs.Limits.{amount_limit}
 use Rattle.adopt_context.specs.Context.{value_in}
 use Rattle.protocol_steps.specs.Values.{valued}
 use Rattle.protocol_steps.specs.AdoptBounds.{counts}
@@ -42,14 +42,14 @@ loop-table-preserved c =
     let lt : k < length own.tables = omega (arith, inside, long) in
     elim c.if-counts.branch [
       | then-counts w ↦ record {
-        within = subst (λ (xs : List ℕ). All (λ x. x ≤ CAP) xs) (sym w.costs-is) w.add_table.ensures.costs;
+        within = subst (λ (xs : List ℕ). All (λ x. x ≤ amount_limit) xs) (sym w.costs-is) w.add_table.ensures.costs;
         counted = ap (λ (xs : List ℕ). length xs) w.costs-is ∙ w.add_table.auto.costs ∙ counted;
         each = λ d below.
             ap (λ (xs : List ℕ). get_or xs d 0) w.costs-is
             ∙ cost_more q own.tables k t (with_own own.me d (valued known)) (get_or c.loop-table.costs d 0) (get_or w.add_table.new.costs d 0) lt is (sym test ∙ w.if-counts.true) (c.loop-table.invariant.each d below) (w.add_table.ensures.added d (omega (arith, below, counted)));
       }
       | else-counts w ↦ record {
-        within = subst (λ (xs : List ℕ). All (λ x. x ≤ CAP) xs) (sym w.costs-is) c.loop-table.invariant.within;
+        within = subst (λ (xs : List ℕ). All (λ x. x ≤ amount_limit) xs) (sym w.costs-is) c.loop-table.invariant.within;
         counted = ap (λ (xs : List ℕ). length xs) w.costs-is ∙ counted;
         each = λ d below.
             ap (λ (xs : List ℕ). get_or xs d 0) w.costs-is

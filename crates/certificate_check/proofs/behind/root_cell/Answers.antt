@@ -1,7 +1,7 @@
 use Rattle.std.proofs.Common.{◌≡◌, ◌<◌, ◌≤◌, length, ap, subst, ◌∙◌, arith}
 use Rattle.std.proofs.lemmas.List.Elements.{All-weaker}
 use Rattle.dcop_base.specs.Whole.{IsProblem}
-use Rattle.dcop_base.specs.declared.problem.TheConstants.{MAX_SIZE}
+use Rattle.dcop_base.specs.Limits.{size_limit}
 use Rattle.certificate_text.specs.declared.certificate.Util.{Util}
 use Rattle.certificate_check.specs.Told.{told}
 use Rattle.certificate_check.proofs.FitLaws.{told_fits}
@@ -18,7 +18,7 @@ bounds-as_slice-0 c =
     let lt : c.root_of.result < length c.args.problem.now.sizes = rw c.root_of.ensures c.requires.root in
     let problem = subst IsProblem c.problem.view_is c.problem.invariant in
     let some = some_cell c.args.problem.now.sizes (told c.args.utils.now c.root_of.result)
-    (All-weaker (λ s. (1 ≤ s) × (s ≤ MAX_SIZE)) (λ s. 1 ≤ s) (λ s h. h.0) c.args.problem.now.sizes problem.sizes)
+    (All-weaker (λ s. (1 ≤ s) × (s ≤ size_limit)) (λ s. 1 ≤ s) (λ s h. h.0) c.args.problem.now.sizes problem.sizes)
     (told_fits c.args.problem.now.sizes c.args.utils.now c.root_of.result c.requires.fits lt) in
     let count : length c.as_slice-2.result.now ≡ length (told c.args.utils.now c.root_of.result).cells = ap length (c.as_slice-2.ensures ∙ ap (λ (u : Util). u.cells) c.util_of.ensures) in
     omega (arith, some, count)

@@ -1,7 +1,7 @@
 use Rattle.std.proofs.Common.{◌≤◌, ℕ, List, replicate, sym, ap, subst, ◌∙◌}
 use Rattle.std.proofs.lemmas.List.Elements.{All-weaker}
 use Rattle.dcop_base.specs.Problem.{Dcop}
-use Rattle.dcop_base.specs.declared.problem.TheConstants.{MAX_SIZE}
+use Rattle.dcop_base.specs.Limits.{size_limit}
 use Rattle.certificate_check.specs.Odometer.{IsAtCell}
 use Rattle.dcop_base.specs.Whole.{IsProblem}
 use Rattle.certificate_check.proofs.PartLaws.{targets}
@@ -26,7 +26,7 @@ table_difference-requires-clause-first c =
     let problem = subst IsProblem c.problem.view_is c.problem.invariant in
     let zeros = c.as_mut_slice.ensures.value ∙ c.in_ok-values.ensures.items_if_clones_equal (λ y h. h) ∙ ap (λ (n : ℕ). replicate n 0) c.variable_count.ensures.count in
     subst (λ (ss : List ℕ). IsAtCell ss c.util_of.result.now 0 c.as_mut_slice.result.now) (sym (c.as_slice.ensures ∙ ap (λ (q : Dcop). q.sizes) c.problem.view_is))
-    (at_zeros c.args.problem.now.sizes c.util_of.result.now c.as_mut_slice.result.now (All-weaker (λ s. (1 ≤ s) × (s ≤ MAX_SIZE)) (λ s. 1 ≤ s) (λ s h. h.0) c.args.problem.now.sizes problem.sizes) zeros)
+    (at_zeros c.args.problem.now.sizes c.util_of.result.now c.as_mut_slice.result.now (All-weaker (λ s. (1 ≤ s) × (s ≤ size_limit)) (λ s. 1 ≤ s) (λ s h. h.0) c.args.problem.now.sizes problem.sizes) zeros)
 
 pub returns : goal.returns
 returns c =

@@ -1,6 +1,6 @@
 use Rattle.std.proofs.Common.{◌≡◌, ℕ, ◌≤◌, List, map, length, min, sym, ap, subst, ◌∙◌, arith}
 use Rattle.std.proofs.lemmas.List.{length-map}
-use Rattle.dcop_base.specs.declared.problem.TheConstants.{MAX_VARIABLES}
+use Rattle.dcop_base.specs.Limits.{variable_limit}
 use Rattle.delivery_core.specs.State.{SeatView}
 use Rattle.delivery_core.specs.NetworkState.{most_counted}
 use Rattle.delivery_core.specs.Agents.{agents_of, network_of}
@@ -17,7 +17,7 @@ start_all-requires-clause-begun c =
     (p, agents_of p c.args.start.now, subst (λ (xs : List SeatView). Begun p (agents_of p c.args.start.now) 0 xs) is (begun_agents p c.args.start.now))
 
 pub start_all-requires-clause-few : goal.start_all-requires-clause-few
-start_all-requires-clause-few c = subst (λ (xs : List SeatView). length xs ≤ MAX_VARIABLES) (sym c.as_mut_slice.ensures.value) c.in_ok-seats.ensures.few
+start_all-requires-clause-few c = subst (λ (xs : List SeatView). length xs ≤ variable_limit) (sym c.as_mut_slice.ensures.value) c.in_ok-seats.ensures.few
 
 pub returns-clause-core : goal.returns-clause-core
 returns-clause-core c =

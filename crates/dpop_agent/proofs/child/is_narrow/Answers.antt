@@ -1,6 +1,6 @@
 use Rattle.std.proofs.Common.{ℕ, ◌∷◌, Option, is_some, nat_le, ap, ◌∙◌}
 use Rattle.dcop_base.specs.Table.{product}
-use Rattle.pseudotree.specs.declared.width.TheConstants.{MAX_JOINED_CELLS}
+use Rattle.dcop_base.specs.Limits.{joined_limit}
 use Rattle.protocol_steps.specs.Dpop.{DpopView, kept_scopes}
 use Rattle.dpop_agent.specs.Keeping.{keeping}
 use Rattle.dpop_agent.proofs.TakeLaws.{cells_with, within_limit}
@@ -16,4 +16,4 @@ returns c =
     let sizes = c.as_slice-2.ensures.value ∙ c.in_ok-sizes.ensures in
     let count = cells_with own place kept (c.args.scope.now ∷ kept_scopes v) c.as_slice.result.now c.as_slice-2.result.now over sizes in
     c.is_some.ensures ∙ ap (λ (o : Option ℕ). is_some o) c.cells_of.ensures
-    ∙ within_limit MAX_JOINED_CELLS (product c.as_slice-2.result.now) ∙ ap (λ (n : ℕ). nat_le n MAX_JOINED_CELLS) count
+    ∙ within_limit joined_limit (product c.as_slice-2.result.now) ∙ ap (λ (n : ℕ). nat_le n joined_limit) count

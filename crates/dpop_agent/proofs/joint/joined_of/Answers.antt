@@ -2,7 +2,7 @@ use Rattle.std.proofs.Common.{ℕ, ◌||◌, ◌==◌, List, Option, is_some, sy
 use Rattle.std.specs.List.{filter, list_all}
 use Rattle.std.proofs.lemmas.Bool.{and_from, le-leb}
 use Rattle.dcop_base.specs.Table.{CostTable, has}
-use Rattle.pseudotree.specs.declared.width.TheConstants.{MAX_JOINED_CELLS}
+use Rattle.dcop_base.specs.Limits.{joined_limit}
 use Rattle.protocol_steps.specs.Dpop.{DpopView, own_tables, kept_tables, kept_scopes, joined_cells_with}
 use Rattle.dpop_agent.specs.Keeping.{keeping}
 use Rattle.dpop_agent.specs.Joint.{HasGained, IsJoint, IsZeroWhereNarrow, over_of, over_sizes}
@@ -34,7 +34,7 @@ returns c =
     let v : DpopView = keeping own place kept in
     let zero = subst (λ (o : Option CostTable). IsZeroWhereNarrow v o) c.in-Some.is c.in_ok-joined.ensures in
     let all = sym c.are_all_there.ensures ∙ c.if-not-are_all_there.false in
-    let fits = le-leb (joined_cells_with v (kept_scopes v)) MAX_JOINED_CELLS zero.0 in
+    let fits = le-leb (joined_cells_with v (kept_scopes v)) joined_limit zero.0 in
     let mine : List CostTable → List ℕ → List CostTable = λ ts vs. filter (λ (t : CostTable). list_all (λ u. u == own.me || has vs u) t.scope) ts in
     let first : HasGained (own_tables v) c.in-Some.joined c.add_own.new.joined =
     subst (λ (ts : List CostTable). HasGained ts c.in-Some.joined c.add_own.new.joined) (ap₂ mine c.as_slice.ensures c.as_slice-2.ensures) c.add_own.ensures in

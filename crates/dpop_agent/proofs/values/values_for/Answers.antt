@@ -2,7 +2,7 @@ use Rattle.std.proofs.Common.{ℕ, ◌<◌, length, List, sym, ap, subst, ◌∙
 use Rattle.std.specs.List.{All}
 use Rattle.dcop_base.specs.Table.{CostTable}
 use Rattle.dcop_base.specs.Values.{with_own}
-use Rattle.dcop_base.specs.declared.problem.TheConstants.{MAX_VARIABLES}
+use Rattle.dcop_base.specs.Limits.{variable_limit}
 use Rattle.protocol_steps.specs.Values.{valued}
 use Rattle.dpop_agent.proofs.SumLaws.{kept_at}
 use Rattle.dpop_agent.proofs.ParcelLaws.{tell_child, tell_none, values_sent}
@@ -11,8 +11,8 @@ use Rattle.dpop_agent.proofs.values.values_for.Goals.{in-Some+in_ok-parcel_for+i
 
 pub parcel_for-requires-clause-scope : goal.parcel_for-requires-clause-scope
 parcel_for-requires-clause-scope c =
-    subst (λ (vs : List ℕ). All (λ u. u < MAX_VARIABLES) vs) (sym (c.as_slice-scope.ensures ∙ ap (λ (t : CostTable). t.scope) c.table.view_is))
-    (kept_at (λ t. All (λ u. u < MAX_VARIABLES) t.scope) c.args.kept.now c.loop-k.k c.index-kept-k.result c.in-Some.table c.loop-k-test.true c.index-kept-k.is c.in-Some.is c.requires.scopes)
+    subst (λ (vs : List ℕ). All (λ u. u < variable_limit) vs) (sym (c.as_slice-scope.ensures ∙ ap (λ (t : CostTable). t.scope) c.table.view_is))
+    (kept_at (λ t. All (λ u. u < variable_limit) t.scope) c.args.kept.now c.loop-k.k c.index-kept-k.result c.in-Some.table c.loop-k-test.true c.index-kept-k.is c.in-Some.is c.requires.scopes)
 
 pub loop-k-preserved : goal.loop-k-preserved
 loop-k-preserved c =

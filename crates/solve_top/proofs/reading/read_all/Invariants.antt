@@ -1,10 +1,10 @@
 use Rattle.std.proofs.Common.{◌-◌, ◌+◌, vec_len}
 use Rattle.solve_top.proofs.PassLaws.{ReadDone}
-use Rattle.solve_top.specs.declared.reading.TheConstants.{MAX_INPUT}
+use Rattle.dcop_base.specs.Limits.{input_limit}
 use Rattle.solve_top.proofs.reading.read_all.Given as goal
 
 abbrev pub invariant-loop-block : goal.invariant-loop-block
 invariant-loop-block g l = ReadDone (g.S.Source.left l.initial.source) (g.S.Source.left l.source) (g.S.Source.faults l.initial.source) (g.S.Source.faults l.source) l.bytes.items
 
 abbrev pub decreases-loop-block : goal.decreases-loop-block
-decreases-loop-block g l = MAX_INPUT + 1 - vec_len l.bytes
+decreases-loop-block g l = input_limit + 1 - vec_len l.bytes

@@ -1,7 +1,7 @@
 use Rattle.std.proofs.Common.{ℕ, ◌<◌, List, Option, sym, ap, subst, ◌∙◌}
 use Rattle.std.specs.List.{All, flat_map}
 use Rattle.dcop_base.specs.Table.{CostTable}
-use Rattle.dcop_base.specs.declared.problem.TheConstants.{MAX_VARIABLES, MAX_SIZE}
+use Rattle.dcop_base.specs.Limits.{variable_limit, size_limit}
 use Rattle.protocol_steps.specs.Values.{valued}
 use Rattle.protocol_steps.specs.Dpop.{there, best_value}
 use Rattle.dpop_agent.specs.Keeping.{keeping}
@@ -12,14 +12,14 @@ use Rattle.dpop_agent.proofs.agent.DpopAgent.decide.Goals as goal
 pub values_for-requires-clause-scopes : goal.values_for-requires-clause-scopes
 values_for-requires-clause-scopes c =
     let a = c.self.inside in
-    subst (λ (es : List (Option CostTable)). All (λ (t : CostTable). All (λ u. u < MAX_VARIABLES) t.scope) (flat_map there es)) (sym c.as_slice-kept.ensures.value)
+    subst (λ (es : List (Option CostTable)). All (λ (t : CostTable). All (λ u. u < variable_limit) t.scope) (flat_map there es)) (sym c.as_slice-kept.ensures.value)
     (kept_below a.own a.place a.kept.items c.self.invariant.keeper)
 
 pub values_for-requires-clause-best : goal.values_for-requires-clause-best
 values_for-requires-clause-best c =
     let a = c.self.inside in
     let best = c.in_ok-best.ensures ∙ ap (λ (es : List (Option CostTable)). best_value (keeping a.own a.place es) (valued c.args.values.now)) c.as_slice-kept.ensures.value in
-    subst (λ (x : ℕ). x < MAX_SIZE) (sym best) (best_small a.own a.place a.kept.items c.self.invariant.keeper (valued c.args.values.now))
+    subst (λ (x : ℕ). x < size_limit) (sym best) (best_small a.own a.place a.kept.items c.self.invariant.keeper (valued c.args.values.now))
 
 pub returns-clause-gives : goal.returns-clause-gives
 returns-clause-gives c =

@@ -1,0 +1,58 @@
+-- The limits of the product, each a number of its own: no limit here is taken from a constant of the code, so code with another limit is refused.
+use Rattle.std.specs.Prelude.{ℕ}
+
+-- the greatest amount, 2^62: no cost, bound, threshold or UTIL cell is above it
+abbrev pub amount_limit : ℕ
+amount_limit = 4611686018427387904
+
+-- the greatest count that is told, 2^64 - 1: a greater one is told as this
+abbrev pub count_limit : ℕ
+count_limit = 18446744073709551615
+
+-- the most variables of a problem
+abbrev pub variable_limit : ℕ
+variable_limit = 1000
+
+-- the most values of a variable
+abbrev pub size_limit : ℕ
+size_limit = 1024
+
+-- the most variables of a table
+abbrev pub scope_limit : ℕ
+scope_limit = 4
+
+-- the greatest cost in a cell of a problem's tables, 2^50
+abbrev pub cost_limit : ℕ
+cost_limit = 1125899906842624
+
+-- the most cells of all tables of a problem, 2^22
+abbrev pub cell_limit : ℕ
+cell_limit = 4194304
+
+-- the most digits of a number in a text
+abbrev pub digit_limit : ℕ
+digit_limit = 19
+
+-- the most bytes of a name
+abbrev pub name_limit : ℕ
+name_limit = 32
+
+-- the most bytes of an input, 2^28
+abbrev pub input_limit : ℕ
+input_limit = 268435456
+
+-- the most assignments that the plain method tries
+abbrev pub assignment_limit : ℕ
+assignment_limit = 65536
+
+-- the most cells of an agent's joined table in a narrow tree, 2^20
+abbrev pub joined_limit : ℕ
+joined_limit = 1048576
+
+-- the most cells that all agents of a light tree send together, 2^22
+abbrev pub sent_limit : ℕ
+sent_limit = 4194304
+
+-- the greatest budget of deliveries
+abbrev pub budget_limit : ℕ
+budget_limit = 10000000
