@@ -33,11 +33,12 @@ mod word_line;
 
 pub use canonical::{write_cells, write_goal, write_problem, write_scope};
 pub use cell_words::product_of;
+pub use dcop_base::MAX_NAME;
 pub use edited::{Edited, EditedList};
 pub use fault::{ReportFault, ReportKind, TextFault, TextKind};
 pub use file::{Goal, LabelList, ProblemFile, ReadFile};
 pub use line::{CR, HASH, LF, line_behind};
-pub use name::{MAX_NAME, is_name};
+pub use name::is_name;
 pub use name_word::name_of;
 pub use names::{Labels, NameSet, Names};
 pub use plain_line::{PlainLine, next_plain_line};

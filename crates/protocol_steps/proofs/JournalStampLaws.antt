@@ -38,6 +38,7 @@ started_at made now starts i lt = elim (slice_get_cases made i).1 [
 pub starts_show : StartsShow
 starts_show made now starts = (
   record {
+    agents = length-map made (λ (v : View). (start_of v).view);
     size = length-map made (λ (v : View). let d : Desk = record { sent = (start_of v).sends; takes = [] } in d);
     views = λ i lt. (started_at made now starts i lt).0;
     desks = λ i lt. (started_at made now starts i lt).1;
@@ -71,7 +72,7 @@ journal_again i lists (e ∷ es) enough =
     ∙ ap (λ (tss : List (List Take)). e.takes ∷ tss) (journal_again i (left_of lists e.takes) es later)
 
 -- the journal of an agent is what its activations take
-journal_of_deeds : (i : ℕ) (ds : List Deed) → journal i (map event_of ds) ≡ map (λ d. takes_of d.gains) (deeds_of i ds)
+pub journal_of_deeds : (i : ℕ) (ds : List Deed) → journal i (map event_of ds) ≡ map (λ d. takes_of d.gains) (deeds_of i ds)
 journal_of_deeds i [] = refl
 journal_of_deeds i (d ∷ ds) = elim (cases_Bool (d.agent == i)) [
   | inl mine ↦

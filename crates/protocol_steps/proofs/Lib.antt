@@ -4,6 +4,7 @@ pub mod StepLaws
 pub mod ParcelLaws
 pub mod AccountLaws
 pub mod StampLaws
+pub mod RunLaws
 pub mod Rows
 pub mod NetworkRows
 pub mod JournalStampLaws

@@ -85,7 +85,7 @@ still_prefix now d before own i j =
     )
 
 -- what waits on a link is what was sent and not taken, by the accounts
-waits_by : (n : ℕ) (net : Network) (now : ℕ → Account) → Shows n net now → (i j : ℕ) → i < n → j < n → (before : IsPrefix (gained_from j (now i).gains) (posted_to i (now j).posted))
+pub waits_by : (n : ℕ) (net : Network) (now : ℕ → Account) → Shows n net now → (i j : ℕ) → i < n → j < n → (before : IsPrefix (gained_from j (now i).gains) (posted_to i (now j).posted))
     → waiting net.desks i j ≡ plain before.0
 waits_by n net now shows i j in_i in_j before =
     ap (λ (o : Option Desk). drop (taken_from j (takes_at o)) (messages_to i (sent_at (slice_get net.desks j)))) (shows.desks i in_i)
@@ -177,6 +177,7 @@ one_deed n net now d ds shows before deed sorted after =
         after = ap (λ (ls : List (ℕ × Message)). network_after net (event_of d) x.view (desk_of x) ls) there.1;
       };
       shows = record {
+        agents = length-set net.views i view ∙ shows.agents;
         size = length-set net.desks i desk ∙ shows.size;
         views = λ j lt. view_after net.views now d j x.view (shows.views j lt) (shows.views i deed.known);
         desks = λ j lt. desks_after net.desks now d j (desk_of x) (shows.desks j lt) (shows.desks i deed.known);

@@ -29,3 +29,5 @@ pub mod Rounds
 pub mod JournalStamps
 pub mod Links
 pub mod Delivered
+pub mod RunEnds
+pub mod Outcomes

@@ -4,7 +4,7 @@ use Rattle.std.specs.List.{flat_map}
 use Rattle.protocol_steps.specs.declared.event.Event.{Event}
 use Rattle.protocol_steps.specs.declared.event.Entry.{Entry}
 use Rattle.protocol_steps.specs.View.{View, ended_of}
-use Rattle.protocol_steps.specs.Network.{Network, taken_from}
+use Rattle.protocol_steps.specs.Network.{Network, taken_from, start_state}
 use Rattle.protocol_steps.specs.Effect.{pending, deliveries}
 use Rattle.protocol_steps.specs.Run.{run, journal}
 
@@ -39,8 +39,13 @@ AreRounds budget before (es ∷ pieces) after = (deliveries before < budget) × 
 abbrev pub AgreeWith : List (List Entry) → List Event → Type 0
 AgreeWith journals es = (i : ℕ) → map (λ entry. entry.takes) (slice_index_or journals i []) ≡ journal i es
 
--- a family of journals, one for each agent, in rounds under a budget from the start state
-abbrev pub InRounds : ℕ → Network → List (List Entry) → Type 0
-InRounds budget start journals =
-    (length journals ≡ length start.views)
-    × ((pieces : List (List Event)) × (after : Network) × AreRounds budget start pieces after × AgreeWith journals (flat_map (λ es. es) pieces))
+-- a family of journals, one for each of the agents that were made so, in rounds under a budget from their start state to this end: a run cut into rounds with which the journals agree
+pub record AreInRounds (budget : ℕ) (made : List View) (journals : List (List Entry)) (end : Network) : Type 0 where
+  pub sized : length journals ≡ length made
+  pub pieces : List (List Event)
+  pub rounds : AreRounds budget (start_state made) pieces end
+  pub agree : AgreeWith journals (flat_map (λ es. es) pieces)
+
+-- rounds are a run, one round after another
+abbrev pub RoundsAreARun : Type 0
+RoundsAreARun = (budget : ℕ) (before after : Network) (pieces : List (List Event)) → AreRounds budget before pieces after → run before (flat_map (λ es. es) pieces) ≡ Some after

@@ -35,6 +35,7 @@ desk_of x = record { sent = map (λ p. (p.to, p.envelope.1)) x.posted; takes = t
 
 -- a network of n agents is that of their accounts
 pub record Shows (n : ℕ) (net : Network) (now : ℕ → Account) : Type 0 where
+  pub agents : length net.views ≡ n
   pub size : length net.desks ≡ n
   pub views : (i : ℕ) → i < n → slice_get net.views i ≡ Some (now i).view
   pub desks : (i : ℕ) → i < n → slice_get net.desks i ≡ Some (desk_of (now i))

@@ -5,6 +5,7 @@ ghost use Rattle.protocol_steps.specs.Knowledge.{PrivatesAreKnowledge};
 ghost use Rattle.protocol_steps.specs.Placing.{PlacesFit};
 ghost use Rattle.protocol_steps.specs.Laws.{OriginsStay, ParcelsGoToNeighbours, JournalsDecide};
 ghost use Rattle.protocol_steps.specs.Links.{LinksGrow};
+ghost use Rattle.protocol_steps.specs.Rounds.{RoundsAreARun};
 ghost use Rattle.protocol_steps.specs.StampLaw.{StampsOrder};
 ghost use Rattle.protocol_steps.specs.JournalStamps.{StartsShow, JournalsOrder};
 
@@ -60,4 +61,9 @@ pub fn starts_show()
 /// the journals agree with it.
 pub fn journals_order()
     ensures { JournalsOrder }
+{}
+
+/// Rounds under a budget are a run, one round after another.
+pub fn rounds_are_a_run()
+    ensures { RoundsAreARun }
 {}

@@ -14,14 +14,18 @@ mod law;
 mod letter;
 mod machine;
 mod message;
+mod outcome;
+mod run_end;
 mod standing;
 
 pub use event::{Entry, Event, EventFault, EventList, Journal, JournalList, Take, TakeList};
 pub use law::{
     journals_decide, journals_order, links_grow, origins_stay, parcels_go_to_neighbours,
-    places_fit, private_is_knowledge, stamps_order, starts_show,
+    places_fit, private_is_knowledge, rounds_are_a_run, stamps_order, starts_show,
 };
 pub use letter::{Batch, Envelope, Letter, Outbox, Parcel};
 pub use machine::Machine;
 pub use message::Message;
+pub use outcome::Outcome;
+pub use run_end::RunEnd;
 pub use standing::Standing;

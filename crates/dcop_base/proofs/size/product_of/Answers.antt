@@ -1,6 +1,6 @@
 use Rattle.std.proofs.Common.{min, ◌*◌, ap, ◌∙◌}
 use Rattle.dcop_base.proofs.TableLaws.{capped-more}
-use Rattle.dcop_base.proofs.table.product_of.Goals as goal
+use Rattle.dcop_base.proofs.size.product_of.Goals as goal
 
 pub loop-size-preserved : goal.loop-size-preserved
 loop-size-preserved c =
