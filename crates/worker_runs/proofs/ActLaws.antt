@@ -1,20 +1,18 @@
 -- Activations of one agent: what they send and take, and that an account allows them.
-use Rattle.std.proofs.Common.{◌≡◌, ℕ, ◌+◌, ◌≤◌, ◌<◌, Bool, true, false, nat_le, ◌==◌, ◌||◌, not, if◌then◌else◌, max, List, [], ◌∷◌, ◌++◌, map, length, Option, Some, None, refl, sym, ap, ap₂, subst, ◌∙◌, inl, inr, arith}
-use Rattle.std.specs.List.{All, Contains, fold, list_any, flat_map}
+use Rattle.std.proofs.Common.{◌≡◌, ℕ, ◌<◌, Bool, true, false, nat_le, ◌==◌, not, if◌then◌else◌, List, [], ◌∷◌, ◌++◌, Option, None, refl, sym, ap, ap₂, subst, ◌∙◌, inl, inr, arith}
+use Rattle.std.specs.List.{All, Contains, fold, list_any}
 use Rattle.std.proofs.lemmas.Bool.{cases_Bool, eqb-true, or_from, leb-true, false_from_ne_true, true≢false}
-use Rattle.std.proofs.lemmas.List.{append-nil, append_assoc}
-use Rattle.std.proofs.lemmas.List.Elements.{All-head, All-tail, All-contains_itself}
+use Rattle.std.proofs.lemmas.List.{append_assoc}
+use Rattle.std.proofs.lemmas.List.Elements.{All-head, All-tail}
 use Rattle.std.proofs.lemmas.List.Concat.{flat_map-append}
-use Rattle.std.proofs.lemmas.List.Sums.{fold-append}
 use Rattle.dcop_base.specs.Table.{has}
 use Rattle.protocol_steps.specs.declared.message.Message.{Message}
-use Rattle.protocol_steps.specs.declared.event.Take.{Take}
 use Rattle.protocol_steps.specs.declared.event.EventFault.{EventFault}
-use Rattle.protocol_steps.specs.View.{View, ended_of}
+use Rattle.protocol_steps.specs.View.{ended_of}
 use Rattle.protocol_steps.specs.Step.{step_of}
-use Rattle.protocol_steps.specs.Run.{ascends_from, has_nothing, form_fault}
+use Rattle.protocol_steps.specs.Run.{ascends_from, has_nothing}
 use Rattle.protocol_steps.specs.Stamps.{Gain, Deed, Posted, Account, post, letters_of, do_one}
-use Rattle.protocol_steps.specs.Deeds.{takes_of, greatest_of, IsDeed, AreDeeds, envelope_to, posted_to, gain_from, gained_from}
+use Rattle.protocol_steps.specs.Deeds.{takes_of, IsDeed, AreDeeds, envelope_to, posted_to, gain_from, gained_from}
 use Rattle.worker_runs.specs.Visits.{IsFrom, IsTo}
 use Rattle.worker_runs.specs.Acts.{IsAct, AreActs}
 use Rattle.worker_runs.proofs.LaneLaws.{has_from_contains}

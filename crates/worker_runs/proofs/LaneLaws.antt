@@ -1,8 +1,8 @@
 -- The links of a cell: what stands on each, and how they grow.
-use Rattle.std.proofs.Common.{◌≡◌, ℕ, ◌<◌, Bool, true, false, ◌==◌, ◌||◌, if◌then◌else◌, List, [], ◌∷◌, ◌++◌, map, refl, sym, ap, ap₂, subst, ◌∙◌, inl, inr, arith}
+use Rattle.std.proofs.Common.{◌≡◌, ℕ, ◌<◌, Bool, true, false, ◌==◌, if◌then◌else◌, List, [], ◌∷◌, ◌++◌, refl, sym, ap, ap₂, subst, ◌∙◌, inl, inr, arith}
 use Rattle.std.specs.List.{Contains}
 use Rattle.std.specs.List.Sorted.{IsStrictlyIncreasing}
-use Rattle.std.proofs.lemmas.Bool.{cases_Bool, or_parts, or_from, eqb-true, eq-eqb, false_from_ne_true}
+use Rattle.std.proofs.lemmas.Bool.{cases_Bool, or_parts, or_from, eqb-true, false_from_ne_true}
 use Rattle.std.proofs.lemmas.List.{append-nil, append_assoc}
 use Rattle.dcop_base.specs.Table.{has}
 use Rattle.dcop_base.proofs.UniqueLaws.{IsStrictlyIncreasing-tail, head_below}

@@ -1,8 +1,8 @@
 -- Visits make sprints.
-use Rattle.std.proofs.Common.{◌≡◌, ℕ, zero, suc, ◌+◌, ◌≤◌, ◌<◌, Bool, true, false, ◌==◌, if◌then◌else◌, List, [], ◌∷◌, ◌++◌, map, length, refl, sym, ap, ap₂, subst, ◌∙◌, inl, inr, arith}
+use Rattle.std.proofs.Common.{◌≡◌, ℕ, ◌+◌, ◌≤◌, Bool, true, false, ◌==◌, if◌then◌else◌, List, [], ◌∷◌, ◌++◌, length, refl, sym, ap, ap₂, subst, ◌∙◌, inl, inr, arith}
 use Rattle.std.specs.List.{sum_by, fold}
 use Rattle.std.proofs.Math.Path.{fun_ext}
-use Rattle.std.proofs.lemmas.Bool.{cases_Bool, cases_lt}
+use Rattle.std.proofs.lemmas.Bool.{cases_lt}
 use Rattle.std.proofs.lemmas.List.{append-nil, append_assoc, length-append, map-append}
 use Rattle.std.proofs.lemmas.List.Concat.{flat_map-append}
 use Rattle.std.proofs.lemmas.List.Sums.{fold-append, sum_by-cons, sum_by-append}
@@ -15,7 +15,7 @@ use Rattle.protocol_steps.specs.Deeds.{takes_of, envelope_to, posted_to, gain_fr
 use Rattle.worker_runs.specs.Cells.{CellState, Lane, peers, grown, known_from, EachAre}
 use Rattle.worker_runs.specs.Visits.{IsQuiet, IsEvent, IsVisit}
 use Rattle.worker_runs.specs.Acts.{AreActs, moment, moved, entry_of, journal_of, IsLater}
-use Rattle.worker_runs.specs.Sprints.{IsSprint, SprintsAreVisits}
+use Rattle.worker_runs.specs.Sprints.{SprintsAreVisits}
 use Rattle.worker_runs.specs.CellRounds.{taken_by, total}
 use Rattle.worker_runs.specs.Laws.{TotalsAdd}
 use Rattle.worker_runs.proofs.LaneLaws.{peers_grown, grown_grown, grown_none}

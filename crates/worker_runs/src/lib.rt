@@ -13,4 +13,4 @@
 
 mod law;
 
-pub use law::{sprints_are_visits, totals_add};
+pub use law::{journals_merge, sprints_are_visits, totals_add};
