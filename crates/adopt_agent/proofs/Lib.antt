@@ -7,4 +7,4 @@ pub mod StoreLaws
 pub mod AgentLaws
 pub mod MessageLaws
 pub mod CostLaws
-pub mod TestLaws
+mod StepRows
