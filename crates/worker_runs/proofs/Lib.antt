@@ -3,3 +3,8 @@ pub mod ActLaws
 pub mod VisitLaws
 pub mod SortLaws
 pub mod MergeLaws
+pub mod EachLaws
+pub mod TakeLaws
+pub mod TellLaws
+pub mod PieceLaws
+pub mod HistoryLaws
