@@ -8,3 +8,6 @@ pub mod TakeLaws
 pub mod TellLaws
 pub mod PieceLaws
 pub mod HistoryLaws
+pub mod CellRunLaws
+pub mod EndLaws
+pub mod IdleLaws

@@ -13,4 +13,7 @@
 
 mod law;
 
-pub use law::{journals_merge, sprints_are_visits, totals_add};
+pub use law::{
+    cells_tell_ends, idle_rounds_leave_nothing, journals_merge, sprints_are_visits, totals_add,
+    workers_make_a_run,
+};
