@@ -4,7 +4,7 @@ ghost use Rattle.std.specs.Prelude.{◌≡◌, ℕ, ◌≤◌};
 ghost use Rattle.dcop_base.specs.Limits.{amount_limit};
 ghost use Rattle.dcop_base.specs.Problem.{IsAssignment, cost};
 
-use crate::number::{CAP, Val};
+use crate::number::Val;
 use crate::problem::Problem;
 
 /// The cost of an assignment: the sum of the cells that it names, one of each table.

@@ -8,9 +8,11 @@ ghost use Rattle.dcop_base.specs.Table.{CostTable, IsTable, greatest};
 ghost use Rattle.dcop_base.specs.Faults.{cell_count, greatest_sum, is_bad_size, cells_fault, next_fault, tables_fault, problem_fault};
 ghost use Rattle.dcop_base.specs.Totals.{AreTotals};
 
-use crate::number::{CAP, VarId};
-use crate::problem::{MAX_CELLS, MAX_COST, MAX_SCOPE, MAX_SIZE, MAX_VARIABLES, ProblemFault};
-use crate::table::{Table, repeats};
+use crate::limit::{CAP, MAX_CELLS, MAX_COST, MAX_SCOPE, MAX_SIZE, MAX_VARIABLES};
+use crate::number::VarId;
+use crate::problem::ProblemFault;
+use crate::scope::repeats;
+use crate::table::Table;
 
 /// What the tables that stand before a table hold together.
 #[derive(Clone, Copy)]

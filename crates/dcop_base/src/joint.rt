@@ -8,7 +8,6 @@ ghost use Rattle.dcop_base.specs.Labels.{AreLabels, IsJoined, own_joints};
 
 use crate::memory::NoMemory;
 use crate::number::VarId;
-use crate::problem::MAX_VARIABLES;
 use crate::sequence::PairList;
 use crate::table::Table;
 use std::alloc::Global;

@@ -9,20 +9,29 @@ mod cost;
 mod fault;
 mod joint;
 mod knowledge;
+mod limit;
 mod memory;
 mod number;
 mod number_word;
 mod part;
 mod problem;
+mod scope;
 mod sequence;
+mod size;
 mod table;
 
 pub use cost::cost_of;
 pub use knowledge::Private;
+pub use limit::{
+    CAP, MAX_ASSIGNMENTS, MAX_BUDGET, MAX_CELLS, MAX_COST, MAX_COUNT, MAX_DIGITS, MAX_INPUT,
+    MAX_JOINED_CELLS, MAX_NAME, MAX_SCOPE, MAX_SENT_CELLS, MAX_SIZE, MAX_VARIABLES, limits_agree,
+};
 pub use memory::NoMemory;
-pub use number::{Amount, CAP, Val, VarId};
-pub use number_word::{MAX_DIGITS, number_of_word};
+pub use number::{Amount, Val, VarId};
+pub use number_word::number_of_word;
 pub use part::private;
-pub use problem::{MAX_CELLS, MAX_COST, MAX_SCOPE, MAX_SIZE, MAX_VARIABLES, Problem, ProblemFault};
+pub use problem::{Problem, ProblemFault, problem_is_whole};
+pub use scope::{position_of, repeats, sizes_of, stands_in};
 pub use sequence::{Bytes, CellList, PairList, Sequence, SizeList, TableList, ValList, VarList};
+pub use size::{have_zero, product_of};
 pub use table::{Table, TableFault};

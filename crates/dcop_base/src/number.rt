@@ -3,10 +3,8 @@
 ghost use Rattle.std.specs.Prelude.{◌≡◌, ℕ, ◌+◌, ◌<◌, ◌≤◌, ◌↔◌, min, IsSome, IfSome};
 ghost use Rattle.dcop_base.specs.Limits.{amount_limit};
 
+use crate::limit::CAP;
 use std::marker::Model;
-
-/// The greatest amount, 2^62. No cost, bound or UTIL cell is ever above it.
-pub const CAP: u64 = 4_611_686_018_427_387_904;
 
 /// A variable's number, counted from 0 in order of declaration. Agent `i` owns variable `i`.
 #[derive(Clone, Copy, Debug, PartialEq, Eq, PartialOrd, Ord, Hash)]

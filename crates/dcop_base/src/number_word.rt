@@ -6,8 +6,7 @@ ghost use Rattle.std.specs.Char.{is_ascii_digit};
 ghost use Rattle.dcop_base.specs.Limits.{digit_limit};
 ghost use Rattle.dcop_base.specs.NumberWord.{number_of, value_of};
 
-/// The most digits of a number.
-pub const MAX_DIGITS: usize = 19;
+use crate::limit::MAX_DIGITS;
 
 /// The number that a word writes in base ten; `None` exactly where the word is no number.
 ///

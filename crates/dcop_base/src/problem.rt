@@ -1,29 +1,16 @@
 //! Problems: variables with finite domains, cost tables over them, and joints.
 
 ghost use Rattle.std.specs.Prelude.{◌≡◌, ℕ};
+ghost use Rattle.dcop_base.specs.Whole.{IsProblem};
 
 use crate::fault::fault_of;
 use crate::joint::joints_of;
+use crate::limit::{MAX_CELLS, MAX_COST, MAX_SCOPE, MAX_SIZE, MAX_VARIABLES};
 use crate::memory::NoMemory;
 use crate::number::VarId;
 use crate::sequence::{PairList, SizeList, TableList};
 use std::alloc::{AllocError, Global};
 use std::marker::Model;
-
-/// The most variables of a problem.
-pub const MAX_VARIABLES: usize = 1_000;
-
-/// The most values of a variable.
-pub const MAX_SIZE: u16 = 1_024;
-
-/// The most variables of a table of a problem.
-pub const MAX_SCOPE: usize = 4;
-
-/// The greatest cell of a table of a problem, 2^50.
-pub const MAX_COST: u64 = 1_125_899_906_842_624;
-
-/// The most cells of all tables of a problem together, 2^22.
-pub const MAX_CELLS: u64 = 4_194_304;
 
 /// Why sizes and tables make no problem. Variables, tables and cells count from 0, and each fault
 /// names the first place.
@@ -130,12 +117,21 @@ impl Problem {
     }
 }
 
+/// Every problem is within its limits, and its tables and joints are whole. One that is read is
+/// known to be, so this does no more.
+pub fn problem_is_whole(problem: &Problem)
+    ensures { IsProblem problem.now }
+{
+    let _ = problem.sizes.as_slice();
+}
+
 #[cfg(test)]
 mod tests {
     use super::*;
     use crate::cost::cost_of;
     use crate::knowledge::Private;
-    use crate::number::{CAP, Val};
+    use crate::limit::CAP;
+    use crate::number::Val;
     use crate::part::private;
     use crate::sequence::Sequence;
     use crate::table::Table;

@@ -1,12 +1,15 @@
 //! Cost tables.
 
-ghost use Rattle.std.specs.Prelude.{◌≡◌, ℕ, ◌<◌, ◌≤◌, List, length, None, MatchResult, nat_lt, ◌==◌, min};
+ghost use Rattle.std.specs.Prelude.{◌≡◌, ◌<◌, ◌≤◌, length, None, MatchResult, nat_lt};
 ghost use Rattle.std.specs.List.{list_any, All};
 ghost use Rattle.dcop_base.specs.Limits.{amount_limit};
-ghost use Rattle.dcop_base.specs.Table.{CostTable, product, has, has_repeat, table_fault, IsTableOfParts, AreWithin, values_at, cell_at, cell_place};
+ghost use Rattle.dcop_base.specs.Table.{CostTable, product, table_fault, IsTableOfParts, AreWithin, values_at, cell_at, cell_place};
 
-use crate::number::{CAP, Val, VarId};
+use crate::limit::CAP;
+use crate::number::{Val, VarId};
+use crate::scope::repeats;
 use crate::sequence::{CellList, SizeList, VarList};
+use crate::size::{have_zero, product_of};
 use std::alloc::AllocError;
 use std::marker::Model;
 
@@ -107,45 +110,6 @@ fn fault_of(scope: &[VarId], sizes: &[u16], cells: &[u64]) -> Option<TableFault>
         return Some(TableFault::CellTooLarge);
     }
     None
-}
-
-/// Whether a variable stands twice.
-pub(crate) fn repeats(scope: &[VarId]) -> bool
-    ensures { result ≡ has_repeat scope.now }
-{
-    let mut rest = scope;
-    while let Some((first, later)) = rest.split_first() {
-        if stands_in(later, *first) {
-            return true;
-        }
-        rest = later;
-    }
-    false
-}
-
-/// Whether the variable is among these.
-pub(crate) fn stands_in(vars: &[VarId], sought: VarId) -> bool
-    ensures { result ≡ has vars.now sought }
-{
-    vars.iter().any(|var| *var == sought)
-}
-
-/// Whether a size is 0.
-fn have_zero(sizes: &[u16]) -> bool
-    ensures { result ≡ list_any (λ s. s == 0) sizes.now }
-{
-    sizes.iter().any(|size| *size == 0)
-}
-
-/// The product of the sizes, or `usize::MAX` where it is more, which is no list's length.
-fn product_of(sizes: &[u16]) -> usize
-    ensures { result ≡ min (product sizes.now) usize.MAX }
-{
-    let mut product: usize = 1;
-    for size in sizes {
-        product = product.saturating_mul(usize::from(*size));
-    }
-    product
 }
 
 /// Whether a cell is above [`CAP`].

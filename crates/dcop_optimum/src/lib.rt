@@ -17,9 +17,10 @@ mod plain;
 mod tests;
 mod tree_law;
 
+pub use dcop_base::MAX_ASSIGNMENTS;
 pub use goal::{top_sum, turn};
 pub use law::{one_first_optimum, one_optimum};
-pub use plain::{Best, MAX_ASSIGNMENTS, PlainFault, least_plain};
+pub use plain::{Best, PlainFault, least_plain};
 pub use tree_law::{
     best_choices_are_first, certificates_show_optima, costs_are_within_cap,
     first_optima_of_trees_are_one, lower_tables_bound_optima, optima_make_certificates,

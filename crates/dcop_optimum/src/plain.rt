@@ -6,11 +6,8 @@ ghost use Rattle.dcop_base.specs.Table.{product, cell_place, AreWithin};
 ghost use Rattle.dcop_base.specs.Problem.{cost, IsAssignment};
 ghost use Rattle.dcop_optimum.specs.Optimum.{assignment_count, IsOptimum, IsFirstOptimum};
 
-use dcop_base::{NoMemory, Problem, Val, ValList, cost_of};
+use dcop_base::{MAX_ASSIGNMENTS, NoMemory, Problem, Val, ValList, cost_of};
 use std::alloc::{AllocError, Global};
-
-/// The most assignments that [`least_plain`] tries.
-pub const MAX_ASSIGNMENTS: u64 = 65_536;
 
 /// A best assignment, and what it costs.
 #[derive(Debug, Drop, PartialEq, Eq)]

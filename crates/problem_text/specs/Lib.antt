@@ -1,6 +1,7 @@
 pub mod Bytes
 pub mod Name
 pub mod Names
+pub mod Kinds
 pub mod File
 pub mod Canonical
 pub mod Numbered

@@ -1,5 +1,8 @@
 //! Why a text is refused, and at which line.
 
+ghost use Rattle.std.specs.Prelude.{◌≡◌};
+ghost use Rattle.problem_text.specs.Kinds.{number_of_text, number_of_problem, number_of_report};
+
 use dcop_base::NoMemory;
 use std::alloc::{AllocError, AllocFailed};
 use thiserror::Error;
@@ -71,6 +74,35 @@ pub enum TextKind {
     TooLong,
 }
 
+impl TextKind {
+    /// The number of the kind, from 1 on.
+    pub fn number(self) -> u8
+        ensures { result ≡ number_of_text self }
+    {
+        match self {
+            TextKind::BadHeader => 1,
+            TextKind::BadWord => 2,
+            TextKind::BadNumber => 3,
+            TextKind::UnknownName => 4,
+            TextKind::NameTwice => 5,
+            TextKind::NoEnd => 6,
+            TextKind::Problem { .. } => 7,
+            TextKind::AfterEnd => 8,
+            TextKind::TooLong => 9,
+        }
+    }
+
+    /// The number of the problem's fault where that is what is wrong, and 0 otherwise.
+    pub fn problem(self) -> u8
+        ensures { result ≡ number_of_problem self }
+    {
+        match self {
+            TextKind::Problem { number } => number,
+            _ => 0,
+        }
+    }
+}
+
 /// Why the text of a report is refused.
 #[derive(Clone, Copy, Debug, PartialEq, Eq, Error)]
 pub enum ReportFault {
@@ -115,27 +147,37 @@ impl<T: Drop> From<AllocFailed<T>> for ReportFault {
     }
 }
 
-/// What is wrong with a line of a report, or with the report.
+/// What is wrong with a line of a report, or with the report. The number of a kind is its
+/// discriminant.
 #[derive(Clone, Copy, Debug, PartialEq, Eq)]
 pub enum ReportKind {
-    /// Kind 1: the line is not of the form that its place asks for.
-    BadLine,
-    /// Kind 2: a number is no number, or is too great.
-    BadNumber,
-    /// Kind 3: a name is not in the problem, or not the one that its place asks for.
-    UnknownName,
-    /// Kind 4: the cells of a line are not as many as its scope asks for.
-    CellCount,
-    /// Kind 5: the report has no certificate.
-    NoCertificate,
-    /// Kind 6: the text is over and no line `end` came.
-    NoEnd,
-    /// Kind 7: a line with words stands behind the line `end`.
-    AfterEnd,
-    /// Kind 8: a value is not below its variable's size.
-    BadValue,
-    /// Kind 9: the certificate is not that of a log.
-    NoLog,
-    /// Kind 10: the certificate is of a form that is not read yet.
-    NotYet,
+    /// The line is not of the form that its place asks for.
+    BadLine = 1,
+    /// A number is no number, or is too great.
+    BadNumber = 2,
+    /// A name is not in the problem, or not the one that its place asks for.
+    UnknownName = 3,
+    /// The cells of a line are not as many as its scope asks for.
+    CellCount = 4,
+    /// The report has no certificate.
+    NoCertificate = 5,
+    /// The text is over and no line `end` came.
+    NoEnd = 6,
+    /// A line with words stands behind the line `end`.
+    AfterEnd = 7,
+    /// A value is not below its variable's size.
+    BadValue = 8,
+    /// The certificate is not that of a log.
+    NoLog = 9,
+    /// The certificate is of a form that is not read yet.
+    NotYet = 10,
+}
+
+impl ReportKind {
+    /// The number of the kind, from 1 on.
+    pub fn number(self) -> u8
+        ensures { result ≡ number_of_report self }
+    {
+        self as u8
+    }
 }

@@ -4,8 +4,7 @@ ghost use Rattle.std.specs.Prelude.{◌≡◌};
 ghost use Rattle.std.specs.List.{list_all};
 ghost use Rattle.problem_text.specs.Name.{is_name as is_name_of, is_name_start, is_name_byte};
 
-/// The most bytes of a name.
-pub const MAX_NAME: usize = 32;
+use dcop_base::MAX_NAME;
 
 /// Whether a word is a name.
 ///

@@ -6,20 +6,11 @@ ghost use Rattle.problem_text.specs.Canonical.{line as line_of};
 ghost use Rattle.solve_report.specs.Refusal.{words_refusal, text_refusal, report_refusal, many_refusal, wide_refusal};
 ghost use Rattle.solve_report.specs.Refusal.{total_refusal, read_refusal, not_yet_refusal};
 
-use dcop_base::{Bytes, NoMemory};
+use dcop_base::{Bytes, MAX_ASSIGNMENTS, MAX_JOINED_CELLS, MAX_SENT_CELLS, NoMemory};
 use std::alloc::Global;
 
 /// The kind of a problem text's fault that has a number of its own behind it.
 const PROBLEM_KIND: u8 = 7;
-
-/// The most assignments that plain search goes through.
-const ASSIGNMENT_LIMIT: u64 = 65_536;
-
-/// The most cells that an agent's joined table has.
-const JOINED_LIMIT: u64 = 1_048_576;
-
-/// The most cells that all agents send together.
-const SENT_LIMIT: u64 = 4_194_304;
 
 /// `refused words at A kind K`
 pub(crate) fn refuse_words(alloc: Global, at: u64, kind: u8) -> Result<Bytes, NoMemory>
@@ -68,7 +59,7 @@ pub(crate) fn refuse_many(alloc: Global, assignments: u64) -> Result<Bytes, NoMe
     let mut text = String::new(alloc);
     write!(
         text,
-        "refused many assignments {assignments} limit {ASSIGNMENT_LIMIT}\n"
+        "refused many assignments {assignments} limit {MAX_ASSIGNMENTS}\n"
     )?;
     Ok(bytes_of(text))
 }
@@ -80,7 +71,7 @@ pub(crate) fn refuse_wide(alloc: Global, name: &str, cells: u64) -> Result<Bytes
     let mut text = String::new(alloc);
     write!(
         text,
-        "refused wide agent {name} cells {cells} limit {JOINED_LIMIT}\n"
+        "refused wide agent {name} cells {cells} limit {MAX_JOINED_CELLS}\n"
     )?;
     Ok(bytes_of(text))
 }
@@ -92,7 +83,7 @@ pub(crate) fn refuse_total(alloc: Global, cells: u64) -> Result<Bytes, NoMemory>
     let mut text = String::new(alloc);
     write!(
         text,
-        "refused wide total cells {cells} limit {SENT_LIMIT}\n"
+        "refused wide total cells {cells} limit {MAX_SENT_CELLS}\n"
     )?;
     Ok(bytes_of(text))
 }

@@ -7,8 +7,7 @@ use dcop_base::{Bytes, NoMemory};
 use dcop_edge::{Failed, Source};
 use std::alloc::{AllocError, Global};
 
-/// The most bytes of an input, 2^28.
-pub const MAX_INPUT: usize = 268_435_456;
+pub use dcop_base::MAX_INPUT;
 
 /// The most bytes of one read.
 const BLOCK: usize = 4_096;

@@ -2,6 +2,7 @@ pub mod Names
 pub mod Options
 pub mod Standing
 pub mod Settings
+pub mod Kinds
 pub mod Faults
 pub mod Reading
 pub mod Values

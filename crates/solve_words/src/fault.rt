@@ -1,6 +1,7 @@
 //! What is wrong with words that are no command.
 
 ghost use Rattle.std.specs.Prelude.{◌≡◌};
+ghost use Rattle.solve_words.specs.Kinds.{number_of_words};
 ghost use Rattle.solve_words.specs.declared.fault.WordFault.TheVariants.{NoMemory as no_memory};
 
 use dcop_base::NoMemory;
@@ -37,6 +38,15 @@ pub enum WordKind {
     /// The option does not belong to the command or the method.
     #[error("the option does not go with the command or the method")]
     NotWith = 9,
+}
+
+impl WordKind {
+    /// The number of the kind, from 1 on.
+    pub fn number(self) -> u8
+        ensures { result ≡ number_of_words self }
+    {
+        self as u8
+    }
 }
 
 /// Why words give no command.

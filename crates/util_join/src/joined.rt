@@ -7,12 +7,9 @@ ghost use Rattle.util_join.specs.Join.{MakesJoined, LiesIn, IsSum};
 
 use crate::add::add_cells;
 use cost_table::cells_of;
-use dcop_base::{CellList, NoMemory, SizeList, Table, VarList};
+use dcop_base::{CellList, MAX_JOINED_CELLS, NoMemory, SizeList, Table, VarList};
 use std::alloc::{AllocError, Global};
 use std::marker::Model;
-
-/// The most cells that a joined table may have.
-pub const MAX_JOINED_CELLS: u64 = 1_048_576;
 
 /// Why [`Joined::new`] makes no table.
 #[derive(Clone, Copy, Debug, PartialEq, Eq)]

@@ -11,4 +11,5 @@ mod stride;
 #[cfg(test)]
 mod tests;
 
-pub use joined::{JoinFault, Joined, MAX_JOINED_CELLS};
+pub use dcop_base::MAX_JOINED_CELLS;
+pub use joined::{JoinFault, Joined};
