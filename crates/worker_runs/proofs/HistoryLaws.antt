@@ -19,7 +19,7 @@ use Rattle.protocol_steps.specs.Stamps.{Gain, Deed, Account, do_one}
 use Rattle.protocol_steps.specs.Deeds.{takes_of, event_of, AreDeeds, posted_to, gained_from}
 use Rattle.protocol_steps.specs.StampLaw.{IsPrefix, TakenIsPrefix, desk_of, Shows}
 use Rattle.protocol_steps.proofs.JournalStampLaws.{starts_show, journal_of_deeds}
-use Rattle.worker_runs.specs.Cells.{CellState, peers, known_from, IsWired, EachAre}
+use Rattle.worker_runs.specs.Cells.{CellState, lane, peers, known_from, IsWired, EachAre}
 use Rattle.worker_runs.specs.Visits.{IsStarted, IsQuiet}
 use Rattle.worker_runs.specs.Acts.{moment, moved, journal_of}
 use Rattle.worker_runs.specs.Sprints.{IsSprint}
@@ -56,6 +56,15 @@ pub record History (budget : ℕ) (made : List View) (cells : List CellState) : 
   pub tells : (i : ℕ) (c : CellState) → slice_get cells i ≡ Some c → Tells made i (own i) c
   pub ran : TakenIsPrefix (reached made own) → Ran budget made own
 
+-- each agent's activations since the start, which its cell tells
+pub record Told (made : List View) (own : ℕ → List Deed) (cells : List CellState) : Type 0 where
+  pub none : (i : ℕ) → length made ≤ i → own i ≡ []
+  pub sized : length cells ≡ length made
+  pub tells : (i : ℕ) (c : CellState) → slice_get cells i ≡ Some c → Tells made i (own i) c
+
+pub told_by : (budget : ℕ) (made : List View) (cells : List CellState) (h : History budget made cells) → Told made h.own cells
+told_by budget made cells h = record { none = h.none; sized = h.sized; tells = h.tells }
+
 -- cells that have started
 pub begun : (budget : ℕ) (made : List View) (cells : List CellState) → AreStarted made cells → History budget made cells
 begun budget made cells s =
@@ -86,46 +95,55 @@ quiet_on budget made before after h q = record {
   ran = h.ran;
 }
 
--- where every link is settled, what was taken is a first part of what was sent
-pub settled_prefix : (budget : ℕ) (made : List View) (cells : List CellState) (h : History budget made cells) → AreSettled cells → TakenIsPrefix (reached made h.own)
-settled_prefix budget made cells h settled i j =
+-- where what each cell took is a first part of what was sent to it, this holds of the accounts
+pub told_prefix : (made : List View) (own : ℕ → List Deed) (cells : List CellState) → Told made own cells
+    → ((i j : ℕ) (to from : CellState) → slice_get cells i ≡ Some to → slice_get cells j ≡ Some from → IsPrefix (lane j to.taken) (lane i from.sent)) → TakenIsPrefix (reached made own)
+told_prefix made own cells h prefixes i j =
     let sized = h.sized in
     elim (cases_lt i (length made)) [
       | inr out ↦
-          let idle : (reached made h.own i).gains ≡ [] = ap (λ (ds : List Deed). (fold do_one (first made i) ds).gains) (h.none i out) ∙ (starts made).idle i in
-          nothing (gained_from j (reached made h.own i).gains) (ap (gained_from j) idle)
+          let idle : (reached made own i).gains ≡ [] = ap (λ (ds : List Deed). (fold do_one (first made i) ds).gains) (h.none i out) ∙ (starts made).idle i in
+          nothing (gained_from j (reached made own i).gains) (ap (gained_from j) idle)
       | inl in_i ↦
           let to = there cells i (omega (arith, in_i, sized)) in
           let told = h.tells i to.0 to.1 in
           elim (cases_lt j (length made)) [
             | inr out ↦
-                nothing (gained_from j (reached made h.own i).gains)
+                nothing (gained_from j (reached made own i).gains)
                 (sym (told.taken j) ∙ lane_none j to.0.taken (no_peer (length made) j (peers to.0.taken) told.wired.below out))
             | inl in_j ↦
                 let from = there cells j (omega (arith, in_j, sized)) in
-                let link : IsSettled i j to.0 from.0 = settled i j to.0 from.0 to.1 from.1 in
-                (link.waiting, ap (λ (es : List (ℕ × Message)). es ++ link.waiting) (sym (told.taken j)) ∙ link.whole ∙ (h.tells j from.0 from.1).sent i)
+                let prefix : IsPrefix (lane j to.0.taken) (lane i from.0.sent) = prefixes i j to.0 from.0 to.1 from.1 in
+                (prefix.0, ap (λ (es : List (ℕ × Message)). es ++ prefix.0) (sym (told.taken j)) ∙ prefix.1 ∙ (h.tells j from.0 from.1).sent i)
           ]
     ]
   where
-    nothing : (es : List (ℕ × Message)) → es ≡ [] → IsPrefix es (posted_to i (reached made h.own j).posted)
-    nothing es e = (posted_to i (reached made h.own j).posted, ap (λ (fs : List (ℕ × Message)). fs ++ posted_to i (reached made h.own j).posted) e)
+    nothing : (es : List (ℕ × Message)) → es ≡ [] → IsPrefix es (posted_to i (reached made own j).posted)
+    nothing es e = (posted_to i (reached made own j).posted, ap (λ (fs : List (ℕ × Message)). fs ++ posted_to i (reached made own j).posted) e)
+
+-- so it does where every link is settled
+pub settled_prefix : (budget : ℕ) (made : List View) (cells : List CellState) (h : History budget made cells) → AreSettled cells → TakenIsPrefix (reached made h.own)
+settled_prefix budget made cells h settled =
+    told_prefix made h.own cells (told_by budget made cells h) (λ i j to from e f. let on : IsSettled i j to from = settled i j to from e f in (on.waiting, on.whole))
 
 -- the deliveries of a network of these accounts are what the cells' journals take
-pub delivered_total : (budget : ℕ) (made : List View) (cells : List CellState) (h : History budget made cells) (net : Network) → Shows (length made) net (reached made h.own) → deliveries net ≡ total cells
-delivered_total budget made cells h net shows =
+pub delivered_told : (made : List View) (own : ℕ → List Deed) (cells : List CellState) → Told made own cells → (net : Network) → Shows (length made) net (reached made own) → deliveries net ≡ total cells
+delivered_told made own cells h net shows =
     same_sums (λ (x : Desk). sum_by (λ (t : Take). t.count) x.takes) (λ (c : CellState). taken_by c.journal) net.desks cells (shows.size ∙ sym h.sized)
     (λ i x c at e.
     let sized = h.sized in
     let inside = slice_get_within cells i c e in
     let lt : i < length made = omega (arith, inside, sized) in
-    let desk : Some x ≡ Some (desk_of (reached made h.own i)) = sym at ∙ shows.desks i lt in
+    let desk : Some x ≡ Some (desk_of (reached made own i)) = sym at ∙ shows.desks i lt in
     let told = h.tells i c e in
-    let takes = takes_in (first made i) (h.own i) in
+    let takes = takes_in (first made i) (own i) in
     let idle : sum_by (λ (t : Take). t.count) (takes_of (first made i).gains) ≡ 0 = ap (λ (gs : List Gain). sum_by (λ (t : Take). t.count) (takes_of gs)) ((starts made).idle i) in
-    let left : sum_by (λ (t : Take). t.count) x.takes ≡ sum_by (λ (t : Take). t.count) (takes_of (reached made h.own i).gains) = ap (λ (o : Option Desk). sum_by (λ (t : Take). t.count) (takes_at o)) desk in
-    let right : taken_by c.journal ≡ taken_by (journal_of (h.own i)) = ap taken_by told.noted in
+    let left : sum_by (λ (t : Take). t.count) x.takes ≡ sum_by (λ (t : Take). t.count) (takes_of (reached made own i).gains) = ap (λ (o : Option Desk). sum_by (λ (t : Take). t.count) (takes_at o)) desk in
+    let right : taken_by c.journal ≡ taken_by (journal_of (own i)) = ap taken_by told.noted in
     omega (arith, takes, idle, left, right))
+
+pub delivered_total : (budget : ℕ) (made : List View) (cells : List CellState) (h : History budget made cells) (net : Network) → Shows (length made) net (reached made h.own) → deliveries net ≡ total cells
+delivered_total budget made cells h net shows = delivered_told made h.own cells (told_by budget made cells h) net shows
 
 -- one more round
 pub rounds_push : (budget : ℕ) (a b c : Network) (pieces : List (List Event)) (es : List Event) → AreRounds budget a pieces b → deliveries b < budget → IsRound b es c → AreRounds budget a (pieces ++ es ∷ []) c

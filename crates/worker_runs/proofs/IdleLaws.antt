@@ -23,7 +23,7 @@ use Rattle.worker_runs.proofs.VisitLaws.{totals_add}
 use Rattle.worker_runs.proofs.EachLaws.{each_back}
 
 -- takes that are something take some message
-some_taken : (ts : List Take) → has_nothing ts ≡ false → 0 < sum_by (λ t. t.count) ts
+pub some_taken : (ts : List Take) → has_nothing ts ≡ false → 0 < sum_by (λ t. t.count) ts
 some_taken [] h = absurd (true≢false h)
 some_taken (t ∷ ts) h =
     let parts = or_parts (length (t ∷ ts) == 0) (list_any (λ (u : Take). u.count == 0) (t ∷ ts)) h in

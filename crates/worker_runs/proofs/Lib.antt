@@ -11,3 +11,5 @@ pub mod HistoryLaws
 pub mod CellRunLaws
 pub mod EndLaws
 pub mod IdleLaws
+pub mod StampCountLaws
+pub mod CellStampLaws

@@ -39,7 +39,7 @@ by_stamp_from d (e ∷ es) h k = (low d e h.0, by_stamp_from e es k.0 k.1)
     low : (d e : Deed) → Before deed_agent deed_stamp d e → d.stamp ≤ e.stamp
     low d e b = elim b [ inl less ↦ omega (arith, less) | inr same ↦ let is = same.0 in omega (arith, is) ]
 
-by_stamp : (ds : List Deed) → Ordered deed_agent deed_stamp ds → ByStampFrom 0 ds
+pub by_stamp : (ds : List Deed) → Ordered deed_agent deed_stamp ds → ByStampFrom 0 ds
 by_stamp [] h = tt
 by_stamp (d ∷ ds) h = (omega arith, by_stamp_from d ds h.0 h.1)
 

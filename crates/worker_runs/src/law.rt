@@ -2,6 +2,7 @@
 
 ghost use Rattle.worker_runs.specs.Sprints.{SprintsAreVisits};
 ghost use Rattle.worker_runs.specs.Merges.{JournalsMerge};
+ghost use Rattle.worker_runs.specs.StampCounts.{StampsAreFew, CellStampsAreFew};
 ghost use Rattle.worker_runs.specs.Laws.{WorkersMakeARun, CellsTellEnds, IdleRoundsLeaveNothing, TotalsAdd};
 
 /// Cells that have started, were played in rounds under a budget of deliveries, and have every link
@@ -38,4 +39,16 @@ pub fn totals_add()
 /// Journals whose stamps ascend have exactly one merge by stamp and then agent.
 pub fn journals_merge()
     ensures { JournalsMerge }
+{}
+
+/// In a run with right stamps no stamp is above the number of events.
+pub fn stamps_are_few()
+    ensures { StampsAreFew }
+{}
+
+/// Cells that have started and were played in rounds have no stamp above the number of messages
+/// taken; nor have they in the midst of a round, where what was taken on each link is a first part of
+/// what was sent.
+pub fn cell_stamps_are_few()
+    ensures { CellStampsAreFew }
 {}

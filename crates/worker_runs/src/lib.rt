@@ -14,6 +14,6 @@
 mod law;
 
 pub use law::{
-    cells_tell_ends, idle_rounds_leave_nothing, journals_merge, sprints_are_visits, totals_add,
-    workers_make_a_run,
+    cell_stamps_are_few, cells_tell_ends, idle_rounds_leave_nothing, journals_merge,
+    sprints_are_visits, stamps_are_few, totals_add, workers_make_a_run,
 };
