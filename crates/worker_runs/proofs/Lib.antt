@@ -1,0 +1,5 @@
+pub mod LaneLaws
+pub mod ActLaws
+pub mod VisitLaws
+pub mod SortLaws
+pub mod MergeLaws

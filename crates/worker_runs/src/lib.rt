@@ -10,3 +10,7 @@
 //! The laws are about definitions alone. Each is the contract of a call that does nothing: who
 //! needs the law calls it.
 #![tactic(auto)]
+
+mod law;
+
+pub use law::{journals_merge, sprints_are_visits, totals_add};
