@@ -49,6 +49,7 @@ pub record AreRightStamps (made : List View) (cells : List CellState) : Type 0 w
 -- cells have made a run of agents that were made so, which ends in this network: it has the cells' views and links; the journals' stamps are right; the merge of the journals is such a run; and the journals are in rounds under the budget
 pub record IsRunOfCells (budget : ℕ) (made : List View) (cells : List CellState) (end : Network) : Type 0 where
   pub views : end.views ≡ map (λ c. c.view) cells
+  pub sized : length end.desks ≡ length cells
   pub links : (i j : ℕ) (to from : CellState) → slice_get cells i ≡ Some to → slice_get cells j ≡ Some from → IsLinkIn end i j to from
   pub delivered : deliveries end ≡ total cells
   pub right : AreRightStamps made cells

@@ -13,4 +13,7 @@
 
 mod law;
 
-pub use law::{journals_merge, sprints_are_visits, totals_add};
+pub use law::{
+    cell_stamps_are_few, cells_tell_ends, idle_rounds_leave_nothing, journals_merge,
+    sprints_are_visits, stamps_are_few, totals_add, workers_make_a_run,
+};
