@@ -13,3 +13,4 @@ pub mod EndLaws
 pub mod IdleLaws
 pub mod StampCountLaws
 pub mod CellStampLaws
+pub mod PairRow
