@@ -14,3 +14,5 @@ pub mod IdleLaws
 pub mod StampCountLaws
 pub mod CellStampLaws
 pub mod PairRow
+pub mod NodeLaws
+pub mod PlayedLaws
