@@ -5,7 +5,7 @@ ghost use Rattle.worker_runs.specs.Merges.{JournalsMerge};
 ghost use Rattle.worker_runs.specs.StampCounts.{StampsAreFew, CellStampsAreFew};
 ghost use Rattle.worker_runs.specs.NodeRounds.{OneNodeIsAll};
 ghost use Rattle.worker_runs.specs.Played.{PlayedCellsMakeRuns};
-ghost use Rattle.worker_runs.specs.Laws.{WorkersMakeARun, CellsTellEnds, IdleRoundsLeaveNothing, TotalsAdd};
+ghost use Rattle.worker_runs.specs.Laws.{WorkersMakeARun, CellsTellEnds, CellsTellOutcomes, IdleRoundsLeaveNothing, TotalsAdd};
 
 /// Cells that have started, were played in rounds under a budget of deliveries, and have every link
 /// settled at the end, have made a run from the agents' start views: what was taken on each link is
@@ -20,6 +20,11 @@ pub fn workers_make_a_run()
 /// is pending.
 pub fn cells_tell_ends()
     ensures { CellsTellEnds }
+{}
+
+/// What the agents of such a run have come to is what its cells tell.
+pub fn cells_tell_outcomes()
+    ensures { CellsTellOutcomes }
 {}
 
 /// Behind a round that took nothing, nothing waits for an agent that has not ended.
