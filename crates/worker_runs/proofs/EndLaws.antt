@@ -8,7 +8,7 @@ use Rattle.std.proofs.lemmas.Option.{slice_get-map}
 use Rattle.std.proofs.lemmas.List.{append-nil, length-map}
 use Rattle.protocol_steps.specs.declared.message.Message.{Message}
 use Rattle.protocol_steps.specs.declared.run_end.RunEnd.TheVariants.{AllEnded, Spent, Still}
-use Rattle.protocol_steps.specs.View.{View, ended_of}
+use Rattle.protocol_steps.specs.View.{View, ended_of, value_of, standing_of, table_of, place_of}
 use Rattle.protocol_steps.specs.Network.{Desk, Network, messages_to, sent_at, waiting}
 use Rattle.protocol_steps.specs.Effect.{pending_at, has_ended}
 use Rattle.protocol_steps.specs.Links.{taken_at}
@@ -16,7 +16,7 @@ use Rattle.protocol_steps.specs.RunEnds.{NothingPending}
 use Rattle.protocol_steps.proofs.AccountLaws.{drop_front}
 use Rattle.worker_runs.specs.Cells.{CellState, lane}
 use Rattle.worker_runs.specs.CellRuns.{plain, IsRunOfCells, all_ended, NothingWaits}
-use Rattle.worker_runs.specs.Laws.{CellsTellEnds}
+use Rattle.worker_runs.specs.Laws.{CellsTellEnds, CellsTellOutcomes}
 use Rattle.worker_runs.proofs.EachLaws.{there, past}
 
 all_map : (cells : List CellState) → list_all ended_of (map (λ (c : CellState). c.view) cells) ≡ all_ended cells
@@ -71,3 +71,21 @@ cells_tell_ends budget made cells end (Still n) r h = (
   let low = h.2 in let is = r.delivered in omega (arith, low, is),
   nothing_pending budget made cells end r h.3,
 )
+
+map_view : {A : Type 0} (f : View → A) (cells : List CellState) → map f (map (λ (c : CellState). c.view) cells) ≡ map (λ (c : CellState). f c.view) cells
+map_view f [] = refl
+map_view f (c ∷ cells) = ap (λ xs. f c.view ∷ xs) (map_view f cells)
+
+first_view : (cells : List CellState) → option_map standing_of (slice_get (map (λ (c : CellState). c.view) cells) 0) ≡ option_map (λ (c : CellState). standing_of c.view) (slice_get cells 0)
+first_view [] = refl
+first_view (c ∷ cells) = refl
+
+pub cells_tell_outcomes : CellsTellOutcomes
+cells_tell_outcomes budget made cells end outcome r o = record {
+  values = o.values ∙ sym (ap (λ (vs : List View). map value_of vs) r.views ∙ map_view value_of cells);
+  tables = o.tables ∙ sym (ap (λ (vs : List View). map table_of vs) r.views ∙ map_view table_of cells);
+  places = o.places ∙ sym (ap (λ (vs : List View). map place_of vs) r.views ∙ map_view place_of cells);
+  top = ap (λ (vs : List View). option_map standing_of (slice_get vs 0)) r.views ∙ first_view cells ∙ o.top;
+  deliveries = o.deliveries ∙ sym r.delivered;
+  ended = o.ended ∙ sym (ended_is budget made cells end r);
+}

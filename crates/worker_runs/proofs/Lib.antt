@@ -13,3 +13,6 @@ pub mod EndLaws
 pub mod IdleLaws
 pub mod StampCountLaws
 pub mod CellStampLaws
+pub mod PairRow
+pub mod NodeLaws
+pub mod PlayedLaws

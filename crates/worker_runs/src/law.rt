@@ -3,7 +3,9 @@
 ghost use Rattle.worker_runs.specs.Sprints.{SprintsAreVisits};
 ghost use Rattle.worker_runs.specs.Merges.{JournalsMerge};
 ghost use Rattle.worker_runs.specs.StampCounts.{StampsAreFew, CellStampsAreFew};
-ghost use Rattle.worker_runs.specs.Laws.{WorkersMakeARun, CellsTellEnds, IdleRoundsLeaveNothing, TotalsAdd};
+ghost use Rattle.worker_runs.specs.NodeRounds.{OneNodeIsAll};
+ghost use Rattle.worker_runs.specs.Played.{PlayedCellsMakeRuns};
+ghost use Rattle.worker_runs.specs.Laws.{WorkersMakeARun, CellsTellEnds, CellsTellOutcomes, IdleRoundsLeaveNothing, TotalsAdd};
 
 /// Cells that have started, were played in rounds under a budget of deliveries, and have every link
 /// settled at the end, have made a run from the agents' start views: what was taken on each link is
@@ -20,9 +22,25 @@ pub fn cells_tell_ends()
     ensures { CellsTellEnds }
 {}
 
+/// What the agents of such a run have come to is what its cells tell.
+pub fn cells_tell_outcomes()
+    ensures { CellsTellOutcomes }
+{}
+
 /// Behind a round that took nothing, nothing waits for an agent that has not ended.
 pub fn idle_rounds_leave_nothing()
     ensures { IdleRoundsLeaveNothing }
+{}
+
+/// Playing cells round by round, and what they have made when playing stops: where all agents have
+/// ended, where the budget is spent, and where a round took nothing.
+pub fn played_cells_make_runs()
+    ensures { PlayedCellsMakeRuns }
+{}
+
+/// With one node, settling the links inside nodes settles every link.
+pub fn one_node_is_all()
+    ensures { OneNodeIsAll }
 {}
 
 /// The visits of one cell in a round are a sprint: the first visit, one more, fewer than allowed, and
