@@ -57,7 +57,7 @@ values_read _ _ _ left = Ok ([], left)
 abbrev pub ended : List (List ℕ) → List Util → Result (List Util) ReportKind
 ended names utils = if lacks_util utils (length names) then Err BadLine else Ok utils
 
--- a table's line for each variable, behind these tables, and the line `end`
+-- lines of tables, each behind these and those before it, up to the line `end`
 abbrev pub tables_read : List (List ℕ) → List ℕ → ℕ → List Util → List Plain → Result (List Util × Left) Fault
 tables_read names sizes over utils [] = Err (record { line = over; kind = NoEnd })
 tables_read names sizes over utils (line ∷ later) =

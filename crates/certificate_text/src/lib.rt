@@ -11,8 +11,6 @@ mod head;
 mod head_line;
 mod lines;
 mod reader;
-#[cfg(test)]
-mod reader_tests;
 mod report;
 #[cfg(test)]
 mod tests;

@@ -21,8 +21,6 @@ mod names;
 mod numbered;
 mod plain_line;
 mod reader;
-#[cfg(test)]
-mod reader_tests;
 mod scope_words;
 mod table_line;
 #[cfg(test)]
