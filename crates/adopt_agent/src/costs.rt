@@ -11,7 +11,7 @@ ghost use Rattle.protocol_steps.specs.Values.{valued};
 ghost use Rattle.adopt_agent.specs.Sound.{AreCosts, IsGround};
 
 use adopt_context::AgentContext;
-use dcop_base::{CAP, MAX_SIZE, NoMemory, Private, Table, Val, VarId, VarList, stands_in};
+use dcop_base::{CAP, NoMemory, Private, Table, Val, VarId, VarList, stands_in};
 use pseudotree::Place;
 use std::alloc::Global;
 
