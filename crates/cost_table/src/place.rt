@@ -1,11 +1,10 @@
 //! Numbers of cells and places of cells.
 
-ghost use Rattle.std.specs.Prelude.{◌≡◌, ◌<◌, ◌==◌, length, min, nat_lt, if◌then◌else◌};
-ghost use Rattle.std.specs.List.{list_any, position};
+ghost use Rattle.std.specs.Prelude.{◌≡◌, ◌<◌, length, nat_lt, if◌then◌else◌};
 ghost use Rattle.dcop_base.specs.Table.{AreWithin, product, cell_place};
 ghost use Rattle.cost_table.specs.Cells.{place_in};
 
-use dcop_base::{Table, Val, VarId};
+use dcop_base::{Table, Val, VarId, have_zero, position_of};
 
 /// How many cells a table of these sizes has: their product, 1 of none; `None` exactly where it
 /// is above `limit`.
@@ -23,13 +22,6 @@ pub fn cells_of(sizes: &[u16], limit: u64) -> Option<u64>
         }
     }
     if product > limit { None } else { Some(product) }
-}
-
-/// Whether a size is 0.
-fn have_zero(sizes: &[u16]) -> bool
-    ensures { result ≡ list_any (λ s. s == 0) sizes.now }
-{
-    sizes.iter().any(|size| *size == 0)
 }
 
 /// The place of a table's cell at values of its scope's variables, which stand in scope order.
@@ -60,26 +52,8 @@ pub fn place_at(sizes: &[u16], values: &[Val], count: usize) -> usize
 pub fn place_in(vars: &[VarId], var: VarId) -> usize
     ensures { result ≡ place_in vars.now var }
 {
-    match found(vars, var) {
+    match position_of(vars, var) {
         Some(place) => place,
         None => vars.len(),
     }
-}
-
-/// The place of a variable among these, where it stands there.
-fn found(vars: &[VarId], var: VarId) -> Option<usize>
-    ensures { result ≡ position (λ v. v == var) vars.now }
-{
-    vars.iter().position(|v| *v == var)
-}
-
-/// The product of the sizes, or `usize::MAX` where it is more.
-pub fn product_of(sizes: &[u16]) -> usize
-    ensures { result ≡ min (product sizes.now) usize.MAX }
-{
-    let mut product: usize = 1;
-    for size in sizes {
-        product = product.saturating_mul(usize::from(*size));
-    }
-    product
 }

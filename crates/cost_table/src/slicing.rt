@@ -6,8 +6,8 @@ ghost use Rattle.dcop_base.specs.Table.{has, product, table_fault};
 ghost use Rattle.cost_table.specs.Cells.{place_in, IsSlice};
 ghost use Rattle.cost_table.specs.Runs.{AreRuns, AreCellsAt};
 
-use crate::place::{place_in, product_of};
-use dcop_base::{CellList, NoMemory, SizeList, Table, Val, VarId, VarList};
+use crate::place::place_in;
+use dcop_base::{CellList, NoMemory, SizeList, Table, Val, VarId, VarList, product_of};
 use std::alloc::Global;
 
 /// The slice of a table at a value of a variable of its scope: the table without the variable,

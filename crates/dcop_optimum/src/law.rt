@@ -1,19 +1,16 @@
 //! The laws of the optimum, which hold of every problem.
-//!
-//! Each reads the problem, since one that is read is known to be within its limits, and does
-//! nothing more.
 
 ghost use Rattle.std.specs.Prelude.{◌≡◌, ℕ, List};
 ghost use Rattle.dcop_optimum.specs.Optimum.{IsOptimum, IsFirstOptimum};
 
-use dcop_base::Problem;
+use dcop_base::{Problem, problem_is_whole};
 
 /// Every problem has exactly one optimum.
 pub fn one_optimum(problem: &Problem)
     ensures some { (least : ℕ) × IsOptimum problem.now least }
     ensures one { (c d : ℕ) → IsOptimum problem.now c → IsOptimum problem.now d → c ≡ d }
 {
-    let _ = problem.sizes.as_slice();
+    problem_is_whole(problem);
 }
 
 /// Every problem has exactly one first optimal assignment.
@@ -22,5 +19,5 @@ pub fn one_first_optimum(problem: &Problem)
     ensures one { (a b : List ℕ) →
         IsFirstOptimum problem.now a → IsFirstOptimum problem.now b → a ≡ b }
 {
-    let _ = problem.sizes.as_slice();
+    problem_is_whole(problem);
 }

@@ -15,7 +15,7 @@ use crate::marks::marks_together;
 use crate::order::{all_children, preorder_of};
 use crate::separator::{gather, marked_of_paths};
 use crate::tree::Tree;
-use dcop_base::{MAX_VARIABLES, Problem, VarId, VarList};
+use dcop_base::{MAX_VARIABLES, Problem, VarId, VarList, problem_is_whole};
 use std::alloc::Global;
 
 /// The tree of these parents, or the first reason why they form no pseudotree of the problem.
@@ -33,8 +33,7 @@ pub fn check_tree(
     ensures parents { IfOk result (λ tree. parents.now ≡ parents_of tree.paths) }
     ensures fault { IfErr result (IsFirstFault problem.now parents.now) }
 {
-    // One that is read is known to be within its limits.
-    let _ = problem.sizes.as_slice();
+    problem_is_whole(problem);
     let count = root_count(parents);
     if count != 1 {
         return Err(TreeFault::Roots { count });

@@ -8,8 +8,8 @@ ghost use Rattle.util_join.specs.Join.{LiesIn, IsSum};
 ghost use Rattle.util_join.specs.Strides.{strides, offset, last_values, IsBlockSum};
 
 use crate::row::{Row, add_row, row_of};
-use crate::stride::{product_of, stride_of};
-use dcop_base::{CAP, Table, VarId};
+use crate::stride::stride_of;
+use dcop_base::{CAP, Table, VarId, product_of};
 
 /// Adds a table to a joined table over these variables with these sizes and cells: to each cell the
 /// table's cell at the same values; a sum above [`CAP`] becomes [`CAP`].

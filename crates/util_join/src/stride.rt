@@ -4,7 +4,7 @@ ghost use Rattle.std.specs.Prelude.{◌≡◌, ◌≤◌, min};
 ghost use Rattle.dcop_base.specs.Table.{product};
 ghost use Rattle.util_join.specs.Strides.{stride};
 
-use dcop_base::{Table, VarId};
+use dcop_base::{Table, VarId, product_of};
 
 /// The stride of a variable in a table; 0 where the table does not name it.
 pub(crate) fn stride_of(table: &Table, var: VarId) -> usize
@@ -30,15 +30,4 @@ fn stride_in(scope: &[VarId], sizes: &[u16], var: VarId) -> usize
     } else {
         stride_in(scope, sizes, var)
     }
-}
-
-/// The product of the sizes, or `usize::MAX` where it is more.
-pub(crate) fn product_of(sizes: &[u16]) -> usize
-    ensures { result ≡ min (product sizes.now) usize.MAX }
-{
-    let mut product: usize = 1;
-    for size in sizes {
-        product = product.saturating_mul(usize::from(*size));
-    }
-    product
 }

@@ -6,8 +6,8 @@ ghost use Rattle.dcop_base.specs.Table.{has, product, cell_place, table_fault, A
 ghost use Rattle.cost_table.specs.Cells.{place_in};
 ghost use Rattle.util_project.specs.Projection.{IsLowestLeast, cell_at_value, size_in};
 
-use cost_table::{place_at, place_in, product_of};
-use dcop_base::{Table, Val, VarId};
+use cost_table::{place_at, place_in};
+use dcop_base::{Table, Val, VarId, product_of};
 
 /// The lowest value of a variable at which the table's cell is least, where the other variables of
 /// its scope have these values, in scope order without the variable.

@@ -7,8 +7,8 @@ ghost use Rattle.util_project.specs.Projection.{IsProjection};
 ghost use Rattle.util_project.specs.Leasts.{AreLeastsAt};
 
 use crate::leasts::least_runs;
-use cost_table::{place_in, product_of, scope_without, sizes_without};
-use dcop_base::{CellList, NoMemory, SizeList, Table, VarId, VarList};
+use cost_table::{place_in, scope_without, sizes_without};
+use dcop_base::{CellList, NoMemory, SizeList, Table, VarId, VarList, product_of};
 use std::alloc::Global;
 
 /// The projection of a table by a variable of its scope: the table without the variable, of which
