@@ -98,6 +98,7 @@ fn terminate_at(alloc: Global, bytes: &[u8]) -> Result<(Message, &[u8]), Stop>
 }
 
 /// An amount, and the bytes behind it.
+#[inline]
 pub(crate) fn amount_at(bytes: &[u8]) -> Result<(u64, &[u8]), Stop>
     ensures read { Reads (λ x. amount_code x.0 ++ x.1.now) amount bytes.now result }
     ensures range { IfOk result (λ x. x.0 ≤ amount_limit) }

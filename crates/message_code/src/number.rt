@@ -8,6 +8,7 @@ ghost use Rattle.message_code.specs.Reading.{Reads};
 use crate::stop::Stop;
 
 /// A number of one byte, from `least` on and below `limit`, and the bytes behind it.
+#[inline]
 pub(crate) fn u8_at(bytes: &[u8], least: u8, limit: u8) -> Result<(u8, &[u8]), Stop>
     ensures read { Reads (λ x. to_be_bytes w8 x.0 ++ x.1.now) (number w8 least limit) bytes.now result }
     ensures range { IfOk result (λ x. (least ≤ x.0) × (x.0 < limit)) }
@@ -22,6 +23,7 @@ pub(crate) fn u8_at(bytes: &[u8], least: u8, limit: u8) -> Result<(u8, &[u8]), S
 }
 
 /// The number that two bytes stand for, the highest first.
+#[inline]
 fn u16_of(field: [u8; 2]) -> u16
     ensures value { result ≡ from_be_bytes w16 field }
     ensures code { to_be_bytes w16 result ≡ field }
@@ -30,6 +32,7 @@ fn u16_of(field: [u8; 2]) -> u16
 }
 
 /// A number of two bytes below `limit`, and the bytes behind it.
+#[inline]
 pub(crate) fn u16_at(bytes: &[u8], limit: u16) -> Result<(u16, &[u8]), Stop>
     ensures read { Reads (λ x. to_be_bytes w16 x.0 ++ x.1.now) (number w16 0 limit) bytes.now result }
     ensures range { IfOk result (λ x. x.0 < limit) }
@@ -44,6 +47,7 @@ pub(crate) fn u16_at(bytes: &[u8], limit: u16) -> Result<(u16, &[u8]), Stop>
 }
 
 /// The number that four bytes stand for, the highest first.
+#[inline]
 fn u32_of(field: [u8; 4]) -> u32
     ensures value { result ≡ from_be_bytes w32 field }
     ensures code { to_be_bytes w32 result ≡ field }
@@ -52,6 +56,7 @@ fn u32_of(field: [u8; 4]) -> u32
 }
 
 /// A number of four bytes, from `least` on and below `limit`, and the bytes behind it.
+#[inline]
 pub(crate) fn u32_at(bytes: &[u8], least: u32, limit: u32) -> Result<(u32, &[u8]), Stop>
     ensures read { Reads (λ x. to_be_bytes w32 x.0 ++ x.1.now) (number w32 least limit) bytes.now result }
     ensures range { IfOk result (λ x. (least ≤ x.0) × (x.0 < limit)) }
@@ -66,6 +71,7 @@ pub(crate) fn u32_at(bytes: &[u8], least: u32, limit: u32) -> Result<(u32, &[u8]
 }
 
 /// The number that eight bytes stand for, the highest first.
+#[inline]
 fn u64_of(field: [u8; 8]) -> u64
     ensures value { result ≡ from_be_bytes w64 field }
     ensures code { to_be_bytes w64 result ≡ field }
@@ -74,6 +80,7 @@ fn u64_of(field: [u8; 8]) -> u64
 }
 
 /// A number of eight bytes below `limit`, and the bytes behind it.
+#[inline]
 pub(crate) fn u64_at(bytes: &[u8], limit: u64) -> Result<(u64, &[u8]), Stop>
     ensures read { Reads (λ x. to_be_bytes w64 x.0 ++ x.1.now) (number w64 0 limit) bytes.now result }
     ensures range { IfOk result (λ x. x.0 < limit) }
