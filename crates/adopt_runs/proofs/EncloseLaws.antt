@@ -5,7 +5,7 @@ use Rattle.std.proofs.lemmas.Bool.{cond_both, or_cases, or_parts, or_from, eqb-t
 use Rattle.std.proofs.lemmas.Option.{none-some, same_Some}
 use Rattle.std.proofs.lemmas.List.Folds.{list_any_at}
 use Rattle.std.proofs.lemmas.List.Sums.{sum_by-cons}
-use Rattle.dcop_base.specs.Table.{has, has_repeat}
+use Rattle.dcop_base.specs.Table.{has, has_repeat, greatest}
 use Rattle.dcop_base.specs.Problem.{Dcop, IsAssignment}
 use Rattle.dcop_base.specs.Values.{cost_with}
 use Rattle.pseudotree.specs.Tree.{is_above}
@@ -22,6 +22,10 @@ module _ (p : Dcop) (paths : List (List ℕ)) where
   abbrev pub below : ℕ → List ℕ → ℕ
   below i values = cost_with (subtree_tables_of p paths i) (λ v. get_or values v 0)
 
+  -- the greatest cells of the tables of the subtree of i together
+  abbrev pub most : ℕ → ℕ
+  most i = sum_by (λ t. greatest t.cells) (subtree_tables_of p paths i)
+
   -- an assignment gives the proper ancestors of i the values that a context gives
   abbrev pub GivenAbove : ℕ → (ℕ → Option ℕ) → List ℕ → Type 0
   GivenAbove i given values = (v d : ℕ) → is_above paths v i ≡ true → given v ≡ Some d → get_or values v 0 ≡ d
@@ -33,22 +37,24 @@ module _ (p : Dcop) (paths : List (List ℕ)) where
     pub agrees : AgreesAbove paths i (λ v. get_or values v 0) other
     pub costs : below i other ≤ most
 
-  -- for all assignments that meet a condition, the subtree costs at least the lower bound, and can be had for the upper one
+  -- for all assignments that meet a condition, the subtree costs at least the lower bound, and can be had for the upper one, which is at most its greatest cells together
   pub record IsBounded (i : ℕ) (meets : List ℕ → Type 0) (lower : ℕ) (upper : Option ℕ) : Type 0 where
     pub low : (values : List ℕ) → IsAssignment p values → meets values → lower ≤ below i values
     pub high : (u : ℕ) → upper ≡ Some u → (values : List ℕ) → IsAssignment p values → meets values → IsReached i values u
+    pub top : (u : ℕ) → upper ≡ Some u → u ≤ most i
 
   pub bounded_blank : (i : ℕ) (meets : List ℕ → Type 0) → IsBounded i meets 0 None
-  bounded_blank i meets = record { low = λ values is h. omega arith; high = λ u e. absurd (none-some u e) }
+  bounded_blank i meets = record { low = λ values is h. omega arith; high = λ u e. absurd (none-some u e); top = λ u e. absurd (none-some u e) }
 
   pub bounded_when : (i : ℕ) (one other : List ℕ → Type 0) (lower : ℕ) (upper : Option ℕ) → ((values : List ℕ) → other values → one values) → IsBounded i one lower upper → IsBounded i other lower upper
-  bounded_when i one other lower upper f a = record { low = λ values is h. a.low values is (f values h); high = λ u e values is h. a.high u e values is (f values h) }
+  bounded_when i one other lower upper f a = record { low = λ values is h. a.low values is (f values h); high = λ u e values is h. a.high u e values is (f values h); top = a.top }
 
   -- the better of two pairs of bounds
   pub bounded_both : (i : ℕ) (meets : List ℕ → Type 0) (l m : ℕ) (u w : Option ℕ) → IsBounded i meets l u → IsBounded i meets m w → IsBounded i meets (max l m) (lesser u w)
   bounded_both i meets l m u w a b = record {
     low = λ values is h. let one = a.low values is h in let other = b.low values is h in omega (arith, one, other);
     high = λ x e values is h. elim (lesser_is x u w e) [ inl left ↦ a.high x left values is h | inr right ↦ b.high x right values is h ];
+    top = λ x e. elim (lesser_is x u w e) [ inl left ↦ a.top x left | inr right ↦ b.top x right ];
   }
 
   -- bounds that some assignment meets do not cross
@@ -121,6 +127,19 @@ pub plus_parts : (u w : Option ℕ) (total : ℕ) → plus_bound u w ≡ Some to
 plus_parts None w total h = absurd (none-some total h)
 plus_parts (Some x) None total h = absurd (none-some total h)
 plus_parts (Some x) (Some y) total h = record { one = x; other = y; one_is = refl; other_is = refl; total_is = same_Some (x + y) total h }
+
+-- the upper bounds of a row, where each is at most so much for its child
+pub row_top : (f : ℕ → ℕ) (row : List Entry) (cs : List ℕ) → length row ≡ length cs → ((k u : ℕ) → (get_or row k blank).upper ≡ Some u → u ≤ f (get_or cs k 0))
+    → (total : ℕ) → upper_sum row ≡ Some total → total ≤ sum_by f cs
+row_top f [] [] long top total sum = let at = same_Some 0 total sum in omega (arith, at)
+row_top f [] (c ∷ cs) long top total sum = absurd (omega (arith, long))
+row_top f (e ∷ es) [] long top total sum = absurd (omega (arith, long))
+row_top f (e ∷ es) (c ∷ cs) long top total sum =
+    let parts = plus_parts e.upper (upper_sum es) total sum in
+    let here : parts.one ≤ f c = top 0 parts.one parts.one_is in
+    let rest = row_top f es cs (omega (arith, long)) (λ k. top (suc k)) parts.other parts.other_is in
+    let whole = parts.total_is in
+    omega (arith, here, rest, whole, sum_by-cons f c cs)
 
 -- one piece for each child, which together cost at most the sum of the upper bounds
 pub record IsGathered (P : List ℕ → Type 0) (f : ℕ → List ℕ → ℕ) (cs : List ℕ) (total : ℕ) : Type 0 where

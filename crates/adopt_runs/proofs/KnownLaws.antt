@@ -1,5 +1,5 @@
 -- What a context gives without one of its variables.
-use Rattle.std.proofs.Common.{◌≡◌, ℕ, Bool, true, false, cond, not, eqb, ◌==◌, [], ◌∷◌, Option, Some, None, refl, sym, ap, ◌∙◌}
+use Rattle.std.proofs.Common.{◌≡◌, ℕ, Bool, false, cond, not, eqb, ◌==◌, [], ◌∷◌, Option, Some, refl, sym, ap, ◌∙◌}
 use Rattle.std.proofs.lemmas.Bool.{cond_both, ne_eqb, not_from_false, false≢true}
 use Rattle.adopt_context.specs.Context.{Context, value_in}
 use Rattle.protocol_steps.specs.AdoptCost.{without}

@@ -1,9 +1,10 @@
 -- What an ADOPT agent counts of its tables, against the tables that are its own in the tree.
-use Rattle.std.proofs.Common.{◌≡◌, ℕ, ◌≤◌, Bool, true, false, cond, eqb, ◌==◌, ◌&&◌, ◌||◌, not, List, [], ◌∷◌, length, get_or, Option, Some, None, refl, sym, ap, subst, ◌∙◌, inl, inr, arith}
+use Rattle.std.proofs.Common.{◌≡◌, ℕ, ◌≤◌, Bool, true, false, cond, eqb, ◌==◌, ◌&&◌, ◌||◌, not, List, [], ◌∷◌, length, map, get_or, Option, Some, None, refl, sym, ap, subst, ◌∙◌, inl, inr, arith}
 use Rattle.std.specs.Prelude.{is_some}
 use Rattle.std.specs.List.{sum_by, filter, list_all, range_with_len}
-use Rattle.std.proofs.lemmas.Bool.{cases_eq, cond-true, and_parts, and_from, or_cases, or_left, or_right, eqb-true, eq-eqb, ne_eqb, not_from_false, false≢true}
-use Rattle.dcop_base.specs.Table.{CostTable, has}
+use Rattle.std.proofs.lemmas.Bool.{cases_eq, cases_lt, cond-true, and_parts, and_from, or_cases, or_left, or_right, eqb-true, eq-eqb, ne_eqb, not_from_false, false≢true}
+use Rattle.std.proofs.lemmas.List.{get_or_past}
+use Rattle.dcop_base.specs.Table.{CostTable, has, cell_place, greatest}
 use Rattle.dcop_base.specs.Problem.{Dcop, cost}
 use Rattle.dcop_base.specs.Graph.{are_neighbours, neighbours, share_table, are_joined}
 use Rattle.dcop_base.specs.Whole.{IsProblem}
@@ -20,10 +21,11 @@ use Rattle.dcop_optimum.specs.Subtree.{own_tables_of, is_owner_within}
 use Rattle.dcop_optimum.specs.Certificate.{is_on_path}
 use Rattle.dcop_optimum.proofs.CertificateLaws.{tables_on_paths_are_own}
 use Rattle.dcop_optimum.proofs.SumLaws.{sum_filter, sum_le}
+use Rattle.dcop_optimum.proofs.TurnedTableLaws.{cells_below}
 use Rattle.dcop_optimum.proofs.JoinLaws.{own_here, own_else}
 use Rattle.dcop_optimum.proofs.OwnerLaws.{IsOwned, all_owned, cell_same}
 use Rattle.pseudotree.specs.Owner.{owner_of}
-use Rattle.adopt_runs.proofs.EncloseLaws.{below, GivenAbove}
+use Rattle.adopt_runs.proofs.EncloseLaws.{below, most, GivenAbove}
 
 -- a test of all numbers of a list, of one of them
 pub list_all_at : (q : ℕ → Bool) (xs : List ℕ) (v : ℕ) → list_all q xs ≡ true → has xs v ≡ true → q v ≡ true
@@ -57,6 +59,15 @@ counted_back a b true true x y h =
 counted_back a b true false x y h = omega arith
 counted_back a b false e x y h = omega arith
 
+-- a cell is at most the greatest one of its table
+cell_most : (t : CostTable) (value : ℕ → ℕ) → cell_with t value ≤ greatest t.cells
+cell_most t value =
+    let place : ℕ = cell_place t.sizes (map value t.scope) in
+    elim (cases_lt place (length t.cells)) [
+      | inl inside ↦ cells_below t.cells place 0 inside
+      | inr past ↦ omega (arith, get_or_past t.cells place 0 past)
+    ]
+
 module _ (p : Dcop) (paths : List (List ℕ)) (problem : IsProblem p) (pseudo : IsPseudotree p paths) (i : ℕ) (known : Context) where
   -- whether a table counts for the agent of i
   abbrev pub counts_at : CostTable → Bool
@@ -79,6 +90,33 @@ module _ (p : Dcop) (paths : List (List ℕ)) (problem : IsProblem p) (pseudo : 
       ap (λ (ts : List CostTable). cost_with ts (λ v. get_or values v 0)) (sym (tables_on_paths_are_own p paths problem pseudo i))
       ∙ sum_filter (λ t. cell_with t (λ v. get_or values v 0)) (is_on_path paths i) p.tables
 
+  on_path : (u : ℕ) → (u == i || (has (path_of paths i) u && is_some (value_in known u))) ≡ true → is_within paths u i ≡ true
+  on_path u h =
+      elim (or_cases (u == i) (has (path_of paths i) u && is_some (value_in known u)) h) [
+        | inl same ↦ or_left (i == u) (is_above paths u i) (eq-eqb i u (sym (eqb-true u i same)))
+        | inr both ↦ or_right (i == u) (is_above paths u i) (and_parts (has (path_of paths i) u) (is_some (value_in known u)) both).0
+      ]
+
+  most_sum : sum_by (λ t. greatest t.cells) (own_tables_of p paths i) ≡ sum_by (λ t. cond (is_on_path paths i t) (greatest t.cells) 0) p.tables
+  most_sum = ap (λ (ts : List CostTable). sum_by (λ t. greatest t.cells) ts) (sym (tables_on_paths_are_own p paths problem pseudo i)) ∙ sum_filter (λ t. greatest t.cells) (is_on_path paths i) p.tables
+
+  -- what is counted is at most the greatest cells of the own tables together
+  pub counted_most : (d : ℕ) → counted_cost d ≤ sum_by (λ t. greatest t.cells) (own_tables_of p paths i)
+  counted_most d =
+      let left = counted_sum d in
+      let right = most_sum in
+      let le =
+      sum_le (λ t. cond (has t.scope i) (cond (counts_at t) (cell_with t (with_own i d (valued known))) 0) 0) (λ t. cond (is_on_path paths i t) (greatest t.cells) 0) p.tables
+      (λ k e lt.
+      let t : CostTable = get_or p.tables k e in
+      counted (has t.scope i) (counts_at t) (has t.scope i) (list_all (λ v. is_within paths v i) t.scope) (cell_with t (with_own i d (valued known))) (greatest t.cells)
+      (λ named counts. (
+        and_from (has t.scope i) (list_all (λ v. is_within paths v i) t.scope) named
+            (list_all_from (λ v. is_within paths v i) t.scope (λ u there. on_path u (list_all_at (λ u. u == i || (has (path_of paths i) u && is_some (value_in known u))) t.scope u counts there))),
+        cell_most t (with_own i d (valued known)),
+      ))) in
+      omega (arith, left, right, le)
+
   module _ (values : List ℕ) (d : ℕ) (here : get_or values i 0 ≡ d) (given : GivenAbove p paths i (value_in known) values) where
     -- a variable that is known has its value
     value_same : (u : ℕ) → (u == i || (has (path_of paths i) u && is_some (value_in known u))) ≡ true → with_own i d (valued known) u ≡ get_or values u 0
@@ -96,13 +134,6 @@ module _ (p : Dcop) (paths : List (List ℕ)) (problem : IsProblem p) (pseudo : 
 
     cells_same : (t : CostTable) → counts_at t ≡ true → cell_with t (with_own i d (valued known)) ≡ cell_with t (λ v. get_or values v 0)
     cells_same t h = cell_same t (with_own i d (valued known)) (λ v. get_or values v 0) (λ u there. value_same u (list_all_at (λ u. u == i || (has (path_of paths i) u && is_some (value_in known u))) t.scope u h there))
-
-    on_path : (u : ℕ) → (u == i || (has (path_of paths i) u && is_some (value_in known u))) ≡ true → is_within paths u i ≡ true
-    on_path u h =
-        elim (or_cases (u == i) (has (path_of paths i) u && is_some (value_in known u)) h) [
-          | inl same ↦ or_left (i == u) (is_above paths u i) (eq-eqb i u (sym (eqb-true u i same)))
-          | inr both ↦ or_right (i == u) (is_above paths u i) (and_parts (has (path_of paths i) u) (is_some (value_in known u)) both).0
-        ]
 
     -- what is counted costs no more than the own tables
     pub counted_low : counted_cost d ≤ own_at values
@@ -161,6 +192,26 @@ module _ (p : Dcop) (paths : List (List ℕ)) (problem : IsProblem p) (pseudo : 
                   ]
             ]
 
+some_part : (b : Bool) (x : ℕ) → cond b x 0 ≤ x
+some_part true x = omega arith
+some_part false x = omega arith
+
+-- some of a problem's tables cost at most the cap
+pub some_cap : (p : Dcop) → IsProblem p → (q : CostTable → Bool) (f : CostTable → ℕ) → ((t : CostTable) → f t ≤ greatest t.cells) → sum_by f (filter q p.tables) ≤ amount_limit
+some_cap p problem q f low =
+    let part = sum_filter f q p.tables in
+    let le = sum_le (λ t. cond (q t) (f t) 0) (λ t. greatest t.cells) p.tables (λ k d lt.
+    let less = some_part (q (get_or p.tables k d)) (f (get_or p.tables k d)) in let most = low (get_or p.tables k d) in omega (arith, less, most)) in
+    let all = problem.sums in
+    omega (arith, part, le, all)
+
+-- the greatest cells of a subtree's tables are together at most the cap
+pub most_cap : (p : Dcop) (paths : List (List ℕ)) → IsProblem p → (i : ℕ) → most p paths i ≤ amount_limit
+most_cap p paths problem i = some_cap p problem (λ (t : CostTable). is_owner_within paths i (owner_of paths t.scope)) (λ t. greatest t.cells) (λ t. same (greatest t.cells))
+  where
+    same : (n : ℕ) → n ≤ n
+    same n = omega arith
+
 -- no subtree costs more than the cap
 pub below_cap : (p : Dcop) (paths : List (List ℕ)) → IsProblem p → (i : ℕ) (values : List ℕ) → below p paths i values ≤ amount_limit
 below_cap p paths problem i values =
@@ -171,9 +222,5 @@ below_cap p paths problem i values =
     let whole : sum_by f p.tables ≤ amount_limit = whole_cap in
     omega (arith, part, le, whole)
   where
-    some_part : (b : Bool) (x : ℕ) → cond b x 0 ≤ x
-    some_part true x = omega arith
-    some_part false x = omega arith
-
     whole_cap : cost p values ≤ amount_limit
     whole_cap = let one = cost-le-greatest_sum p values in let two = problem.sums in omega (arith, one, two)

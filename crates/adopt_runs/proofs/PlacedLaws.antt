@@ -1,10 +1,10 @@
 -- An ADOPT agent in its place in a tree: its bounds enclose it.
-use Rattle.std.proofs.Common.{◌≡◌, ℕ, ◌+◌, ◌-◌, ◌≤◌, ◌<◌, Bool, true, cond, ◌==◌, ◌&&◌, ◌||◌, max, map, List, [], ◌∷◌, length, get_or, Option, Some, None, refl, sym, ap, subst, ◌∙◌, inl, inr, arith}
+use Rattle.std.proofs.Common.{◌≡◌, ℕ, ◌+◌, ◌-◌, ◌≤◌, ◌<◌, Bool, true, cond, ◌==◌, ◌&&◌, ◌||◌, nat_lt, max, map, List, [], ◌∷◌, length, get_or, Option, Some, None, refl, sym, ap, subst, ◌∙◌, inl, inr, arith}
 use Rattle.std.specs.Prelude.{is_some}
-use Rattle.std.specs.List.{filter, list_all, zip}
+use Rattle.std.specs.List.{filter, list_all, sum_by, zip}
 use Rattle.std.proofs.lemmas.Bool.{cases_eq, eq-eqb, ne_eqb, ltb-true, false≢true}
 use Rattle.std.proofs.lemmas.Option.{none-some, same_Some, cond_some}
-use Rattle.dcop_base.specs.Table.{has}
+use Rattle.dcop_base.specs.Table.{has, greatest}
 use Rattle.dcop_base.specs.Problem.{Dcop, IsAssignment}
 use Rattle.dcop_base.specs.Knowledge.{private_of}
 use Rattle.dcop_base.specs.Graph.{neighbours}
@@ -20,20 +20,21 @@ use Rattle.adopt_context.specs.Context.{Context, value_in, part_of, union, names
 use Rattle.adopt_context.specs.Bounds.{Entry, cap, capped, row_at, entry_at, plus_bound, lower_sum, upper_sum, is_below}
 use Rattle.protocol_steps.specs.Values.{valued}
 use Rattle.protocol_steps.specs.Adopt.{AdoptView, higher}
-use Rattle.protocol_steps.specs.AdoptBounds.{delta, whole_delta, lower_of, upper_of, best_upper, lower_bound, upper_bound}
+use Rattle.protocol_steps.specs.AdoptBounds.{delta, whole_delta, lower_of, upper_of, best_lower, best_upper, lower_bound, upper_bound}
 use Rattle.adopt_context.specs.Merge.{lesser}
 use Rattle.protocol_steps.specs.AdoptRange.{in_range, is_within as is_below_size}
 use Rattle.dcop_optimum.proofs.LineLaws.{within_self, within_above, not_both}
-use Rattle.dcop_optimum.proofs.OwnerLaws.{cost_split}
+use Rattle.dcop_optimum.proofs.OwnerLaws.{cost_split, weight_split}
 use Rattle.dcop_optimum.proofs.JoinLaws.{value_below, listed, listed_at, listed_is, size_some, own_here, own_else, children_parent, IsPiece, joined, above_in_problem, joined_is, joined_agrees, joined_split}
 use Rattle.protocol_steps.specs.TreeAgents.{place_at}
 use Rattle.adopt_runs.specs.Laws.{EntryHolds}
+use Rattle.adopt_runs.specs.Uncut.{counted_sum, IsUncutAt, AreUncut}
 use Rattle.adopt_runs.proofs.BoundLaws.{lowest_within, lowest_least}
 use Rattle.adopt_context.proofs.KnownLaws.{each_pair, part_gives, union_gives_left, union_gives_right}
 use Rattle.adopt_runs.proofs.AgentLaws.{IsKept, IsMid}
 use Rattle.adopt_runs.proofs.EntryLaws.{merged_holds}
-use Rattle.adopt_runs.proofs.EncloseLaws.{below, GivenAbove, IsReached, IsBounded, bounded_blank, bounded_when, bounded_both, filter_distinct, row_low, IsSum, plus_parts, IsGathered, gather}
-use Rattle.adopt_runs.proofs.OwnLaws.{counted_cost, counted_low, counted_high, below_cap}
+use Rattle.adopt_runs.proofs.EncloseLaws.{below, most, GivenAbove, IsReached, IsBounded, bounded_blank, bounded_when, bounded_both, filter_distinct, row_low, row_top, IsSum, plus_parts, IsGathered, gather}
+use Rattle.adopt_runs.proofs.OwnLaws.{counted_cost, counted_low, counted_most, counted_high, most_cap, below_cap}
 
 -- a bound that was cut off at the cap
 pub capped_parts : (o : Option ℕ) (u : ℕ) → capped o ≡ Some u → (x : ℕ) × (o ≡ Some x) × (cap x ≡ u)
@@ -56,6 +57,18 @@ size_is f (x ∷ xs) u s h =
 abbrev delta_of : Private → Place → Context → ℕ → ℕ
 delta_of own place known d =
     cap (cost_with (filter (λ t. list_all (λ u. u == own.me || (has place.path u && is_some (value_in known u))) t.scope) own.tables) (with_own own.me d (valued known)))
+
+abbrev counted_of : Private → Place → Context → ℕ → ℕ
+counted_of own place known d =
+    cost_with (filter (λ t. list_all (λ u. u == own.me || (has place.path u && is_some (value_in known u))) t.scope) own.tables) (with_own own.me d (valued known))
+
+-- what is at most the cap is not cut
+is_uncut : (x : ℕ) → x ≤ amount_limit → cap x ≡ x
+is_uncut x le = omega (arith, le)
+
+all_uncut : (o : Option ℕ) → ((x : ℕ) → o ≡ Some x → x ≤ amount_limit) → capped o ≡ o
+all_uncut None low = refl
+all_uncut (Some x) low = ap (λ (n : ℕ). Some n) (is_uncut x (low x refl))
 
 module _ (p : Dcop) (paths : List (List ℕ)) (problem : IsProblem p) (pseudo : IsPseudotree p paths) (error i : ℕ) (in_tree : i < length p.sizes) where
   -- i has a value, and its proper ancestors those of a context
@@ -89,7 +102,7 @@ module _ (p : Dcop) (paths : List (List ℕ)) (problem : IsProblem p) (pseudo : 
     blank_has = λ x d k. record { holds = record { part = refl; low = omega arith; high = tt }; bounded = bounded_blank p paths (child k) (Under d []) };
     moved = λ x y d k e a part. record { holds = record { part = part; low = a.holds.low; high = a.holds.high }; bounded = a.bounded };
     merged_has = λ x d k e r l u a part may brings. record { holds = merged_holds x e r l u a.holds part may; bounded = merged_bounded x d k e r l u a part brings };
-    reshared = λ x d k e s a low high. record { holds = record { part = a.holds.part; low = low; high = high }; bounded = record { low = a.bounded.low; high = a.bounded.high } };
+    reshared = λ x d k e s a low high. record { holds = record { part = a.holds.part; low = low; high = high }; bounded = record { low = a.bounded.low; high = a.bounded.high; top = a.bounded.top } };
     range = λ x d k e a. (a.holds.low, a.holds.high);
   }
 
@@ -206,9 +219,35 @@ module _ (p : Dcop) (paths : List (List ℕ)) (problem : IsProblem p) (pseudo : 
           costs = omega (arith, split, counted, at, children, room, one, total, last);
         }
 
+    -- the upper bounds of a row are together at most the greatest cells of the children's subtrees
+    uppers_most : (d : ℕ) → d < size → (total : ℕ) → upper_sum (row_at v.rows d) ≡ Some total → total ≤ sum_by (most p paths) (children_of paths i)
+    uppers_most d lt total sum = row_top (most p paths) (row_at v.rows d) (children_of paths i) (row_long d lt) (λ k u there. (mid.entries d k).bounded.top u there) total sum
+
+    -- UB(d), without a cap
+    uncut_high : (d : ℕ) → d < size → (total : ℕ) → plus_bound (whole_delta v d) (upper_sum (row_at v.rows d)) ≡ Some total → total ≤ most p paths i
+    uncut_high d lt total sum =
+        let parts : IsSum (whole_delta v d) (upper_sum (row_at v.rows d)) total = plus_parts (whole_delta v d) (upper_sum (row_at v.rows d)) total sum in
+        let own = cond_some (names_all v.known (higher v)) (delta v d) parts.one parts.one_is in
+        let children = uppers_most d lt parts.other parts.other_is in
+        let counted = counted_most p paths problem pseudo i v.known d in
+        let at = delta_is d in
+        let split = weight_split p paths problem pseudo i (λ t. greatest t.cells) in
+        let one = own.1 in
+        let both = parts.total_is in
+        omega (arith, children, counted, at, split, one, both)
+
+    agent_top : (u : ℕ) → upper_bound v ≡ Some u → u ≤ most p paths i
+    agent_top u e =
+        let d : ℕ = best_upper v in
+        let lt : d < size = last_within d (lowest_within is_below (upper_of v) (v.own.size - 1)) in
+        let cut = capped_parts (plus_bound (whole_delta v d) (upper_sum (row_at v.rows d))) u e in
+        let high = uncut_high d lt cut.0 cut.1 in
+        let last = cut.2 in
+        omega (arith, high, last)
+
     -- the bounds of an agent bound its subtree under what is known
     pub agent_bounded : IsBounded p paths i (GivenAbove p paths i (value_in v.known)) (lower_bound v) (upper_bound v)
-    agent_bounded = record { low = agent_low; high = agent_high }
+    agent_bounded = record { low = agent_low; high = agent_high; top = agent_top }
 
     -- some assignment has all values that are known
     known_below : (u : ℕ) → u < length p.sizes → (o : Option ℕ) → value_in v.known u ≡ o → or_zero o < get_or p.sizes u 0
@@ -237,6 +276,28 @@ module _ (p : Dcop) (paths : List (List ℕ)) (problem : IsProblem p) (pseudo : 
         let low = uncut_low mine d (with_is known_values known_is d lt) (with_here known_values known_is d lt) (λ w x above e. with_above known_values known_is d lt w above ∙ known_given w x above e) in
         let room = below_cap p paths problem i mine in
         omega (arith, low, room)
+
+    -- and no sum of upper bounds, nor a cost of own tables
+    pub uncut_at : (d : ℕ) → d < get_or p.sizes i 0 → IsUncutAt v d
+    uncut_at d lt =
+        let room = most_cap p paths problem i in
+        let split = weight_split p paths problem pseudo i (λ t. greatest t.cells) in
+        let counted = counted_most p paths problem pseudo i v.known d in
+        let plain : counted_sum v d ≡ counted_cost p paths problem pseudo i v.known d =
+        ap (λ (o : Private). counted_of o v.place v.known d) mid.own_is ∙ ap (λ (q : Place). counted_of (private_of p i) q v.known d) mid.place_is in
+        record {
+          own = is_uncut (counted_sum v d) (omega (arith, plain, counted, split, room));
+          lower = is_uncut (delta v d + lower_sum (row_at v.rows d)) (not_cut d lt);
+          children = all_uncut (upper_sum (row_at v.rows d)) (λ total sum. let le = uppers_most d lt total sum in omega (arith, le, split, room));
+          upper = all_uncut (plus_bound (whole_delta v d) (upper_sum (row_at v.rows d))) (λ total sum. let le = uncut_high d lt total sum in omega (arith, le, room));
+        }
+
+    pub uncut : AreUncut p i v
+    uncut = record {
+      each = uncut_at;
+      least = uncut_at (best_lower v) (last_within (best_lower v) (lowest_within nat_lt (lower_of v) (v.own.size - 1)));
+      greatest = uncut_at (best_upper v) (last_within (best_upper v) (lowest_within is_below (upper_of v) (v.own.size - 1)));
+    }
 
     pub value_small : v.value < get_or p.sizes i 0
     value_small = last_within v.value mid.value_low

@@ -1,10 +1,9 @@
 -- Rows of entries: after a reset, a write, and allotting.
-use Rattle.std.proofs.Common.{◌≡◌, ℕ, zero, suc, ◌+◌, ◌-◌, ◌≤◌, nat_lt, if◌then◌else◌, max, List, [], ◌∷◌, map, length, get_or, set, Option, Some, None, refl, sym, ap, subst, ◌∙◌, arith}
+use Rattle.std.proofs.Common.{◌≡◌, ℕ, zero, suc, ◌+◌, ◌-◌, ◌≤◌, nat_lt, if◌then◌else◌, max, List, [], ◌∷◌, length, get_or, Option, Some, None, refl, sym, ap, subst, ◌∙◌, arith}
 use Rattle.std.proofs.lemmas.Bool.{cond_both, ltb-true, ltb-false}
 use Rattle.std.proofs.lemmas.List.Sums.{sum_by-cons}
-use Rattle.adopt_context.specs.Context.{Context}
-use Rattle.adopt_context.specs.Bounds.{Entry, blank, row_at, entry_at, plus_bound, lower_sum, upper_sum}
-use Rattle.adopt_context.specs.Allot.{kept, reset, lower_to, share_sum, raised, raise, lowered, cut, allot}
+use Rattle.adopt_context.specs.Bounds.{Entry, blank, plus_bound, lower_sum, upper_sum}
+use Rattle.adopt_context.specs.Allot.{lower_to, share_sum, raised, raise, lowered, cut, allot}
 use Rattle.dcop_optimum.specs.Enclosing.{IsAtMost}
 use Rattle.adopt_runs.proofs.BoundLaws.{at_most_below, lowered_over, lowered_at_most, plus_over}
 

@@ -17,7 +17,7 @@ use Rattle.adopt_runs.specs.Agents.{IsAgentOf, IsSent}
 use Rattle.adopt_runs.specs.RunLaws.{HoldsOfAdopt, AdoptBoundsEnclose}
 use Rattle.adopt_runs.proofs.Every.{every_then, all_every}
 use Rattle.adopt_runs.proofs.EncloseLaws.{encloses_from}
-use Rattle.adopt_runs.proofs.PlacedLaws.{row_long, agent_bounded, not_cut, value_small}
+use Rattle.adopt_runs.proofs.PlacedLaws.{row_long, agent_bounded, not_cut, uncut, value_small}
 use Rattle.adopt_runs.proofs.SayLaws.{Says, says_sent, entry_encloses}
 use Rattle.adopt_runs.proofs.RunSteps.{Settled, IsGood, runs_on, starts}
 
@@ -35,6 +35,7 @@ module _ (p : Dcop) (paths : List (List ℕ)) (problem : IsProblem p) (pseudo : 
         bounds = bounds;
         entries = entry_encloses p paths problem pseudo error i lt v a.mid;
         hold = record { entries = λ d k. (a.mid.entries d k).holds; low = a.closed.held.low; high = a.closed.held.high; whole = a.closed.whole };
+        uncut = uncut p paths problem pseudo error i lt v a.mid;
         whole = λ known. a.closed.whole known (not_cut p paths problem pseudo error i lt v a.mid v.value small);
         at_root = λ root m is. root_bounds_enclose_optima p paths i (value_in v.known) (lower_bound v) (upper_bound v) problem pseudo root bounds m is;
       }

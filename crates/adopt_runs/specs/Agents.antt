@@ -15,12 +15,13 @@ use Rattle.dcop_optimum.specs.Optimum.{IsOptimum}
 use Rattle.dcop_optimum.specs.Enclosing.{IsAtMost, Encloses}
 use Rattle.protocol_steps.specs.TreeAgents.{place_at}
 use Rattle.adopt_runs.specs.Laws.{EntriesHold}
+use Rattle.adopt_runs.specs.Uncut.{AreUncut}
 
 -- the bounds of an entry enclose its child, under the entry's context with variable i at the entry's value
 abbrev pub EntryEncloses : Dcop → List (List ℕ) → ℕ → ℕ → ℕ → Entry → Type 0
 EntryEncloses p paths i d k e = Encloses p paths (slice_index (children_of paths i) k) (value_in (put e.context i d)) e.lower e.upper
 
--- what holds of the agent of variable i: it was made from what variable i knows, its place and the error; it has for each own value a row of one entry for each child; its bounds enclose it under what it knows, and each entry its child; and where it knows all higher neighbours, its threshold is what its value costs and the shares of its children
+-- what holds of the agent of variable i: it was made from what variable i knows, its place and the error; it has for each own value a row of one entry for each child; its bounds enclose it under what it knows, and each entry its child; the cap cuts none of its bounds; and where it knows all higher neighbours, its threshold is what its value costs and the shares of its children
 pub record IsAgentOf (p : Dcop) (paths : List (List ℕ)) (error i : ℕ) (v : AdoptView) : Type 0 where
   pub made : made_of (AdoptKind v) ≡ OfAdopt (private_of p i) (place_at p paths i) error
   pub value_below : v.value < slice_index p.sizes i
@@ -28,6 +29,7 @@ pub record IsAgentOf (p : Dcop) (paths : List (List ℕ)) (error i : ℕ) (v : A
   pub bounds : Encloses p paths i (value_in v.known) (lower_bound v) (upper_bound v)
   pub entries : (d k : ℕ) → k < length (children_of paths i) → EntryEncloses p paths i d k (entry_at v.rows d k)
   pub hold : EntriesHold v
+  pub uncut : AreUncut p i v
   pub whole : names_all v.known (higher v) ≡ true → v.threshold ≡ delta v v.value + share_sum (row_at v.rows v.value)
   pub at_root : IsRoot paths i → (m : ℕ) → IsOptimum p m → (lower_bound v ≤ m) × IsAtMost m (upper_bound v)
 

@@ -53,7 +53,7 @@ kept_step table true x xs = refl
 kept_step table false x xs = refl
 
 -- the tables that are kept
-kept_some : (table : ℕ → CostTable) (up : ℕ → Bool) (xs : List ℕ) → flat_map there (map (kept_if table up) xs) ≡ map table (filter up xs)
+pub kept_some : (table : ℕ → CostTable) (up : ℕ → Bool) (xs : List ℕ) → flat_map there (map (kept_if table up) xs) ≡ map table (filter up xs)
 kept_some table up [] = refl
 kept_some table up (x ∷ xs) = ap (λ (ts : List CostTable). there (kept_if table up x) ++ ts) (kept_some table up xs) ∙ kept_step table (up x) x (filter up xs)
 

@@ -92,7 +92,7 @@ kept_all : (table : ℕ → CostTable) (xs : List ℕ) → flat_map there (map (
 kept_all table [] = refl
 kept_all table (x ∷ xs) = ap (λ (ts : List CostTable). table x ∷ ts) (kept_all table xs)
 
-sum_map : {X : Type 0} (g : X → ℕ) (h : ℕ → X) (xs : List ℕ) → sum_by g (map h xs) ≡ sum_by (λ x. g (h x)) xs
+pub sum_map : {X : Type 0} (g : X → ℕ) (h : ℕ → X) (xs : List ℕ) → sum_by g (map h xs) ≡ sum_by (λ x. g (h x)) xs
 sum_map g h [] = refl
 sum_map g h (x ∷ xs) = sum_by-cons g (h x) (map h xs) ∙ ap (λ (k : ℕ). g (h x) + k) (sum_map g h xs) ∙ sym (sum_by-cons (λ x. g (h x)) x xs)
 
@@ -106,7 +106,7 @@ pub any_map : (q : List ℕ → Bool) (scope : ℕ → List ℕ) (xs : List ℕ)
 any_map q scope [] = refl
 any_map q scope (x ∷ xs) = ap (λ (b : Bool). q (scope x) || b) (any_map q scope xs)
 
-cap_is : (x : ℕ) → x ≤ amount_limit → cap x ≡ x
+pub cap_is : (x : ℕ) → x ≤ amount_limit → cap x ≡ x
 cap_is x le = omega (arith, le)
 
 pub child_is : (paths : List (List ℕ)) (i c : ℕ) → has (children_of paths i) c ≡ true → parent_of paths c ≡ Some i
@@ -114,7 +114,7 @@ child_is paths i c h = variable_is i (parent_of paths c) (has_filter (λ c. is_v
 
 module _ (p : Dcop) (paths : List (List ℕ)) (problem : IsProblem p) (pseudo : IsPseudotree p paths) where
   -- own tables, sizes and neighbours, whatever is kept
-  own_is : (i : ℕ) → own_tables (view_with p paths i false [] None 0) ≡ own_tables_of p paths i
+  pub own_is : (i : ℕ) → own_tables (view_with p paths i false [] None 0) ≡ own_tables_of p paths i
   own_is i =
       filter_twice (λ (t : CostTable). has t.scope i) (λ (t : CostTable). list_all (λ u. eqb u i || has (path_of paths i) u) t.scope) p.tables
       ∙ ap (λ (f : ℕ → Bool). filter (λ (t : CostTable). has t.scope i && list_all f t.scope) p.tables) (fun_ext (λ u. ap (λ (b : Bool). b || has (path_of paths i) u) (eqb-swap u i)))

@@ -3,6 +3,7 @@ pub mod Plan
 pub mod FullLaws
 pub mod SomePlan
 pub mod AgentLaws
+pub mod UncutLaws
 pub mod Marks
 pub mod LetterLaws
 pub mod BatchLaws

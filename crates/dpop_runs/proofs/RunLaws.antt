@@ -1,6 +1,6 @@
 -- The law on runs of DPOP agents.
 use Rattle.std.proofs.Common.{◌≡◌, ℕ, ◌<◌, Bool, true, false, cond, List, map, length, Some, None, refl, sym, ap, subst, ◌∙◌, arith}
-use Rattle.std.specs.List.{range_with_len, All}
+use Rattle.std.specs.List.{range_with_len, All, slice_get}
 use Rattle.std.specs.Option.{option_map}
 use Rattle.std.proofs.lemmas.Option.{none-some, same_Some, slice_get-map, get_or_from_slice_get}
 use Rattle.std.proofs.lemmas.List.{ext_get_or, length-map}
@@ -12,19 +12,21 @@ use Rattle.pseudotree.specs.Pseudotree.{IsPseudotree, IsLinked}
 use Rattle.pseudotree.specs.Width.{IsNarrow}
 use Rattle.pseudotree.specs.Fault.{parents_of}
 use Rattle.protocol_steps.specs.declared.message.Message.{Message}
+use Rattle.protocol_steps.specs.Dpop.{DpopView}
 use Rattle.protocol_steps.specs.View.{DpopKind, value_of}
 use Rattle.protocol_steps.specs.Network.{Network, link}
 use Rattle.protocol_steps.specs.Effect.{has_ended}
 use Rattle.dcop_optimum.specs.TreeOptimum.{IsFirstOptimumOf}
 use Rattle.dcop_optimum.specs.Certificate.{IsTableCertificate}
 use Rattle.dcop_optimum.proofs.JoinLaws.{listed, listed_at}
-use Rattle.dpop_runs.specs.Agents.{IsOptimumTable, IsSent, AreAgents}
+use Rattle.dpop_runs.specs.Agents.{IsOptimumTable, IsSent, AreAgents, AreUncut}
 use Rattle.dpop_runs.specs.Laws.{separators_of, MadeTables, IsWhole, HoldsOfDpop, DpopRuns}
 use Rattle.dpop_runs.proofs.Plan.{Plan}
 use Rattle.dpop_runs.proofs.SomePlan.{some_plan}
 use Rattle.dpop_runs.proofs.Marks.{Marks, joined, ended, view}
 use Rattle.dpop_runs.proofs.RunSteps.{IsAt, runs_on}
 use Rattle.dpop_runs.proofs.StartLaws.{at_start, starts}
+use Rattle.dpop_runs.proofs.UncutLaws.{uncut}
 use Rattle.dpop_runs.proofs.PendingLaws.{few_utils, few_values, nothing_else, each_ended, not_yet, too_early, all_utils, all_values}
 use Rattle.dpop_runs.proofs.TableLaws.{optimum_table, sent_good, cells_of, util_is, first_values, certificate, stands}
 
@@ -55,6 +57,12 @@ module _ (p : Dcop) (paths : List (List ℕ)) (problem : IsProblem p) (pseudo : 
             table = λ t e. made i inside (joined plan s i) t e;
           },
         )
+
+    uncut_are : (i : ℕ) → i < length p.sizes → (v : DpopView) × (slice_get end.views i ≡ Some (DpopKind v)) × AreUncut p paths i v
+    uncut_are i lt =
+        let size = count in
+        let inside : i < length paths = omega (arith, lt, size) in
+        (view plan s i, is.views i inside, uncut p paths problem pseudo plan i inside s.up (ended plan s i) (view plan s i).made (view plan s i).value)
 
     sent_are : (i j : ℕ) → i < length p.sizes → All (IsSent p paths i) (link end.desks i j)
     sent_are i j lt =
@@ -114,6 +122,7 @@ module _ (p : Dcop) (paths : List (List ℕ)) (problem : IsProblem p) (pseudo : 
           sent = sent_are;
           sized = is.count ∙ size;
           agents = agents;
+          uncut = uncut_are;
           pending = not_yet p paths problem pseudo linked narrow plan end s is;
           early = λ h. let low = too_early p paths problem pseudo linked narrow plan end s is h in omega (arith, low, size);
           whole = whole;

@@ -1,13 +1,14 @@
 -- The agents in a run of DPOP, the tables that they make, and what they send.
-use Rattle.std.specs.Prelude.{◌≡◌, ℕ, ◌<◌, true, false, List, length, Some, slice_get}
+use Rattle.std.specs.Prelude.{◌≡◌, ℕ, ◌+◌, ◌<◌, true, false, List, length, Some, slice_get, slice_index}
 use Rattle.dcop_base.specs.Table.{CostTable, product}
 use Rattle.dcop_base.specs.Problem.{Dcop}
 use Rattle.dcop_base.specs.Knowledge.{private_of}
-use Rattle.dcop_base.specs.Values.{cell_with}
+use Rattle.dcop_base.specs.Values.{cell_with, cost_with, with_own}
 use Rattle.pseudotree.specs.Pseudotree.{separator_of}
 use Rattle.pseudotree.specs.Place.{sizes_of}
 use Rattle.protocol_steps.specs.declared.message.Message.{Message}
 use Rattle.protocol_steps.specs.declared.message.Message.TheVariants.{Util, ValueAll}
+use Rattle.protocol_steps.specs.Dpop.{DpopView, own_tables, kept_tables, joined_cost}
 use Rattle.protocol_steps.specs.View.{View, OfDpop, made_of, started_of, failed_of, table_of}
 use Rattle.protocol_steps.specs.Laws.{IsBeside}
 use Rattle.dcop_optimum.specs.Subtree.{AreValuesAbove, IsSubtreeOptimum}
@@ -33,6 +34,11 @@ pub record IsAgentOf (p : Dcop) (paths : List (List ℕ)) (i : ℕ) (v : View) :
   pub not_failed : failed_of v ≡ false
   pub beside : IsBeside v
   pub table : (t : CostTable) → table_of v ≡ Some t → IsOptimumTable p paths i t
+
+-- no joined cell of the agent of variable i is cut at the cap, whatever tables of its children it keeps: each is what the own tables and the kept ones cost together
+abbrev pub AreUncut : Dcop → List (List ℕ) → ℕ → DpopView → Type 0
+AreUncut p paths i v = (value : ℕ → ℕ) (d : ℕ) → AreValuesAbove p paths i value → d < slice_index p.sizes i
+    → joined_cost v value d ≡ cost_with (own_tables v) (with_own v.own.me d value) + cost_with (kept_tables v) (with_own v.own.me d value)
 
 -- the agents of all variables
 abbrev pub AreAgents : Dcop → List (List ℕ) → List View → Type 0

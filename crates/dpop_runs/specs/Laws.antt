@@ -7,13 +7,14 @@ use Rattle.pseudotree.specs.Pseudotree.{IsPseudotree, IsLinked, separator_of}
 use Rattle.pseudotree.specs.Width.{IsNarrow}
 use Rattle.pseudotree.specs.Fault.{parents_of}
 use Rattle.protocol_steps.specs.declared.event.Event.{Event}
-use Rattle.protocol_steps.specs.View.{View, value_of, table_of}
+use Rattle.protocol_steps.specs.Dpop.{DpopView}
+use Rattle.protocol_steps.specs.View.{View, DpopKind, value_of, table_of}
 use Rattle.protocol_steps.specs.Network.{Network, link}
 use Rattle.protocol_steps.specs.Effect.{SomePending, has_ended, deliveries}
 use Rattle.dcop_optimum.specs.TreeOptimum.{IsFirstOptimumOf}
 use Rattle.dcop_optimum.specs.Certificate.{util_of, IsTableCertificate}
 use Rattle.dpop_runs.specs.DpopRun.{IsDpopRun, utils, values}
-use Rattle.dpop_runs.specs.Agents.{IsSent, AreAgents}
+use Rattle.dpop_runs.specs.Agents.{IsSent, AreAgents, AreUncut}
 
 -- the separators of all variables
 abbrev pub separators_of : Dcop → List (List ℕ) → List (List ℕ)
@@ -40,11 +41,12 @@ pub record HoldsOfDpop (p : Dcop) (paths : List (List ℕ)) (end : Network) : Ty
   pub sent : (i j : ℕ) → i < length p.sizes → All (IsSent p paths i) (link end.desks i j)
   pub sized : length end.views ≡ length p.sizes
   pub agents : AreAgents p paths end.views
+  pub uncut : (i : ℕ) → i < length p.sizes → (v : DpopView) × (slice_get end.views i ≡ Some (DpopKind v)) × AreUncut p paths i v
   pub pending : has_ended end ≡ false → SomePending end
   pub early : has_ended end ≡ false → deliveries end < 2 * (length p.sizes - 1)
   pub whole : has_ended end ≡ true → IsWhole p paths end
 
--- in every run of DPOP on a narrow and linked pseudotree so many messages are delivered at most, a message is pending until all have ended, and then their values are the first optimum of the tree
+-- in every run of DPOP on a narrow and linked pseudotree so many messages are delivered at most, no joined cell is cut at the cap, a message is pending until all have ended, and then their values are the first optimum of the tree
 pub record DpopRuns : Type 0 where
   pub runs : (p : Dcop) (paths : List (List ℕ)) → IsProblem p → IsPseudotree p paths → IsLinked p paths → IsNarrow p paths
       → (es : List Event) (end : Network) → IsDpopRun p paths es end → HoldsOfDpop p paths end

@@ -5,6 +5,7 @@ pub mod ParcelLaws
 pub mod AccountLaws
 pub mod StampLaws
 pub mod RunLaws
+pub mod StartedLaws
 pub mod Rows
 pub mod NetworkRows
 pub mod JournalStampLaws
