@@ -8,6 +8,7 @@
 #![tactic(auto)]
 
 mod fault;
+mod gate;
 mod kept;
 mod memory;
 mod sink;
@@ -16,6 +17,7 @@ mod standard;
 mod steady;
 
 pub use fault::Failed;
+pub use gate::{Gate, OpenGate};
 pub use memory::{MemorySink, MemorySource};
 pub use sink::Sink;
 pub use source::Source;

@@ -1,0 +1,6 @@
+-- The ring of a link.
+use Rattle.std.specs.Prelude.{ℕ}
+
+-- how many items it holds
+abbrev pub ring_slots : ℕ
+ring_slots = 64

@@ -1,0 +1,24 @@
+//! Both ends of a link in one thread.
+
+ghost use Rattle.std.specs.Prelude.{◌≡◌, length};
+ghost use Rattle.fifo_links.specs.Link.{AreEnds, sent_on, taken_from, known_to, IsSettled, SameTail, SameHead};
+
+use super::{LinkHead, LinkTail};
+
+/// Moves the backlog into the ring while there is room, and answers how many items are in the
+/// ring. Then what was taken, the ring and the backlog are together what was sent; the backlog is
+/// empty or the ring full; and the head knows every item in the ring, so that the next `take_all`
+/// takes them all. It takes no memory.
+pub fn settle<T: Send + Drop>(tail: &mut LinkTail<T>, head: &mut LinkHead<T>) -> u32
+    requires ends { AreEnds tail.old head.old }
+    ensures tail { SameTail tail.old tail.new }
+    ensures head { SameHead head.old head.new }
+    ensures sent { sent_on tail.new ≡ sent_on tail.old }
+    ensures taken { taken_from head.new ≡ taken_from head.old }
+    ensures settled { IsSettled tail.new head.new }
+    ensures count { result ≡ length (known_to head.new) }
+{
+    tail.ring.slots_beside(&mut head.ring);
+    tail.refill();
+    head.ring.slots_beside(&mut tail.ring) as u32
+}

@@ -1,0 +1,30 @@
+//! What the head of a link does.
+
+ghost use Rattle.std.specs.Prelude.{◌≡◌, ◌+◌, ◌≤◌};
+ghost use Rattle.std.specs.Vec.{vec_len, vec_capacity};
+ghost use Rattle.fifo_links.specs.Slots.{ring_slots};
+ghost use Rattle.fifo_links.specs.Link.{taken_from, known_to, HasTaken, SameHead};
+
+use super::{LinkHead, SLOTS};
+
+impl<T: Send + Drop> LinkHead<T> {
+    /// Takes what it finds in the ring, oldest first, at most 64 items, and adds it to `into`.
+    /// Answers how many it took. It takes at least what was known to be there, so it answers 0
+    /// only where no item was known. It takes no memory: `into` has room for 64 more.
+    #[tactic(auto, using(crate::proofs::TakingLaws::taking_none, crate::proofs::TakingLaws::taking_more, crate::proofs::TakingLaws::taking_empty, crate::proofs::TakingLaws::taking_all))]
+    pub fn take_all(&mut self, into: &mut Vec<T>) -> u32
+        requires room { vec_len into.old + ring_slots ≤ vec_capacity into.old }
+        ensures end { SameHead self.old self.new }
+        ensures taken { HasTaken self.old into.old.items result self.new into.new.items }
+    {
+        let mut count = 0;
+        for _ in 0..SLOTS {
+            match self.ring.pop() {
+                Ok(item) => into.push_reserved(item),
+                Err(_) => return count,
+            }
+            count += 1;
+        }
+        count
+    }
+}

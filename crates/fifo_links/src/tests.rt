@@ -1,0 +1,34 @@
+//! A link of one item more than its ring holds.
+
+ghost use Rattle.fifo_links.specs.Link.{SameTail};
+
+use crate::{LinkTail, link, settle};
+use std::test::Fail;
+
+// Sends the numbers below `count`; whether none of them came back.
+fn sends_up_to(tail: &mut LinkTail<u64>, count: u64) -> bool
+    ensures { SameTail tail.old tail.new }
+{
+    for item in 0..count {
+        if tail.push(item).is_err() {
+            return false;
+        }
+    }
+    true
+}
+
+#[test]
+fn what_the_ring_does_not_hold_waits_for_a_slot(rt: HostRuntime) -> Result<(), Fail> {
+    let (mut tail, mut head) = link::<u64>(rt.alloc())?;
+    assert!(rt; sends_up_to(&mut tail, 65));
+    let mut first = Vec::with_capacity(rt.alloc(), 64)?;
+    assert_eq!(rt; head.take_all(&mut first), 64);
+    for (place, item) in first.iter().enumerate() {
+        assert_eq!(rt; *item, place as u64);
+    }
+    assert_eq!(rt; settle(&mut tail, &mut head), 1);
+    let mut second = Vec::with_capacity(rt.alloc(), 64)?;
+    assert_eq!(rt; head.take_all(&mut second), 1);
+    assert_eq!(rt; second.as_slice(), [64].as_slice());
+    Ok(())
+}

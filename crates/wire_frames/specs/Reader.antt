@@ -1,0 +1,55 @@
+-- A reader of frames: what it holds, and what its calls do to it.
+use Rattle.std.specs.Prelude.{◌≡◌, ℕ, ◌+◌, ◌≤◌, min, Bool, true, false, List, [], ◌∷◌, ◌++◌, length, Option, Some, None, Result, Ok, Err, if◌then◌else◌}
+use Rattle.std.specs.List.{All}
+use Rattle.dcop_base.specs.Limits.{count_limit}
+use Rattle.wire_frames.specs.declared.fault.FrameFault.{FrameFault}
+use Rattle.wire_frames.specs.declared.fault.FrameFault.TheVariants.{TooLong, NoMemory}
+use Rattle.wire_frames.specs.Frame.{framed_all, EndsAt}
+
+-- the greatest length that a reader takes, the payloads that it holds, the bytes after their frames, the place of those bytes in the stream, and whether a length field above the limit stands at their front
+pub record Reader : Type 0 where
+  pub limit : ℕ
+  pub ready : List (List ℕ)
+  pub rest : List ℕ
+  pub place : ℕ
+  pub stuck : Bool
+
+-- a reader that has been given nothing
+abbrev pub fresh : ℕ → Reader
+fresh limit = record { limit = limit; ready = []; rest = []; place = 0; stuck = false }
+
+-- a piece is taken: the payloads of the frames that are whole now are held, up to where the bytes end
+pub record Takes (before : Reader) (piece : List ℕ) (after : Reader) : Type 0 where
+  pub payloads : List (List ℕ)
+  pub whole : before.rest ++ piece ≡ framed_all payloads ++ after.rest
+  pub within : All (λ p. length p ≤ before.limit) payloads
+  pub held : after.ready ≡ before.ready ++ payloads
+  pub place : after.place ≡ min (before.place + length (framed_all payloads)) count_limit
+  pub limit : after.limit ≡ before.limit
+  pub ends : EndsAt after.limit after.rest after.stuck
+
+-- a length field above the limit was met before, or is met in this piece
+abbrev pub Stops : Bool → Reader → List ℕ → Reader → Type 0
+Stops true before piece after = after ≡ before
+Stops false before piece after = Takes before piece after
+
+-- what a feed does, by its answer: it takes the piece; it stops at a length field above the limit, and answers its place for good; or it wants memory, and nothing changes
+abbrev pub Feeds : Reader → List ℕ → Result (Unit {0}) FrameFault → Reader → Type 0
+Feeds before piece (Ok done) after = (before.stuck ≡ false) × (after.stuck ≡ false) × Takes before piece after
+Feeds before piece (Err (TooLong place)) after = (place ≡ after.place) × (after.stuck ≡ true) × Stops before.stuck before piece after
+Feeds before piece (Err NoMemory) after = (before.stuck ≡ false) × (after ≡ before)
+
+-- the first of some payloads
+abbrev pub first_of : List (List ℕ) → Option (List ℕ)
+first_of [] = None
+first_of (p ∷ ps) = Some p
+
+-- what is left behind it
+abbrev pub after_first : List (List ℕ) → List (List ℕ)
+after_first [] = []
+after_first (p ∷ ps) = ps
+
+-- handing out: the first payload that is held, where there is one, and nothing else changes
+pub record Hands (before : Reader) (given : Option (List ℕ)) (after : Reader) : Type 0 where
+  pub first : given ≡ first_of before.ready
+  pub left : after ≡ record before { ready = after_first before.ready }

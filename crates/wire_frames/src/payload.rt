@@ -1,0 +1,26 @@
+//! The frame of a payload.
+
+ghost use Rattle.std.specs.Prelude.{◌≡◌, ◌≤◌, length, IfOk};
+ghost use Rattle.wire_frames.specs.Frame.{payload_limit, framed};
+
+use dcop_base::{Bytes, NoMemory};
+use std::alloc::Global;
+
+/// The most bytes of a payload, 2^24.
+pub const MAX_PAYLOAD: u32 = 16_777_216;
+
+/// The frame of a payload of at most [`MAX_PAYLOAD`] bytes: its length as a `u32`, the highest byte
+/// first, and its bytes.
+///
+/// # Errors
+///
+/// [`NoMemory`] where memory was wanted and not had.
+pub fn frame(alloc: Global, payload: &[u8]) -> Result<Bytes, NoMemory>
+    requires { length payload.now ≤ payload_limit }
+    ensures { IfOk result (λ bytes. bytes ≡ framed payload.now) }
+{
+    let mut bytes = Vec::with_capacity(alloc, 4 + payload.len())?;
+    bytes.extend_from_slice(&(payload.len() as u32).to_be_bytes())?;
+    bytes.extend_from_slice(payload)?;
+    Ok(Bytes::from_vec(bytes))
+}
