@@ -1,5 +1,5 @@
 -- How a run ended in which a message is pending until all agents have ended.
-use Rattle.std.proofs.Common.{◌≡◌, ℕ, ◌+◌, ◌<◌, ◌≤◌, true, false, List, [], ◌∷◌, map, length, Option, Some, None, refl, sym, ap, subst, ◌∙◌, arith}
+use Rattle.std.proofs.Common.{◌≡◌, ℕ, suc, ◌+◌, ◌<◌, ◌≤◌, true, false, List, [], ◌∷◌, map, length, Option, Some, None, refl, sym, ap, subst, ◌∙◌, arith}
 use Rattle.std.specs.List.{range_with_len, slice_get}
 use Rattle.std.proofs.lemmas.Bool.{true≢false}
 use Rattle.std.proofs.lemmas.Option.{same_Some}
@@ -27,7 +27,7 @@ same-from : {X : Type 0} (xs : List X) (f : ℕ → X) (s : ℕ) → ((i : ℕ) 
 same-from [] f s same = refl
 same-from {X} (x ∷ xs) f s same =
     let here : x ≡ f s = same_Some x (f s) (same 0 (omega arith) ∙ ap (λ (k : ℕ). Some (f k)) (let e : s + 0 ≡ s = omega arith in e)) in
-    let rest : xs ≡ map f (range_with_len (s + 1) (length xs)) = same-from xs f (s + 1) (λ i lt. same (i + 1) (omega (arith, lt)) ∙ ap (λ (k : ℕ). Some (f k)) (let e : s + (i + 1) ≡ s + 1 + i = omega arith in e)) in
+    let rest : xs ≡ map f (range_with_len (s + 1) (length xs)) = same-from xs f (s + 1) (λ i lt. same (suc i) (omega (arith, lt)) ∙ ap (λ (k : ℕ). Some (f k)) (let e : s + suc i ≡ s + 1 + i = omega arith in e)) in
     ap (λ (y : X). y ∷ xs) here ∙ ap (λ (ys : List X). f s ∷ ys) rest
 
 pub same-by : {X : Type 0} (xs : List X) (f : ℕ → X) (n : ℕ) → length xs ≡ n → ((i : ℕ) → i < n → slice_get xs i ≡ Some (f i)) → xs ≡ map f (range_with_len 0 n)
