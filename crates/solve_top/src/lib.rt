@@ -8,12 +8,15 @@
 #[cfg(test)]
 mod adopt_tests;
 mod after_end;
+mod agents;
 mod answering;
 #[cfg(test)]
 mod check_tests;
+mod choosing;
 #[cfg(test)]
 mod dpop_tests;
 mod law;
+mod reaching;
 mod reading;
 mod status;
 mod task;
