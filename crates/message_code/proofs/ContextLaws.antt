@@ -5,7 +5,7 @@ use Rattle.std.specs.List.{flat_map}
 use Rattle.std.specs.Int.{w16, w32}
 use Rattle.std.proofs.lemmas.List.{append-nil}
 use Rattle.std.proofs.lemmas.List.Concat.{flat_map-append, flat_map-cons}
-use Rattle.std.proofs.lemmas.List.Elements.{All-nil, All-push, All-head, All-tail}
+use Rattle.std.proofs.lemmas.List.Elements.{All-push, All-head, All-tail}
 use Rattle.dcop_base.specs.Limits.{variable_limit, size_limit}
 use Rattle.adopt_context.specs.Context.{Context, AscendsFrom, put}
 use Rattle.protocol_steps.specs.Ranges.{IsContext}
@@ -81,9 +81,6 @@ pub record HasPairs (bytes : List ℕ) (context : Context) (count least : ℕ) (
   pub from : least ≡ next_least 0 context
   pub ascends : AscendsFrom 0 context
   pub range : IsContext context
-
-pub pairs_none : (bytes : List ℕ) → HasPairs bytes [] 0 0 bytes
-pairs_none bytes = record { whole = refl; told = refl; from = refl; ascends = tt; range = All-nil (λ (q : ℕ × ℕ). (q.0 < variable_limit) × (q.1 < size_limit)) }
 
 pub pairs_more : (bytes : List ℕ) (context : Context) (count least : ℕ) (rest : List ℕ) (v a : ℕ) (behind : List ℕ) (after : Context) → HasPairs bytes context count least rest
     → (least ≤ v) × (v < variable_limit) × (a < size_limit) → rest ≡ pair_code (v, a) ++ behind → after ≡ put context v a → HasPairs bytes after (count + 1) (v + 1) behind

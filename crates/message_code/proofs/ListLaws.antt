@@ -1,10 +1,9 @@
 -- Lists of numbers, one after the other.
-use Rattle.std.proofs.Common.{◌≡◌, ℕ, suc, ◌+◌, ◌-◌, ◌<◌, ◌≤◌, List, [], ◌∷◌, ◌++◌, length, All, refl, sym, ap, ◌∙◌, append_assoc, arith, length-append}
+use Rattle.std.proofs.Common.{◌≡◌, ℕ, suc, ◌+◌, ◌-◌, ◌<◌, ◌≤◌, List, [], ◌∷◌, ◌++◌, length, All, refl, ap, ◌∙◌, append_assoc, arith, length-append}
 use Rattle.std.specs.List.{flat_map}
 use Rattle.std.specs.Int.{Width, byte_len, to_be_bytes}
-use Rattle.std.proofs.lemmas.List.{append-nil}
-use Rattle.std.proofs.lemmas.List.Concat.{flat_map-append, flat_map-cons}
-use Rattle.std.proofs.lemmas.List.Elements.{All-nil, All-push, All-head, All-tail}
+use Rattle.std.proofs.lemmas.List.Concat.{flat_map-cons}
+use Rattle.std.proofs.lemmas.List.Elements.{All-head, All-tail}
 use Rattle.message_code.specs.declared.stop.Stop.{Stop}
 use Rattle.message_code.specs.Form.{Form, number, numbers, first_fault}
 use Rattle.message_code.specs.Reading.{Stopped}
@@ -16,19 +15,6 @@ pub record HasTaken (w : Width) (limit : ℕ) (bytes taken : List ℕ) (count : 
   pub whole : bytes ≡ flat_map (to_be_bytes w) taken ++ rest
   pub told : length taken ≡ count
   pub range : All (λ n. n < limit) taken
-
-pub taken_none : (w : Width) (limit : ℕ) (bytes : List ℕ) → HasTaken w limit bytes [] 0 bytes
-taken_none w limit bytes = record { whole = refl; told = refl; range = All-nil (λ n. n < limit) }
-
-pub taken_more : (w : Width) (limit : ℕ) (bytes taken : List ℕ) (count : ℕ) (rest : List ℕ) (n : ℕ) (behind : List ℕ) → HasTaken w limit bytes taken count rest → n < limit → rest ≡ to_be_bytes w n ++ behind
-    → HasTaken w limit bytes (taken ++ n ∷ []) (count + 1) behind
-taken_more w limit bytes taken count rest n behind h lt is =
-    let pushed : flat_map (to_be_bytes w) (taken ++ n ∷ []) ≡ flat_map (to_be_bytes w) taken ++ to_be_bytes w n = flat_map-append (to_be_bytes w) taken (n ∷ []) ∙ ap (λ (x : List ℕ). flat_map (to_be_bytes w) taken ++ x) (append-nil (to_be_bytes w n)) in
-    record {
-      whole = h.whole ∙ ap (λ (x : List ℕ). flat_map (to_be_bytes w) taken ++ x) is ∙ sym (append_assoc (flat_map (to_be_bytes w) taken) (to_be_bytes w n) behind) ∙ ap (λ (x : List ℕ). x ++ behind) (sym pushed);
-      told = let long = h.told in omega (arith, length-append taken (n ∷ []));
-      range = All-push (λ m. m < limit) taken n h.range lt;
-    }
 
 -- numbers in their range are passed
 pub numbers_pass : (w : Width) (most limit : ℕ) → IsWide w most → limit ≤ most → (ns : List ℕ) (m k : ℕ) (next : Form) (before : ℕ) (rest : List ℕ) → All (λ n. n < limit) ns → m ≡ length ns + k
@@ -57,7 +43,3 @@ numbers_stop w most limit wide le bytes taken count i rest stop h lt stopped =
     let one : Stopped (λ (next : Form). numbers w limit (suc (count - (i + 1))) next) rest stop = stopped_first (number w 0 limit) (λ next n. numbers w limit (count - (i + 1)) next) rest stop stopped in
     stopped_behind (numbers w limit count) (numbers w limit (suc (count - (i + 1)))) bytes (flat_map (to_be_bytes w) taken) rest stop h.whole
     (λ next before. numbers_pass w most limit wide le taken count (suc (count - (i + 1))) next before rest h.range left) one
-
--- when all are read, nothing is left to count
-pub taken_all : (w : Width) (limit : ℕ) (bytes taken : List ℕ) (count i : ℕ) (rest : List ℕ) → HasTaken w limit bytes taken i rest → i ≤ count → count ≤ i → HasTaken w limit bytes taken count rest
-taken_all w limit bytes taken count i rest h le ge = record { whole = h.whole; told = let t = h.told in omega arith; range = h.range }

@@ -1,11 +1,10 @@
 -- Numbers at the front of bytes, and their form.
-use Rattle.std.proofs.Common.{◌≡◌, ℕ, ◌+◌, ◌^◌, ◌<◌, ◌≤◌, Bool, true, false, ◌&&◌, List, ◌++◌, length, take, drop, Some, refl, ap, ◌∙◌, arith, length-append}
+use Rattle.std.proofs.Common.{◌≡◌, ℕ, ◌+◌, ◌^◌, ◌<◌, ◌≤◌, Bool, true, ◌&&◌, List, ◌++◌, length, take, drop, refl, ap, ◌∙◌, arith, length-append}
 use Rattle.std.specs.Prelude.{nat_le, nat_lt}
 use Rattle.std.specs.Int.{Width, w8, w16, w32, w64, byte_len, from_be_bytes, to_be_bytes}
 use Rattle.std.proofs.lemmas.List.{take_at, drop_at}
 use Rattle.std.proofs.lemmas.Nat.{from_be_bytes-to_be_bytes_2, from_be_bytes-to_be_bytes_4, from_be_bytes-to_be_bytes_8}
 use Rattle.message_code.specs.Form.{Form, number, stands, first_fault}
-use Rattle.message_code.specs.Reading.{IsRefused}
 
 -- what is known of a width: its codes are so long, and each number below a limit is read back
 pub record IsWide (w : Width) (most : ℕ) : Type 0 where
@@ -45,10 +44,3 @@ number_passes w most wide least limit n next before rest fits ge lt =
     let high : nat_lt (from_be_bytes w (take (byte_len w) (to_be_bytes w n ++ rest))) limit ≡ true = lt_true _ _ (omega arith) in
     let test : stands w least limit (to_be_bytes w n ++ rest) ≡ true = both_true _ _ _ whole low high in
     rw (test, is, behind) refl
-
--- a field that does not stand is where bytes are refused
-pub number_refused : (w : Width) (least limit : ℕ) (bytes : List ℕ) → stands w least limit bytes ≡ false → IsRefused (number w least limit) bytes (length bytes)
-number_refused w least limit bytes test = record {
-  within = omega arith;
-  place = λ next before place e. let same : before ≡ place = omega arith in rw test (ap Some same);
-}
