@@ -6,3 +6,4 @@ mod DeliverLaws
 mod FoundLaws
 mod CellLaws
 mod SettleLaws
+pub mod PlainLaws

@@ -4,6 +4,8 @@ use Rattle.protocol_steps.specs.declared.message.Message.{Message}
 use Rattle.fifo_links.specs.declared.ends.LinkTail.{LinkTail}
 use Rattle.fifo_links.specs.declared.ends.LinkHead.{LinkHead}
 use Rattle.fifo_links.specs.Link.{AreEnds, IsSettled, known_to}
+use Rattle.dcop_base.specs.Table.{has}
+use Rattle.worker_runs.specs.Cells.{CellState, peers}
 use Rattle.agent_cells.specs.Links.{Tail, Head, lanes_sent, lanes_taken, AreSameTails, AreSameHeads}
 
 -- an element stands at a place of a list
@@ -47,3 +49,7 @@ pub record HeadIsSettled (heads : List Head) (from : ℕ) (tail : LinkTail (ℕ 
 -- the link between the two, where there is one, is settled
 pub record EndsAreSettled (tails : List Tail) (to : ℕ) (heads : List Head) (from : ℕ) (count : ℕ) : Type 0 where
   pub each : (k : ℕ) (h : Head) → StandsAt heads k h → h.0 ≡ from → TailIsSettled tails to h.1 count
+
+-- the link from one cell to another has both of its ends there, or neither
+abbrev pub HaveBothEnds : CellState → CellState → Type 0
+HaveBothEnds from to = has (peers from.sent) to.me ≡ has (peers to.taken) from.me

@@ -3,7 +3,8 @@
 ghost use Rattle.std.specs.Prelude.{◌≡◌};
 ghost use Rattle.fifo_links.specs.Link.{sent_on, taken_from, SameTail, SameHead};
 ghost use Rattle.worker_runs.specs.Visits.{IsQuiet};
-ghost use Rattle.agent_cells.specs.Settled.{TailJoins, HeadJoins, EndsJoin, SettlesTail, SettlesHead, TailIsSettled, HeadIsSettled, EndsAreSettled};
+ghost use Rattle.worker_runs.specs.CellRounds.{IsSettled};
+ghost use Rattle.agent_cells.specs.Settled.{TailJoins, HeadJoins, EndsJoin, SettlesTail, SettlesHead, TailIsSettled, HeadIsSettled, EndsAreSettled, HaveBothEnds};
 ghost use Rattle.agent_cells.specs.State.{state_of, begun_in, fault_in, tails_in, heads_in, IsCell};
 
 use super::Cell;
@@ -27,6 +28,9 @@ impl Cell {
         ensures tails { SettlesTail (tails_in self.old) (state_of (λ b. meaning b) other.old).me (tails_in self.new) }
         ensures heads { SettlesHead (heads_in other.old) (state_of (λ b. meaning b) self.old).me (heads_in other.new) }
         ensures settled { EndsAreSettled (tails_in self.new) (state_of (λ b. meaning b) other.old).me (heads_in other.new) (state_of (λ b. meaning b) self.old).me result }
+        ensures waiting { HaveBothEnds (state_of (λ b. meaning b) self.old) (state_of (λ b. meaning b) other.old)
+            → IsSettled (state_of (λ b. meaning b) other.old).me (state_of (λ b. meaning b) self.old).me
+            (state_of (λ b. meaning b) other.new) (state_of (λ b. meaning b) self.new) }
         ensures own_heads { heads_in self.new ≡ heads_in self.old }
         ensures other_tails { tails_in other.new ≡ tails_in other.old }
         ensures begun { (begun_in self.new ≡ begun_in self.old) × (begun_in other.new ≡ begun_in other.old) }
