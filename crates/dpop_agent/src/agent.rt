@@ -84,6 +84,13 @@ impl DpopAgent {
         })
     }
 
+    /// The UTIL table that the agent made; `None` exactly before it has joined.
+    pub fn into_table(self) -> Option<Table>
+        ensures { result ≡ self.made }
+    {
+        self.made
+    }
+
     /// Takes the best value at these values, tells the children, and ends. Without a joined table
     /// that waits for values it does nothing.
     fn decide(&mut self, values: &AgentContext) -> Result<Vec<Parcel>, NoMemory>

@@ -1,17 +1,17 @@
 -- Two different envelopes have different codes, part by part.
-use Rattle.std.proofs.Common.{◌≡◌, ℕ, zero, suc, ◌+◌, ◌<◌, ◌≤◌, ◌^◌, List, [], ◌∷◌, ◌++◌, length, take, drop, All, Option, Some, None, refl, sym, ap, ◌∙◌, append_assoc, arith}
+use Rattle.std.proofs.Common.{◌≡◌, ℕ, ◌<◌, ◌≤◌, ◌^◌, List, [], ◌∷◌, ◌++◌, length, take, drop, All, Some, None, refl, sym, ap, ◌∙◌, append_assoc, arith}
 use Rattle.std.specs.List.{flat_map}
 use Rattle.std.specs.Int.{Width, w16, w32, w64, byte_len, from_be_bytes, to_be_bytes}
-use Rattle.std.proofs.lemmas.List.{take_at, drop_at, append-nil}
+use Rattle.std.proofs.lemmas.List.{take_at, drop_at}
 use Rattle.std.proofs.lemmas.List.Concat.{flat_map-cons}
 use Rattle.std.proofs.lemmas.List.Elements.{All-head, All-tail, All-weaker}
-use Rattle.dcop_base.specs.Limits.{amount_limit, variable_limit, size_limit, joined_limit}
+use Rattle.dcop_base.specs.Limits.{amount_limit, variable_limit, size_limit}
 use Rattle.adopt_context.specs.Context.{Context, AscendsFrom}
 use Rattle.protocol_steps.specs.declared.message.Message.{Message}
 use Rattle.protocol_steps.specs.declared.message.Message.TheVariants.{Token, Done, Util, ValueAll, Value, Cost, Threshold, Terminate}
 use Rattle.protocol_steps.specs.Ranges.{AreVariables, AreCells, IsContext, IsBound, IsInRange}
-use Rattle.message_code.specs.Code.{variable_code, amount_code, value_code, pair_code, list_code, context_code, bound_code, tag_of, fields_code, code_of}
-use Rattle.message_code.specs.Decode.{HasContext, IsEnvelope, CodesDiffer}
+use Rattle.message_code.specs.Code.{variable_code, amount_code, value_code, pair_code, list_code, context_code, bound_code, tag_of, fields_code}
+use Rattle.message_code.specs.Decode.{HasContext, CodesDiffer}
 use Rattle.message_code.proofs.NumberLaws.{IsWide, wide16, wide32, wide64}
 use Rattle.message_code.proofs.ContextLaws.{few_pairs}
 

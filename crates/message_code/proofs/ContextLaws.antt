@@ -1,8 +1,8 @@
 -- Contexts, pair by pair.
-use Rattle.std.proofs.Common.{◌≡◌, ℕ, zero, suc, ◌+◌, ◌-◌, ◌<◌, ◌≤◌, Bool, true, false, List, [], ◌∷◌, ◌++◌, length, All, refl, sym, ap, subst, ◌∙◌, append_assoc, arith, length-append}
+use Rattle.std.proofs.Common.{◌≡◌, ℕ, suc, ◌+◌, ◌-◌, ◌<◌, ◌≤◌, false, List, [], ◌∷◌, ◌++◌, length, refl, sym, ap, subst, ◌∙◌, append_assoc, arith, length-append}
 use Rattle.std.specs.Prelude.{◌==◌, nat_lt}
 use Rattle.std.specs.List.{flat_map}
-use Rattle.std.specs.Int.{w16, w32, byte_len, to_be_bytes}
+use Rattle.std.specs.Int.{w16, w32}
 use Rattle.std.proofs.lemmas.List.{append-nil}
 use Rattle.std.proofs.lemmas.List.Concat.{flat_map-append, flat_map-cons}
 use Rattle.std.proofs.lemmas.List.Elements.{All-nil, All-push, All-head, All-tail}
@@ -14,7 +14,7 @@ use Rattle.message_code.specs.Code.{pair_code, variable_code, value_code}
 use Rattle.message_code.specs.Form.{Form, number, pair, pairs, first_fault}
 use Rattle.message_code.specs.Reading.{Stopped}
 use Rattle.message_code.proofs.NumberLaws.{wide16, wide32, number_passes}
-use Rattle.message_code.proofs.PartLaws.{Passes, stopped_first, stopped_behind, field_passes, passes_both}
+use Rattle.message_code.proofs.PartLaws.{stopped_first, stopped_behind}
 
 -- the least variable that may follow these pairs
 abbrev pub next_least : ℕ → Context → ℕ

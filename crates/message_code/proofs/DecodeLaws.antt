@@ -1,9 +1,9 @@
 -- What decoding answers, from what reading gives.
-use Rattle.std.proofs.Common.{◌≡◌, ℕ, ◌+◌, ◌-◌, ◌<◌, ◌≤◌, List, [], ◌∷◌, ◌++◌, length, Some, None, Err, refl, sym, ap, ◌∙◌, arith, length-append}
+use Rattle.std.proofs.Common.{◌≡◌, ℕ, ◌+◌, ◌-◌, ◌<◌, List, [], ◌∷◌, ◌++◌, length, Some, None, Err, refl, sym, ap, ◌∙◌, arith, length-append}
 use Rattle.protocol_steps.specs.declared.message.Message.{Message}
 use Rattle.message_code.specs.declared.fault.DecodeFault.{DecodeFault}
 use Rattle.message_code.specs.declared.fault.DecodeFault.TheVariants.{Bad, NoMemory}
-use Rattle.std.proofs.Common.{zero, suc, false, ◌^◌, append_assoc}
+use Rattle.std.proofs.Common.{zero, suc, false, append_assoc}
 use Rattle.std.specs.Prelude.{◌==◌}
 use Rattle.std.specs.Int.{w8, to_be_bytes}
 use Rattle.message_code.specs.Code.{amount_code, tag_of, fields_code, code_of}

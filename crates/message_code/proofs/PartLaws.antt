@@ -1,11 +1,11 @@
 -- Parts that stand one behind the other, and where reading them stops.
-use Rattle.std.proofs.Common.{◌≡◌, ℕ, ◌+◌, ◌≤◌, List, ◌++◌, length, Some, refl, sym, ap, subst, ◌∙◌, append_assoc, arith, length-append}
+use Rattle.std.proofs.Common.{◌≡◌, ℕ, ◌+◌, ◌≤◌, List, ◌++◌, length, sym, ap, ◌∙◌, append_assoc, arith, length-append}
 use Rattle.message_code.specs.declared.stop.Stop.{Stop}
 use Rattle.message_code.specs.declared.stop.Stop.TheVariants as stops
 use Rattle.std.proofs.Common.{◌<◌}
-use Rattle.std.specs.Int.{Width, byte_len, to_be_bytes}
+use Rattle.std.specs.Int.{Width, to_be_bytes}
 use Rattle.message_code.specs.Form.{Form, number, first_fault}
-use Rattle.message_code.specs.Reading.{IsRefused, Stopped}
+use Rattle.message_code.specs.Reading.{Stopped}
 use Rattle.message_code.proofs.NumberLaws.{IsWide, number_passes}
 
 -- a fault in the first part is the fault of what begins with it

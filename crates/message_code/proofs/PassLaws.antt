@@ -1,5 +1,5 @@
 -- The code of a message within its ranges is passed by the form of its fields.
-use Rattle.std.proofs.Common.{◌≡◌, ℕ, ◌+◌, ◌<◌, ◌≤◌, ◌^◌, List, [], ◌∷◌, ◌++◌, length, All, Option, Some, None, refl, sym, ap, ◌∙◌, arith, length-append}
+use Rattle.std.proofs.Common.{◌≡◌, ℕ, ◌+◌, ◌<◌, ◌≤◌, ◌^◌, List, [], ◌∷◌, ◌++◌, length, All, Option, Some, None, sym, ap, ◌∙◌, arith}
 use Rattle.std.specs.List.{flat_map}
 use Rattle.std.specs.Int.{Width, w8, w16, w32, w64, to_be_bytes}
 use Rattle.std.proofs.lemmas.List.{append-nil}
@@ -11,7 +11,7 @@ use Rattle.protocol_steps.specs.declared.message.Message.TheVariants.{Token, Don
 use Rattle.protocol_steps.specs.Ranges.{AreVariables, AreCells, IsContext, IsBound, IsInRange}
 use Rattle.message_code.specs.Code.{variable_code, amount_code, value_code, pair_code, list_code, context_code, bound_code, tag_of, fields_code, code_of}
 use Rattle.message_code.specs.Decode.{HasContext, IsEnvelope, CodesAreGood}
-use Rattle.message_code.specs.Form.{Form, ended, number, numbers, pairs, variable_list, cell_list, context, value, amount, flagged, bound, fields, envelope, bad_place, first_fault}
+use Rattle.message_code.specs.Form.{Form, ended, number, numbers, pairs, variable_list, cell_list, context, value, amount, flagged, bound, fields, envelope, first_fault}
 use Rattle.message_code.proofs.NumberLaws.{IsWide, wide8, wide16, wide32, wide64}
 use Rattle.message_code.proofs.PartLaws.{Passes, field_passes, passes_both}
 use Rattle.message_code.proofs.ListLaws.{numbers_pass}

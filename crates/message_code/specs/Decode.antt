@@ -1,5 +1,5 @@
 -- What decoding answers, and the laws of codes.
-use Rattle.std.specs.Prelude.{◌≡◌, ℕ, ◌≤◌, List, Option, Some, None, Result, Ok, Err}
+use Rattle.std.specs.Prelude.{◌≡◌, ℕ, ◌≤◌, List, Some, None, Result, Ok, Err}
 use Rattle.dcop_base.specs.Limits.{amount_limit}
 use Rattle.adopt_context.specs.Context.{AscendsFrom}
 use Rattle.protocol_steps.specs.declared.message.Message.{Message}

@@ -1,12 +1,8 @@
-use Rattle.std.proofs.Common.{◌+◌, arith}
-use Rattle.std.specs.Int.{w8, w16, w32, w64}
 use Rattle.std.proofs.lemmas.Result.{err_from_is_err_and}
-use Rattle.dcop_base.specs.Limits.{amount_limit, size_limit}
-use Rattle.message_code.specs.Code.{variable_code, amount_code, list_code, context_code}
-use Rattle.message_code.specs.Form.{Form, ended, number, variable_list, cell_list, context, amount, flagged, bound, fields, envelope}
-use Rattle.message_code.proofs.NumberLaws.{wide8}
-use Rattle.message_code.proofs.PartLaws.{stopped_first, stopped_behind, field_stops}
-use Rattle.message_code.proofs.PassLaws.{variables_pass, context_passes, amount_passes}
+use Rattle.message_code.specs.Code.{amount_code, context_code}
+use Rattle.message_code.specs.Form.{Form, context, amount, bound, fields}
+use Rattle.message_code.proofs.PartLaws.{stopped_first, stopped_behind}
+use Rattle.message_code.proofs.PassLaws.{context_passes, amount_passes}
 use Rattle.message_code.proofs.message.cost_at.Goals as goal
 
 pub returns-in_err-context : goal.returns-in_err-context

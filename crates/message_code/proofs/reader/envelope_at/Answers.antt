@@ -1,7 +1,7 @@
-use Rattle.std.proofs.Common.{◌≡◌, ℕ, ◌+◌, ◌<◌, List, ◌∷◌, ◌++◌, length, [], sym, ap, ◌∙◌, append_assoc, arith}
-use Rattle.std.specs.Int.{w8, to_be_bytes}
+use Rattle.std.proofs.Common.{◌≡◌, ℕ, List, ◌∷◌, ◌++◌, length, [], ap, ◌∙◌, arith}
+use Rattle.std.specs.Int.{w8}
 use Rattle.std.proofs.lemmas.Result.{err_from_is_err_and}
-use Rattle.message_code.specs.Code.{amount_code, tag_of, fields_code}
+use Rattle.message_code.specs.Code.{amount_code}
 use Rattle.message_code.specs.Form.{Form, ended, number, amount, fields, envelope}
 use Rattle.message_code.proofs.PartLaws.{stopped_first, stopped_behind}
 use Rattle.message_code.proofs.PassLaws.{amount_passes, tag_passes, byte_is}
