@@ -6,22 +6,9 @@ ghost use Rattle.adopt_context.specs.Context.{is_value, value_in};
 ghost use Rattle.protocol_steps.specs.Agent.{last_of};
 ghost use Rattle.protocol_steps.specs.AdoptRange.{is_within};
 
+use adopt_context::size_beside;
 use dcop_base::{Val, VarId};
 use pseudotree::Place;
-
-/// The size beside a variable; `None` where it is none of these.
-#[tactic(auto, using(crate::proofs::RangeLaws::size_next))]
-fn size_beside(vars: &[VarId], sizes: &[u16], var: VarId) -> Option<u16>
-    requires { length sizes.now ≡ length vars.now }
-    ensures { result ≡ value_in (zip vars.now sizes.now) var }
-{
-    for (k, other) in vars.iter().enumerate() {
-        if *other == var {
-            return Some(sizes[k]);
-        }
-    }
-    None
-}
 
 /// Whether a variable stands in the path and the value is below its size.
 pub(crate) fn is_in_range(place: &Place, var: VarId, value: Val) -> bool
