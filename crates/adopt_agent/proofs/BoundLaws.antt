@@ -32,15 +32,15 @@ module _ (v : AdoptView) (costs : List ℕ) (costed : AreCosts v.own v.place v.k
       ap (λ (n : ℕ). lowest nat_lt (lower_at (λ e. get_or costs e 0) v.rows) (n - 1)) costed.counted
       ∙ lowest_same nat_lt (lower_at (λ e. get_or costs e 0) v.rows) (lower_of v) (v.own.size - 1) (λ d le. lower_shown d (omega (arith, le, some)))
 
-  module _ (whole : Bool) (whole_is : whole ≡ names_all v.known (higher v)) where
-    pub upper_shown : (d : ℕ) → d < v.own.size → upper_at (cost_where whole costs) v.rows d ≡ upper_of v d
+  module _ (knows_higher : Bool) (knows_higher_is : knows_higher ≡ names_all v.known (higher v)) where
+    pub upper_shown : (d : ℕ) → d < v.own.size → upper_at (cost_where knows_higher costs) v.rows d ≡ upper_of v d
     upper_shown d lt =
-        ap₂ (λ (b : Bool) (x : ℕ). capped (plus_bound (cond b (Some x) None) (upper_sum (row_at v.rows d)))) whole_is (costed.each d lt)
+        ap₂ (λ (b : Bool) (x : ℕ). capped (plus_bound (cond b (Some x) None) (upper_sum (row_at v.rows d)))) knows_higher_is (costed.each d lt)
 
-    pub best_upper_shown : 1 ≤ v.own.size → lowest is_below (upper_at (cost_where whole costs) v.rows) (length costs - 1) ≡ best_upper v
+    pub best_upper_shown : 1 ≤ v.own.size → lowest is_below (upper_at (cost_where knows_higher costs) v.rows) (length costs - 1) ≡ best_upper v
     best_upper_shown some =
-        ap (λ (n : ℕ). lowest is_below (upper_at (cost_where whole costs) v.rows) (n - 1)) costed.counted
-        ∙ lowest_same is_below (upper_at (cost_where whole costs) v.rows) (upper_of v) (v.own.size - 1) (λ d le. upper_shown d (omega (arith, le, some)))
+        ap (λ (n : ℕ). lowest is_below (upper_at (cost_where knows_higher costs) v.rows) (n - 1)) costed.counted
+        ∙ lowest_same is_below (upper_at (cost_where knows_higher costs) v.rows) (upper_of v) (v.own.size - 1) (λ d le. upper_shown d (omega (arith, le, some)))
 
 -- bounds after a reset
 pub backed_reset : (own : Private) (place : Place) (known x : Context) (bounds after : BoundsView) → AreBacked own place known bounds → after ≡ record bounds { rows = reset x bounds.rows } → AreBacked own place x after
@@ -82,17 +82,22 @@ backed_allot own place known bounds after d goal backed is = subst (λ (b : Boun
       (λ k. subst (λ (c : Context). part_of c known ≡ true) (sym (allot_context goal (row_at bounds.rows d) k)) (backed.rest d k)) backed.rest;
 })
 
--- what allotting gives
-pub allotted_shown : (own : Private) (place : Place) (error : ℕ) (stage : Stage) (known : Context) (value threshold last : ℕ) (told : Bool) (bounds after : BoundsView) (costs : List ℕ) (cost goal : ℕ) (v : AdoptView)
+-- what is to be allotted
+pub goal_shown : (own : Private) (place : Place) (error : ℕ) (stage : Stage) (known : Context) (value threshold last : ℕ) (told : Bool) (bounds : BoundsView) (costs : List ℕ) (cost goal : ℕ) (v : AdoptView)
     → view_at own place error stage known value threshold last told bounds.rows ≡ v → AreCosts own place known costs → value < own.size → cost ≡ get_or costs value 0
     → goal ≡ lower_to (threshold - cost) (capped (upper_sum (row_at bounds.rows value)))
+    → goal ≡ to_allot v
+goal_shown own place error stage known value threshold last told bounds costs cost goal v view costed below is goal_is =
+    goal_is ∙ ap (λ (x : ℕ). lower_to (threshold - x) (capped (upper_sum (row_at bounds.rows value)))) (is ∙ costed.each value below) ∙ ap to_allot view
+
+-- what allotting gives
+pub allotted_shown : (own : Private) (place : Place) (error : ℕ) (stage : Stage) (known : Context) (value threshold last : ℕ) (told : Bool) (bounds after : BoundsView) (goal : ℕ) (v : AdoptView)
+    → view_at own place error stage known value threshold last told bounds.rows ≡ v → goal ≡ to_allot v
     → after ≡ record bounds { rows = set bounds.rows value (allot goal (row_at bounds.rows value)) }
     → view_at own place error stage known value threshold last told after.rows ≡ allotted v
-allotted_shown own place error stage known value threshold last told bounds after costs cost goal v view costed below is goal_is after_is =
-    let w : AdoptView = view_at own place error stage known value threshold last told bounds.rows in
-    let right : goal ≡ to_allot w = goal_is ∙ ap (λ (x : ℕ). lower_to (threshold - x) (capped (upper_sum (row_at bounds.rows value)))) (is ∙ costed.each value below) in
+allotted_shown own place error stage known value threshold last told bounds after goal v view right after_is =
     ap (λ (b : BoundsView). view_at own place error stage known value threshold last told b.rows) after_is
-    ∙ ap (λ (g : ℕ). view_at own place error stage known value threshold last told (set bounds.rows value (allot g (row_at bounds.rows value)))) right
+    ∙ ap (λ (g : ℕ). view_at own place error stage known value threshold last told (set bounds.rows value (allot g (row_at bounds.rows value)))) (right ∙ sym (ap to_allot view))
     ∙ ap allotted view
 
 each_replicate : {X : Type 0} (P : X → Type 0) (n : ℕ) (x none : X) → P x → P none → (j : ℕ) → P (get_or (replicate n x) j none)

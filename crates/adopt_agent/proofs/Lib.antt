@@ -7,4 +7,5 @@ pub mod StoreLaws
 pub mod AgentLaws
 pub mod MessageLaws
 pub mod CostLaws
-pub mod TestLaws
+mod StepRows
+mod TestLaws

@@ -1,34 +1,26 @@
--- Batches by their senders.
-use Rattle.std.proofs.Common.{◌≡◌, ℕ, suc, true, Bool, ◌||◌, eqb, List, [], ◌∷◌, ap, subst, ◌∙◌, inl, inr, arith}
-use Rattle.std.specs.List.{All, Contains, list_all}
-use Rattle.std.proofs.lemmas.Bool.{cases_Bool, and_parts, eqb-true, false≢true}
+-- A place that the tests use: variable 0 above its only neighbour 1.
+use Rattle.std.proofs.Common.{◌≡◌, ℕ, ◌+◌, ◌<◌, true, not, List, [], ◌∷◌, refl, sym, ap, subst, ◌∙◌, arith}
+use Rattle.std.specs.List.Sorted.{IsStrictlyIncreasing}
+use Rattle.std.proofs.lemmas.Bool.{false≢true}
+use Rattle.std.proofs.lemmas.Option.{none-some}
 use Rattle.std.proofs.lemmas.List.Elements.{All-nil, All-cons}
+use Rattle.dcop_base.specs.Limits.{variable_limit}
 use Rattle.dcop_base.specs.Table.{has}
-use Rattle.protocol_steps.specs.declared.message.Message.{Message}
-use Rattle.protocol_steps.specs.Adopt.{AdoptView}
-use Rattle.protocol_steps.specs.View.{AdoptKind}
-use Rattle.protocol_steps.specs.Machine.{IsBatch, IsToNeighbour, SendersFrom}
+use Rattle.dcop_base.specs.declared.knowledge.Private.{Private}
+use Rattle.pseudotree.specs.declared.agent.Place.{Place}
+use Rattle.protocol_steps.specs.Knowledge.{IsSize}
+use Rattle.protocol_steps.specs.Placing.{IsPlaceFor}
 
-contained : (xs : List ℕ) (x : ℕ) → has xs x ≡ true → Contains xs x
-contained [] x h = absurd (false≢true h)
-contained (y ∷ ys) x h = elim (cases_Bool (eqb y x)) [
-  | inl here ↦ (0, omega arith, eqb-true y x here)
-  | inr other ↦
-      let rest = contained ys x (subst (λ (b : Bool). (b || has ys x) ≡ true) other h) in
-      let lt = rest.1 in
-      (suc rest.0, omega (arith, lt), rest.2)
-]
+one_rises : IsStrictlyIncreasing (1 ∷ [])
+one_rises k lt = let short : k + 1 < 1 = lt in omega (arith, short)
 
-near : (v : AdoptView) (ls : List (ℕ × Message)) → list_all (λ l. has v.own.neighbours l.0) ls ≡ true → All (IsToNeighbour (AdoptKind v)) ls
-near v [] h = All-nil (IsToNeighbour (AdoptKind v))
-near v (l ∷ ls) h =
-    let both = and_parts (has v.own.neighbours l.0) (list_all (λ l. has v.own.neighbours l.0) ls) h in
-    All-cons (IsToNeighbour (AdoptKind v)) l ls (contained v.own.neighbours l.0 both.0) (near v ls both.1)
-
--- some letters of ascending senders, all of them neighbours, are a batch
-pub is_batch : (vs : List ℕ) (ls : List (ℕ × Message)) → (ls ≡ [] → ⊥) → SendersFrom 0 ls → list_all (λ l. has vs l.0) ls ≡ true → (v : AdoptView) → v.own.neighbours ≡ vs → IsBatch (AdoptKind v) ls
-is_batch vs ls some up all v around = record {
-  some = some;
-  ascend = up;
-  neighbours = near v ls (ap (λ (ns : List ℕ). list_all (λ (l : ℕ × Message). has ns l.0) ls) around ∙ all);
-}
+pub placed : (own : Private) (place : Place) → own.me ≡ 0 → own.neighbours ≡ 1 ∷ [] → place ≡ record { me = 0; path = []; path_sizes = []; children = 1 ∷ []; lower = 1 ∷ [] } → IsPlaceFor own place
+placed own place me near is = subst (λ (p : Place). IsPlaceFor own p) (sym is) (record {
+  me = sym me;
+  path = record { few = omega arith; apart = refl; without = refl; below = All-nil (λ u. u < variable_limit); sized = refl; sizes = All-nil IsSize };
+  agree = λ u among above. absurd (false≢true above);
+  split = λ u among. sym (ap not (sym (ap (λ (ns : List ℕ). has ns u) near) ∙ among));
+  parent = λ parent last. absurd (none-some parent last);
+  lower = (one_rises, All-cons (λ u. has own.neighbours u ≡ true) 1 [] (ap (λ (ns : List ℕ). has ns 1) near) (All-nil (λ u. has own.neighbours u ≡ true)));
+  children = (one_rises, All-cons (λ u. has (1 ∷ []) u ≡ true) 1 [] refl (All-nil (λ u. has (1 ∷ []) u ≡ true)));
+})

@@ -11,7 +11,7 @@ ghost use Rattle.protocol_steps.specs.Ranges.{IsBound};
 ghost use Rattle.protocol_steps.specs.Adopt.{new_adopt};
 ghost use Rattle.protocol_steps.specs.AdoptBounds.{at_context, best_lower, best_upper, lower_bound, lower_of, restore, upper_bound};
 ghost use Rattle.protocol_steps.specs.AdoptRange.{fits};
-ghost use Rattle.protocol_steps.specs.AdoptStep.{adopt_start, adopt_step, allotted, back_track, choose, closed, may_end, settle};
+ghost use Rattle.protocol_steps.specs.AdoptStep.{adopt_start, adopt_step, allotted, back_track, choose, closed, may_end, settle, to_allot};
 ghost use Rattle.protocol_steps.specs.View.{AdoptKind, made_of};
 ghost use Rattle.adopt_agent.specs.Stage.{working};
 ghost use Rattle.adopt_agent.specs.Deed.{Gives};
@@ -21,7 +21,7 @@ use crate::costs::{are_known, are_same, copy_of, set_costs};
 use crate::stage::Stage;
 use adopt_bounds::Bounds;
 use adopt_context::AgentContext;
-use dcop_base::{CAP, NoMemory, Private, Table, Val};
+use dcop_base::{NoMemory, Private, Table, Val};
 use protocol_steps::{Batch, Letter, Machine, Outbox, Parcel, Standing};
 use pseudotree::Place;
 use std::alloc::Global;
@@ -29,23 +29,30 @@ use std::marker::Model;
 
 /// An ADOPT agent: its part in the search with bounds. Contracts see its view.
 ///
-/// Beside what the view holds it keeps what follows from it: the cost of each own value by the
-/// tables that count, and whether all higher neighbours are known.
+/// Beside what the view holds it keeps what follows from it: the costs of the own values, and
+/// whether all higher neighbours are known.
 #[derive(Debug, Drop)]
 pub struct AdoptAgent {
     pub(crate) alloc: Global,
+    /// What it knows of the problem.
     pub(crate) own: Private,
     pub(crate) place: Place,
+    /// How much worse than the optimum the root may end.
     pub(crate) error: u64,
     pub(crate) stage: Stage,
+    /// What it knows of the values of its path.
     pub(crate) known: AgentContext,
+    /// The cost of each own value by the tables that count.
     pub(crate) costs: Vec<u64>,
-    pub(crate) whole: bool,
+    /// Whether all higher neighbours are known.
+    pub(crate) knows_higher: bool,
     pub(crate) bounds: Bounds,
     pub(crate) value: Val,
     pub(crate) threshold: u64,
-    pub(crate) last: u64,
-    pub(crate) told: bool,
+    /// The threshold that came last, which TERMINATE applies.
+    pub(crate) last_received: u64,
+    /// Whether TERMINATE was taken.
+    pub(crate) told_to_end: bool,
 }
 
 impl Model for AdoptAgent {
@@ -55,11 +62,11 @@ impl Model for AdoptAgent {
 
     ghost Value = { AdoptView };
 
-    ghost view = { λ a. view_at a.own a.place a.error a.stage a.known a.value a.threshold a.last
-        a.told a.bounds.rows };
+    ghost view = { λ a. view_at a.own a.place a.error a.stage a.known a.value a.threshold a.last_received
+        a.told_to_end a.bounds.rows };
 
-    ghost invariant = { λ a. IsSound a.own a.place a.error a.known a.costs.items a.whole a.bounds
-        a.value a.threshold a.last };
+    ghost invariant = { λ a. IsSound a.own a.place a.error a.known a.costs.items a.knows_higher a.bounds
+        a.value a.threshold a.last_received };
 }
 
 impl AdoptAgent {
@@ -84,7 +91,7 @@ impl AdoptAgent {
         let known = AgentContext::new(alloc);
         let mut costs = vec![in alloc; 0; usize::from(own.size)]?;
         set_costs(costs.as_mut_slice(), &own, &place, &known);
-        let whole = are_known(own.neighbours.as_slice(), place.path.as_slice(), &known);
+        let knows_higher = are_known(own.neighbours.as_slice(), place.path.as_slice(), &known);
         Ok(AdoptAgent {
             alloc,
             own,
@@ -93,12 +100,12 @@ impl AdoptAgent {
             stage: Stage::Waiting,
             known,
             costs,
-            whole,
+            knows_higher,
             bounds,
             value: Val(0),
             threshold: 0,
-            last: 0,
-            told: false,
+            last_received: 0,
+            told_to_end: false,
         })
     }
 
@@ -115,7 +122,7 @@ impl AdoptAgent {
         ensures best { result ≡ best_upper self.now }
         ensures within { result < self.now.own.size }
     {
-        choose::best_upper(self.costs.as_slice(), self.whole, &self.bounds)
+        choose::best_upper(self.costs.as_slice(), self.knows_higher, &self.bounds)
     }
 
     /// LB: the least LB(d).
@@ -132,8 +139,8 @@ impl AdoptAgent {
         ensures bound { result ≡ upper_bound self.now }
         ensures within { IsBound result }
     {
-        let best = choose::best_upper(self.costs.as_slice(), self.whole, &self.bounds);
-        choose::upper_of(self.costs.as_slice(), self.whole, &self.bounds, best)
+        let best = choose::best_upper(self.costs.as_slice(), self.knows_higher, &self.bounds);
+        choose::upper_of(self.costs.as_slice(), self.knows_higher, &self.bounds, best)
     }
 
     /// LB(d) of the agent's value.
@@ -161,7 +168,7 @@ impl AdoptAgent {
     {
         set_costs(self.costs.as_mut_slice(), &self.own, &self.place, &known);
         let path = self.place.path.as_slice();
-        self.whole = are_known(self.own.neighbours.as_slice(), path, &known);
+        self.knows_higher = are_known(self.own.neighbours.as_slice(), path, &known);
         self.bounds.reset(&known);
         self.known = known;
     }
@@ -191,15 +198,24 @@ impl AdoptAgent {
         }
     }
 
+    /// What is to be allotted: the threshold less the cost of the value, and no more than the upper
+    /// bounds of the children together.
+    fn to_allot(&self) -> u64
+        ensures goal { result ≡ to_allot self.now }
+        ensures within { result ≤ amount_limit }
+    {
+        let value = self.value;
+        let cost = self.costs[usize::from(value.0)];
+        let left = self.threshold.saturating_sub(cost);
+        choose::lower_to(left, self.bounds.upper_sum_of(value))
+    }
+
     /// Allots the threshold to the children.
     fn allot(&mut self)
         ensures { self.new ≡ allotted self.old }
     {
-        let value = self.value;
-        let cost = self.costs[usize::from(value.0)];
-        let most = self.bounds.upper_sum_of(value);
-        let goal = choose::lower_to(self.threshold.saturating_sub(cost), most);
-        self.bounds.allot(value, goal);
+        let goal = self.to_allot();
+        self.bounds.allot(self.value, goal);
     }
 
     /// Whether the agent may end.
@@ -207,7 +223,7 @@ impl AdoptAgent {
         ensures { result ≡ may_end self.now }
     {
         choose::is_value(self.upper_bound(), self.threshold)
-            && (self.place.path.as_slice().is_empty() || self.told)
+            && (self.place.path.as_slice().is_empty() || self.told_to_end)
     }
 
     /// Ends where it may.

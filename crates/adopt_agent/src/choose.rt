@@ -9,7 +9,7 @@ ghost use Rattle.protocol_steps.specs.Ranges.{IsBound};
 ghost use Rattle.adopt_agent.specs.Costs.{cost_where};
 
 use adopt_bounds::Bounds;
-use dcop_base::{CAP, MAX_SIZE, Val};
+use dcop_base::{CAP, Val};
 
 /// LB(d): the cost of an own value and the lower bounds of the children.
 pub(crate) fn lower_of(costs: &[u64], bounds: &Bounds, d: Val) -> u64
@@ -23,13 +23,13 @@ pub(crate) fn lower_of(costs: &[u64], bounds: &Bounds, d: Val) -> u64
 
 /// UB(d): the cost of an own value and the upper bounds of the children; `None` where not all
 /// higher neighbours are known or an upper bound is not there.
-pub(crate) fn upper_of(costs: &[u64], whole: bool, bounds: &Bounds, d: Val) -> Option<u64>
+pub(crate) fn upper_of(costs: &[u64], knows_higher: bool, bounds: &Bounds, d: Val) -> Option<u64>
     requires cost { d < length costs.now }
     requires row { d < length bounds.now.rows }
-    ensures bound { result ≡ upper_at (cost_where whole costs.now) bounds.now.rows d }
+    ensures bound { result ≡ upper_at (cost_where knows_higher costs.now) bounds.now.rows d }
     ensures within { IsBound result }
 {
-    let own = if whole {
+    let own = if knows_higher {
         Some(costs[usize::from(d.0)])
     } else {
         None
@@ -73,19 +73,19 @@ pub(crate) fn best_lower(costs: &[u64], bounds: &Bounds) -> Val
 
 /// The lowest own value of least UB(d).
 #[tactic(auto, using(crate::proofs::LowestLaws::lowest_next))]
-pub(crate) fn best_upper(costs: &[u64], whole: bool, bounds: &Bounds) -> Val
+pub(crate) fn best_upper(costs: &[u64], knows_higher: bool, bounds: &Bounds) -> Val
     requires some { 1 ≤ length costs.now }
     requires few { length costs.now ≤ size_limit }
     requires rows { length bounds.now.rows ≡ length costs.now }
-    ensures best { result ≡ lowest is_below (upper_at (cost_where whole costs.now) bounds.now.rows)
+    ensures best { result ≡ lowest is_below (upper_at (cost_where knows_higher costs.now) bounds.now.rows)
         (length costs.now - 1) }
     ensures within { result < length costs.now }
 {
     let mut best = Val(0);
-    let mut least = upper_of(costs, whole, bounds, best);
+    let mut least = upper_of(costs, knows_higher, bounds, best);
     for d in 1..costs.len() {
         let value = Val(d as u16);
-        let upper = upper_of(costs, whole, bounds, value);
+        let upper = upper_of(costs, knows_higher, bounds, value);
         if is_below(upper, least) {
             best = value;
             least = upper;

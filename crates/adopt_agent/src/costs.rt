@@ -11,16 +11,9 @@ ghost use Rattle.protocol_steps.specs.Values.{valued};
 ghost use Rattle.adopt_agent.specs.Sound.{AreCosts, IsGround};
 
 use adopt_context::AgentContext;
-use dcop_base::{CAP, MAX_SIZE, NoMemory, Private, Table, Val, VarId, VarList};
+use dcop_base::{CAP, NoMemory, Private, Table, Val, VarId, VarList, stands_in};
 use pseudotree::Place;
 use std::alloc::Global;
-
-/// Whether the variable is among these.
-pub(crate) fn stands_in(vars: &[VarId], sought: VarId) -> bool
-    ensures { result ≡ has vars.now sought }
-{
-    vars.iter().any(|var| *var == sought)
-}
 
 /// Whether these pairs are the same.
 pub(crate) fn are_same(pairs: &[(VarId, Val)], others: &[(VarId, Val)]) -> bool

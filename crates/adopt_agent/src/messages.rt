@@ -14,24 +14,23 @@ ghost use Rattle.protocol_steps.specs.AdoptMessage.{adopt_message, takes_from_pa
 ghost use Rattle.adopt_agent.specs.Deed.{IsSameAgent};
 
 use crate::agent::AdoptAgent;
-use crate::costs::stands_in;
-use crate::range::{fit, is_in_range, is_parent, position_of};
+use crate::range::{fit, is_in_range, is_parent};
 use adopt_context::AgentContext;
-use dcop_base::{CAP, NoMemory, Val, VarId};
+use dcop_base::{NoMemory, Val, VarId, position_of, stands_in};
 use protocol_steps::{Letter, Message};
 
 /// What is known, with what a COST tells of variables that are no neighbours or not known yet.
 fn learned(
     known: &AgentContext,
     neighbours: &[VarId],
-    told: &AgentContext,
+    context: &AgentContext,
 ) -> Result<AgentContext, NoMemory>
     ensures { IfOk result (λ all. all ≡ fold (λ x p.
         if not (has neighbours.now p.0) || not (is_some (value_in x p.0)) then put x p.0 p.1 else x)
-        known.now told.now) }
+        known.now context.now) }
 {
     let mut all = known.copy()?;
-    for pair in told.pairs() {
+    for pair in context.pairs() {
         if !stands_in(neighbours, pair.0) || all.get(pair.0).is_none() {
             all.set(pair.0, pair.1)?;
         }
@@ -44,7 +43,7 @@ impl AdoptAgent {
     fn takes_value(&self, from: VarId, value: Val) -> bool
         ensures { result ≡ takes_value self.now from value }
     {
-        !self.told
+        !self.told_to_end
             && stands_in(self.own.neighbours.as_slice(), from)
             && is_in_range(&self.place, from, value)
     }
@@ -67,7 +66,7 @@ impl AdoptAgent {
     fn takes_from_parent(&self, from: VarId, context: &AgentContext) -> bool
         ensures { result ≡ takes_from_parent self.now from context.now }
     {
-        !self.told
+        !self.told_to_end
             && is_parent(self.place.path.as_slice(), from)
             && fit(&self.place, context.pairs())
     }
@@ -82,7 +81,7 @@ impl AdoptAgent {
         if !self.takes_from_parent(from, context) {
             return;
         }
-        self.last = amount;
+        self.last_received = amount;
         if context.compatible(&self.known) {
             self.threshold = amount;
             self.restore();
@@ -99,8 +98,8 @@ impl AdoptAgent {
             return Ok(());
         }
         let known = context.copy()?;
-        self.told = true;
-        self.threshold = self.last;
+        self.told_to_end = true;
+        self.threshold = self.last_received;
         self.move_to(known);
         Ok(())
     }
@@ -111,12 +110,19 @@ impl AdoptAgent {
         ensures same { IsSameAgent self.old self.new }
         ensures learned { OnOk result (self.new ≡ learn self.old rest.now) }
     {
-        if self.told {
+        if self.told_to_end {
             return Ok(());
         }
         let known = learned(&self.known, self.own.neighbours.as_slice(), rest)?;
         self.move_to(known);
         Ok(())
+    }
+
+    /// Whether all these values are known.
+    fn knows(&self, values: &AgentContext) -> bool
+        ensures { result ≡ part_of values.now self.now.known }
+    {
+        values.part_of(&self.known)
     }
 
     /// Stores the bounds of a child, where they rest on what is known and do not cross those that
@@ -137,7 +143,7 @@ impl AdoptAgent {
         ensures stored { OnOk result (self.new ≡ stored self.old d
             (or_zero (position (λ c. c == child) self.old.place.children)) rest.now lower upper) }
     {
-        if !rest.part_of(&self.known) {
+        if !self.knows(rest) {
             return Ok(());
         }
         if self.bounds.store(d, child, rest, lower, upper)? {

@@ -1,7 +1,7 @@
 //! What an agent takes: messages from its parent, and contexts over its path.
 
-ghost use Rattle.std.specs.Prelude.{◌≡◌, ◌==◌, length};
-ghost use Rattle.std.specs.List.{list_all, position, zip};
+ghost use Rattle.std.specs.Prelude.{◌≡◌, length};
+ghost use Rattle.std.specs.List.{list_all, zip};
 ghost use Rattle.adopt_context.specs.Context.{is_value, value_in};
 ghost use Rattle.protocol_steps.specs.Agent.{last_of};
 ghost use Rattle.protocol_steps.specs.AdoptRange.{is_within};
@@ -51,11 +51,4 @@ pub(crate) fn is_parent(path: &[VarId], var: VarId) -> bool
         Some(parent) => *parent == var,
         None => false,
     }
-}
-
-/// The place of a child among the children, where it is one of them.
-pub(crate) fn position_of(children: &[VarId], sought: VarId) -> Option<usize>
-    ensures { result ≡ position (λ child. child == sought) children.now }
-{
-    children.iter().position(|child| *child == sought)
 }

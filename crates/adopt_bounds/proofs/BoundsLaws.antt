@@ -3,6 +3,7 @@ use Rattle.std.proofs.Common.{◌≡◌, ℕ, suc, ◌+◌, ◌*◌, ◌≤◌, 
 use Rattle.std.specs.Prelude.{IfSome}
 use Rattle.std.proofs.lemmas.List.{length-take-le, length-drop, length-append, take_at, drop_at}
 use Rattle.std.proofs.lemmas.List.Elements.{All-take, All-drop, All-append}
+use Rattle.dcop_base.specs.Limits.{amount_limit}
 use Rattle.adopt_context.specs.Allot.{kept, reset}
 use Rattle.adopt_context.specs.Bounds.{Entry}
 use Rattle.adopt_context.specs.Context.{Context}
@@ -19,9 +20,9 @@ parts_take n w ls us ss cs p h = record {
   upper_count = length-take-le w us (rw p.upper_count h);
   share_count = length-take-le w ss (rw p.share_count h);
   context_count = length-take-le w cs (rw p.context_count h);
-  lower_within = All-take (λ x. x ≤ 4611686018427387904) w ls p.lower_within;
-  upper_within = All-take (λ (o : Option ℕ). IfSome o (λ x. x ≤ 4611686018427387904)) w us p.upper_within;
-  share_within = All-take (λ x. x ≤ 4611686018427387904) w ss p.share_within;
+  lower_within = All-take (λ x. x ≤ amount_limit) w ls p.lower_within;
+  upper_within = All-take (λ (o : Option ℕ). IfSome o (λ x. x ≤ amount_limit)) w us p.upper_within;
+  share_within = All-take (λ x. x ≤ amount_limit) w ss p.share_within;
 }
 
 -- the parts of the other entries
@@ -31,9 +32,9 @@ parts_drop n w m ls us ss cs p h = record {
   upper_count = omega (arith, length-drop w us, p.upper_count, h);
   share_count = omega (arith, length-drop w ss, p.share_count, h);
   context_count = omega (arith, length-drop w cs, p.context_count, h);
-  lower_within = All-drop (λ x. x ≤ 4611686018427387904) w ls p.lower_within;
-  upper_within = All-drop (λ (o : Option ℕ). IfSome o (λ x. x ≤ 4611686018427387904)) w us p.upper_within;
-  share_within = All-drop (λ x. x ≤ 4611686018427387904) w ss p.share_within;
+  lower_within = All-drop (λ x. x ≤ amount_limit) w ls p.lower_within;
+  upper_within = All-drop (λ (o : Option ℕ). IfSome o (λ x. x ≤ amount_limit)) w us p.upper_within;
+  share_within = All-drop (λ x. x ≤ amount_limit) w ss p.share_within;
 }
 
 -- parts behind parts
@@ -44,9 +45,9 @@ parts_append w m n ls ls' us us' ss ss' cs cs' p q h = record {
   upper_count = omega (arith, length-append us us', p.upper_count, q.upper_count, h);
   share_count = omega (arith, length-append ss ss', p.share_count, q.share_count, h);
   context_count = omega (arith, length-append cs cs', p.context_count, q.context_count, h);
-  lower_within = All-append (λ x. x ≤ 4611686018427387904) ls ls' p.lower_within q.lower_within;
-  upper_within = All-append (λ (o : Option ℕ). IfSome o (λ x. x ≤ 4611686018427387904)) us us' p.upper_within q.upper_within;
-  share_within = All-append (λ x. x ≤ 4611686018427387904) ss ss' p.share_within q.share_within;
+  lower_within = All-append (λ x. x ≤ amount_limit) ls ls' p.lower_within q.lower_within;
+  upper_within = All-append (λ (o : Option ℕ). IfSome o (λ x. x ≤ amount_limit)) us us' p.upper_within q.upper_within;
+  share_within = All-append (λ x. x ≤ amount_limit) ss ss' p.share_within q.share_within;
 }
 
 -- so many entries in one row more

@@ -4,6 +4,7 @@ use Rattle.std.specs.Prelude.{IfSome}
 use Rattle.std.proofs.lemmas.List.{length-set, set-get_or, get_or_default, take_all, drop_all, append-nil}
 use Rattle.std.proofs.lemmas.List.Edits.{map_over_more}
 use Rattle.std.proofs.lemmas.List.Elements.{All-set}
+use Rattle.dcop_base.specs.Limits.{amount_limit}
 use Rattle.adopt_context.specs.Allot.{kept}
 use Rattle.adopt_context.specs.Bounds.{Entry, blank}
 use Rattle.adopt_context.specs.Context.{Context, part_of, or_zero}
@@ -25,15 +26,15 @@ part_is n ls us ss cs k l u s c p h =
 
 -- the parts, with one entry's written
 pub parts_set : (n : ℕ) (ls : List ℕ) (us : List (Option ℕ)) (ss : List ℕ) (cs : List Context) (k l : ℕ) (u : Option ℕ) (s : ℕ) (c : Context) → AreParts n ls us ss cs
-    → l ≤ 4611686018427387904 → IfSome u (λ x. x ≤ 4611686018427387904) → s ≤ 4611686018427387904 → AreParts n (set ls k l) (set us k u) (set ss k s) (set cs k c)
+    → l ≤ amount_limit → IfSome u (λ x. x ≤ amount_limit) → s ≤ amount_limit → AreParts n (set ls k l) (set us k u) (set ss k s) (set cs k c)
 parts_set n ls us ss cs k l u s c p low high share = record {
   lower_count = length-set ls k l ∙ p.lower_count;
   upper_count = length-set us k u ∙ p.upper_count;
   share_count = length-set ss k s ∙ p.share_count;
   context_count = length-set cs k c ∙ p.context_count;
-  lower_within = All-set (λ x. x ≤ 4611686018427387904) ls k l low p.lower_within;
-  upper_within = All-set (λ (o : Option ℕ). IfSome o (λ x. x ≤ 4611686018427387904)) us k u high p.upper_within;
-  share_within = All-set (λ x. x ≤ 4611686018427387904) ss k s share p.share_within;
+  lower_within = All-set (λ x. x ≤ amount_limit) ls k l low p.lower_within;
+  upper_within = All-set (λ (o : Option ℕ). IfSome o (λ x. x ≤ amount_limit)) us k u high p.upper_within;
+  share_within = All-set (λ x. x ≤ amount_limit) ss k s share p.share_within;
 }
 
 -- of the entries at the start so many are looked at, and those that do not rest on the context x are forgotten

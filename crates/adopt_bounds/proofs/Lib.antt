@@ -5,3 +5,4 @@ mod ShareLaws
 mod ForgetLaws
 mod BoundsLaws
 mod PlaceLaws
+mod StoreRows

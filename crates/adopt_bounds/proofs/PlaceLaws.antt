@@ -6,6 +6,7 @@ use Rattle.std.proofs.lemmas.List.{length-set, get_or-map, map-set, length-take,
 use Rattle.std.proofs.lemmas.List.Elements.{All-replicate, All-get_or}
 use Rattle.std.proofs.lemmas.List.Sums.{sum_by-cons}
 use Rattle.std.proofs.lemmas.Nat.{mul-le}
+use Rattle.dcop_base.specs.Limits.{amount_limit}
 use Rattle.adopt_context.specs.Allot.{allot}
 use Rattle.adopt_context.specs.Bounds.{Entry, blank, row_at, entry_at}
 use Rattle.adopt_context.specs.Context.{Context, or_zero}
@@ -84,7 +85,7 @@ put_rows n w d k i ls us ss cs e h inside is =
 
 -- the bounds, with an entry written and the totals of its row
 pub put_bounds : (w d k i : ℕ) (ls : List ℕ) (us : List (Option ℕ)) (ss : List ℕ) (cs : List Context) (ts : List Totals) (e : Entry) (t : Totals) → AreBounds w ls us ss cs ts → d < length ts → k < w → i ≡ d * w + k
-    → e.lower ≤ 4611686018427387904 → IfSome e.upper (λ x. x ≤ 4611686018427387904) → e.share ≤ 4611686018427387904
+    → e.lower ≤ amount_limit → IfSome e.upper (λ x. x ≤ amount_limit) → e.share ≤ amount_limit
     → t ≡ totals_of (set (row_at (rows_of (length ts) w (entries_of ls us ss cs)) d) k e)
     → AreBounds w (set ls i e.lower) (set us i e.upper) (set ss i e.share) (set cs i e.context) (set ts d t)
 put_bounds w d k i ls us ss cs ts e t b h inside is low high share right =
@@ -145,7 +146,7 @@ rows_totals_same (suc n) w ls us ss ss' cs h =
     ∙ ap (λ (xs : List Totals). totals_of (take w (entries_of ls us ss' cs)) ∷ xs) others
 
 -- bounds with other shares are bounds
-pub share_bounds : (w : ℕ) (ls : List ℕ) (us : List (Option ℕ)) (ss ss' : List ℕ) (cs : List Context) (ts : List Totals) → AreBounds w ls us ss cs ts → length ss' ≡ length ss → All (λ s. s ≤ 4611686018427387904) ss'
+pub share_bounds : (w : ℕ) (ls : List ℕ) (us : List (Option ℕ)) (ss ss' : List ℕ) (cs : List Context) (ts : List Totals) → AreBounds w ls us ss cs ts → length ss' ≡ length ss → All (λ s. s ≤ amount_limit) ss'
     → AreBounds w ls us ss' cs ts
 share_bounds w ls us ss ss' cs ts b long within = record {
   parts = record {
@@ -254,9 +255,9 @@ blank_bounds n w count t is right =
         upper_count = length-replicate count None ∙ all;
         share_count = length-replicate count 0 ∙ all;
         context_count = length-replicate count [] ∙ all;
-        lower_within = All-replicate (λ x. x ≤ 4611686018427387904) count 0 (omega arith);
-        upper_within = All-replicate (λ (o : Option ℕ). IfSome o (λ x. x ≤ 4611686018427387904)) count None tt;
-        share_within = All-replicate (λ x. x ≤ 4611686018427387904) count 0 (omega arith);
+        lower_within = All-replicate (λ x. x ≤ amount_limit) count 0 (omega arith);
+        upper_within = All-replicate (λ (o : Option ℕ). IfSome o (λ x. x ≤ amount_limit)) count None tt;
+        share_within = All-replicate (λ x. x ≤ amount_limit) count 0 (omega arith);
       };
       right =
           ap (λ (x : Totals). replicate n x) right
@@ -266,13 +267,13 @@ blank_bounds n w count t is right =
     }
 
 -- the lesser of two bounds within the cap
-pub lesser_within : (u v : Option ℕ) → IfSome u (λ x. x ≤ 4611686018427387904) → IfSome v (λ x. x ≤ 4611686018427387904) → IfSome (lesser u v) (λ x. x ≤ 4611686018427387904)
+pub lesser_within : (u v : Option ℕ) → IfSome u (λ x. x ≤ amount_limit) → IfSome v (λ x. x ≤ amount_limit) → IfSome (lesser u v) (λ x. x ≤ amount_limit)
 lesser_within None v a b = b
 lesser_within (Some x) None a b = a
 lesser_within (Some x) (Some y) a b = omega (arith, a)
 
 -- a bound that is there is a number within the cap
-pub or_zero_within : (u : Option ℕ) → IfSome u (λ x. x ≤ 4611686018427387904) → or_zero u ≤ 4611686018427387904
+pub or_zero_within : (u : Option ℕ) → IfSome u (λ x. x ≤ amount_limit) → or_zero u ≤ amount_limit
 or_zero_within None h = omega arith
 or_zero_within (Some x) h = h
 
@@ -283,7 +284,7 @@ missing_one (Some x) = omega arith
 -- the lists, with an entry written, are bounds
 pub seen_put : (w d i k : ℕ) (ls : List ℕ) (us : List (Option ℕ)) (ss : List ℕ) (cs : List Context) (ts : List Totals) (rows : List (List Entry)) (e : Entry) (j : ℕ) (old new : Totals) → AreBounds w ls us ss cs ts
     → rows_of (length ts) w (entries_of ls us ss cs) ≡ rows → d < length rows → k < w → i ≡ d * w + k → j ≡ d → old ≡ totals_of (row_at rows d)
-    → e.lower ≤ 4611686018427387904 → IfSome e.upper (λ x. x ≤ 4611686018427387904) → e.share ≤ 4611686018427387904
+    → e.lower ≤ amount_limit → IfSome e.upper (λ x. x ≤ amount_limit) → e.share ≤ amount_limit
     → new.lower + (entry_at rows d k).lower ≡ old.lower + e.lower
     → new.upper + or_zero (entry_at rows d k).upper ≡ old.upper + or_zero e.upper
     → new.missing + missing_of (entry_at rows d k).upper ≡ old.missing + missing_of e.upper
@@ -328,21 +329,21 @@ view_of children rows = record { children = children; rows = rows }
 
 -- an entry with amounts within the cap
 pub record IsWithin (e : Entry) : Type 0 where
-  pub lower : e.lower ≤ 4611686018427387904
-  pub upper : IfSome e.upper (λ x. x ≤ 4611686018427387904)
-  pub share : e.share ≤ 4611686018427387904
+  pub lower : e.lower ≤ amount_limit
+  pub upper : IfSome e.upper (λ x. x ≤ amount_limit)
+  pub share : e.share ≤ amount_limit
 
 pub seen_within : (n w d k i : ℕ) (ls : List ℕ) (us : List (Option ℕ)) (ss : List ℕ) (cs : List Context) (rows : List (List Entry)) → AreParts (n * w) ls us ss cs
     → rows_of n w (entries_of ls us ss cs) ≡ rows → d < length rows → k < w → i ≡ d * w + k → IsWithin (entry_at rows d k)
 seen_within n w d k i ls us ss cs rows p is h inside at =
     let here : i < n * w = seen_index n w d k i (entries_of ls us ss cs) rows is h inside at in
     subst (λ (e : Entry). IsWithin e) (sym (seen_entry n w d k i ls us ss cs rows 0 None 0 [] p is h inside at)) (record {
-      lower = All-get_or (λ x. x ≤ 4611686018427387904) ls i 0 (rw p.lower_count here) p.lower_within;
-      upper = All-get_or (λ (o : Option ℕ). IfSome o (λ x. x ≤ 4611686018427387904)) us i None (rw p.upper_count here) p.upper_within;
-      share = All-get_or (λ x. x ≤ 4611686018427387904) ss i 0 (rw p.share_count here) p.share_within;
+      lower = All-get_or (λ x. x ≤ amount_limit) ls i 0 (rw p.lower_count here) p.lower_within;
+      upper = All-get_or (λ (o : Option ℕ). IfSome o (λ x. x ≤ amount_limit)) us i None (rw p.upper_count here) p.upper_within;
+      share = All-get_or (λ x. x ≤ amount_limit) ss i 0 (rw p.share_count here) p.share_within;
     })
 
-pub merged_within : (e : Entry) (r : Context) (l : ℕ) (u : Option ℕ) → IsWithin e → l ≤ 4611686018427387904 → IfSome u (λ x. x ≤ 4611686018427387904) → IsWithin (merged e r l u)
+pub merged_within : (e : Entry) (r : Context) (l : ℕ) (u : Option ℕ) → IsWithin e → l ≤ amount_limit → IfSome u (λ x. x ≤ amount_limit) → IsWithin (merged e r l u)
 merged_within e r l u a low high = record {
   lower = omega (arith, a.lower, low);
   upper = lesser_within e.upper u a.upper high;

@@ -5,6 +5,7 @@ use Rattle.std.specs.List.{All, sum_by}
 use Rattle.std.proofs.lemmas.Bool.{cases_eq, ne_eqb, eq-eqb}
 use Rattle.std.proofs.lemmas.List.Elements.{All-nil, All-cons, All-head, All-tail}
 use Rattle.std.proofs.lemmas.List.Sums.{sum_by-cons, sum_by-set, get_or-le-sum_by, sum_by-le}
+use Rattle.dcop_base.specs.Limits.{amount_limit}
 use Rattle.adopt_context.specs.Context.{Context, or_zero}
 use Rattle.adopt_context.specs.Bounds.{Entry, blank, plus_bound, lower_sum, upper_sum}
 use Rattle.adopt_bounds.specs.Rows.{entries_of}
@@ -47,28 +48,28 @@ totals_hold t es k h is = subst (λ (s : Totals). HoldsEntry s (get_or es k blan
 })
 
 -- entries with amounts within the cap
-lowers_within : (ls : List ℕ) (us : List (Option ℕ)) (ss : List ℕ) (cs : List Context) → All (λ l. l ≤ 4611686018427387904) ls → All (λ (e : Entry). e.lower ≤ 4611686018427387904) (entries_of ls us ss cs)
+lowers_within : (ls : List ℕ) (us : List (Option ℕ)) (ss : List ℕ) (cs : List Context) → All (λ l. l ≤ amount_limit) ls → All (λ (e : Entry). e.lower ≤ amount_limit) (entries_of ls us ss cs)
 lowers_within [] us ss cs h = All-nil _
 lowers_within (l ∷ ls) [] ss cs h = All-nil _
 lowers_within (l ∷ ls) (u ∷ us) [] cs h = All-nil _
 lowers_within (l ∷ ls) (u ∷ us) (s ∷ ss) [] h = All-nil _
 lowers_within (l ∷ ls) (u ∷ us) (s ∷ ss) (c ∷ cs) h =
-    All-cons (λ (e : Entry). e.lower ≤ 4611686018427387904) (record { lower = l; upper = u; share = s; context = c }) (entries_of ls us ss cs)
-    (All-head (λ n. n ≤ 4611686018427387904) l ls h) (lowers_within ls us ss cs (All-tail (λ n. n ≤ 4611686018427387904) l ls h))
+    All-cons (λ (e : Entry). e.lower ≤ amount_limit) (record { lower = l; upper = u; share = s; context = c }) (entries_of ls us ss cs)
+    (All-head (λ n. n ≤ amount_limit) l ls h) (lowers_within ls us ss cs (All-tail (λ n. n ≤ amount_limit) l ls h))
 
-there_within : (u : Option ℕ) → IfSome u (λ x. x ≤ 4611686018427387904) → or_zero u ≤ 4611686018427387904
+there_within : (u : Option ℕ) → IfSome u (λ x. x ≤ amount_limit) → or_zero u ≤ amount_limit
 there_within None h = omega arith
 there_within (Some x) h = h
 
-uppers_within : (ls : List ℕ) (us : List (Option ℕ)) (ss : List ℕ) (cs : List Context) → All (λ u. IfSome u (λ x. x ≤ 4611686018427387904)) us → All (λ (e : Entry). or_zero e.upper ≤ 4611686018427387904) (entries_of ls us ss cs)
+uppers_within : (ls : List ℕ) (us : List (Option ℕ)) (ss : List ℕ) (cs : List Context) → All (λ u. IfSome u (λ x. x ≤ amount_limit)) us → All (λ (e : Entry). or_zero e.upper ≤ amount_limit) (entries_of ls us ss cs)
 uppers_within [] us ss cs h = All-nil _
 uppers_within (l ∷ ls) [] ss cs h = All-nil _
 uppers_within (l ∷ ls) (u ∷ us) [] cs h = All-nil _
 uppers_within (l ∷ ls) (u ∷ us) (s ∷ ss) [] h = All-nil _
 uppers_within (l ∷ ls) (u ∷ us) (s ∷ ss) (c ∷ cs) h =
-    All-cons (λ (e : Entry). or_zero e.upper ≤ 4611686018427387904) (record { lower = l; upper = u; share = s; context = c }) (entries_of ls us ss cs)
-    (there_within u (All-head (λ (o : Option ℕ). IfSome o (λ x. x ≤ 4611686018427387904)) u us h))
-    (uppers_within ls us ss cs (All-tail (λ (o : Option ℕ). IfSome o (λ x. x ≤ 4611686018427387904)) u us h))
+    All-cons (λ (e : Entry). or_zero e.upper ≤ amount_limit) (record { lower = l; upper = u; share = s; context = c }) (entries_of ls us ss cs)
+    (there_within u (All-head (λ (o : Option ℕ). IfSome o (λ x. x ≤ amount_limit)) u us h))
+    (uppers_within ls us ss cs (All-tail (λ (o : Option ℕ). IfSome o (λ x. x ≤ amount_limit)) u us h))
 
 missing_within : (es : List Entry) → sum_by (λ (e : Entry). missing_of e.upper) es ≤ length es
 missing_within [] = omega arith
@@ -80,17 +81,17 @@ missing_within (e ∷ es) = omega (arith, sum_by-cons (λ (x : Entry). missing_o
 
 -- totals of so many entries with amounts within the cap
 pub record HasRoom (t : Totals) (n : ℕ) : Type 0 where
-  pub lower : t.lower ≤ n * 4611686018427387904
-  pub upper : t.upper ≤ n * 4611686018427387904
+  pub lower : t.lower ≤ n * amount_limit
+  pub upper : t.upper ≤ n * amount_limit
   pub missing : t.missing ≤ n
 
 pub totals_room : (t : Totals) (ls : List ℕ) (us : List (Option ℕ)) (ss : List ℕ) (cs : List Context) (n : ℕ) → t ≡ totals_of (entries_of ls us ss cs) → length (entries_of ls us ss cs) ≡ n
-    → All (λ l. l ≤ 4611686018427387904) ls → All (λ u. IfSome u (λ x. x ≤ 4611686018427387904)) us → HasRoom t n
+    → All (λ l. l ≤ amount_limit) ls → All (λ u. IfSome u (λ x. x ≤ amount_limit)) us → HasRoom t n
 totals_room t ls us ss cs n is count lower upper =
     let es = entries_of ls us ss cs in
     subst (λ (s : Totals). HasRoom s n) (sym is) (subst (λ m. HasRoom (totals_of es) m) count (record {
-      lower = sum_by-le (λ (e : Entry). e.lower) 4611686018427387904 es (lowers_within ls us ss cs lower);
-      upper = sum_by-le (λ (e : Entry). or_zero e.upper) 4611686018427387904 es (uppers_within ls us ss cs upper);
+      lower = sum_by-le (λ (e : Entry). e.lower) amount_limit es (lowers_within ls us ss cs lower);
+      upper = sum_by-le (λ (e : Entry). or_zero e.upper) amount_limit es (uppers_within ls us ss cs upper);
       missing = missing_within es;
     }))
 

@@ -1,3 +1,2 @@
 mod VisitLaws
 mod AgentLaws
-mod StartedLaws

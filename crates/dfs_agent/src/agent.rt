@@ -34,9 +34,12 @@ const MOST_OTHERS: usize = 999;
 #[derive(Debug, Drop)]
 pub struct TokenAgent {
     alloc: Global,
+    /// What it knows of the problem.
     own: Private,
-    stage: Stage,
+    pub(crate) stage: Stage,
+    /// The path that came with the token.
     path: VarList,
+    /// The subtrees that came back, one of each child, in their order.
     kept: Vec<VarList>,
 }
 

@@ -1,98 +1,76 @@
-//! Each call with ample memory: a variable alone, and the middle one of a chain of three.
+//! Each call with ample memory: a leaf ends by its first token.
 
-ghost use Rattle.std.specs.Prelude.{◌≡◌, ◌==◌, ◌||◌, ◌∷◌, [], true, false, IfOk};
+ghost use Rattle.std.specs.Prelude.{◌≡◌, ◌∷◌, [], IfOk};
 ghost use Rattle.protocol_steps.specs.Ranges.{IsInRange};
 ghost use Rattle.protocol_steps.specs.Knowledge.{IsKnowledge};
 
 use crate::TokenAgent;
-use dcop_base::{Private, SizeList, TableList, Val, VarId, VarList};
+use crate::stage::Stage;
+use dcop_base::{Private, SizeList, TableList, VarId, VarList};
 use protocol_steps::{Batch, Letter, Machine, Message, Outbox};
 use std::alloc::Global;
 use std::process::Abort;
 use std::test::Fail;
 
-/// What the agent of the only variable of a problem knows.
-fn alone(alloc: Global) -> Result<Private, Fail>
-    ensures { IfOk result IsKnowledge }
-{
-    Ok(Private {
-        me: VarId(0),
-        size: 1,
-        neighbours: VarList::from_vec(Vec::new(alloc)),
-        neighbour_sizes: SizeList::from_vec(Vec::new(alloc)),
-        tables: TableList::from_vec(Vec::new(alloc)),
-    })
-}
-
-/// What the agent of variable 1 of the chain 0, 1, 2 knows.
-fn middle(alloc: Global) -> Result<Private, Fail>
+/// What the agent of variable 1 knows, whose only neighbour is variable 0.
+fn leaf(alloc: Global) -> Result<Private, Fail>
     ensures known { IfOk result IsKnowledge }
-    ensures near { IfOk result (λ own. own.neighbours ≡ 0 ∷ 2 ∷ []) }
+    ensures near { IfOk result (λ own. own.neighbours ≡ 0 ∷ []) }
 {
     Ok(Private {
         me: VarId(1),
         size: 1,
-        neighbours: VarList::from_vec(vec![in alloc; VarId(0), VarId(2)]?),
-        neighbour_sizes: SizeList::from_vec(vec![in alloc; 1, 1]?),
+        neighbours: VarList::from_vec(vec![in alloc; VarId(0)]?),
+        neighbour_sizes: SizeList::from_vec(vec![in alloc; 1]?),
         tables: TableList::from_vec(Vec::new(alloc)),
     })
 }
 
-/// What an agent sends when it starts.
-fn started(alloc: Global, agent: &mut TokenAgent) -> Result<Outbox, Fail>
-    requires { agent.old.phase.started ≡ false }
-    ensures own { agent.new.own ≡ agent.old.own }
-    ensures started { IfOk result (λ _. agent.new.phase.started ≡ true) }
+/// The token with the path of the root.
+fn token(alloc: Global) -> Result<Message, Fail>
+    ensures { IfOk result IsInRange }
 {
-    let mut out = Outbox::from_vec(Vec::new(alloc));
-    agent.start(&mut out)?;
-    Ok(out)
+    Ok(Message::Token {
+        path: VarList::from_vec(vec![in alloc; VarId(0)]?),
+    })
 }
 
-/// What an agent sends when a neighbour tells it this.
-fn told(
+/// Tells the leaf what the root says.
+fn tell(
     rt: &impl Abort,
     alloc: Global,
     agent: &mut TokenAgent,
-    from: VarId,
     message: Message,
-) -> Result<Outbox, Fail>
-    requires started { agent.old.phase.started ≡ true }
-    requires near { agent.old.own.neighbours ≡ 0 ∷ 2 ∷ [] }
-    requires from { (from == 0 || from == 2) ≡ true }
+) -> Result<(), Fail>
+    requires near { agent.old.own.neighbours ≡ 0 ∷ [] }
     requires range { IsInRange message }
-    ensures own { agent.new.own ≡ agent.old.own }
-    ensures started { IfOk result (λ _. agent.new.phase.started ≡ true) }
 {
-    assert!(rt; !agent.ended());
+    assert!(rt; matches!(agent.stage, Stage::Closed));
     let mut letters = Vec::new(alloc);
-    letters.push(Letter { from, message })?;
+    letters.push(Letter {
+        from: VarId(0),
+        message,
+    })?;
     let mut out = Outbox::from_vec(Vec::new(alloc));
     agent.react(&Batch::from_vec(letters), &mut out)?;
-    Ok(out)
-}
-
-#[test]
-fn the_only_agent_ends_at_its_start(rt: HostRuntime) -> Result<(), Fail> {
-    let alloc = rt.alloc();
-    let mut agent = TokenAgent::new(alloc, alone(alloc)?)?;
-    assert!(rt; agent.place().is_none());
-    let out = started(alloc, &mut agent)?;
-    assert!(rt; out.as_slice().is_empty());
-    assert!(rt; agent.ended());
-    assert!(rt; agent.value() == Val(0));
-    assert!(rt; agent.place().is_some());
     Ok(())
 }
 
+/// The leaf, which has started.
+fn started(alloc: Global) -> Result<TokenAgent, Fail>
+    ensures { IfOk result (λ agent. agent.own.neighbours ≡ 0 ∷ []) }
+{
+    let mut agent = TokenAgent::new(alloc, leaf(alloc)?)?;
+    let mut out = Outbox::from_vec(Vec::new(alloc));
+    agent.start(&mut out)?;
+    Ok(agent)
+}
+
 #[test]
-fn another_kind_of_message_is_passed_over(rt: HostRuntime) -> Result<(), Fail> {
+fn a_leaf_ends_by_its_first_token(rt: HostRuntime) -> Result<(), Fail> {
     let alloc = rt.alloc();
-    let mut agent = TokenAgent::new(alloc, middle(alloc)?)?;
-    let none = started(alloc, &mut agent)?;
-    assert!(rt; none.as_slice().is_empty());
-    let value = Message::Value { value: Val(0) };
-    let none = told(&rt, alloc, &mut agent, VarId(0), value)?;
-    assert!(rt; none.as_slice().is_empty());
+    let mut agent = started(alloc)?;
+    tell(&rt, alloc, &mut agent, token(alloc)?)?;
+    assert!(rt; agent.ended());
     Ok(())
 }

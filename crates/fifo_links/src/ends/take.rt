@@ -16,6 +16,7 @@ impl<T: Send + Drop> LinkHead<T> {
         requires room { vec_len into.old + ring_slots ≤ vec_capacity into.old }
         ensures end { SameHead self.old self.new }
         ensures taken { HasTaken self.old into.old.items result self.new into.new.items }
+        ensures capacity { vec_capacity into.new ≡ vec_capacity into.old }
     {
         let mut count = 0;
         for _ in 0..SLOTS {

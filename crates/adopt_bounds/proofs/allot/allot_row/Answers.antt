@@ -1,11 +1,12 @@
 use Rattle.std.proofs.Common.{◌-◌, ◌∙◌, sym, arith}
 use Rattle.std.proofs.lemmas.List.Sums.{sum_by-le}
+use Rattle.dcop_base.specs.Limits.{amount_limit}
 use Rattle.adopt_bounds.specs.Rows.{entries_of}
 use Rattle.adopt_bounds.proofs.ShareLaws.{share_sum_is, allot_raises, allot_cuts, allot_keeps}
 use Rattle.adopt_bounds.proofs.allot.allot_row.Goals as goal
 
 pub cut-requires-clause-fits : goal.cut-requires-clause-fits
-cut-requires-clause-fits c = omega (arith, c.sum_of-sum.ensures, sum_by-le (λ s. s) 4611686018427387904 c.args.share.now c.requires.share_within)
+cut-requires-clause-fits c = omega (arith, c.sum_of-sum.ensures, sum_by-le (λ s. s) amount_limit c.args.share.now c.requires.share_within)
 
 pub returns-then-sum-goal-clause-entries : goal.returns-then-sum-goal-clause-entries
 returns-then-sum-goal-clause-entries c = λ contexts h.

@@ -3,6 +3,7 @@ use Rattle.std.specs.List.{sum_by}
 use Rattle.std.proofs.lemmas.List.{length-set, drop-set-lt}
 use Rattle.std.proofs.lemmas.List.Elements.{All-set}
 use Rattle.std.proofs.lemmas.List.Sums.{sum_by-drop_more}
+use Rattle.dcop_base.specs.Limits.{amount_limit}
 use Rattle.adopt_context.specs.Allot.{lower_to}
 use Rattle.adopt_bounds.specs.Rows.{entries_of}
 use Rattle.adopt_bounds.proofs.EntryLaws.{entries_length}
@@ -22,7 +23,7 @@ loop-k-preserved c =
     record {
       count = length-set ss k share ∙ c.loop-k.invariant.count;
       fits = rw same (omega (arith, low, sum, c.loop-k.invariant.fits));
-      within = All-set (λ s. s ≤ 4611686018427387904) ss k share (omega (arith, low, sum, c.loop-k.invariant.fits)) c.loop-k.invariant.within;
+      within = All-set (λ s. s ≤ amount_limit) ss k share (omega (arith, low, sum, c.loop-k.invariant.fits)) c.loop-k.invariant.within;
       entries = λ lower contexts a b.
           raise_next lower c.args.upper.now ss contexts k c.loop-k.lack share (get_or ss k 0 + c.loop-k.lack - share)
           (a ∙ sym c.loop-k.invariant.count) (c.requires.upper ∙ sym c.loop-k.invariant.count) (b ∙ sym c.loop-k.invariant.count) here is refl

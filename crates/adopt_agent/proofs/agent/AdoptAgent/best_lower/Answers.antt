@@ -10,6 +10,6 @@ pub returns-clause-best : goal.returns-clause-best
 returns-clause-best c =
     let a = c.self.inside in
     let s = c.self.invariant in
-    let v : AdoptView = view_at a.own a.place a.error a.stage a.known a.value a.threshold a.last a.told a.bounds.rows in
+    let v : AdoptView = view_at a.own a.place a.error a.stage a.known a.value a.threshold a.last_received a.told_to_end a.bounds.rows in
     c.best_lower.ensures.best ∙ ap (λ (xs : List ℕ). lowest nat_lt (lower_at (λ e. get_or xs e 0) a.bounds.rows) (length xs - 1)) c.as_slice.ensures.value
     ∙ best_lower_shown v a.costs.items s.costed s.ground.own_fits.size.0 ∙ ap best_lower c.self.view_is

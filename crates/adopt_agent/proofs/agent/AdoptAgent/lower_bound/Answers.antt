@@ -10,7 +10,7 @@ pub returns-clause-bound : goal.returns-clause-bound
 returns-clause-bound c =
     let a = c.self.inside in
     let s = c.self.invariant in
-    let v : AdoptView = view_at a.own a.place a.error a.stage a.known a.value a.threshold a.last a.told a.bounds.rows in
+    let v : AdoptView = view_at a.own a.place a.error a.stage a.known a.value a.threshold a.last_received a.told_to_end a.bounds.rows in
     let best : ℕ = c.best_lower-best.result in
     let best_is : best ≡ best_lower v =
     c.best_lower-best.ensures.best ∙ ap (λ (xs : List ℕ). lowest nat_lt (lower_at (λ e. get_or xs e 0) a.bounds.rows) (length xs - 1)) c.as_slice.ensures.value

@@ -19,7 +19,7 @@ invariant_of-result c =
     record {
       ground = record { own_fits = c.requires.known; placed = c.requires.placed; known_fits = subst (λ (x : Context). fits (knowing own place x) x ≡ true) (sym none) refl };
       costed = subst (λ (xs : List ℕ). AreCosts own place known xs) (sym (written_back c.in_ok-costs.costs.len new c.in_ok-costs.costs.items (sym (c.set_costs.auto.costs ∙ c.as_mut_slice.ensures.len)))) c.set_costs.ensures;
-      whole_is = c.are_known-whole.ensures ∙ ap₂ (λ (path : List ℕ) (near : List ℕ). names_all known (filter (has path) near)) c.as_slice-3.ensures c.as_slice-2.ensures;
+      knows_higher_is = c.are_known-knows_higher.ensures ∙ ap₂ (λ (path : List ℕ) (near : List ℕ). names_all known (filter (has path) near)) c.as_slice-3.ensures c.as_slice-2.ensures;
       backed = backed_new own place known c.in_ok-bounds.bounds (length c.in_ok-copy_of.field-0) none (c.in_ok-bounds.ensures.children ∙ c.in_ok-copy_of.ensures ∙ c.as_slice.ensures) c.in_ok-bounds.ensures.rows;
       value_below = omega (arith, some);
       error_within = c.requires.error;

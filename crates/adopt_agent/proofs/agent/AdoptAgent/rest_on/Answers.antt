@@ -23,7 +23,7 @@ invariant_of-self c =
     record {
       ground = record { own_fits = s.ground.own_fits; placed = s.ground.placed; known_fits = subst (λ (v : AdoptView). fits v known ≡ true) (sym c.self.view_is) c.requires };
       costed = subst (λ (xs : List ℕ). AreCosts a.own a.place known xs) (sym (written_back a.costs.len new a.costs.items (held.0 ∙ size ∙ sym same))) c.set_costs.ensures;
-      whole_is = c.are_known-self-inside.ensures ∙ ap₂ (λ (path : List ℕ) (near : List ℕ). names_all known (filter (has path) near)) c.as_slice-path.ensures c.as_slice.ensures;
+      knows_higher_is = c.are_known-self-inside.ensures ∙ ap₂ (λ (path : List ℕ) (near : List ℕ). names_all known (filter (has path) near)) c.as_slice-path.ensures c.as_slice.ensures;
       backed = backed_reset a.own a.place a.known known a.bounds c.reset.new.self s.backed c.reset.ensures;
       value_below = s.value_below;
       error_within = s.error_within;
@@ -35,5 +35,5 @@ pub returns : goal.returns
 returns c =
     let a = c.self.inside in
     let known = c.args.known in
-    ap (λ (b : BoundsView). (view_at a.own a.place a.error a.stage known a.value a.threshold a.last a.told b.rows)) c.reset.ensures
+    ap (λ (b : BoundsView). (view_at a.own a.place a.error a.stage known a.value a.threshold a.last_received a.told_to_end b.rows)) c.reset.ensures
     ∙ ap (λ (v : AdoptView). at_context v known) c.self.view_is

@@ -1,6 +1,7 @@
 use Rattle.std.proofs.Common.{◌≡◌, Bool, true, cond, sym, ap, ◌∙◌}
 use Rattle.adopt_context.specs.Context.{part_of}
 use Rattle.adopt_bounds.specs.Rows.{place_of, entry_of, with_merged}
+use Rattle.protocol_steps.specs.Adopt.{AdoptView}
 use Rattle.adopt_agent.proofs.StoreLaws.{parts_agree, backed_merged, stored_shown, not_stored}
 use Rattle.adopt_agent.proofs.agent.AdoptAgent.store.Goals as goal
 
@@ -9,7 +10,7 @@ store-requires-clause-compatible c =
     let a = c.self.inside in
     let s = c.self.invariant in
     let rest = c.args.rest.now in
-    let part : part_of rest a.known ≡ true = sym c.part_of.ensures ∙ c.if-not-part_of.false in
+    let part : part_of rest a.known ≡ true = ap (λ (v : AdoptView). part_of rest v.known) c.self.view_is ∙ sym c.knows.ensures ∙ c.if-not-knows.false in
     parts_agree (entry_of a.bounds c.args.d c.args.child).context rest a.known (s.backed.rest c.args.d (place_of a.bounds.children c.args.child)) part
 
 pub invariant_of-self-then-branch : goal.invariant_of-self-then-branch
@@ -17,12 +18,12 @@ invariant_of-self-then-branch c =
     let a = c.self.inside in
     let s = c.self.invariant in
     let rest = c.args.rest.now in
-    let part : part_of rest a.known ≡ true = sym c.part_of.ensures ∙ c.if-not-part_of.false in
+    let part : part_of rest a.known ≡ true = ap (λ (v : AdoptView). part_of rest v.known) c.self.view_is ∙ sym c.knows.ensures ∙ c.if-not-knows.false in
     let merged = c.in_ok-store.ensures.merged ∙ ap (λ (b : Bool). cond b (with_merged a.bounds c.args.d c.args.child rest c.args.lower c.args.upper) a.bounds) c.if-branch.true in
     record {
       ground = s.ground;
       costed = s.costed;
-      whole_is = s.whole_is;
+      knows_higher_is = s.knows_higher_is;
       backed = backed_merged a.own a.place a.known a.bounds c.store.new.self c.args.d c.args.child rest c.args.lower c.args.upper s.backed part merged;
       value_below = s.value_below;
       error_within = s.error_within;
@@ -35,10 +36,10 @@ returns-then-branch-clause-stored c =
     let a = c.self.inside in
     let s = c.self.invariant in
     let rest = c.args.rest.now in
-    let part : part_of rest a.known ≡ true = sym c.part_of.ensures ∙ c.if-not-part_of.false in
+    let part : part_of rest a.known ≡ true = ap (λ (v : AdoptView). part_of rest v.known) c.self.view_is ∙ sym c.knows.ensures ∙ c.if-not-knows.false in
     let merged = c.in_ok-store.ensures.merged ∙ ap (λ (b : Bool). cond b (with_merged a.bounds c.args.d c.args.child rest c.args.lower c.args.upper) a.bounds) c.if-branch.true in
     c.restore.ensures
-    ∙ stored_shown a.own a.place a.error a.stage a.known a.value a.threshold a.last a.told a.bounds c.store.new.self c.args.self.now c.args.d c.args.child rest c.args.lower c.args.upper
+    ∙ stored_shown a.own a.place a.error a.stage a.known a.value a.threshold a.last_received a.told_to_end a.bounds c.store.new.self c.args.self.now c.args.d c.args.child rest c.args.lower c.args.upper
     c.self.view_is s.backed.children part (sym c.in_ok-store.ensures.stored ∙ c.if-branch.true) merged
 
 pub returns-else-branch-clause-stored : goal.returns-else-branch-clause-stored
@@ -46,7 +47,7 @@ returns-else-branch-clause-stored c =
     let a = c.self.inside in
     let s = c.self.invariant in
     let rest = c.args.rest.now in
-    let part : part_of rest a.known ≡ true = sym c.part_of.ensures ∙ c.if-not-part_of.false in
+    let part : part_of rest a.known ≡ true = ap (λ (v : AdoptView). part_of rest v.known) c.self.view_is ∙ sym c.knows.ensures ∙ c.if-not-knows.false in
     let same = c.in_ok-store.ensures.merged ∙ ap (λ (b : Bool). cond b (with_merged a.bounds c.args.d c.args.child rest c.args.lower c.args.upper) a.bounds) c.if-branch.false in
-    not_stored a.own a.place a.error a.stage a.known a.value a.threshold a.last a.told a.bounds c.store.new.self c.args.self.now c.args.d c.args.child rest c.args.lower c.args.upper
+    not_stored a.own a.place a.error a.stage a.known a.value a.threshold a.last_received a.told_to_end a.bounds c.store.new.self c.args.self.now c.args.d c.args.child rest c.args.lower c.args.upper
     c.self.view_is s.backed.children part (sym c.in_ok-store.ensures.stored ∙ c.if-branch.false) same

@@ -11,7 +11,7 @@ pub returns-then-d-self : goal.returns-then-d-self
 returns-then-d-self c =
     let a = c.self.inside in
     let rest = c.args.rest.now in
-    let v : AdoptView = view_at a.own a.place a.error a.stage a.known a.value a.threshold a.last a.told a.bounds.rows in
+    let v : AdoptView = view_at a.own a.place a.error a.stage a.known a.value a.threshold a.last_received a.told_to_end a.bounds.rows in
     let fit : c.fit.result ≡ fits v rest = c.fit.ensures ∙ ap (λ (x : Context). fits v x) c.pairs.ensures in
     let low = c.if-d-self.true in
     let value = c.d.view_is in

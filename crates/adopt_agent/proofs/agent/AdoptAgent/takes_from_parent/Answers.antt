@@ -15,13 +15,13 @@ returns-then-is_parent c =
     let a = c.self.inside in
     let from = c.args.from in
     let told = c.args.context.now in
-    let v : AdoptView = view_at a.own a.place a.error a.stage a.known a.value a.threshold a.last a.told a.bounds.rows in
+    let v : AdoptView = view_at a.own a.place a.error a.stage a.known a.value a.threshold a.last_received a.told_to_end a.bounds.rows in
     let fit : c.fit.result ≡ fits v told = c.fit.ensures ∙ ap (λ (x : Context). fits v x) c.pairs.ensures in
     elim c.if-not-self.branch [
       | then-not-self w ↦
           let parent : is_value (last_of a.place.path) from ≡ true =
           ap (λ (path : List ℕ). is_value (last_of path) from) (sym w.as_slice.ensures) ∙ sym w.is_parent.ensures ∙ sym w.value-is ∙ c.if-is_parent.true in
-          three_and (not a.told) (is_value (last_of a.place.path) from) (fits v told) c.fit.result (ap not w.if-not-self.true) parent fit
+          three_and (not a.told_to_end) (is_value (last_of a.place.path) from) (fits v told) c.fit.result (ap not w.if-not-self.true) parent fit
           ∙ ap (λ (x : AdoptView). takes_from_parent x from told) c.self.view_is
       | else-not-self w ↦ absurd (false≢true (ap not (sym w.if-not-self.false) ∙ sym w.value-is ∙ c.if-is_parent.true))
     ]

@@ -11,4 +11,5 @@ invariant-loop g l =
     × (l.counter ≤ ring_slots)
     × SameHead l.initial.self l.self
     × (vec_len l.into + (ring_slots - l.counter) ≤ vec_capacity l.into)
+    × (vec_capacity l.into ≡ vec_capacity l.initial.into)
     × IsTaking l.initial.self l.initial.into.items l.count l.self l.into.items

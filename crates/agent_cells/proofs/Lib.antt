@@ -1,0 +1,8 @@
+mod MachineLaws
+mod CollectLaws
+mod SameLaws
+mod ResultLaws
+mod DeliverLaws
+mod FoundLaws
+mod CellLaws
+mod SettleLaws

@@ -1,0 +1,27 @@
+-- What a cell makes of what it took.
+use Rattle.std.specs.Prelude.{◌≡◌, ℕ, ◌+◌, List, [], ◌∷◌, ◌++◌, max}
+use Rattle.dcop_base.specs.Limits.{amount_limit}
+use Rattle.protocol_steps.specs.declared.message.Message.{Message}
+use Rattle.protocol_steps.specs.declared.event.Take.{Take}
+use Rattle.protocol_steps.specs.Machine.{IsStep}
+use Rattle.protocol_steps.specs.Stamps.{post}
+use Rattle.protocol_steps.specs.Deeds.{posted_to}
+use Rattle.worker_runs.specs.Cells.{CellState, grown}
+use Rattle.agent_cells.specs.Receivers.{GoToNeighbours}
+
+-- the agent has made one step on what was taken: the stamp is 1 plus the greatest, what it sends stands on the links with this stamp, and the entry is in the journal
+pub record IsHandled (before : CellState) (letters : List (ℕ × Message)) (takes : List Take) (greatest : ℕ) (after : CellState) : Type 0 where
+  pub sends : List (ℕ × Message)
+  pub step : IsStep before.view letters after.view sends
+  pub receivers : GoToNeighbours before.view sends
+  pub stamped : after.stamp ≡ max before.stamp greatest + 1
+  pub sent : after.sent ≡ grown (λ j. posted_to j (post after.stamp sends)) before.sent
+  pub noted : after.journal ≡ before.journal ++ record { stamp = after.stamp; takes = takes } ∷ []
+
+-- the greatest stamp is the last one: the agent makes no step, and nothing is sent
+pub record IsAtEnd (before : CellState) (greatest : ℕ) (after : CellState) : Type 0 where
+  pub last : max before.stamp greatest ≡ amount_limit
+  pub viewed : after.view ≡ before.view
+  pub stamped : after.stamp ≡ before.stamp
+  pub sent : after.sent ≡ before.sent
+  pub noted : after.journal ≡ before.journal

@@ -1,0 +1,73 @@
+-- What contracts see of a cell. The meaning of its machine is given.
+use Rattle.std.specs.Prelude.{◌≡◌, ℕ, Bool, true, false, List, [], Option, None}
+use Rattle.std.specs.List.Sorted.{IsStrictlyIncreasing}
+use Rattle.std.specs.declared.dyn_box.DynBox.{DynBox}
+use Rattle.std.specs.declared.alloc.Global.{Global}
+use Rattle.protocol_steps.specs.View.{View, private_of, started_of}
+use Rattle.protocol_steps.specs.Stamps.{Deed}
+use Rattle.worker_runs.specs.Cells.{CellState, peers, lane}
+use Rattle.worker_runs.specs.Visits.{IsStarted}
+use Rattle.worker_runs.specs.Acts.{IsLater}
+use Rattle.agent_cells.specs.declared.fault.VisitFault.{VisitFault}
+use Rattle.agent_cells.specs.declared.cell.Cell.{Cell}
+use Rattle.agent_cells.specs.Links.{Tail, Head, lanes_sent, lanes_taken, known_of, AreSameTails, AreSameHeads}
+
+-- an agent that has not started, and no message on its links
+pub record IsFresh (s : CellState) : Type 0 where
+  pub started : started_of s.view ≡ false
+  pub stamp : s.stamp ≡ 0
+  pub journal : s.journal ≡ []
+  pub sent : (j : ℕ) → lane j s.sent ≡ []
+  pub taken : (j : ℕ) → lane j s.taken ≡ []
+
+-- a cell has come from its agent's start by the activations of its journal
+pub record HasHistory (s : CellState) : Type 0 where
+  pub made : View
+  pub first : CellState
+  pub deeds : List Deed
+  pub started : IsStarted made first
+  pub later : IsLater first deeds s
+
+-- the invariant of a cell: its links are those of its agent's neighbours; before its start it is fresh; and from its start on, while it has not failed, it has come from there by its journal
+pub record IsSound (begun : Bool) (fault : Option VisitFault) (s : CellState) : Type 0 where
+  pub me : (private_of s.view).me ≡ s.me
+  pub sent : peers s.sent ≡ (private_of s.view).neighbours
+  pub taken : peers s.taken ≡ (private_of s.view).neighbours
+  pub ascend : IsStrictlyIncreasing (private_of s.view).neighbours
+  pub fresh : begun ≡ false → IsFresh s
+  pub running : begun ≡ true → fault ≡ None → HasHistory s
+
+module _ {X : Type 0} {F : X → Type 0} where
+  -- the cell as a plain value
+  abbrev pub state_of : (DynBox X Global F → View) → Cell X F → CellState
+  state_of meaning c = record {
+    me = c.me;
+    view = meaning c.machine;
+    stamp = c.stamp;
+    journal = c.journal;
+    sent = lanes_sent c.tails.items;
+    taken = lanes_taken c.heads.items;
+    known = known_of c.heads.items;
+  }
+
+  -- whether it has begun, and the fault that it answers from now on
+  abbrev pub begun_in : Cell X F → Bool
+  begun_in c = c.begun
+
+  abbrev pub fault_in : Cell X F → Option VisitFault
+  fault_in c = c.fault
+
+  -- its links
+  abbrev pub tails_in : Cell X F → List Tail
+  tails_in c = c.tails.items
+
+  abbrev pub heads_in : Cell X F → List Head
+  heads_in c = c.heads.items
+
+  abbrev pub IsCell : (DynBox X Global F → View) → Cell X F → Type 0
+  IsCell meaning c = IsSound c.begun c.fault (state_of meaning c)
+
+  -- the same links, at the same places
+  pub record KeepsLinks (before after : Cell X F) : Type 0 where
+    pub tails : AreSameTails before.tails.items after.tails.items
+    pub heads : AreSameHeads before.heads.items after.heads.items

@@ -1,0 +1,78 @@
+//! Settling the links of a cell.
+
+ghost use Rattle.std.specs.Prelude.{◌≡◌};
+ghost use Rattle.fifo_links.specs.Link.{sent_on, taken_from, SameTail, SameHead};
+ghost use Rattle.worker_runs.specs.Visits.{IsQuiet};
+ghost use Rattle.agent_cells.specs.Settled.{TailJoins, HeadJoins, EndsJoin, SettlesTail, SettlesHead, TailIsSettled, HeadIsSettled, EndsAreSettled};
+ghost use Rattle.agent_cells.specs.State.{state_of, begun_in, fault_in, tails_in, heads_in, IsCell};
+
+use super::Cell;
+use crate::sealed::Sealed;
+use crate::settling::{settle_between, settle_head_from, settle_tail_to};
+use dcop_base::VarId;
+use fifo_links::{LinkHead, LinkTail};
+
+impl Cell {
+    /// Settles the link from this cell to the other, in one thread: moves what stands in its
+    /// backlog into its ring while there is room. Answers how many messages are in the ring, all of
+    /// which the other cell then knows. Nothing but the link changes. It takes no memory.
+    pub fn settle_to(&mut self, other: &mut Cell) -> u32
+        requires cell { IsCell (λ b. meaning b) self.old }
+        requires other_cell { IsCell (λ b. meaning b) other.old }
+        requires joined { EndsJoin (tails_in self.old) (state_of (λ b. meaning b) other.old).me (heads_in other.old) (state_of (λ b. meaning b) self.old).me }
+        ensures cell { IsCell (λ b. meaning b) self.new }
+        ensures other_cell { IsCell (λ b. meaning b) other.new }
+        ensures quiet { IsQuiet (state_of (λ b. meaning b) self.old) (state_of (λ b. meaning b) self.new) }
+        ensures other_quiet { IsQuiet (state_of (λ b. meaning b) other.old) (state_of (λ b. meaning b) other.new) }
+        ensures tails { SettlesTail (tails_in self.old) (state_of (λ b. meaning b) other.old).me (tails_in self.new) }
+        ensures heads { SettlesHead (heads_in other.old) (state_of (λ b. meaning b) self.old).me (heads_in other.new) }
+        ensures settled { EndsAreSettled (tails_in self.new) (state_of (λ b. meaning b) other.old).me (heads_in other.new) (state_of (λ b. meaning b) self.old).me result }
+        ensures own_heads { heads_in self.new ≡ heads_in self.old }
+        ensures other_tails { tails_in other.new ≡ tails_in other.old }
+        ensures begun { (begun_in self.new ≡ begun_in self.old) × (begun_in other.new ≡ begun_in other.old) }
+        ensures fault { (fault_in self.new ≡ fault_in self.old) × (fault_in other.new ≡ fault_in other.old) }
+    {
+        settle_between(
+            self.tails.as_mut_slice(),
+            other.me,
+            other.heads.as_mut_slice(),
+            self.me,
+        )
+    }
+
+    /// Settles the link from this cell to a neighbour whose end is outside a cell, as
+    /// [`Cell::settle_to`].
+    pub fn settle_tail(&mut self, to: VarId, head: &mut LinkHead<Sealed>) -> u32
+        requires cell { IsCell (λ b. meaning b) self.old }
+        requires joined { TailJoins (tails_in self.old) to head.old }
+        ensures cell { IsCell (λ b. meaning b) self.new }
+        ensures quiet { IsQuiet (state_of (λ b. meaning b) self.old) (state_of (λ b. meaning b) self.new) }
+        ensures tails { SettlesTail (tails_in self.old) to (tails_in self.new) }
+        ensures head { SameHead head.old head.new }
+        ensures taken { taken_from head.new ≡ taken_from head.old }
+        ensures settled { TailIsSettled (tails_in self.new) to head.new result }
+        ensures heads { heads_in self.new ≡ heads_in self.old }
+        ensures begun { begun_in self.new ≡ begun_in self.old }
+        ensures fault { fault_in self.new ≡ fault_in self.old }
+    {
+        settle_tail_to(self.tails.as_mut_slice(), to, head)
+    }
+
+    /// Settles the link to this cell from a neighbour whose end is outside a cell, as
+    /// [`Cell::settle_to`].
+    pub fn settle_head(&mut self, from: VarId, tail: &mut LinkTail<Sealed>) -> u32
+        requires cell { IsCell (λ b. meaning b) self.old }
+        requires joined { HeadJoins (heads_in self.old) from tail.old }
+        ensures cell { IsCell (λ b. meaning b) self.new }
+        ensures quiet { IsQuiet (state_of (λ b. meaning b) self.old) (state_of (λ b. meaning b) self.new) }
+        ensures heads { SettlesHead (heads_in self.old) from (heads_in self.new) }
+        ensures tail { SameTail tail.old tail.new }
+        ensures sent { sent_on tail.new ≡ sent_on tail.old }
+        ensures settled { HeadIsSettled (heads_in self.new) from tail.new result }
+        ensures tails { tails_in self.new ≡ tails_in self.old }
+        ensures begun { begun_in self.new ≡ begun_in self.old }
+        ensures fault { fault_in self.new ≡ fault_in self.old }
+    {
+        settle_head_from(self.heads.as_mut_slice(), from, tail)
+    }
+}

@@ -1,0 +1,72 @@
+//! A visit of a cell.
+
+ghost use Rattle.std.specs.Prelude.{◌≡◌, ◌⊎◌, true, false, IfOk, OnOk, IfErr, IfSome, Err, None, Some};
+ghost use Rattle.protocol_steps.specs.View.{made_of, ended_of};
+ghost use Rattle.worker_runs.specs.Visits.{IsVisit};
+ghost use Rattle.agent_cells.specs.declared.fault.VisitFault.TheVariants.{StampEnd};
+ghost use Rattle.agent_cells.specs.Failed.{HasReachedEnd};
+ghost use Rattle.agent_cells.specs.State.{state_of, begun_in, fault_in, IsCell, KeepsLinks};
+
+use super::Cell;
+use crate::collect::collect;
+use crate::fault::VisitFault;
+use dcop_edge::Gate;
+
+impl Cell {
+    /// Passes the gate, takes all that it finds on each link, at most 64 messages of each, lets the
+    /// agent react once, and sends what it sends with the next stamp. Answers how many messages it
+    /// took; it is 0 only where none was known to wait, and then nothing has changed. It takes
+    /// memory.
+    ///
+    /// [`VisitFault::StampEnd`] comes exactly where something was taken and the greatest of the
+    /// cell's stamp and the taken ones is `CAP`; then the agent does not react and nothing is sent.
+    /// After a fault the cell has failed, and answers the same fault to every later visit.
+    pub fn visit<G: Gate>(&mut self, gate: &G) -> Result<u64, VisitFault>
+        requires cell { IsCell (λ b. meaning b) self.old }
+        requires begun { begun_in self.old ≡ true }
+        requires live { ended_of (state_of (λ b. meaning b) self.old).view ≡ false }
+        ensures cell { IsCell (λ b. meaning b) self.new }
+        ensures begun { begun_in self.new ≡ true }
+        ensures links { KeepsLinks self.old self.new }
+        ensures me { (state_of (λ b. meaning b) self.new).me ≡ (state_of (λ b. meaning b) self.old).me }
+        ensures origin { made_of (state_of (λ b. meaning b) self.new).view ≡ made_of (state_of (λ b. meaning b) self.old).view }
+        ensures ok { IfOk result (λ n. IsVisit (state_of (λ b. meaning b) self.old) n (state_of (λ b. meaning b) self.new)) }
+        ensures fine { OnOk result (fault_in self.new ≡ None) }
+        ensures err { IfErr result (λ f. fault_in self.new ≡ Some f) }
+        ensures again { IfSome (fault_in self.old) (λ f. (result ≡ Err f) × (self.new ≡ self.old)) }
+        ensures end { result ≡ Err StampEnd → (fault_in self.old ≡ Some StampEnd)
+            ⊎ HasReachedEnd (state_of (λ b. meaning b) self.old) (state_of (λ b. meaning b) self.new) }
+    {
+        gate.pass(self.me);
+        if let Some(fault) = self.fault {
+            return Err(fault);
+        }
+        let outcome = self.try_visit();
+        if let Err(fault) = outcome {
+            self.fault = Some(fault);
+        }
+        outcome
+    }
+
+    /// The visit of a cell that has not failed.
+    fn try_visit(&mut self) -> Result<u64, VisitFault>
+        requires cell { IsCell (λ b. meaning b) self.old }
+        requires begun { begun_in self.old ≡ true }
+        requires fine { fault_in self.old ≡ None }
+        requires live { ended_of (state_of (λ b. meaning b) self.old).view ≡ false }
+        ensures links { KeepsLinks self.old self.new }
+        ensures me { self.new.me ≡ self.old.me }
+        ensures begun { self.new.begun ≡ self.old.begun }
+        ensures fault { self.new.fault ≡ self.old.fault }
+        ensures origin { made_of (meaning self.new.machine) ≡ made_of (meaning self.old.machine) }
+        ensures ok { IfOk result (λ n. IsVisit (state_of (λ b. meaning b) self.old) n (state_of (λ b. meaning b) self.new)) }
+        ensures end { result ≡ Err StampEnd → HasReachedEnd (state_of (λ b. meaning b) self.old) (state_of (λ b. meaning b) self.new) }
+    {
+        let taken = collect(self.alloc, self.heads.as_mut_slice(), &mut self.room)?;
+        let count = taken.letters.len() as u64;
+        if count > 0 {
+            self.handle(taken)?;
+        }
+        Ok(count)
+    }
+}

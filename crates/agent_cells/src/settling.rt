@@ -1,0 +1,82 @@
+//! Settling links, with both ends in one thread.
+
+ghost use Rattle.std.specs.Prelude.{◌≡◌, ◌==◌};
+ghost use Rattle.std.specs.List.{position};
+ghost use Rattle.std.specs.List.Sorted.{IsStrictlyIncreasing};
+ghost use Rattle.fifo_links.specs.Link.{sent_on, taken_from, SameTail, SameHead};
+ghost use Rattle.worker_runs.specs.Cells.{peers};
+ghost use Rattle.agent_cells.specs.Links.{lanes_sent, lanes_taken};
+ghost use Rattle.agent_cells.specs.Settled.{TailJoins, HeadJoins, EndsJoin, SettlesTail, SettlesHead, TailIsSettled, HeadIsSettled, EndsAreSettled};
+
+use crate::deliver::tail_to;
+use crate::sealed::Sealed;
+use dcop_base::VarId;
+use fifo_links::{LinkHead, LinkTail, settle};
+
+/// Where the link from this peer is.
+fn head_from(heads: &[(VarId, LinkHead<Sealed>)], from: VarId) -> Option<usize>
+    ensures { result ≡ position (λ h. h.0 == from) heads.now }
+{
+    heads.iter().position(|head| head.0 == from)
+}
+
+/// Settles the link to this peer, whose head is at hand. Answers how many messages are in its ring;
+/// 0 where there is no such link.
+pub(crate) fn settle_tail_to(
+    tails: &mut [(VarId, LinkTail<Sealed>)],
+    to: VarId,
+    head: &mut LinkHead<Sealed>,
+) -> u32
+    requires ascend { IsStrictlyIncreasing (peers (lanes_sent tails.old)) }
+    requires joined { TailJoins tails.old to head.old }
+    ensures tails { SettlesTail tails.old to tails.new }
+    ensures head { SameHead head.old head.new }
+    ensures taken { taken_from head.new ≡ taken_from head.old }
+    ensures settled { TailIsSettled tails.new to head.new result }
+{
+    match tail_to(tails, to) {
+        Some(place) => settle(&mut tails[place].1, head),
+        None => 0,
+    }
+}
+
+/// Settles the link from this peer, whose tail is at hand. Answers how many messages are in its
+/// ring; 0 where there is no such link.
+pub(crate) fn settle_head_from(
+    heads: &mut [(VarId, LinkHead<Sealed>)],
+    from: VarId,
+    tail: &mut LinkTail<Sealed>,
+) -> u32
+    requires ascend { IsStrictlyIncreasing (peers (lanes_taken heads.old)) }
+    requires joined { HeadJoins heads.old from tail.old }
+    ensures heads { SettlesHead heads.old from heads.new }
+    ensures tail { SameTail tail.old tail.new }
+    ensures sent { sent_on tail.new ≡ sent_on tail.old }
+    ensures settled { HeadIsSettled heads.new from tail.new result }
+{
+    match head_from(heads, from) {
+        Some(place) => settle(tail, &mut heads[place].1),
+        None => 0,
+    }
+}
+
+/// Settles the link to one cell from another. Answers how many messages are in its ring; 0 where
+/// there is no such link.
+pub(crate) fn settle_between(
+    tails: &mut [(VarId, LinkTail<Sealed>)],
+    to: VarId,
+    heads: &mut [(VarId, LinkHead<Sealed>)],
+    from: VarId,
+) -> u32
+    requires sources { IsStrictlyIncreasing (peers (lanes_taken heads.old)) }
+    requires targets { IsStrictlyIncreasing (peers (lanes_sent tails.old)) }
+    requires joined { EndsJoin tails.old to heads.old from }
+    ensures tails { SettlesTail tails.old to tails.new }
+    ensures heads { SettlesHead heads.old from heads.new }
+    ensures settled { EndsAreSettled tails.new to heads.new from result }
+{
+    match head_from(heads, from) {
+        Some(place) => settle_tail_to(tails, to, &mut heads[place].1),
+        None => 0,
+    }
+}

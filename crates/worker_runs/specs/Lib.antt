@@ -1,0 +1,11 @@
+pub mod Cells
+pub mod Visits
+pub mod Acts
+pub mod Sprints
+pub mod CellRounds
+pub mod Merges
+pub mod CellRuns
+pub mod StampCounts
+pub mod Laws
+pub mod NodeRounds
+pub mod Played

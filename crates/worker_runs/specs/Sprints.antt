@@ -1,0 +1,22 @@
+-- Sprints: what visits of one cell in one round make of it.
+use Rattle.std.specs.Prelude.{◌≡◌, ℕ, ◌+◌, ◌≤◌, true, false, List, length}
+use Rattle.protocol_steps.specs.View.{ended_of}
+use Rattle.protocol_steps.specs.Stamps.{Deed}
+use Rattle.protocol_steps.specs.Deeds.{gained_from}
+use Rattle.worker_runs.specs.Cells.{CellState, known_from}
+use Rattle.worker_runs.specs.Visits.{IsVisit}
+use Rattle.worker_runs.specs.Acts.{moved, IsLater}
+
+-- some visits of a cell, at most so many: its activations, which took of each link at least what the cell knew to wait there, where its agent had not ended before
+pub record IsSprint (visits : ℕ) (before after : CellState) : Type 0 where
+  pub deeds : List Deed
+  pub later : IsLater before deeds after
+  pub few : length deeds ≤ visits
+  pub served : ended_of before.view ≡ false → (j : ℕ) → known_from j before.known ≤ length (gained_from j (moved before deeds).gains)
+
+-- how sprints are made of visits
+pub record SprintsAreVisits : Type 0 where
+  pub first : (before after : CellState) (count : ℕ) → ended_of before.view ≡ false → IsVisit before count after → IsSprint 1 before after
+  pub next : (visits count : ℕ) (before middle after : CellState) → IsSprint visits before middle → IsVisit middle count after → IsSprint (visits + 1) before after
+  pub fewer : (visits more : ℕ) (before after : CellState) → visits ≤ more → IsSprint visits before after → IsSprint more before after
+  pub rests : (visits : ℕ) (cell : CellState) → ended_of cell.view ≡ true → IsSprint visits cell cell
