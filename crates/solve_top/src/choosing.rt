@@ -15,17 +15,15 @@ use delivery_core::Start;
 use problem_solved::ProblemSolved;
 use problem_text::ProblemFile;
 use pseudotree::widths;
-use solve_methods::{Choice, Chosen, Found, choice_deliveries, chosen_by, dpop_answer, node_rows_if};
+use solve_methods::{
+    Choice, Chosen, Found, choice_deliveries, chosen_by, dpop_answer, node_rows_if,
+};
 use solve_report::Answer;
 use std::alloc::Global;
 
 /// The answer of DPOP on a file. Where it is to be certified, the report has the tables of all
 /// variables, in preorder, as its certificate.
-pub(crate) fn by_dpop(
-    alloc: Global,
-    file: ProblemFile,
-    certified: bool,
-) -> Result<Answer, NoMemory>
+pub(crate) fn by_dpop(alloc: Global, file: ProblemFile, certified: bool) -> Result<Answer, NoMemory>
     ensures belongs { IfOk result (AnswersDpop (declared_by file) certified) }
     ensures right { IfOk result TellsRight }
     ensures told { IfOk result HasText }
