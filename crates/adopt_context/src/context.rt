@@ -2,7 +2,7 @@
 
 ghost use Rattle.std.specs.Prelude.{◌≡◌, ℕ, List, [], true, not, ◌==◌, IfOk, OnOk, OnErr};
 ghost use Rattle.std.specs.List.{filter};
-ghost use Rattle.adopt_context.specs.Context.{value_in, put, compatible, part_of, union, names_all};
+ghost use Rattle.adopt_context.specs.Context.{AscendsFrom, value_in, put, compatible, part_of, union, names_all};
 
 use crate::pairs::{agree, joined, name_each, others, put, stand_in, value_in};
 use dcop_base::{NoMemory, Val, VarId, VarList};
@@ -46,7 +46,8 @@ impl AgentContext {
 
     /// The pairs of a variable and its value, by ascending variables.
     pub fn pairs(&self) -> &[(VarId, Val)]
-        ensures { result.now ≡ self.now }
+        ensures pairs { result.now ≡ self.now }
+        ensures ascend { AscendsFrom 0 result.now }
     {
         self.pairs.as_slice()
     }

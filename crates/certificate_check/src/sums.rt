@@ -1,8 +1,8 @@
 //! What own tables and children's tables cost together at an assignment.
 
-ghost use Rattle.std.specs.Prelude.{◌≡◌, ◌<◌, length, map, min, slice_index};
+ghost use Rattle.std.specs.Prelude.{◌≡◌, ◌<◌, ◌≤◌, length, map, min, slice_index};
 ghost use Rattle.std.specs.List.{All, sum_by};
-ghost use Rattle.dcop_base.specs.Table.{AreWithin, product};
+ghost use Rattle.dcop_base.specs.Table.{AreWithin, product, values_at};
 ghost use Rattle.dcop_base.specs.Whole.{IsTableOf};
 ghost use Rattle.dcop_base.specs.Values.{cell_with, cost_with};
 ghost use Rattle.certificate_text.specs.Fits.{FitsUtil};
@@ -11,7 +11,7 @@ ghost use Rattle.certificate_check.specs.Cells.{sum_below};
 ghost use Rattle.certificate_check.specs.Odometer.{place_of};
 
 use certificate_text::Util;
-use dcop_base::{Table, Val, VarId};
+use dcop_base::{Table, Val, VarId, place_of};
 
 /// The sum of the cells that an assignment names, or [`u64::MAX`] where it is more.
 pub(crate) fn sum_below(sizes: &[u16], own: &[&Table], children: &[&Util], values: &[Val]) -> u64
@@ -58,22 +58,28 @@ fn util_cell(sizes: &[u16], util: &Util, values: &[Val]) -> u64
     ensures { result ≡ cell_with (sized sizes.now util.now) (slice_index values.now) }
 {
     let cells = util.cells.as_slice();
-    let place = place_of(sizes, util.scope.as_slice(), values, cells.len());
+    let place = place_at(sizes, util.scope.as_slice(), values);
     cells[place]
 }
 
-/// The place of the cell that an assignment names in a table of this scope, which has so many.
-fn place_of(sizes: &[u16], scope: &[VarId], values: &[Val], count: usize) -> usize
+/// The place of the cell that an assignment names in a table of this scope.
+fn place_at(sizes: &[u16], scope: &[VarId], values: &[Val]) -> usize
     requires named { All (λ v. v < length sizes.now) scope.now }
     requires within { AreWithin sizes.now values.now }
-    requires full { count ≡ product (map (slice_index sizes.now) scope.now) }
+    requires few { product (map (slice_index sizes.now) scope.now) ≤ usize.MAX }
     ensures { result ≡ place_of sizes.now scope.now values.now }
 {
-    let mut place: usize = 0;
-    for var in scope {
-        let index = var.0 as usize;
-        let value = values[index];
-        place = place * usize::from(sizes[index]) + usize::from(value.0);
-    }
-    place
+    place_of(scope.len(), |k| digit_at(sizes, scope, values, k))
+}
+
+/// The size and the value of the variable at this place of a scope.
+fn digit_at(sizes: &[u16], scope: &[VarId], values: &[Val], k: usize) -> (u16, Val)
+    requires stands { k < length scope.now }
+    requires named { All (λ v. v < length sizes.now) scope.now }
+    requires within { AreWithin sizes.now values.now }
+    ensures { result ≡ (slice_index (map (slice_index sizes.now) scope.now) k, slice_index (values_at scope.now values.now) k) }
+{
+    let var = scope[k];
+    let index = var.0 as usize;
+    (sizes[index], values[index])
 }

@@ -2,8 +2,8 @@
 
 ghost use Rattle.std.specs.Prelude.{◌≡◌, ◌≤◌, ◌++◌, ◌∷◌, [], length, IfOk, OnOk};
 ghost use Rattle.std.specs.Int.{w32, to_be_bytes};
-ghost use Rattle.dcop_base.specs.Limits.{amount_limit};
-ghost use Rattle.protocol_steps.specs.Ranges.{IsInRange};
+ghost use Rattle.adopt_context.specs.Context.{AscendsFrom};
+ghost use Rattle.message_code.specs.Decode.{IsEnvelope, HasContext};
 ghost use Rattle.message_code.specs.Code.{variable_code, value_code, amount_code, list_code, context_code, bound_code, tag_of, fields_code, code_of};
 
 use adopt_context::AgentContext;
@@ -14,15 +14,15 @@ use std::alloc::Global;
 /// Room for the code of each message without a list.
 const SMALL: usize = 32;
 
-/// The code of an envelope. It tells besides that the envelope is within its ranges, which is what
-/// decoding the code asks.
+/// The code of an envelope. It tells besides that the envelope is within its ranges, with a context
+/// whose variables ascend, which is what decoding the code asks.
 ///
 /// # Errors
 ///
 /// [`NoMemory`] where memory was wanted and not had.
 pub fn encode(alloc: Global, envelope: &Envelope) -> Result<Bytes, NoMemory>
     ensures code { IfOk result (λ bytes. bytes ≡ code_of envelope.now) }
-    ensures ranges { (envelope.now.0 ≤ amount_limit) × IsInRange envelope.now.1 }
+    ensures ranges { OnOk result (IsEnvelope envelope.now) }
 {
     let stamp = envelope.stamp;
     let mut out = Vec::with_capacity(alloc, SMALL)?;
@@ -50,7 +50,8 @@ fn tag_of(message: &Message) -> u8
 
 /// Writes the fields of a message, in order.
 fn put_fields(out: &mut Vec<u8>, message: &Message) -> Result<(), NoMemory>
-    ensures { OnOk result (out.new.items ≡ out.old.items ++ fields_code message.now) }
+    ensures fields { OnOk result (out.new.items ≡ out.old.items ++ fields_code message.now) }
+    ensures context { OnOk result (HasContext message.now) }
 {
     match message {
         Message::Token { path } => put_variables(out, path.as_slice()),
@@ -113,7 +114,8 @@ fn put_cells(out: &mut Vec<u8>, cells: &[u64]) -> Result<(), NoMemory>
 
 /// Writes a context.
 fn put_context(out: &mut Vec<u8>, context: &AgentContext) -> Result<(), NoMemory>
-    ensures { OnOk result (out.new.items ≡ out.old.items ++ context_code context.now) }
+    ensures pairs { OnOk result (out.new.items ≡ out.old.items ++ context_code context.now) }
+    ensures ascend { OnOk result (AscendsFrom 0 context.now) }
 {
     let pairs = context.pairs();
     put_count(out, pairs.len())?;

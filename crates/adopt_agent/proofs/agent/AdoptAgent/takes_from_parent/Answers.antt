@@ -16,7 +16,7 @@ returns-then-is_parent c =
     let from = c.args.from in
     let told = c.args.context.now in
     let v : AdoptView = view_at a.own a.place a.error a.stage a.known a.value a.threshold a.last_received a.told_to_end a.bounds.rows in
-    let fit : c.fit.result ≡ fits v told = c.fit.ensures ∙ ap (λ (x : Context). fits v x) c.pairs.ensures in
+    let fit : c.fit.result ≡ fits v told = c.fit.ensures ∙ ap (λ (x : Context). fits v x) c.pairs.ensures.pairs in
     elim c.if-not-self.branch [
       | then-not-self w ↦
           let parent : is_value (last_of a.place.path) from ≡ true =

@@ -13,7 +13,7 @@ pub returns-then-are_sized-clause-within : goal.returns-then-are_sized-clause-wi
 returns-then-are_sized-clause-within c yes_taken =
     let a = c.self.inside in
     let values = c.args.values.now in
-    let sized = ap (λ (ps : Context). list_all (λ p. is_below_size (value_in (zip a.place.path a.place.path_sizes) p.0) p.1) ps) (sym c.pairs.ensures) ∙ sym c.are_sized.ensures ∙ c.if-are_sized.true in
+    let sized = ap (λ (ps : Context). list_all (λ p. is_below_size (value_in (zip a.place.path a.place.path_sizes) p.0) p.1) ps) (sym c.pairs.ensures.pairs) ∙ sym c.are_sized.ensures ∙ c.if-are_sized.true in
     let made = (c.self.invariant.util c.in-Some-Some.made c.in-Some-Some.is-1).is in
     let scope : c.made.inside.scope ≡ separator (keeping a.own a.place a.kept.items) = ap (λ (t : CostTable). t.scope) (c.made.view_is ∙ made) in
     let named = ap (λ (vs : List ℕ). names_all values vs) (sym scope) ∙ sym c.names_all.ensures ∙ yes_taken in
