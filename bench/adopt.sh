@@ -26,8 +26,6 @@ done
 made="$copy/crates/bench_adopt"
 cp -r "$top/bench/adopt/crate" "$made"
 find "$made" -name '*.txt' | while read -r file; do mv "$file" "${file%.txt}"; done
-# That an agent which has started stays so is proved there, for that crate alone.
-cp "$top/crates/delivery_core/proofs/StartedLaws.antt" "$made/proofs/StartedLaws.antt"
 uses="dcop_base pseudotree adopt_context protocol_steps adopt_agent delivery_core"
 echo "bench_adopt staticlib: $uses" >> "$copy/crates.txt"
 (cd "$made" && rt lib > "$copy/log" 2>&1) || { tail -20 "$copy/log"; exit 1; }

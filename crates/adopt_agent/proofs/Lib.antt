@@ -8,3 +8,4 @@ pub mod AgentLaws
 pub mod MessageLaws
 pub mod CostLaws
 mod StepRows
+mod TestLaws

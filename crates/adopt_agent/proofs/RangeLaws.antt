@@ -14,11 +14,6 @@ use Rattle.protocol_steps.specs.AdoptRange.{is_within, in_range, fits}
 use Rattle.adopt_agent.specs.Stage.{knowing}
 use Rattle.adopt_agent.specs.Sound.{IsGround}
 
--- what is looked up among the pairs that are left, one pair on
-pub size_next : (vars sizes : List ℕ) (k var : ℕ) → k < length vars → length sizes ≡ length vars → value_in (zip (drop k vars) (drop k sizes)) var ≡ cond (eqb (get_or vars k 0) var) (Some (get_or sizes k 0)) (value_in (zip (drop (k + 1) vars) (drop (k + 1) sizes)) var)
-size_next vars sizes k var lt same =
-    ap₂ (λ (xs : List ℕ) (ys : List ℕ). value_in (zip xs ys) var) (drop_more vars k 0 lt) (drop_more sizes k 0 (omega (arith, lt, same)))
-
 -- a variable and a value within the ranges of a message
 abbrev pub InRanges : ℕ × ℕ → Type 0
 InRanges p = (p.0 < variable_limit) × (p.1 < size_limit)

@@ -21,7 +21,7 @@ use crate::costs::{are_known, are_same, copy_of, set_costs};
 use crate::stage::Stage;
 use adopt_bounds::Bounds;
 use adopt_context::AgentContext;
-use dcop_base::{CAP, NoMemory, Private, Table, Val};
+use dcop_base::{NoMemory, Private, Table, Val};
 use protocol_steps::{Batch, Letter, Machine, Outbox, Parcel, Standing};
 use pseudotree::Place;
 use std::alloc::Global;

@@ -9,7 +9,7 @@ ghost use Rattle.protocol_steps.specs.Ranges.{IsBound};
 ghost use Rattle.adopt_agent.specs.Costs.{cost_where};
 
 use adopt_bounds::Bounds;
-use dcop_base::{CAP, MAX_SIZE, Val};
+use dcop_base::{CAP, Val};
 
 /// LB(d): the cost of an own value and the lower bounds of the children.
 pub(crate) fn lower_of(costs: &[u64], bounds: &Bounds, d: Val) -> u64

@@ -11,16 +11,9 @@ ghost use Rattle.protocol_steps.specs.Values.{valued};
 ghost use Rattle.adopt_agent.specs.Sound.{AreCosts, IsGround};
 
 use adopt_context::AgentContext;
-use dcop_base::{CAP, MAX_SIZE, NoMemory, Private, Table, Val, VarId, VarList};
+use dcop_base::{CAP, NoMemory, Private, Table, Val, VarId, VarList, place_of, stands_in};
 use pseudotree::Place;
 use std::alloc::Global;
-
-/// Whether the variable is among these.
-pub(crate) fn stands_in(vars: &[VarId], sought: VarId) -> bool
-    ensures { result ≡ has vars.now sought }
-{
-    vars.iter().any(|var| *var == sought)
-}
 
 /// Whether these pairs are the same.
 pub(crate) fn are_same(pairs: &[(VarId, Val)], others: &[(VarId, Val)]) -> bool
@@ -77,17 +70,12 @@ fn value_of(var: VarId, me: VarId, d: Val, known: &AgentContext) -> Val
 }
 
 /// The place of a table's cell at an own value and the known values.
-fn place_of(scope: &[VarId], sizes: &[u16], me: VarId, d: Val, known: &AgentContext) -> usize
+fn place_at(scope: &[VarId], sizes: &[u16], me: VarId, d: Val, known: &AgentContext) -> usize
     requires within { AreWithin sizes.now (map (with_own me d (valued known.now)) scope.now) }
     requires few { product sizes.now ≤ usize.MAX }
     ensures { result ≡ cell_place sizes.now (map (with_own me d (valued known.now)) scope.now) }
 {
-    let mut place: usize = 0;
-    for (k, var) in scope.iter().enumerate() {
-        let value = value_of(*var, me, d, known);
-        place = place * usize::from(sizes[k]) + usize::from(value.0);
-    }
-    place
+    place_of(scope.len(), |k| (sizes[k], value_of(scope[k], me, d, known)))
 }
 
 /// A table's cell at an own value and the known values.
@@ -99,7 +87,7 @@ fn cell_at(table: &Table, me: VarId, d: Val, known: &AgentContext) -> u64
     let scope = table.scope.as_slice();
     let sizes = table.sizes.as_slice();
     let cells = table.cells.as_slice();
-    cells[place_of(scope, sizes, me, d, known)]
+    cells[place_at(scope, sizes, me, d, known)]
 }
 
 /// Adds a table's cells to the costs of the own values, capped.

@@ -14,10 +14,9 @@ ghost use Rattle.protocol_steps.specs.AdoptMessage.{adopt_message, takes_from_pa
 ghost use Rattle.adopt_agent.specs.Deed.{IsSameAgent};
 
 use crate::agent::AdoptAgent;
-use crate::costs::stands_in;
-use crate::range::{fit, is_in_range, is_parent, position_of};
+use crate::range::{fit, is_in_range, is_parent};
 use adopt_context::AgentContext;
-use dcop_base::{CAP, NoMemory, Val, VarId};
+use dcop_base::{NoMemory, Val, VarId, position_of, stands_in};
 use protocol_steps::{Letter, Message};
 
 /// What is known, with what a COST tells of variables that are no neighbours or not known yet.

@@ -1,27 +1,14 @@
 //! What an agent takes: messages from its parent, and contexts over its path.
 
-ghost use Rattle.std.specs.Prelude.{◌≡◌, ◌==◌, length};
-ghost use Rattle.std.specs.List.{list_all, position, zip};
+ghost use Rattle.std.specs.Prelude.{◌≡◌, length};
+ghost use Rattle.std.specs.List.{list_all, zip};
 ghost use Rattle.adopt_context.specs.Context.{is_value, value_in};
 ghost use Rattle.protocol_steps.specs.Agent.{last_of};
 ghost use Rattle.protocol_steps.specs.AdoptRange.{is_within};
 
+use adopt_context::size_beside;
 use dcop_base::{Val, VarId};
 use pseudotree::Place;
-
-/// The size beside a variable; `None` where it is none of these.
-#[tactic(auto, using(crate::proofs::RangeLaws::size_next))]
-fn size_beside(vars: &[VarId], sizes: &[u16], var: VarId) -> Option<u16>
-    requires { length sizes.now ≡ length vars.now }
-    ensures { result ≡ value_in (zip vars.now sizes.now) var }
-{
-    for (k, other) in vars.iter().enumerate() {
-        if *other == var {
-            return Some(sizes[k]);
-        }
-    }
-    None
-}
 
 /// Whether a variable stands in the path and the value is below its size.
 pub(crate) fn is_in_range(place: &Place, var: VarId, value: Val) -> bool
@@ -51,11 +38,4 @@ pub(crate) fn is_parent(path: &[VarId], var: VarId) -> bool
         Some(parent) => *parent == var,
         None => false,
     }
-}
-
-/// The place of a child among the children, where it is one of them.
-pub(crate) fn position_of(children: &[VarId], sought: VarId) -> Option<usize>
-    ensures { result ≡ position (λ child. child == sought) children.now }
-{
-    children.iter().position(|child| *child == sought)
 }

@@ -10,10 +10,9 @@ ghost use Rattle.protocol_steps.specs.AdoptStep.{adopt_sends, messages_for, shar
 ghost use Rattle.adopt_agent.specs.Deed.{all_to, to_child, to_lower, to_parent};
 
 use crate::agent::AdoptAgent;
-use crate::costs::stands_in;
 use crate::range::is_parent;
 use crate::stage::Stage;
-use dcop_base::{NoMemory, VarId};
+use dcop_base::{NoMemory, VarId, stands_in};
 use protocol_steps::{Message, Parcel};
 use std::alloc::Global;
 

@@ -1,6 +1,6 @@
 //! Each call with ample memory: the root of two variables takes its child's bounds, and ends.
 
-ghost use Rattle.std.specs.Prelude.{◌≡◌, ◌≤◌, ◌∷◌, [], false, IfOk};
+ghost use Rattle.std.specs.Prelude.{◌≡◌, ◌≤◌, ◌∷◌, [], IfOk};
 ghost use Rattle.dcop_base.specs.Limits.{amount_limit};
 ghost use Rattle.protocol_steps.specs.Ranges.{IsInRange};
 ghost use Rattle.protocol_steps.specs.Knowledge.{IsKnowledge};
@@ -50,12 +50,14 @@ fn above(alloc: Global) -> Result<Place, Fail>
     })
 }
 
-/// The root, before its start.
-fn root(alloc: Global) -> Result<AdoptAgent, Fail>
-    ensures started { IfOk result (λ agent. agent.phase.started ≡ false) }
-    ensures near { IfOk result (λ agent. agent.own.neighbours ≡ 1 ∷ []) }
+/// The root, which has started.
+fn started(alloc: Global) -> Result<AdoptAgent, Fail>
+    ensures { IfOk result (λ agent. agent.own.neighbours ≡ 1 ∷ []) }
 {
-    Ok(AdoptAgent::new(alloc, known(alloc)?, above(alloc)?, 0)?)
+    let mut agent = AdoptAgent::new(alloc, known(alloc)?, above(alloc)?, 0)?;
+    let mut out = Outbox::from_vec(Vec::new(alloc));
+    agent.start(&mut out)?;
+    Ok(agent)
 }
 
 /// COST of the child for the root's value 0.
@@ -97,15 +99,8 @@ fn tell(
 #[test]
 fn the_root_ends_by_the_bounds_of_its_child(rt: HostRuntime) -> Result<(), Fail> {
     let alloc = rt.alloc();
-    let mut agent = root(alloc)?;
-    let mut out = Outbox::from_vec(Vec::new(alloc));
-    agent.start(&mut out)?;
-    assert!(rt; out.as_slice().len() == 2);
+    let mut agent = started(alloc)?;
     tell(&rt, alloc, &mut agent, cost(alloc, 3, 3)?)?;
     assert!(rt; agent.ended());
-    assert!(rt; agent.value() == Val(0));
-    assert!(rt; agent.standing().lower == 3);
-    assert!(rt; agent.table().is_none());
-    assert!(rt; agent.place().is_none());
     Ok(())
 }

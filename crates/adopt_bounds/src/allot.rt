@@ -8,7 +8,6 @@ ghost use Rattle.adopt_context.specs.Context.{Context};
 ghost use Rattle.adopt_bounds.specs.Rows.{entries_of};
 
 use crate::interval::lower_to;
-use dcop_base::CAP;
 
 /// Allots the goal to the row of so many entries that starts at `start` in these lists.
 pub(crate) fn allot_at(

@@ -1,7 +1,6 @@
 //! The bounds of an agent, for each own value and child.
 
 ghost use Rattle.std.specs.Prelude.{◌≡◌, ◌+◌, ◌*◌, ◌<◌, ◌≤◌, ◌==◌, true, length, replicate, None, IfOk, IfSome, OnErr, slice_set, if◌then◌else◌};
-ghost use Rattle.std.specs.List.{position};
 ghost use Rattle.dcop_base.specs.Limits.{amount_limit};
 ghost use Rattle.dcop_base.specs.Table.{has};
 ghost use Rattle.adopt_context.specs.Allot.{reset, allot};
@@ -15,7 +14,7 @@ use crate::forget::forget_rows;
 use crate::interval::Interval;
 use crate::totals::Totals;
 use adopt_context::AgentContext;
-use dcop_base::{CAP, NoMemory, Val, VarId, VarList};
+use dcop_base::{CAP, NoMemory, Val, VarId, VarList, position_of};
 use std::alloc::Global;
 use std::marker::Model;
 
@@ -231,11 +230,4 @@ fn index_of(children: &[VarId], d: Val, child: VarId) -> usize
 {
     let place = position_of(children, child).unwrap_or(0);
     usize::from(d.0) * children.len() + place
-}
-
-/// The place of a child among the children.
-fn position_of(children: &[VarId], child: VarId) -> Option<usize>
-    ensures { result ≡ position (λ one. one == child) children.now }
-{
-    children.iter().position(|one| *one == child)
 }

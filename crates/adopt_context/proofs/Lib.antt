@@ -1,3 +1,4 @@
 pub mod ContextLaws
 pub mod KnownLaws
 pub mod RowLaws
+pub mod SizeLaws

@@ -8,7 +8,9 @@
 
 mod context;
 mod pairs;
+mod sizes;
 #[cfg(test)]
 mod tests;
 
 pub use context::AgentContext;
+pub use sizes::size_beside;

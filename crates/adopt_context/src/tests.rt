@@ -1,33 +1,19 @@
-//! Each call with ample memory, on contexts of two variables.
+//! Each call that wants memory, with ample memory.
 
 use crate::AgentContext;
-use dcop_base::{Val, VarId, VarList};
-use std::alloc::Global;
+use dcop_base::{Val, VarId};
 use std::test::Fail;
 
-/// The context of one pair.
-fn of(alloc: Global, var: u32, value: u16) -> Result<AgentContext, Fail> {
-    let mut context = AgentContext::new(alloc);
-    context.set(VarId(var), Val(value))?;
-    Ok(context)
-}
-
 #[test]
-fn contexts_join_and_compare(rt: HostRuntime) -> Result<(), Fail> {
-    let alloc = rt.alloc();
-    let first = of(alloc, 0, 1)?;
-    let mut both = first.copy()?;
-    let second = of(alloc, 1, 2)?;
-    if both.compatible(&second) {
-        both.union(&second)?;
+fn contexts_are_copied_cut_and_joined(rt: HostRuntime) -> Result<(), Fail> {
+    let mut context = AgentContext::new(rt.alloc());
+    context.set(VarId(0), Val(1))?;
+    let copy = context.copy()?;
+    let mut rest = context.without(VarId(0))?;
+    if rest.compatible(&copy) {
+        rest.union(&copy)?;
     }
-    let vars = VarList::from_vec(vec![in alloc; VarId(0), VarId(1)]?);
-    assert_eq!(rt; both.get(VarId(0)), Some(Val(1)));
-    assert_eq!(rt; both.get(VarId(1)), Some(Val(2)));
-    assert_eq!(rt; both.get(VarId(2)), None);
-    assert_eq!(rt; first.compatible(&of(alloc, 0, 0)?), false);
-    assert_eq!(rt; first.part_of(&both), true);
-    assert_eq!(rt; both.names_all(&vars), true);
-    assert_eq!(rt; first.names_all(&vars), false);
+    assert!(rt; copy.part_of(&rest));
+    assert!(rt; rest.get(VarId(0)) == Some(Val(1)));
     Ok(())
 }

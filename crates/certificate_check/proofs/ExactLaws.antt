@@ -26,10 +26,12 @@ use Rattle.certificate_text.specs.declared.verdict.Differs.TheVariants.{Cost, Ro
 use Rattle.certificate_text.specs.declared.verdict.Verdict.{Verdict}
 use Rattle.certificate_text.specs.declared.verdict.Verdict.TheVariants.{Yes, No}
 use Rattle.certificate_text.specs.Fits.{FitsTables}
-use Rattle.certificate_check.specs.Goal.{solved, problem_solved, IsBestSum, IsAtMostWorse}
-use Rattle.certificate_check.specs.Told.{told, variables, parents_told, scopes_told, cells_told, root_told, root_cell}
+use Rattle.problem_solved.proofs.SolvedLaws.{solved_problem, solved_sizes}
+use Rattle.problem_solved.specs.Goal.{solved, problem_solved, IsBestSum, IsAtMostWorse}
+use Rattle.problem_solved.specs.Told.{told, variables, parents_told, scopes_told, cells_told}
+use Rattle.certificate_check.specs.Cells.{root_told, root_cell}
 use Rattle.certificate_check.specs.Differences.{first_of, scope_difference, cells_difference, unless_same, status_difference, bound_difference, number_difference, difference_in}
-use Rattle.certificate_check.specs.Holds.{HoldsTables}
+use Rattle.problem_solved.specs.Holds.{HoldsTables}
 use Rattle.certificate_check.specs.Verdicts.{IsTreeOf, IsTablesVerdict, IsTablesExact, ShowsBest}
 use Rattle.certificate_check.proofs.FirstLaws.{none_at, or_parts, or_none}
 use Rattle.certificate_check.proofs.FitLaws.{told_fits}
@@ -152,14 +154,6 @@ best_by Max p values error best problem is optimal h =
     let top = sum_to_top p problem other h.attained.1 in
     let here = sum_to_top p problem values is in
     omega (arith, below, top, here, h.attained.2)
-
-solved_problem : (goal : Goal) (p : Dcop) → IsProblem p → IsProblem (solved goal p)
-solved_problem Min p problem = problem
-solved_problem Max p problem = turned_problem p problem
-
-pub solved_sizes : (goal : Goal) (p : Dcop) → (solved goal p).sizes ≡ p.sizes
-solved_sizes Min p = refl
-solved_sizes Max p = refl
 
 pub best_of : (f : TextFile) (r : Report) (utils : List Util) → FitsTables (problem_solved f).sizes utils → IsProblem f.problem → IsAssignment f.problem r.values
     → (verdict : Verdict) → IsTablesVerdict f r utils verdict → ShowsBest f verdict

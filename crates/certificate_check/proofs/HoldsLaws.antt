@@ -19,29 +19,17 @@ use Rattle.certificate_text.specs.declared.certificate.Util.{Util}
 use Rattle.certificate_text.specs.declared.verdict.Differs.{Differs}
 use Rattle.certificate_text.specs.declared.verdict.Differs.TheVariants.{Cell}
 use Rattle.certificate_text.specs.Fits.{FitsTables}
-use Rattle.certificate_check.specs.Told.{told, variables, sized, scopes_told, cells_told}
-use Rattle.certificate_check.specs.Cells.{values_of_cell, values_at_cell, sum_below, children_told}
+use Rattle.problem_solved.specs.Told.{told, variables, sized, scopes_told, cells_told}
+use Rattle.problem_solved.specs.Cells.{values_of_cell}
+use Rattle.certificate_check.specs.Cells.{values_at_cell, sum_below, children_told}
 use Rattle.certificate_check.specs.Differences.{first_of, scope_difference, value_difference, cell_difference, table_difference, cells_difference}
 use Rattle.certificate_check.proofs.FirstLaws.{none_at, none_each}
 use Rattle.certificate_check.proofs.PartLaws.{child_below}
 use Rattle.certificate_check.proofs.CellLaws.{sizes_at}
-use Rattle.certificate_check.proofs.ValueLaws.{values_of_place, place_of_values}
+use Rattle.problem_solved.proofs.CellLaws.{values_of_place, place_of_values}
+use Rattle.problem_solved.proofs.TellingLaws.{map_same, table_is}
 use Rattle.certificate_check.proofs.FitLaws.{told_fits, told_var}
 use Rattle.certificate_check.proofs.RootLaws.{scope_same, same_scope}
-
--- lists by the same function of each variable are the same
-map_from : {X : Type 0} (f g : ℕ → X) (s n : ℕ) → ((i : ℕ) → i < n → f (s + i) ≡ g (s + i)) → map f (range_with_len s n) ≡ map g (range_with_len s n)
-map_from f g s zero same = refl
-map_from {X} f g s (suc n) same =
-    let here : f s ≡ g s = ap f (let e : s ≡ s + 0 = omega arith in e) ∙ same 0 (omega arith) ∙ ap g (let e : s + 0 ≡ s = omega arith in e) in
-    ap (λ (x : X). x ∷ map f (range_with_len (s + 1) n)) here
-    ∙ ap (λ (xs : List X). g s ∷ xs)
-    (map_from f g (s + 1) n (λ i lt.
-    let e : s + 1 + i ≡ s + suc i = omega arith in
-    ap f e ∙ same (suc i) (omega arith) ∙ ap g (sym e)))
-
-pub map_same : {X : Type 0} (f g : ℕ → X) (n : ℕ) → ((i : ℕ) → i < n → f i ≡ g i) → map f (range_with_len 0 n) ≡ map g (range_with_len 0 n)
-map_same f g n same = map_from f g 0 n (λ i lt. let e : 0 + i ≡ i = omega arith in ap f e ∙ same i lt ∙ ap g (sym e))
 
 -- a test that tells nothing, and back
 pub not_over : (right left : ℕ) (x : Differs) → cond (ltb right left) (Some x) None ≡ None → left ≤ right
@@ -59,14 +47,6 @@ sum_map f g (x ∷ xs) =
     omega (arith, rest, sum_by-cons f (g x) (map g xs), sum_by-cons (λ y. f (g y)) x xs)
 
 module _ (p : Dcop) (paths : List (List ℕ)) (utils : List Util) (pseudo : IsPseudotree p paths) (fits : FitsTables p.sizes utils) where
-  -- the table of a variable that the lists have is what is told of it
-  pub table_is : (i : ℕ) → i < length p.sizes → util_of p (scopes_told p utils) (cells_told p utils) i ≡ sized p.sizes (told utils i)
-  table_is i lt =
-      let scope : get_or (scopes_told p utils) i [] ≡ (told utils i).scope = get_or-map-range_with_len (λ v. (told utils v).scope) 0 (length p.sizes) i i [] lt (omega arith) in
-      let cells : get_or (cells_told p utils) i [] ≡ (told utils i).cells = get_or-map-range_with_len (λ v. (told utils v).cells) 0 (length p.sizes) i i [] lt (omega arith) in
-      ap (λ (s : List ℕ). record { scope = s; sizes = sizes_of p s; cells = get_or (cells_told p utils) i [] }) scope
-      ∙ ap (λ (xs : List ℕ). record { scope = (told utils i).scope; sizes = sizes_of p (told utils i).scope; cells = xs }) cells
-
   -- what a cell may not exceed, as a certificate says it and as it is compared
   pub bound_is : (i : ℕ) → i < length p.sizes → (value : ℕ → ℕ)
       → sum_below p.sizes (tables_on_path p paths i) (children_told paths utils i) value
@@ -77,7 +57,7 @@ module _ (p : Dcop) (paths : List (List ℕ)) (utils : List Util) (pseudo : IsPs
       let count = pseudo.sized in
       let c : ℕ = get_or (children_of paths i) k d in
       let below = child_below paths i k c l (get_or_default (children_of paths i) k d c l) in
-      ap (λ (t : CostTable). cell_with t value) (sym (table_is c (omega arith)))) in
+      ap (λ (t : CostTable). cell_with t value) (sym (table_is p utils c (omega arith)))) in
       omega (arith, children, same)
 
   -- no cell of a table is too great
@@ -98,7 +78,7 @@ module _ (p : Dcop) (paths : List (List ℕ)) (utils : List Util) (pseudo : IsPs
   -- where no cell differs, none is too great
   pub lower_cells : first_of (cells_difference p paths utils) (variables p) ≡ None → (i : ℕ) → i < length p.sizes → AreLowerCells p paths (scopes_told p utils) (cells_told p utils) i
   lower_cells none i lt =
-      subst (Lower i) (sym (table_is i lt)) (λ values d within below.
+      subst (Lower i) (sym (table_is p utils i lt)) (λ values d within below.
       let u : Util = told utils i in
       let own : List CostTable = tables_on_path p paths i in
       let children : List Util = children_told paths utils i in
@@ -123,7 +103,7 @@ module _ (p : Dcop) (paths : List (List ℕ)) (utils : List Util) (pseudo : IsPs
       let children : List Util = children_told paths utils i in
       let ss : List ℕ = sizes_at p.sizes u.scope in
       let full = (told_fits p.sizes utils i fits lt).many in
-      let all : Lower i (sized p.sizes u) = subst (Lower i) (table_is i lt) (lower i lt) in
+      let all : Lower i (sized p.sizes u) = subst (Lower i) (table_is p utils i lt) (lower i lt) in
       none_each (cell_difference p.sizes own children u) (length u.cells) (λ k inside.
       none_each (value_difference p.sizes own children u k) (get_or p.sizes u.var 0) (λ d size.
       let at = place_of_values ss k (omega (arith, inside, full)) in

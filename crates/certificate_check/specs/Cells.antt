@@ -1,17 +1,14 @@
 -- The cells of a certificate's tables, and what each is compared with.
-use Rattle.std.specs.Prelude.{ℕ, ◌+◌, ◌/◌, ◌%◌, List, [], ◌∷◌, map}
-use Rattle.std.specs.List.{sum_by}
-use Rattle.dcop_base.specs.Table.{CostTable, product}
+use Rattle.std.specs.Prelude.{ℕ, ◌+◌, List, map, is_none, slice_index}
+use Rattle.std.specs.List.{sum_by, position_or_len}
+use Rattle.dcop_base.specs.Table.{CostTable}
+use Rattle.dcop_base.specs.Problem.{Dcop}
 use Rattle.dcop_base.specs.Values.{cell_with, cost_with, with_own}
 use Rattle.pseudotree.specs.Tree.{children_of}
 use Rattle.dcop_optimum.specs.Certificate.{value_by}
 use Rattle.certificate_text.specs.declared.certificate.Util.{Util}
-use Rattle.certificate_check.specs.Told.{told, sized}
-
--- the values at which cell k of a table of these sizes stands, of which the last moves fastest
-abbrev pub values_of_cell : List ℕ → ℕ → List ℕ
-values_of_cell [] k = []
-values_of_cell (s ∷ ss) k = k / product ss ∷ values_of_cell ss (k % product ss)
+use Rattle.problem_solved.specs.Told.{told, sized, parents_told}
+use Rattle.problem_solved.specs.Cells.{values_of_cell}
 
 -- the values that cell k of a table gives to the variables of its scope, and d for the table's own variable
 abbrev pub values_at_cell : List ℕ → Util → ℕ → ℕ → ℕ → ℕ
@@ -24,3 +21,11 @@ sum_below sizes own children value = cost_with own value + sum_by (λ u. cell_wi
 -- the tables of the children of a variable
 abbrev pub children_told : List (List ℕ) → List Util → ℕ → List Util
 children_told paths utils i = map (told utils) (children_of paths i)
+
+-- the lowest variable without a parent
+abbrev pub root_told : Dcop → List Util → ℕ
+root_told p utils = position_or_len is_none (parents_told p utils)
+
+-- the first cell of that variable's table
+abbrev pub root_cell : Dcop → List Util → ℕ
+root_cell p utils = slice_index (told utils (root_told p utils)).cells 0

@@ -16,9 +16,9 @@ use Rattle.certificate_text.specs.declared.report.Ending.{Ending}
 use Rattle.certificate_text.specs.declared.report.Ending.TheVariants.{Solved, Spent}
 use Rattle.certificate_text.specs.declared.verdict.Differs.{Differs}
 use Rattle.certificate_text.specs.declared.verdict.Differs.TheVariants.{TreeRoots, TreeLoop, TreePair, Scope, Cell, Cost, Root, Lower, Upper, Error, Deliveries, Status}
-use Rattle.certificate_check.specs.Goal.{problem_solved}
-use Rattle.certificate_check.specs.Told.{told, variables, root_cell}
-use Rattle.certificate_check.specs.Cells.{sum_below, values_at_cell, children_told}
+use Rattle.problem_solved.specs.Goal.{problem_solved}
+use Rattle.problem_solved.specs.Told.{told, variables}
+use Rattle.certificate_check.specs.Cells.{sum_below, values_at_cell, children_told, root_cell}
 
 -- the parents form no pseudotree of the problem, and this is the first reason
 abbrev pub IsTreeDifference : Dcop → List (Option ℕ) → Differs → Type 0

@@ -6,7 +6,7 @@ use Rattle.dcop_base.specs.Problem.{Dcop}
 use Rattle.dcop_base.specs.Whole.{IsTableOf}
 use Rattle.certificate_text.specs.declared.certificate.Util.{Util}
 use Rattle.certificate_text.specs.Fits.{FitsUtil}
-use Rattle.certificate_check.specs.Told.{told}
+use Rattle.problem_solved.specs.Told.{told}
 
 -- the number of the cell at which an assignment stands in a table of this scope
 abbrev pub place_of : List ℕ → List ℕ → List ℕ → ℕ

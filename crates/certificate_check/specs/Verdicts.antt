@@ -1,9 +1,11 @@
 -- What comes of checking a report: that it holds, or the first difference.
-use Rattle.std.specs.Prelude.{◌≡◌, ℕ, ◌⊎◌, List, Option, Some, None, IfSome}
+use Rattle.std.specs.Prelude.{◌≡◌, ℕ, ◌-◌, ◌⊎◌, List, Option, Some, None, IfSome}
 use Rattle.dcop_base.specs.Problem.{Dcop}
 use Rattle.pseudotree.specs.Pseudotree.{IsPseudotree}
 use Rattle.pseudotree.specs.Fault.{parents_of}
 use Rattle.problem_text.specs.File.{TextFile}
+use Rattle.problem_text.specs.declared.file.Goal.{Goal}
+use Rattle.problem_text.specs.declared.file.Goal.TheVariants.{Min, Max}
 use Rattle.certificate_text.specs.declared.certificate.Certificate.{Certificate}
 use Rattle.certificate_text.specs.declared.certificate.Certificate.TheVariants.{Tables}
 use Rattle.certificate_text.specs.declared.certificate.Util.{Util}
@@ -11,10 +13,15 @@ use Rattle.certificate_text.specs.declared.report.Report.{Report}
 use Rattle.certificate_text.specs.declared.verdict.Differs.{Differs}
 use Rattle.certificate_text.specs.declared.verdict.Verdict.{Verdict}
 use Rattle.certificate_text.specs.declared.verdict.Verdict.TheVariants.{Yes, No}
-use Rattle.certificate_check.specs.Goal.{problem_solved, IsBestSum, IsAtMostWorse, gap_of}
-use Rattle.certificate_check.specs.Told.{parents_told}
+use Rattle.problem_solved.specs.Goal.{problem_solved, IsBestSum, IsAtMostWorse}
+use Rattle.problem_solved.specs.Told.{parents_told}
 use Rattle.certificate_check.specs.Differences.{IsTreeDifference, difference_in}
-use Rattle.certificate_check.specs.Holds.{HoldsTables}
+use Rattle.problem_solved.specs.Holds.{HoldsTables}
+
+-- the gap of a report: its cost less its lower bound, or for goal max its upper bound less its cost
+abbrev pub gap_of : Goal → Report → ℕ
+gap_of Min report = report.cost - report.lower
+gap_of Max report = report.upper - report.cost
 
 -- the parents are those of this pseudotree of the problem
 pub record IsTreeOf (p : Dcop) (parents : List (Option ℕ)) (paths : List (List ℕ)) : Type 0 where

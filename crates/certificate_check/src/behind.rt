@@ -6,8 +6,9 @@ ghost use Rattle.dcop_base.specs.Problem.{IsAssignment};
 ghost use Rattle.pseudotree.specs.Pseudotree.{IsPseudotreeOf};
 ghost use Rattle.pseudotree.specs.Fault.{parents_of};
 ghost use Rattle.certificate_text.specs.Fits.{FitsTables};
-ghost use Rattle.certificate_check.specs.Goal.{solved};
-ghost use Rattle.certificate_check.specs.Told.{parents_told, root_cell};
+ghost use Rattle.problem_solved.specs.Goal.{solved};
+ghost use Rattle.problem_solved.specs.Told.{parents_told};
+ghost use Rattle.certificate_check.specs.Cells.{root_cell};
 ghost use Rattle.certificate_check.specs.Differences.{difference_in};
 
 use crate::cells::cells_difference;
@@ -15,7 +16,7 @@ use crate::numbers::number_difference;
 use crate::scopes::scopes_difference;
 use crate::told::util_of;
 use certificate_text::{Differs, Report, Util};
-use dcop_base::{NoMemory, Problem, VarId};
+use dcop_base::{NoMemory, Problem, VarId, problem_is_whole};
 use problem_text::ProblemFile;
 use pseudotree::Tree;
 use std::alloc::Global;
@@ -60,8 +61,7 @@ fn root_cell(problem: &Problem, parents: &[Option<VarId>], utils: &[Util]) -> u6
     requires fits { FitsTables problem.now.sizes utils.now }
     ensures { result ≡ root_cell problem.now utils.now }
 {
-    // One that is read is known to be within its limits.
-    let _ = problem.sizes.as_slice();
+    problem_is_whole(problem);
     let root = VarId(root_of(parents) as u32);
     util_of(utils, root).cells.as_slice()[0]
 }

@@ -3,16 +3,16 @@
 ghost use Rattle.std.specs.Prelude.{◌≡◌, IfOk, IsSome, Some};
 ghost use Rattle.dcop_base.specs.Problem.{IsAssignment};
 ghost use Rattle.certificate_text.specs.Fits.{Fits, FitsTables};
-ghost use Rattle.certificate_check.specs.Goal.{solved, gap_of};
+ghost use Rattle.problem_solved.specs.Goal.{solved};
 ghost use Rattle.certificate_check.specs.Verdicts.{IsVerdict, IsTablesVerdict, IsExact};
-ghost use Rattle.certificate_check.specs.Verdicts.{IsTablesExact, ShowsBest, verdict_by};
+ghost use Rattle.certificate_check.specs.Verdicts.{IsTablesExact, ShowsBest, gap_of, verdict_by};
 
 use crate::behind::difference_in;
-use crate::told::{parents_of, stay_within_limits};
+use crate::told::parents_of;
 use crate::tree::tree_verdict;
 use certificate_text::{Certificate, Differs, Report, Util, Verdict};
-use dcop_base::{NoMemory, Problem};
-use dcop_optimum::turn;
+use dcop_base::{NoMemory, Problem, problem_is_whole};
+use problem_solved::ProblemSolved;
 use problem_text::{Goal, ProblemFile};
 use pseudotree::check_tree;
 use std::alloc::Global;
@@ -57,7 +57,7 @@ fn check_tables(
     ensures exact { IfOk result (IsTablesExact file.now report.now utils.now) }
     ensures best { IfOk result (ShowsBest file.now) }
 {
-    stay_within_limits(&file.problem);
+    problem_is_whole(&file.problem);
     check_goal(alloc, file, report, utils)
 }
 
@@ -72,10 +72,8 @@ fn check_goal(
     requires fits { FitsTables file.now.problem.sizes utils.now }
     ensures { IfOk result (IsTablesVerdict file.now report.now utils.now) }
 {
-    match file.goal {
-        Goal::Min => check_in(alloc, file, &file.problem, report, utils),
-        Goal::Max => check_in(alloc, file, &turn(alloc, &file.problem)?, report, utils),
-    }
+    let solved = ProblemSolved::of(alloc, file)?;
+    check_in(alloc, file, solved.problem(), report, utils)
 }
 
 /// What comes of these tables in this problem, which is the one solved.

@@ -11,7 +11,7 @@ ghost use Rattle.certificate_check.specs.Cells.{children_told};
 
 use crate::told::util_of;
 use certificate_text::Util;
-use dcop_base::{NoMemory, Problem, Table, VarId};
+use dcop_base::{NoMemory, Problem, Table, VarId, stands_in};
 use pseudotree::Tree;
 use std::alloc::Global;
 
@@ -64,14 +64,7 @@ fn is_on_path(tree: &Tree, var: VarId, scope: &[VarId]) -> bool
     requires scope { All (λ v. v < length tree.now.paths) scope.now }
     ensures { result ≡ (has scope.now var && list_all (λ v. is_within tree.now.paths v var) scope.now) }
 {
-    names(scope, var) && are_all_over(tree, scope, var)
-}
-
-/// Whether a scope names a variable.
-fn names(scope: &[VarId], var: VarId) -> bool
-    ensures { result ≡ has scope.now var }
-{
-    scope.iter().any(|named| *named == var)
+    stands_in(scope, var) && are_all_over(tree, scope, var)
 }
 
 /// Whether each variable of a scope is this one or an ancestor of it.

@@ -3,9 +3,8 @@
 ghost use Rattle.std.specs.Prelude.{◌≡◌, ◌==◌, ◌≤◌, length, IfOk};
 ghost use Rattle.std.specs.List.{count_by};
 ghost use Rattle.dcop_base.specs.Limits.{variable_limit};
-ghost use Rattle.dcop_base.specs.Whole.{IsProblem};
 ghost use Rattle.certificate_text.specs.Fits.{FitsTables};
-ghost use Rattle.certificate_check.specs.Told.{told, parents_told};
+ghost use Rattle.problem_solved.specs.Told.{told, parents_told};
 
 use certificate_text::Util;
 use dcop_base::{MAX_VARIABLES, NoMemory, Problem, VarId};
@@ -17,13 +16,6 @@ pub(crate) fn variable_count(problem: &Problem) -> usize
     ensures few { result ≤ variable_limit }
 {
     problem.sizes.as_slice().len()
-}
-
-/// Every problem is within its limits. One that is read is known to be, so this does no more.
-pub(crate) fn stay_within_limits(problem: &Problem)
-    ensures { IsProblem problem.now }
-{
-    let _ = problem.sizes.as_slice();
 }
 
 /// The table of a variable.

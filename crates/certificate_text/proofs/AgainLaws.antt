@@ -1,5 +1,5 @@
 -- What is written of a report that fits its file is read as that report.
-use Rattle.std.proofs.Common.{◌≡◌, ℕ, ◌+◌, ◌^◌, ◌<◌, ◌≤◌, suc, true, false, List, [], ◌∷◌, ◌++◌, length, map, get_or, Option, Some, None, Ok, nat_eq, nat_lt, refl, sym, ap, ◌∙◌, subst, arith, append_assoc, length-append}
+use Rattle.std.proofs.Common.{◌≡◌, ℕ, ◌+◌, ◌^◌, ◌<◌, ◌≤◌, true, false, List, [], ◌∷◌, ◌++◌, length, map, get_or, Option, Some, None, Ok, nat_eq, refl, sym, ap, ◌∙◌, subst, arith, append_assoc, Result}
 use Rattle.std.specs.List.{list_all, All, AllZip, flat_map, count_by}
 use Rattle.std.specs.Prelude.{codes, IfSome, IsTrue, is_some, ◌⊎◌}
 use Rattle.std.proofs.Common.{inl, inr}
@@ -7,9 +7,7 @@ use Rattle.std.specs.Fmt.{decimal}
 use Rattle.std.proofs.lemmas.List.{append-nil}
 use Rattle.std.proofs.lemmas.List.Elements.{All-head, All-tail}
 use Rattle.std.proofs.lemmas.List.Folds.{list_all-append}
-use Rattle.std.proofs.lemmas.Slice.Zip.{AllZip-long}
-use Rattle.std.proofs.lemmas.Bool.Decides.{nat_tests}
-use Rattle.std.proofs.lemmas.Bool.{and_parts, lt-ltb, eq-eqb, false≢true}
+use Rattle.std.proofs.lemmas.Bool.{and_parts, eq-eqb, false≢true}
 use Rattle.dcop_base.specs.Whole.{IsProblem}
 use Rattle.problem_text.specs.declared.file.Goal.{Goal}
 use Rattle.problem_text.specs.declared.file.Goal.TheVariants.{Min, Max}
@@ -28,170 +26,84 @@ use Rattle.certificate_text.specs.declared.report.Ending.TheVariants.{Solved, Sp
 use Rattle.certificate_text.specs.declared.report.Method.{Method}
 use Rattle.certificate_text.specs.declared.report.Method.TheVariants.{Plain, Dpop, Adopt, Cut}
 use Rattle.certificate_text.specs.declared.report.Report.{Report}
-use Rattle.certificate_text.specs.declared.draft.Draft.{Draft}
-use Rattle.certificate_text.specs.declared.draft.Stage.TheVariants as stages
 use Rattle.certificate_text.specs.CertificateText.{parent_word, util_words, table_lines}
 use Rattle.certificate_text.specs.ReportText.{ending_word, method_word, head_lines, bound_lines, value_words, value_lines, report_lines, report_text}
-use Rattle.certificate_text.specs.ValueLine.{value_line}
 use Rattle.certificate_text.specs.UtilLine.{has_util, lacks_util}
-use Rattle.certificate_text.specs.ReportLines.{nothing_told, line_at}
-use Rattle.certificate_text.specs.ReportReading.{lines_read, report_told, report_read}
+use Rattle.certificate_text.specs.ReportLines.{Fault, Left, one_line}
+use Rattle.certificate_text.specs.ReportReading.{head_read, bounds_read, values_read, tables_read, certificate_read, lines_read, report_read}
+use Rattle.certificate_text.specs.declared.certificate_line.Form.TheVariants as forms
+use Rattle.certificate_text.specs.CertificateLine.{certificate_line}
 use Rattle.certificate_text.specs.Fits.{Fits, FitsUtil, FitsTables, FitsCertificate}
 use Rattle.certificate_text.proofs.LineAgainLaws.{status-again, method-again, number-again, value-again, util-again, fresh-before, has-one, range-all}
 
--- lines one after the other, each of which tells more, and what is told together
-abbrev Walks : TextFile → Draft → List (List (List ℕ)) → Draft → Type 0
-Walks f d [] last = d ≡ last
-Walks f d (ws ∷ later) last = (more : Draft) × (line_at d.stage f d ws ≡ Ok more) × Walks f more later last
+-- the lines with these words, the first of which has this number
+abbrev left_of : ℕ → ℕ → List (List (List ℕ)) → Left
+left_of over number wss = record { lines = plain_worded number wss; over = over }
 
--- some lines and further ones
-Walks-append : (f : TextFile) (d middle last : Draft) (xs ys : List (List (List ℕ))) → Walks f d xs middle → Walks f middle ys last → Walks f d (xs ++ ys) last
-Walks-append f d middle last [] ys first second = subst (λ (m : Draft). Walks f m ys last) (sym first) second
-Walks-append f d middle last (x ∷ xs) ys first second = (first.0, first.1, Walks-append f first.0 middle last xs ys first.2 second)
+-- lines with these words are read as this, whatever stands behind them
+abbrev Tells : {A : Type 0} → (Left → Result (A × Left) Fault) → List (List (List ℕ)) → A → Type 0
+Tells read wss x = (over number : ℕ) (later : List (List (List ℕ))) → (next : ℕ) × (read (left_of over number (wss ++ later)) ≡ Ok (x, left_of over next later))
 
--- lines that tell a whole report
-walk-read : (over number : ℕ) (f : TextFile) (d last : Draft) (wss : List (List (List ℕ))) → Walks f d wss last → last.stage ≡ stages.End → lines_read over f d (plain_worded number wss) ≡ Ok (report_told f.goal last)
-walk-read over number f d last [] walk ends = rw (walk, ends) refl
-walk-read over number f d last (ws ∷ wss) walk ends = rw walk.1 (walk-read over (number + 1) f walk.0 last wss walk.2 ends)
+-- the lines above the cost
+abbrev top_lines : Ending → Method → Goal → ℕ → ℕ → List (List (List ℕ))
+top_lines status method goal error deliveries =
+    ((codes "status" ∷ ending_word status ∷ []) ∷ (codes "method" ∷ method_word method ∷ []) ∷ goal_lines goal)
+    ++ ((codes "error" ∷ decimal error ∷ []) ∷ (codes "deliveries" ∷ decimal deliveries ∷ []) ∷ [])
 
--- the numbers of a report are at most amount_limit
-record IsSmall (e d c l u : ℕ) : Type 0 where
-  error : e ≤ 4611686018427387904
-  deliveries : d ≤ 4611686018427387904
-  cost : c ≤ 4611686018427387904
-  lower : l ≤ 4611686018427387904
-  upper : u ≤ 4611686018427387904
+head-again : (status : Ending) (method : Method) (goal : Goal) (error deliveries : ℕ) → error ≤ 4611686018427387904 → deliveries ≤ 4611686018427387904
+    → Tells (head_read goal) (top_lines status method goal error deliveries) (record { status = status; method = method; goal = goal; error = error; deliveries = deliveries })
+head-again status method Min error deliveries e d = λ over number later.
+    (number + 1 + 1 + 1 + 1, rw (status-again status, method-again method, number-again (codes "error") error e, number-again (codes "deliveries") deliveries d) refl)
+head-again status method Max error deliveries e d = λ over number later.
+    (number + 1 + 1 + 1 + 1 + 1, rw (status-again status, method-again method, number-again (codes "error") error e, number-again (codes "deliveries") deliveries d) refl)
 
--- what the lines above the values tell
-abbrev head_told : Ending → Method → ℕ → ℕ → ℕ → ℕ → ℕ → Draft
-head_told status method error deliveries cost lower upper = record { stage = stages.Values; status = status; method = method; error = error; deliveries = deliveries; cost = cost; lower = lower; upper = upper; values = []; utils = [] }
+-- the lines of the cost and the bounds
+abbrev cost_lines : ℕ → ℕ → ℕ → List (List (List ℕ))
+cost_lines cost lower upper = (codes "cost" ∷ decimal cost ∷ []) ∷ (codes "lower" ∷ decimal lower ∷ []) ∷ (codes "upper" ∷ decimal upper ∷ []) ∷ []
 
--- the five numbers
-abbrev number_lines : ℕ → ℕ → ℕ → ℕ → ℕ → List (List (List ℕ))
-number_lines error deliveries cost lower upper =
-    (codes "error" ∷ decimal error ∷ []) ∷ (codes "deliveries" ∷ decimal deliveries ∷ []) ∷ (codes "cost" ∷ decimal cost ∷ []) ∷ (codes "lower" ∷ decimal lower ∷ []) ∷ (codes "upper" ∷ decimal upper ∷ []) ∷ []
-
--- the status and the method
-abbrev method_told : Ending → Method → Draft
-method_told status method = record { stage = stages.Error; status = status; method = method; error = 0; deliveries = 0; cost = 0; lower = 0; upper = 0; values = []; utils = [] }
-
-walk-numbers : (f : TextFile) (status : Ending) (method : Method) (error deliveries cost lower upper : ℕ) → IsSmall error deliveries cost lower upper → Walks f (method_told status method) (number_lines error deliveries cost lower upper) (head_told status method error deliveries cost lower upper)
-walk-numbers f status method error deliveries cost lower upper small =
-    let a : Draft = record { stage = stages.Deliveries; status = status; method = method; error = error; deliveries = 0; cost = 0; lower = 0; upper = 0; values = []; utils = [] } in
-    let b : Draft = record { stage = stages.Cost; status = status; method = method; error = error; deliveries = deliveries; cost = 0; lower = 0; upper = 0; values = []; utils = [] } in
-    let c : Draft = record { stage = stages.Lower; status = status; method = method; error = error; deliveries = deliveries; cost = cost; lower = 0; upper = 0; values = []; utils = [] } in
-    let d : Draft = record { stage = stages.Upper; status = status; method = method; error = error; deliveries = deliveries; cost = cost; lower = lower; upper = 0; values = []; utils = [] } in (
-      a,
-      rw (number-again (codes "error") error small.error) refl,
-      (
-        b,
-        rw (number-again (codes "deliveries") deliveries small.deliveries) refl,
-        (
-          c,
-          rw (number-again (codes "cost") cost small.cost) refl,
-          (
-            d,
-            rw (number-again (codes "lower") lower small.lower) refl,
-            (head_told status method error deliveries cost lower upper, rw (number-again (codes "upper") upper small.upper) refl, refl),
-          ),
-        ),
-      ),
-    )
-
--- the lines above the numbers
-abbrev top_lines : Ending → Method → Goal → List (List (List ℕ))
-top_lines status method goal = (codes "status" ∷ ending_word status ∷ []) ∷ (codes "method" ∷ method_word method ∷ []) ∷ goal_lines goal
-
-walk-top : (f : TextFile) (status : Ending) (method : Method) (goal : Goal) → goal ≡ f.goal → Walks f nothing_told (top_lines status method goal) (method_told status method)
-walk-top f status method Min same =
-    let a : Draft = record nothing_told { stage = stages.Method; status = status } in
-    (a, rw (status-again status) refl, (method_told status method, rw (method-again method, ← same) refl, refl))
-walk-top f status method Max same =
-    let a : Draft = record nothing_told { stage = stages.Method; status = status } in
-    let b : Draft = record nothing_told { stage = stages.Goal; status = status; method = method } in
-    (a, rw (status-again status) refl, (b, rw (method-again method, ← same) refl, (method_told status method, refl, refl)))
-
-get-at : {X : Type 0} (before : List X) (x : X) (later : List X) (d : X) → get_or (before ++ (x ∷ later)) (length before) d ≡ x
-get-at [] x later d = refl
-get-at (y ∷ ys) x later d = get-at ys x later d
-
-at-place : {X : Type 0} (all before : List X) (x : X) (later : List X) (d : X) (k : ℕ) → all ≡ before ++ (x ∷ later) → k ≡ length before → get_or all k d ≡ x
-at-place all before x later d k e h = rw (e, h) (get-at before x later d)
-
--- one value's line
-value-tells : (f : TextFile) (d : Draft) (name : List ℕ) (labels : List (List ℕ)) (size value : ℕ) → d.stage ≡ stages.Values → nat_lt (length d.values) (length f.names) ≡ true → get_or f.names (length d.values) [] ≡ name → get_or f.labels (length d.values) [] ≡ labels → get_or f.problem.sizes (length d.values) 0 ≡ size → value_line name labels size (value_words name labels value) ≡ Ok value → line_at d.stage f d (value_words name labels value) ≡ Ok (record d { values = d.values ++ (value ∷ []) })
-value-tells f d name labels size value stage more is-name is-labels is-size again = rw (stage, more, is-name, is-labels, is-size, again) refl
-
--- where the values are: behind so many names, value names and sizes
-record IsBehind (f : TextFile) (k : ℕ) (ns : List (List ℕ)) (ls : List (List (List ℕ))) (ss : List ℕ) (pn : List (List ℕ)) (pl : List (List (List ℕ))) (ps : List ℕ) : Type 0 where
-  names : f.names ≡ pn ++ ns
-  labels : f.labels ≡ pl ++ ls
-  sizes : f.problem.sizes ≡ ps ++ ss
-  in-names : k ≡ length pn
-  in-labels : k ≡ length pl
-  in-sizes : k ≡ length ps
-
-push-one : {X : Type 0} (all before : List X) (x : X) (later : List X) → all ≡ before ++ (x ∷ later) → all ≡ (before ++ (x ∷ [])) ++ later
-push-one all before x later e = e ∙ sym (append_assoc before (x ∷ []) later)
-
-long-one : {X Y : Type 0} (xs : List X) (x : X) (ys : List Y) (y : Y) → length xs ≡ length ys → length (xs ++ (x ∷ [])) ≡ length (ys ++ (y ∷ []))
-long-one xs x ys y e = omega (arith, e, length-append xs (x ∷ []), length-append ys (y ∷ []))
+bounds-again : (cost lower upper : ℕ) → cost ≤ 4611686018427387904 → lower ≤ 4611686018427387904 → upper ≤ 4611686018427387904
+    → Tells bounds_read (cost_lines cost lower upper) (record { cost = cost; lower = lower; upper = upper })
+bounds-again cost lower upper c l u = λ over number later.
+    (number + 1 + 1 + 1, rw (number-again (codes "cost") cost c, number-again (codes "lower") lower l, number-again (codes "upper") upper u) refl)
 
 -- the values, each of its variable
-walk-values : (f : TextFile) (d : Draft) (names : List (List ℕ)) (labels : List (List (List ℕ))) (sizes values : List ℕ) (pn : List (List ℕ)) (pl : List (List (List ℕ))) (ps : List ℕ) → IsBehind f (length d.values) names labels sizes pn pl ps → d.stage ≡ stages.Values → length names ≡ length sizes → AllZip AreLabels sizes labels → AllZip (λ v s. v < s) values sizes → All (λ s. s ≤ 1024) sizes → Walks f d (value_lines names labels values) (record d { values = d.values ++ values })
-walk-values f d [] [] [] [] pn pl ps behind stage many fit below small = rw (append-nil d.values) refl
-walk-values f d [] [] [] (v ∷ vs) pn pl ps behind stage many fit below small = absurd below
-walk-values f d [] labels (s ∷ ss) values pn pl ps behind stage many fit below small = absurd (omega (arith, many))
-walk-values f d (n ∷ ns) labels [] values pn pl ps behind stage many fit below small = absurd (omega (arith, many))
-walk-values f d [] (l ∷ ls) [] values pn pl ps behind stage many fit below small = absurd fit
-walk-values f d (n ∷ ns) [] (s ∷ ss) values pn pl ps behind stage many fit below small = absurd fit
-walk-values f d (n ∷ ns) (l ∷ ls) (s ∷ ss) [] pn pl ps behind stage many fit below small = absurd below
-walk-values f d (n ∷ ns) (l ∷ ls) (s ∷ ss) (v ∷ vs) pn pl ps behind stage many fit below small =
-    let k = length d.values in
-    let names : f.names ≡ pn ++ (n ∷ ns) = behind.names in
-    let there : k ≡ length pn = behind.in-names in
-    let long : length f.names ≡ length pn + suc (length ns) = ap length names ∙ length-append pn (n ∷ ns) in
-    let within : k < length f.names = omega (arith, long, there) in
-    let next : Draft = record d { values = d.values ++ (v ∷ []) } in
+values-again : (names : List (List ℕ)) (labels : List (List (List ℕ))) (sizes values : List ℕ) → length names ≡ length sizes → AllZip AreLabels sizes labels → AllZip (λ v s. v < s) values sizes → All (λ s. s ≤ 1024) sizes
+    → Tells (values_read names labels sizes) (value_lines names labels values) values
+values-again [] [] [] [] many fit below small = λ over number later. (number, refl)
+values-again [] [] [] (v ∷ vs) many fit below small = absurd below
+values-again [] labels (s ∷ ss) values many fit below small = absurd (omega (arith, many))
+values-again (n ∷ ns) labels [] values many fit below small = absurd (omega (arith, many))
+values-again [] (l ∷ ls) [] values many fit below small = absurd fit
+values-again (n ∷ ns) [] (s ∷ ss) values many fit below small = absurd fit
+values-again (n ∷ ns) (l ∷ ls) (s ∷ ss) [] many fit below small = absurd below
+values-again (n ∷ ns) (l ∷ ls) (s ∷ ss) (v ∷ vs) many fit below small = λ over number later.
     let again = value-again n l s v fit.0 below.0 (All-head (λ s. s ≤ 1024) s ss small) in
-    let tells = value-tells f d n l s v stage (lt-ltb k (length f.names) within) (at-place f.names pn n ns [] k behind.names behind.in-names) (at-place f.labels pl l ls [] k behind.labels behind.in-labels) (at-place f.problem.sizes ps s ss 0 k behind.sizes behind.in-sizes) again in
-    let later : IsBehind f (length next.values) ns ls ss (pn ++ (n ∷ [])) (pl ++ (l ∷ [])) (ps ++ (s ∷ [])) = record {
-      names = push-one f.names pn n ns behind.names;
-      labels = push-one f.labels pl l ls behind.labels;
-      sizes = push-one f.problem.sizes ps s ss behind.sizes;
-      in-names = long-one d.values v pn n behind.in-names;
-      in-labels = long-one d.values v pl l behind.in-labels;
-      in-sizes = long-one d.values v ps s behind.in-sizes;
-    } in
-    let rest = walk-values f next ns ls ss vs (pn ++ (n ∷ [])) (pl ++ (l ∷ [])) (ps ++ (s ∷ [])) later stage (omega (arith, many)) fit.1 below.1 (All-tail (λ s. s ≤ 1024) s ss small) in
-    let together : record d { values = (d.values ++ (v ∷ [])) ++ vs } ≡ record d { values = d.values ++ (v ∷ vs) } = rw (append_assoc d.values (v ∷ []) vs) refl in
-    (next, tells, subst (λ (last : Draft). Walks f next (value_lines ns ls vs) last) together rest)
+    let rest = values-again ns ls ss vs (omega (arith, many)) fit.1 below.1 (All-tail (λ s. s ≤ 1024) s ss small) over (number + 1) later in
+    (rest.0, rw (again, rest.1) refl)
 
--- the certificate's first line
-certificate-tells : (f : TextFile) (d : Draft) → d.stage ≡ stages.Values → d.method ≡ Dpop → length d.values ≡ length f.names → line_at d.stage f d (codes "certificate" ∷ codes "tables" ∷ []) ≡ Ok (record d { stage = stages.Utils })
-certificate-tells f d stage method many =
-    let over : nat_lt (length d.values) (length f.names) ≡ false = grind (arith, nat_tests, many) in
-    rw (stage, over, method) refl
-
--- one table's line
-util-tells : (f : TextFile) (d : Draft) (u : Util) → IsFile f → d.stage ≡ stages.Utils → FitsUtil f.problem.sizes u → has_util d.utils u.var ≡ false → line_at d.stage f d (util_words f.names u) ≡ Ok (record d { utils = d.utils ++ (u ∷ []) })
-util-tells f d u file stage fit fresh = rw (stage, util-again f.names f.problem.sizes d.utils u file.distinct file.names file.named fit fresh) refl
-
--- the tables, behind others, where each variable has one of all
-walk-utils : (f : TextFile) (d : Draft) (utils : List Util) → IsFile f → d.stage ≡ stages.Utils → All (FitsUtil f.problem.sizes) utils → ((var : ℕ) → var < length f.problem.sizes → count_by (λ u. nat_eq u.var var) (d.utils ++ utils) ≡ 1) → Walks f d (map (util_words f.names) utils) (record d { utils = d.utils ++ utils })
-walk-utils f d [] file stage each one = rw (append-nil d.utils) refl
-walk-utils f d (u ∷ us) file stage each one =
+-- the tables, behind others, where each variable has one of all, and the line `end`
+utils-again : (f : TextFile) (done utils : List Util) (over number : ℕ) → IsFile f → All (FitsUtil f.problem.sizes) utils → ((var : ℕ) → var < length f.problem.sizes → count_by (λ u. nat_eq u.var var) (done ++ utils) ≡ 1)
+    → lacks_util (done ++ utils) (length f.names) ≡ false
+    → tables_read f.names f.problem.sizes over done (plain_worded number (map (util_words f.names) utils ++ ((codes "end" ∷ []) ∷ []))) ≡ Ok (done ++ utils, record { lines = []; over = over })
+utils-again f done [] over number file each one whole =
+    let all : lacks_util done (length f.names) ≡ false = subst (λ (us : List Util). lacks_util us (length f.names) ≡ false) (append-nil done) whole in
+    rw (append-nil done, all) refl
+utils-again f done (u ∷ us) over number file each one whole =
     let fit = All-head (FitsUtil f.problem.sizes) u us each in
-    let next : Draft = record d { utils = d.utils ++ (u ∷ []) } in
-    let fresh = fresh-before u.var d.utils u us (eq-eqb u.var u.var refl) (one u.var fit.named.own) in
-    let later = λ (var : ℕ) (h : var < length f.problem.sizes). ap (λ (us : List Util). count_by (λ u. nat_eq u.var var) us) (append_assoc d.utils (u ∷ []) us) ∙ one var h in
-    let rest = walk-utils f next us file stage (All-tail (FitsUtil f.problem.sizes) u us each) later in
-    let together : record d { utils = (d.utils ++ (u ∷ [])) ++ us } ≡ record d { utils = d.utils ++ (u ∷ us) } = rw (append_assoc d.utils (u ∷ []) us) refl in
-    (next, util-tells f d u file stage fit fresh, subst (λ (last : Draft). Walks f next (map (util_words f.names) us) last) together rest)
+    let fresh = fresh-before u.var done u us (eq-eqb u.var u.var refl) (one u.var fit.named.own) in
+    let again = util-again f.names f.problem.sizes done u file.distinct file.names file.named fit fresh in
+    let same : (done ++ (u ∷ [])) ++ us ≡ done ++ (u ∷ us) = append_assoc done (u ∷ []) us in
+    let later = λ (var : ℕ) (h : var < length f.problem.sizes). ap (λ (us : List Util). count_by (λ u. nat_eq u.var var) us) same ∙ one var h in
+    let rest = utils-again f (done ++ (u ∷ [])) us over (number + 1) file (All-tail (FitsUtil f.problem.sizes) u us each) later (ap (λ (us : List Util). lacks_util us (length f.names)) same ∙ whole) in
+    rw again (subst (λ (all : List Util). tables_read f.names f.problem.sizes over (done ++ (u ∷ [])) (plain_worded (number + 1) (map (util_words f.names) us ++ ((codes "end" ∷ []) ∷ []))) ≡ Ok (all, record { lines = []; over = over })) same rest)
 
--- the line `end`
-end-tells : (f : TextFile) (d : Draft) → d.stage ≡ stages.Utils → lacks_util d.utils (length f.names) ≡ false → line_at d.stage f d (codes "end" ∷ []) ≡ Ok (record d { stage = stages.End })
-end-tells f d stage whole = rw (stage, whole) refl
+-- the certificate's first line, and its tables
+evidence-again : (f : TextFile) (method : Method) (utils : List Util) (over number : ℕ) (later : List (List (List ℕ))) (left : Left) → method ≡ Dpop
+    → tables_read f.names f.problem.sizes over [] (plain_worded (number + 1) later) ≡ Ok (utils, left)
+    → certificate_read f method (left_of over number ((codes "certificate" ∷ codes "tables" ∷ []) ∷ later)) ≡ Ok (Tables utils, left)
+evidence-again f method utils over number later left is tables =
+    let first : one_line (certificate_line method) (left_of over number ((codes "certificate" ∷ codes "tables" ∷ []) ∷ later)) ≡ Ok (forms.Tables, left_of over (number + 1) later) = rw is refl in
+    rw (first, tables) refl
 
 -- lines of plain words
 status-plain : (status : Ending) → is_line (codes "status" ∷ ending_word status ∷ []) ≡ true
@@ -211,9 +123,12 @@ goal-plain Max = refl
 capped-word : (n : ℕ) → n ≤ 4611686018427387904 → is_word (decimal n) ≡ true
 capped-word n h = decimal-word n (omega (arith, h))
 
-numbers-plain : (error deliveries cost lower upper : ℕ) → IsSmall error deliveries cost lower upper → list_all is_line (number_lines error deliveries cost lower upper) ≡ true
-numbers-plain error deliveries cost lower upper small =
-    rw (capped-word error small.error, capped-word deliveries small.deliveries, capped-word cost small.cost, capped-word lower small.lower, capped-word upper small.upper) refl
+head-plain : (status : Ending) (method : Method) (goal : Goal) (error deliveries : ℕ) → error ≤ 4611686018427387904 → deliveries ≤ 4611686018427387904 → list_all is_line (top_lines status method goal error deliveries) ≡ true
+head-plain status method goal error deliveries e d =
+    rw (status-plain status, method-plain method, list_all-append is_line (goal_lines goal) ((codes "error" ∷ decimal error ∷ []) ∷ (codes "deliveries" ∷ decimal deliveries ∷ []) ∷ []), goal-plain goal, capped-word error e, capped-word deliveries d) refl
+
+bounds-plain : (cost lower upper : ℕ) → cost ≤ 4611686018427387904 → lower ≤ 4611686018427387904 → upper ≤ 4611686018427387904 → list_all is_line (cost_lines cost lower upper) ≡ true
+bounds-plain cost lower upper c l u = rw (capped-word cost c, capped-word lower l, capped-word upper u) refl
 
 value-plain : (name : List ℕ) (labels : List (List ℕ)) (size value : ℕ) → is_name name ≡ true → AreLabels size labels → value < size → size ≤ 1024 → is_line (value_words name labels value) ≡ true
 value-plain name [] size value named fit below small = rw (name-word name named, decimal-word value (omega (arith, below, small))) refl
@@ -250,83 +165,66 @@ utils-plain names sizes [] named many each = refl
 utils-plain names sizes (u ∷ us) named many each =
     rw (util-plain names sizes u named many (All-head (FitsUtil sizes) u us each), utils-plain names sizes us named many (All-tail (FitsUtil sizes) u us each)) refl
 
--- the lines above the values, as they are written in two pieces
-head-same : (status : Ending) (method : Method) (goal : Goal) (error deliveries cost lower upper : ℕ)
-    → (top_lines status method goal ++ ((codes "error" ∷ decimal error ∷ []) ∷ (codes "deliveries" ∷ decimal deliveries ∷ []) ∷ [])) ++ ((codes "cost" ∷ decimal cost ∷ []) ∷ (codes "lower" ∷ decimal lower ∷ []) ∷ (codes "upper" ∷ decimal upper ∷ []) ∷ [])
-    ≡ top_lines status method goal ++ number_lines error deliveries cost lower upper
-head-same status method goal error deliveries cost lower upper =
-    append_assoc (top_lines status method goal) ((codes "error" ∷ decimal error ∷ []) ∷ (codes "deliveries" ∷ decimal deliveries ∷ []) ∷ []) ((codes "cost" ∷ decimal cost ∷ []) ∷ (codes "lower" ∷ decimal lower ∷ []) ∷ (codes "upper" ∷ decimal upper ∷ []) ∷ [])
-
-walk-head : (r : Report) (f : TextFile) → IsSmall r.error r.deliveries r.cost r.lower r.upper → r.goal ≡ f.goal → Walks f nothing_told (head_lines r ++ bound_lines r) (head_told r.status r.method r.error r.deliveries r.cost r.lower r.upper)
-walk-head r f small goal =
-    let told = head_told r.status r.method r.error r.deliveries r.cost r.lower r.upper in
-    let walk = Walks-append f nothing_told (method_told r.status r.method) told (top_lines r.status r.method r.goal) (number_lines r.error r.deliveries r.cost r.lower r.upper) (walk-top f r.status r.method r.goal goal) (walk-numbers f r.status r.method r.error r.deliveries r.cost r.lower r.upper small) in
-    subst (λ (wss : List (List (List ℕ))). Walks f nothing_told wss told) (sym (head-same r.status r.method r.goal r.error r.deliveries r.cost r.lower r.upper)) walk
-
-head-plain : (r : Report) → IsSmall r.error r.deliveries r.cost r.lower r.upper → list_all is_line (head_lines r ++ bound_lines r) ≡ true
-head-plain r small =
-    ap (λ (wss : List (List (List ℕ))). list_all is_line wss) (head-same r.status r.method r.goal r.error r.deliveries r.cost r.lower r.upper)
-    ∙ rw (status-plain r.status, method-plain r.method, list_all-append is_line (goal_lines r.goal) (number_lines r.error r.deliveries r.cost r.lower r.upper), goal-plain r.goal, numbers-plain r.error r.deliveries r.cost r.lower r.upper small) refl
-
-small-numbers : (r : Report) (f : TextFile) → Fits r f → IsSmall r.error r.deliveries r.cost r.lower r.upper
-small-numbers r f fits = record { error = fits.error; deliveries = fits.deliveries; cost = fits.cost; lower = fits.lower; upper = fits.upper }
-
 -- each variable has its table
 whole-utils : (f : TextFile) (utils : List Util) → length f.names ≡ length f.problem.sizes → FitsTables f.problem.sizes utils → lacks_util utils (length f.names) ≡ false
 whole-utils f utils many fits =
     let all = range-all (λ var. has_util utils var) 0 (length f.names) (λ k lo hi. has-one k utils (fits.one k (omega (arith, many, hi)))) in
     rw all refl
 
--- what is told of a report with these tables, up to its line `end`
-abbrev all_told : Report → List Util → Draft
-all_told r utils = record { stage = stages.End; status = r.status; method = r.method; error = r.error; deliveries = r.deliveries; cost = r.cost; lower = r.lower; upper = r.upper; values = r.values; utils = utils }
-
--- the lines of a report with these tables
+-- the lines of a report with these tables, one part behind the other
 abbrev lines_with : Report → TextFile → List Util → List (List (List ℕ))
-lines_with r f utils = (((head_lines r ++ bound_lines r) ++ value_lines f.names f.labels r.values) ++ table_lines f.names utils) ++ ((codes "end" ∷ []) ∷ [])
+lines_with r f utils = head_lines r ++ (bound_lines r ++ (value_lines f.names f.labels r.values ++ (table_lines f.names utils ++ ((codes "end" ∷ []) ∷ []))))
 
-walk-report : (r : Report) (f : TextFile) (utils : List Util) → IsFile f → IsProblem f.problem → Fits r f → r.method ≡ Dpop → FitsTables f.problem.sizes utils → Walks f nothing_told (lines_with r f utils) (all_told r utils)
-walk-report r f utils file p fits method tables =
-    let headed = head_told r.status r.method r.error r.deliveries r.cost r.lower r.upper in
-    let valued : Draft = record headed { values = r.values } in
-    let certified : Draft = record valued { stage = stages.Utils } in
-    let full : Draft = record certified { utils = utils } in
-    let small = λ (k d : ℕ) (h : k < length f.problem.sizes). let s = p.sizes k d h in let b : get_or f.problem.sizes k d ≤ 1024 = s.1 in b in
-    let start : IsBehind f 0 f.names f.labels f.problem.sizes [] [] [] = record { names = refl; labels = refl; sizes = refl; in-names = refl; in-labels = refl; in-sizes = refl } in
-    let values : Walks f headed (value_lines f.names f.labels r.values) valued = walk-values f headed f.names f.labels f.problem.sizes r.values [] [] [] start refl file.named file.labels fits.values small in
-    let many : length r.values ≡ length f.names = sym (AllZip-long (λ v s. v < s) r.values f.problem.sizes fits.values) ∙ sym file.named in
-    let own : Walks f certified (map (util_words f.names) utils) full = walk-utils f certified utils file refl tables.each tables.one in
-    let certificate : Walks f valued (table_lines f.names utils) full = (certified, certificate-tells f valued refl method many, own) in
-    let ends = end-tells f full refl (whole-utils f utils file.named tables) in
-    let end : Walks f full ((codes "end" ∷ []) ∷ []) (all_told r utils) = (all_told r utils, ends, refl) in
-    let a = walk-head r f (small-numbers r f fits) fits.goal in
-    let b = Walks-append f nothing_told headed valued (head_lines r ++ bound_lines r) (value_lines f.names f.labels r.values) a values in
-    let c = Walks-append f nothing_told valued full ((head_lines r ++ bound_lines r) ++ value_lines f.names f.labels r.values) (table_lines f.names utils) b certificate in
-    Walks-append f nothing_told full (all_told r utils) (((head_lines r ++ bound_lines r) ++ value_lines f.names f.labels r.values) ++ table_lines f.names utils) ((codes "end" ∷ []) ∷ []) c end
+lines-with : (r : Report) (f : TextFile) (utils : List Util) → r.certificate ≡ Some (Tables utils) → report_lines r f ≡ lines_with r f utils
+lines-with r f utils certificate =
+    let head = head_lines r in
+    let bounds = bound_lines r in
+    let values = value_lines f.names f.labels r.values in
+    let tables = table_lines f.names utils in
+    let end : List (List (List ℕ)) = (codes "end" ∷ []) ∷ [] in
+    let same : report_lines r f ≡ (((head ++ bounds) ++ values) ++ tables) ++ end = rw certificate refl in
+    same ∙ append_assoc ((head ++ bounds) ++ values) tables end ∙ append_assoc (head ++ bounds) values (tables ++ end) ∙ append_assoc head bounds (values ++ (tables ++ end))
+
+-- the sizes of a problem are small
+small-sizes : (f : TextFile) → IsProblem f.problem → All (λ s. s ≤ 1024) f.problem.sizes
+small-sizes f p = λ (k d : ℕ) (h : k < length f.problem.sizes). let s = p.sizes k d h in let b : get_or f.problem.sizes k d ≤ 1024 = s.1 in b
+
+lines-again : (r : Report) (f : TextFile) (utils : List Util) (over : ℕ) → IsFile f → IsProblem f.problem → Fits r f → r.certificate ≡ Some (Tables utils) → r.method ≡ Dpop → FitsTables f.problem.sizes utils
+    → lines_read f (left_of over 1 (lines_with r f utils)) ≡ Ok r
+lines-again r f utils over file p fits certificate method tables =
+    let end : List (List (List ℕ)) = (codes "end" ∷ []) ∷ [] in
+    let rows = table_lines f.names utils ++ end in
+    let lines = value_lines f.names f.labels r.values ++ rows in
+    let head = head-again r.status r.method r.goal r.error r.deliveries fits.error fits.deliveries over 1 (bound_lines r ++ lines) in
+    let bounds = bounds-again r.cost r.lower r.upper fits.cost fits.lower fits.upper over head.0 lines in
+    let values = values-again f.names f.labels f.problem.sizes r.values file.named file.labels fits.values (small-sizes f p) over bounds.0 rows in
+    let utils_read = utils-again f [] utils over (values.0 + 1) file tables.each tables.one (whole-utils f utils file.named tables) in
+    let evidence = evidence-again f r.method utils over values.0 (map (util_words f.names) utils ++ end) (record { lines = []; over = over }) method utils_read in
+    rw (← fits.goal, head.1, bounds.1, values.1, evidence, ← certificate) refl
 
 plain-report : (r : Report) (f : TextFile) (utils : List Util) → IsFile f → IsProblem f.problem → Fits r f → FitsTables f.problem.sizes utils → list_all is_line (lines_with r f utils) ≡ true
 plain-report r f utils file p fits tables =
-    let small = λ (k d : ℕ) (h : k < length f.problem.sizes). let s = p.sizes k d h in let b : get_or f.problem.sizes k d ≤ 1024 = s.1 in b in
-    let head = head_lines r ++ bound_lines r in
+    let end : List (List (List ℕ)) = (codes "end" ∷ []) ∷ [] in
     let values = value_lines f.names f.labels r.values in
+    let rows = table_lines f.names utils in
     rw (
-      list_all-append is_line ((head ++ values) ++ table_lines f.names utils) ((codes "end" ∷ []) ∷ []),
-      list_all-append is_line (head ++ values) (table_lines f.names utils),
-      list_all-append is_line head values,
-      head-plain r (small-numbers r f fits),
-      values-plain f.names f.labels f.problem.sizes r.values file.names file.labels fits.values small,
+      list_all-append is_line (head_lines r) (bound_lines r ++ (values ++ (rows ++ end))),
+      list_all-append is_line (bound_lines r) (values ++ (rows ++ end)),
+      list_all-append is_line values (rows ++ end),
+      list_all-append is_line rows end,
+      head-plain r.status r.method r.goal r.error r.deliveries fits.error fits.deliveries,
+      bounds-plain r.cost r.lower r.upper fits.cost fits.lower fits.upper,
+      values-plain f.names f.labels f.problem.sizes r.values file.names file.labels fits.values (small-sizes f p),
       utils-plain f.names f.problem.sizes utils file.names file.named tables.each,
     ) refl
 
 -- a report with a certificate of tables
 pub tables-again : (r : Report) (f : TextFile) (utils : List Util) → IsFile f → IsProblem f.problem → Fits r f → r.certificate ≡ Some (Tables utils) → r.method ≡ Dpop → FitsTables f.problem.sizes utils → report_read (report_text r f) f ≡ Ok r
 tables-again r f utils file p fits certificate method tables =
-    let same : report_lines r f ≡ lines_with r f utils = rw certificate refl in
     let wss = lines_with r f utils in
-    let text : report_text r f ≡ flat_map line wss = ap (λ (wss : List (List (List ℕ))). flat_map line wss) same in
-    let whole : report_read (flat_map line wss) f ≡ Ok (report_told f.goal (all_told r utils)) = rw (plain-lines-of-words 1 wss (plain-report r f utils file p fits tables)) (walk-read _ 1 f nothing_told (all_told r utils) wss (walk-report r f utils file p fits method tables) refl) in
-    let told : report_told f.goal (all_told r utils) ≡ r = rw (← fits.goal, ← certificate) refl in
-    ap (λ (bytes : List ℕ). report_read bytes f) text ∙ whole ∙ ap (λ (r : Report). Ok r) told
+    let text : report_text r f ≡ flat_map line wss = ap (λ (wss : List (List (List ℕ))). flat_map line wss) (lines-with r f utils certificate) in
+    let read : report_read (flat_map line wss) f ≡ Ok r = rw (plain-lines-of-words 1 wss (plain-report r f utils file p fits tables)) (lines-again r f utils _ file p fits certificate method tables) in
+    ap (λ (bytes : List ℕ). report_read bytes f) text ∙ read
 
 certificate-again : (r : Report) (f : TextFile) (certificate : Option Certificate) → r.certificate ≡ certificate → IsTrue (is_some certificate) → IfSome certificate (FitsCertificate f.problem.sizes r.method) → IsFile f → IsProblem f.problem → Fits r f → report_read (report_text r f) f ≡ Ok r
 certificate-again r f None e some fit file p fits = absurd (false≢true some)

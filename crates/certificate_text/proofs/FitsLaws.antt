@@ -1,36 +1,121 @@
 -- A report that was read fits its file.
-use Rattle.std.proofs.Common.{◌≡◌, ℕ, ◌+◌, ◌<◌, ◌≤◌, zero, suc, Bool, true, false, not, cond, List, [], ◌∷◌, ◌++◌, length, get_or, Ok, Err, Result, nat_eq, nat_lt, ◌||◌, refl, sym, ap, ◌∙◌, subst, arith, length-append}
+use Rattle.std.proofs.Common.{◌≡◌, ℕ, ◌+◌, ◌<◌, ◌≤◌, zero, suc, Bool, true, false, not, cond, List, [], ◌∷◌, ◌++◌, length, Some, None, Option, Ok, Err, Result, nat_eq, ◌||◌, refl, sym, ap, subst, arith}
 use Rattle.std.specs.List.{list_all, All, AllZip, count_by, range_with_len}
 use Rattle.std.specs.Prelude.{codes, IfOk}
-use Rattle.std.proofs.lemmas.List.{get_or_append_left}
+use Rattle.std.specs.Str.{bytes_eq}
 use Rattle.std.proofs.lemmas.List.Elements.{All-append, All-cons}
 use Rattle.std.proofs.lemmas.List.Sums.{sum_by-cons}
 use Rattle.std.proofs.lemmas.Bool.Decides.{nat_tests}
-use Rattle.std.proofs.lemmas.Bool.{and_parts, or_parts, ltb-true, eqb-true, false≢true}
-use Rattle.std.proofs.lemmas.Slice.Zip.{AllZip-long}
+use Rattle.std.proofs.lemmas.Bool.{and_parts, or_parts, eqb-true, false≢true}
 use Rattle.problem_text.specs.declared.fault.ReportKind.{ReportKind}
 use Rattle.problem_text.specs.declared.fault.ReportKind.TheVariants.{BadLine}
 use Rattle.problem_text.specs.declared.fault.ReportFault.{ReportFault}
 use Rattle.problem_text.specs.declared.file.Goal.{Goal}
 use Rattle.problem_text.specs.declared.file.Goal.TheVariants.{Min, Max}
 use Rattle.problem_text.specs.File.{TextFile, IsFile, AreLabels}
-use Rattle.problem_text.specs.PlainLines.{Plain, plain_lines}
+use Rattle.problem_text.specs.PlainLines.{Plain}
+use Rattle.certificate_text.specs.declared.certificate.Certificate.{Certificate}
+use Rattle.certificate_text.specs.declared.certificate.Certificate.TheVariants.{Tables}
 use Rattle.certificate_text.specs.declared.certificate.Util.{Util}
+use Rattle.certificate_text.specs.declared.certificate_line.Form.{Form}
+use Rattle.certificate_text.specs.declared.certificate_line.Form.TheVariants as forms
+use Rattle.certificate_text.specs.declared.head.Head.{Head}
+use Rattle.certificate_text.specs.declared.head.Bounds.{Bounds}
+use Rattle.certificate_text.specs.declared.report.Method.{Method}
 use Rattle.certificate_text.specs.declared.report.Method.TheVariants.{Dpop}
 use Rattle.certificate_text.specs.declared.report.Report.{Report}
-use Rattle.certificate_text.specs.declared.draft.Draft.{Draft}
-use Rattle.certificate_text.specs.declared.draft.Stage.{Stage}
-use Rattle.certificate_text.specs.declared.draft.Stage.TheVariants as stages
-use Rattle.certificate_text.specs.Told.{then_tells, word_behind, is_alone}
-use Rattle.certificate_text.specs.HeadLines.{status_line, method_line, max_line, number_line}
+use Rattle.certificate_text.specs.Told.{word_behind, is_alone}
+use Rattle.certificate_text.specs.HeadLines.{status_line, method_line, max_told, max_line, number_line}
 use Rattle.certificate_text.specs.ValueLine.{value_line}
 use Rattle.certificate_text.specs.UtilLine.{has_util, lacks_util, util_line}
-use Rattle.certificate_text.specs.ReportLines.{nothing_told, behind_method, certificate_line, line_at}
-use Rattle.certificate_text.specs.ReportReading.{Fault, report_told, over_at, read_on, lines_read, report_read}
-use Rattle.certificate_text.specs.Fits.{FitsUtil}
+use Rattle.certificate_text.specs.CertificateLine.{certificate_line}
+use Rattle.certificate_text.specs.ReportLines.{Fault, Left, whole, told_at, first_of, one_line, and_then}
+use Rattle.certificate_text.specs.ReportReading.{goal_read, head_read, bounds_read, values_read, ended, tables_read, evidence_read, certificate_read, nothing_behind, report_of, report_read}
+use Rattle.certificate_text.specs.Fits.{FitsUtil, FitsTables, FitsCertificate}
 use Rattle.certificate_text.specs.Again.{ReadsReport, HasFit}
-use Rattle.certificate_text.proofs.ValueLineLaws.{labels-at}
-use Rattle.certificate_text.proofs.LineFitsLaws.{ok-same, tells-inv, told-cap, value-fits, certificate-fits, util-fits}
+use Rattle.certificate_text.proofs.LineFitsLaws.{ok-same, other-ok, told-cap, value-fits, certificate-fits, util-fits}
+
+-- what was read before what comes behind it
+and-inv : {A B : Type 0} (read : Result (A × Left) Fault) (next : A → Left → Result B Fault) (r : B) → and_then read next ≡ Ok r → (x : A) × (left : Left) × (read ≡ Ok (x, left)) × (next x left ≡ Ok r)
+and-inv (Ok p) next r e = (p.0, p.1, refl, e)
+and-inv (Err fault) next r e = absurd (cc e)
+
+pair-same : {A : Type 0} (x y : A) (s t : Left) → ◌≡◌ {A = Result (A × Left) Fault} (Ok (x, s)) (Ok (y, t)) → x ≡ y
+pair-same {A} x y s t e = ap (λ (p : A × Left). p.0) (ok-same (x, s) (y, t) e)
+
+told-inv : {A : Type 0} (number : ℕ) (t : Result A ReportKind) (left : Left) (x : A) (next : Left) → told_at number t left ≡ Ok (x, next) → t ≡ Ok x
+told-inv {A} number (Ok y) left x next e = ap (λ (x : A). Ok x) (pair-same y x left next e)
+told-inv number (Err kind) left x next e = absurd (cc e)
+
+first-inv : {A : Type 0} (form : List (List ℕ) → Result A ReportKind) (over : ℕ) (ls : List Plain) (x : A) (next : Left) → first_of form over ls ≡ Ok (x, next) → (ws : List (List ℕ)) × (form ws ≡ Ok x)
+first-inv form over [] x next e = absurd (cc e)
+first-inv form over (l ∷ ls) x next e = (l.words, told-inv l.number (form l.words) (record { lines = ls; over = over }) x next e)
+
+-- a line that was read
+line-inv : {A : Type 0} (form : List (List ℕ) → Result A ReportKind) (left : Left) (x : A) (next : Left) → one_line form left ≡ Ok (x, next) → (ws : List (List ℕ)) × (form ws ≡ Ok x)
+line-inv form left x next e = first-inv form left.over left.lines x next e
+
+number-cap : (key : List ℕ) (left : Left) (n : ℕ) (next : Left) → one_line (number_line key) left ≡ Ok (n, next) → n ≤ 4611686018427387904
+number-cap key left n next e = let t = line-inv (number_line key) left n next e in told-cap (word_behind key t.0) n t.1
+
+max-is : (o : Option (List ℕ)) (goal : Goal) → max_told o ≡ Ok goal → goal ≡ Max
+max-is None goal e = absurd (cc e)
+max-is (Some w) goal e = let t = other-ok (bytes_eq w (codes "max")) BadLine (Ok Max) goal e in sym (ok-same Max goal t.1)
+
+goal-is : (file_goal : Goal) (left : Left) (goal : Goal) (next : Left) → goal_read file_goal left ≡ Ok (goal, next) → goal ≡ file_goal
+goal-is Min left goal next e = sym (pair-same Min goal left next e)
+goal-is Max left goal next e = let t = line-inv max_line left goal next e in max-is (word_behind (codes "goal") t.0) goal t.1
+
+-- the lines above the cost
+record IsHead (file_goal : Goal) (head : Head) : Type 0 where
+  goal : head.goal ≡ file_goal
+  error : head.error ≤ 4611686018427387904
+  deliveries : head.deliveries ≤ 4611686018427387904
+
+head-fits : (file_goal : Goal) (left : Left) (head : Head) (next : Left) → head_read file_goal left ≡ Ok (head, next) → IsHead file_goal head
+head-fits file_goal left head next e =
+    let a = and-inv (one_line status_line left) _ (head, next) e in
+    let b = and-inv (one_line method_line a.1) _ (head, next) a.3 in
+    let c = and-inv (goal_read file_goal b.1) _ (head, next) b.3 in
+    let d = and-inv (one_line (number_line (codes "error")) c.1) _ (head, next) c.3 in
+    let f = and-inv (one_line (number_line (codes "deliveries")) d.1) _ (head, next) d.3 in
+    let made : Head = record { status = a.0; method = b.0; goal = c.0; error = d.0; deliveries = f.0 } in
+    subst (λ (head : Head). IsHead file_goal head) {x = made} (pair-same made head f.1 next f.3) (record {
+      goal = goal-is file_goal b.1 c.0 c.1 c.2;
+      error = number-cap (codes "error") c.1 d.0 d.1 d.2;
+      deliveries = number-cap (codes "deliveries") d.1 f.0 f.1 f.2;
+    })
+
+record AreSmall (bounds : Bounds) : Type 0 where
+  cost : bounds.cost ≤ 4611686018427387904
+  lower : bounds.lower ≤ 4611686018427387904
+  upper : bounds.upper ≤ 4611686018427387904
+
+bounds-fit : (left : Left) (bounds : Bounds) (next : Left) → bounds_read left ≡ Ok (bounds, next) → AreSmall bounds
+bounds-fit left bounds next e =
+    let a = and-inv (one_line (number_line (codes "cost")) left) _ (bounds, next) e in
+    let b = and-inv (one_line (number_line (codes "lower")) a.1) _ (bounds, next) a.3 in
+    let c = and-inv (one_line (number_line (codes "upper")) b.1) _ (bounds, next) b.3 in
+    let made : Bounds = record { cost = a.0; lower = b.0; upper = c.0 } in
+    subst (λ (bounds : Bounds). AreSmall bounds) {x = made} (pair-same made bounds c.1 next c.3) (record {
+      cost = number-cap (codes "cost") left a.0 a.1 a.2;
+      lower = number-cap (codes "lower") a.1 b.0 b.1 b.2;
+      upper = number-cap (codes "upper") b.1 c.0 c.1 c.2;
+    })
+
+values-fit : (names : List (List ℕ)) (labels : List (List (List ℕ))) (sizes : List ℕ) (left : Left) (values : List ℕ) (next : Left) → length names ≡ length sizes → AllZip AreLabels sizes labels
+    → values_read names labels sizes left ≡ Ok (values, next) → AllZip (λ v s. v < s) values sizes
+values-fit [] labels (s ∷ ss) left values next many fit e = absurd (omega (arith, many))
+values-fit (n ∷ ns) labels [] left values next many fit e = absurd (omega (arith, many))
+values-fit [] labels [] left values next many fit e = subst (λ (vs : List ℕ). AllZip (λ v s. v < s) vs []) (pair-same [] values left next e) tt
+values-fit (n ∷ ns) [] (s ∷ ss) left values next many fit e = absurd fit
+values-fit (n ∷ ns) (l ∷ ls) (s ∷ ss) left values next many fit e =
+    let a = and-inv (one_line (value_line n l s) left) _ (values, next) e in
+    let b = and-inv (values_read ns ls ss a.1) _ (values, next) a.3 in
+    let line = line-inv (value_line n l s) left a.0 a.1 a.2 in
+    let below = value-fits n l s line.0 a.0 fit.0 line.1 in
+    let rest = values-fit ns ls ss a.1 b.0 b.1 (omega (arith, many)) fit.1 b.2 in
+    subst (λ (vs : List ℕ). AllZip (λ v s. v < s) vs (s ∷ ss)) (pair-same (a.0 ∷ b.0) values b.1 next b.3) (below, rest)
 
 -- a variable without a table counts none
 count-none : (var : ℕ) (utils : List Util) → has_util utils var ≡ false → count_by (λ u. nat_eq u.var var) utils ≡ 0
@@ -83,217 +168,96 @@ range-inv p a (suc n) h k lo hi =
     let parts = and_parts (p a) (list_all p (range_with_len (a + 1) n)) h in
     range-step p a k (nat_eq k a) refl lo parts.0 (λ more. range-inv p (a + 1) n parts.1 k more (omega (arith, hi)))
 
-AllZip-from : (vs ss : List ℕ) → length vs ≡ length ss → ((k : ℕ) → k < length vs → get_or vs k 0 < get_or ss k 0) → AllZip (λ v s. v < s) vs ss
-AllZip-from [] [] many h = tt
-AllZip-from [] (s ∷ ss) many h = absurd (omega (arith, many))
-AllZip-from (v ∷ vs) [] many h = absurd (omega (arith, many))
-AllZip-from (v ∷ vs) (s ∷ ss) many h = (h 0 (omega arith), AllZip-from vs ss (omega (arith, many)) (λ k lt. h (suc k) (omega (arith, lt))))
+-- tables as their lines tell them, each of a variable that had none
+record AreTables (f : TextFile) (utils : List Util) : Type 0 where
+  each : All (FitsUtil f.problem.sizes) utils
+  once : (var : ℕ) → count_by (λ u. nat_eq u.var var) utils ≤ 1
 
-get-last : (vs : List ℕ) (v : ℕ) → get_or (vs ++ (v ∷ [])) (length vs) 0 ≡ v
-get-last [] v = refl
-get-last (x ∷ xs) v = get-last xs v
+tables-more : (f : TextFile) (utils : List Util) (u : Util) → AreTables f utils → FitsUtil f.problem.sizes u → has_util utils u.var ≡ false → AreTables f (utils ++ (u ∷ []))
+tables-more f utils u h fit fresh = record {
+  each = All-append (FitsUtil f.problem.sizes) utils (u ∷ []) h.each (All-cons (FitsUtil f.problem.sizes) u [] fit (λ k d h. absurd (omega arith)));
+  once = λ var. once-push var utils u (h.once var) fresh;
+}
 
-below-step : (ss vs : List ℕ) (v k : ℕ) (t : Bool) → nat_eq k (length vs) ≡ t → ((k : ℕ) → k < length vs → get_or vs k 0 < get_or ss k 0) → v < get_or ss (length vs) 0 → k < length vs + 1 → get_or (vs ++ (v ∷ [])) k 0 < get_or ss k 0
-below-step ss vs v k true is below here lt =
-    let same = eqb-true k (length vs) is in
-    rw (same, get-last vs v) here
-below-step ss vs v k false is below here lt =
-    let less : k < length vs = grind (arith, nat_tests, is, lt) in
-    let old : get_or vs k 0 < get_or ss k 0 = below k less in
-    subst (λ (x : ℕ). x < get_or ss k 0) (sym (get_or_append_left vs (v ∷ []) 0 k less)) old
+ended-fits : (f : TextFile) (t : Bool) (utils all : List Util) → lacks_util utils (length f.names) ≡ t → AreTables f utils → cond t (Err BadLine) (Ok utils) ≡ Ok all → AreTables f all × (lacks_util all (length f.names) ≡ false)
+ended-fits f true utils all is h e = absurd (cc e)
+ended-fits f false utils all is h e =
+    subst (λ (all : List Util). AreTables f all × (lacks_util all (length f.names) ≡ false)) (ok-same utils all e) (h, is)
 
--- numbers, values and tables as lines have told them so far
-record IsTold (f : TextFile) (e d c l u : ℕ) (vs : List ℕ) (us : List Util) : Type 0 where
-  error : e ≤ 4611686018427387904
-  deliveries : d ≤ 4611686018427387904
-  cost : c ≤ 4611686018427387904
-  lower : l ≤ 4611686018427387904
-  upper : u ≤ 4611686018427387904
-  room : length vs ≤ length f.names
-  below : (k : ℕ) → k < length vs → get_or vs k 0 < get_or f.problem.sizes k 0
-  each : All (FitsUtil f.problem.sizes) us
-  once : (var : ℕ) → count_by (λ u. nat_eq u.var var) us ≤ 1
+-- a line of a table, or the line `end`
+table-fits : (f : TextFile) (t : Bool) (number over : ℕ) (utils : List Util) (ws : List (List ℕ)) (ls : List Plain) (all : List Util) (next : Left) → IsFile f → AreTables f utils
+    → ((u : Util) → AreTables f (utils ++ (u ∷ [])) → tables_read f.names f.problem.sizes over (utils ++ (u ∷ [])) ls ≡ Ok (all, next) → AreTables f all × (lacks_util all (length f.names) ≡ false))
+    → cond t (told_at number (ended f.names utils) (record { lines = ls; over = over })) (and_then (told_at number (util_line f.names f.problem.sizes utils ws) (record { lines = ls; over = over })) (λ util left. tables_read f.names f.problem.sizes over (utils ++ (util ∷ [])) ls)) ≡ Ok (all, next)
+    → AreTables f all × (lacks_util all (length f.names) ≡ false)
+table-fits f true number over utils ws ls all next file h later e =
+    ended-fits f (lacks_util utils (length f.names)) utils all refl h (told-inv number (ended f.names utils) (record { lines = ls; over = over }) all next e)
+table-fits f false number over utils ws ls all next file h later e =
+    let a = and-inv (told_at number (util_line f.names f.problem.sizes utils ws) (record { lines = ls; over = over })) _ (all, next) e in
+    let line = told-inv number (util_line f.names f.problem.sizes utils ws) (record { lines = ls; over = over }) a.0 a.1 a.2 in
+    let fits = util-fits f.names f.problem.sizes utils ws a.0 file.named line in
+    later a.0 (tables-more f utils a.0 h fits.0 fits.1) a.3
 
-abbrev IsDraft : TextFile → Draft → Type 0
-IsDraft f d = IsTold f d.error d.deliveries d.cost d.lower d.upper d.values d.utils
+tables-fit : (f : TextFile) (over : ℕ) (utils : List Util) (ls : List Plain) (all : List Util) (next : Left) → IsFile f → AreTables f utils
+    → tables_read f.names f.problem.sizes over utils ls ≡ Ok (all, next) → AreTables f all × (lacks_util all (length f.names) ≡ false)
+tables-fit f over utils [] all next file h e = absurd (cc e)
+tables-fit f over utils (l ∷ ls) all next file h e =
+    table-fits f (is_alone (codes "end") l.words) l.number over utils l.words ls all next file h (λ u more rest. tables-fit f over (utils ++ (u ∷ [])) ls all next file more rest) e
 
--- what has been told where this line comes next
-abbrev At : Stage → TextFile → Draft → Type 0
-At stages.Utils f d = (length d.values ≡ length f.names) × (d.method ≡ Dpop)
-At stages.End f d = (length d.values ≡ length f.names) × (d.method ≡ Dpop) × (lacks_util d.utils (length f.names) ≡ false)
-At _ f d = Unit {0}
-
-abbrev Stands : TextFile → Draft → Type 0
-Stands f d = IsDraft f d × At d.stage f d
-
-stands-at : (f : TextFile) (made more : Draft) → made ≡ more → Stands f made → Stands f more
-stands-at f made more e h = subst (λ (d : Draft). Stands f d) e h
-
-at-behind : (goal : Goal) (f : TextFile) (d : Draft) → At (behind_method goal) f d
-at-behind Min f d = tt
-at-behind Max f d = tt
-
-value-stands : (f : TextFile) (d more : Draft) (ws : List (List ℕ)) → IsFile f → IsDraft f d → d.stage ≡ stages.Values → length d.values < length f.names → then_tells (value_line (get_or f.names (length d.values) []) (get_or f.labels (length d.values) []) (get_or f.problem.sizes (length d.values) 0) ws) (λ value. record d { values = d.values ++ (value ∷ []) }) ≡ Ok more → Stands f more
-value-stands f d more ws file p stage lt e =
-    let k = length d.values in
-    let t = tells-inv (value_line (get_or f.names k []) (get_or f.labels k []) (get_or f.problem.sizes k 0) ws) (λ value. record d { values = d.values ++ (value ∷ []) }) more e in
-    let many = AllZip-long AreLabels f.problem.sizes f.labels file.labels in
+-- exactly one table for each variable
+tables-whole : (f : TextFile) (utils : List Util) → IsFile f → AreTables f utils → lacks_util utils (length f.names) ≡ false → FitsTables f.problem.sizes utils
+tables-whole f utils file h whole =
     let named : length f.names ≡ length f.problem.sizes = file.named in
-    let fit = labels-at f.problem.sizes f.labels k 0 [] file.labels (omega (arith, lt, many, named)) in
-    let below = value-fits (get_or f.names k []) (get_or f.labels k []) (get_or f.problem.sizes k 0) ws t.0 fit t.1 in
-    let long = length-append d.values (t.0 ∷ []) in
-    let made : Draft = record d { values = d.values ++ (t.0 ∷ []) } in
-    let told : IsDraft f made = record {
-      error = p.error;
-      deliveries = p.deliveries;
-      cost = p.cost;
-      lower = p.lower;
-      upper = p.upper;
-      room = omega (arith, long, lt);
-      below = λ i h. below-step f.problem.sizes d.values t.0 i (nat_eq i (length d.values)) refl p.below below (omega (arith, h, long));
-      each = p.each;
-      once = p.once;
-    } in
-    stands-at f made more t.2 (told, subst (λ (s : Stage). At s f made) (sym stage) tt)
-
-certificate-stands : (f : TextFile) (d more : Draft) (ws : List (List ℕ)) → IsDraft f d → length f.names ≤ length d.values → then_tells (certificate_line d.method ws) (λ stage. record d { stage = stage }) ≡ Ok more → Stands f more
-certificate-stands f d more ws p over e =
-    let t = tells-inv (certificate_line d.method ws) (λ stage. record d { stage = stage }) more e in
-    let found = certificate-fits d.method ws t.0 t.1 in
-    let room = p.room in
-    let full : length d.values ≡ length f.names = omega (arith, room, over) in
-    let made : Draft = record d { stage = stages.Utils } in
-    stands-at f made more (ap (λ (s : Stage). record d { stage = s }) found.1 ∙ t.2) (p, (full, found.0))
-
-values-stand : (t : Bool) (f : TextFile) (d more : Draft) (ws : List (List ℕ)) → IsFile f → IsDraft f d → d.stage ≡ stages.Values → nat_lt (length d.values) (length f.names) ≡ t
-    → cond t (then_tells (value_line (get_or f.names (length d.values) []) (get_or f.labels (length d.values) []) (get_or f.problem.sizes (length d.values) 0) ws) (λ value. record d { values = d.values ++ (value ∷ []) })) (then_tells (certificate_line d.method ws) (λ stage. record d { stage = stage })) ≡ Ok more
-    → Stands f more
-values-stand true f d more ws file p stage is e = value-stands f d more ws file p stage (ltb-true _ _ is) e
-values-stand false f d more ws file p stage is e = certificate-stands f d more ws p (grind (arith, nat_tests, is)) e
-
-util-stands : (f : TextFile) (d more : Draft) (ws : List (List ℕ)) → IsFile f → IsDraft f d → d.stage ≡ stages.Utils → (length d.values ≡ length f.names) × (d.method ≡ Dpop) → then_tells (util_line f.names f.problem.sizes d.utils ws) (λ util. record d { utils = d.utils ++ (util ∷ []) }) ≡ Ok more → Stands f more
-util-stands f d more ws file p stage at e =
-    let t = tells-inv (util_line f.names f.problem.sizes d.utils ws) (λ util. record d { utils = d.utils ++ (util ∷ []) }) more e in
-    let fits = util-fits f.names f.problem.sizes d.utils ws t.0 file.named t.1 in
-    let made : Draft = record d { utils = d.utils ++ (t.0 ∷ []) } in
-    let told : IsDraft f made = record {
-      error = p.error;
-      deliveries = p.deliveries;
-      cost = p.cost;
-      lower = p.lower;
-      upper = p.upper;
-      room = p.room;
-      below = p.below;
-      each = All-append (FitsUtil f.problem.sizes) d.utils (t.0 ∷ []) p.each (All-cons (FitsUtil f.problem.sizes) t.0 [] fits.0 (λ k d h. absurd (omega arith)));
-      once = λ var. once-push var d.utils t.0 (p.once var) fits.1;
-    } in
-    stands-at f made more t.2 (told, subst (λ (s : Stage). At s f made) (sym stage) at)
-
-tables-stand : (t whole : Bool) (f : TextFile) (d more : Draft) (ws : List (List ℕ)) → IsFile f → IsDraft f d → d.stage ≡ stages.Utils → (length d.values ≡ length f.names) × (d.method ≡ Dpop) → lacks_util d.utils (length f.names) ≡ whole
-    → cond t (cond whole (Err BadLine) (Ok (record d { stage = stages.End }))) (then_tells (util_line f.names f.problem.sizes d.utils ws) (λ util. record d { utils = d.utils ++ (util ∷ []) })) ≡ Ok more
-    → Stands f more
-tables-stand true true f d more ws file p stage at is e = absurd (cc e)
-tables-stand true false f d more ws file p stage at is e = stands-at f (record d { stage = stages.End }) more (ok-same (record d { stage = stages.End }) more e) (p, (at.0, at.1, is))
-tables-stand false whole f d more ws file p stage at is e = util-stands f d more ws file p stage at e
-
--- each line keeps what has been told
-line-stands : (s : Stage) (f : TextFile) (d more : Draft) (ws : List (List ℕ)) → IsFile f → IsDraft f d → d.stage ≡ s → At s f d → line_at s f d ws ≡ Ok more → Stands f more
-line-stands stages.Status f d more ws file p stage at e =
-    let t = tells-inv (status_line ws) (λ status. record d { stage = stages.Method; status = status }) more e in
-    stands-at f (record d { stage = stages.Method; status = t.0 }) more t.2 (p, tt)
-line-stands stages.Method f d more ws file p stage at e =
-    let t = tells-inv (method_line ws) (λ method. record d { stage = behind_method f.goal; method = method }) more e in
-    stands-at f (record d { stage = behind_method f.goal; method = t.0 }) more t.2 (p, at-behind f.goal f (record d { stage = behind_method f.goal; method = t.0 }))
-line-stands stages.Goal f d more ws file p stage at e =
-    let t = tells-inv (max_line ws) (λ goal. record d { stage = stages.Error }) more e in
-    stands-at f (record d { stage = stages.Error }) more t.2 (p, tt)
-line-stands stages.Error f d more ws file p stage at e =
-    let t = tells-inv (number_line (codes "error") ws) (λ n. record d { stage = stages.Deliveries; error = n }) more e in
-    let cap = told-cap (word_behind (codes "error") ws) t.0 t.1 in
-    stands-at f (record d { stage = stages.Deliveries; error = t.0 }) more t.2 (record { error = cap; deliveries = p.deliveries; cost = p.cost; lower = p.lower; upper = p.upper; room = p.room; below = p.below; each = p.each; once = p.once }, tt)
-line-stands stages.Deliveries f d more ws file p stage at e =
-    let t = tells-inv (number_line (codes "deliveries") ws) (λ n. record d { stage = stages.Cost; deliveries = n }) more e in
-    let cap = told-cap (word_behind (codes "deliveries") ws) t.0 t.1 in
-    stands-at f (record d { stage = stages.Cost; deliveries = t.0 }) more t.2 (record { error = p.error; deliveries = cap; cost = p.cost; lower = p.lower; upper = p.upper; room = p.room; below = p.below; each = p.each; once = p.once }, tt)
-line-stands stages.Cost f d more ws file p stage at e =
-    let t = tells-inv (number_line (codes "cost") ws) (λ n. record d { stage = stages.Lower; cost = n }) more e in
-    let cap = told-cap (word_behind (codes "cost") ws) t.0 t.1 in
-    stands-at f (record d { stage = stages.Lower; cost = t.0 }) more t.2 (record { error = p.error; deliveries = p.deliveries; cost = cap; lower = p.lower; upper = p.upper; room = p.room; below = p.below; each = p.each; once = p.once }, tt)
-line-stands stages.Lower f d more ws file p stage at e =
-    let t = tells-inv (number_line (codes "lower") ws) (λ n. record d { stage = stages.Upper; lower = n }) more e in
-    let cap = told-cap (word_behind (codes "lower") ws) t.0 t.1 in
-    stands-at f (record d { stage = stages.Upper; lower = t.0 }) more t.2 (record { error = p.error; deliveries = p.deliveries; cost = p.cost; lower = cap; upper = p.upper; room = p.room; below = p.below; each = p.each; once = p.once }, tt)
-line-stands stages.Upper f d more ws file p stage at e =
-    let t = tells-inv (number_line (codes "upper") ws) (λ n. record d { stage = stages.Values; upper = n }) more e in
-    let cap = told-cap (word_behind (codes "upper") ws) t.0 t.1 in
-    stands-at f (record d { stage = stages.Values; upper = t.0 }) more t.2 (record { error = p.error; deliveries = p.deliveries; cost = p.cost; lower = p.lower; upper = cap; room = p.room; below = p.below; each = p.each; once = p.once }, tt)
-line-stands stages.Values f d more ws file p stage at e = values-stand (nat_lt (length d.values) (length f.names)) f d more ws file p stage refl e
-line-stands stages.Utils f d more ws file p stage at e = tables-stand (is_alone (codes "end") ws) (lacks_util d.utils (length f.names)) f d more ws file p stage at refl e
-line-stands stages.End f d more ws file p stage at e = absurd (cc e)
-
--- a whole report fits
-told-fits : (f : TextFile) (d : Draft) → IsFile f → IsDraft f d → At stages.End f d → HasFit f (report_told f.goal d)
-told-fits f d file p at =
-    let named : length f.names ≡ length f.problem.sizes = file.named in
-    let full : length d.values ≡ length f.names = at.0 in
-    let values = AllZip-from d.values f.problem.sizes (full ∙ named) p.below in
-    let all = not-not (list_all (λ var. has_util d.utils var) (range_with_len 0 (length f.names))) at.2 in
-    let one = λ (var : ℕ) (h : var < length f.problem.sizes). let has = range-inv (λ var. has_util d.utils var) 0 (length f.names) all var (omega arith) (omega (arith, h, named)) in let some = count-some var d.utils has in let few = p.once var in let r : count_by (λ u. nat_eq u.var var) d.utils ≡ 1 = omega (arith, some, few) in r in (
-      refl,
-      record {
-        values = values;
-        error = p.error;
-        deliveries = p.deliveries;
-        cost = p.cost;
-        lower = p.lower;
-        upper = p.upper;
-        certificate = (at.1, record { each = p.each; one = one });
-        goal = refl;
-      },
-    )
+    let all = not-not (list_all (λ var. has_util utils var) (range_with_len 0 (length f.names))) whole in
+    let one = λ (var : ℕ) (in_sizes : var < length f.problem.sizes). let has = range-inv (λ var. has_util utils var) 0 (length f.names) all var (omega arith) (omega (arith, in_sizes, named)) in let some = count-some var utils has in let few = h.once var in let r : count_by (λ u. nat_eq u.var var) utils ≡ 1 = omega (arith, some, few) in r in
+    record { each = h.each; one = one }
   where
     not-not : (t : Bool) → not t ≡ false → t ≡ true
     not-not true h = refl
     not-not false h = absurd (false≢true (sym h))
 
-over-fits : (s : Stage) (over : ℕ) (f : TextFile) (d : Draft) (r : Report) → IsFile f → IsDraft f d → At s f d → over_at s over f.goal d ≡ Ok r → HasFit f r
-over-fits stages.Status over f d r file p at e = absurd (cc e)
-over-fits stages.Method over f d r file p at e = absurd (cc e)
-over-fits stages.Goal over f d r file p at e = absurd (cc e)
-over-fits stages.Error over f d r file p at e = absurd (cc e)
-over-fits stages.Deliveries over f d r file p at e = absurd (cc e)
-over-fits stages.Cost over f d r file p at e = absurd (cc e)
-over-fits stages.Lower over f d r file p at e = absurd (cc e)
-over-fits stages.Upper over f d r file p at e = absurd (cc e)
-over-fits stages.Values over f d r file p at e = absurd (cc e)
-over-fits stages.Utils over f d r file p at e = absurd (cc e)
-over-fits stages.End over f d r file p at e = subst (λ (r : Report). HasFit f r) (ok-same (report_told f.goal d) r e) (told-fits f d file p at)
+no-tables : (f : TextFile) → AreTables f []
+no-tables f = record { each = λ k d h. absurd (omega (arith, h)); once = λ var. omega arith }
 
-on-inv : (number : ℕ) (t : Result Draft ReportKind) (later : Draft → Result Report Fault) (r : Report) → read_on number t later ≡ Ok r → (more : Draft) × (t ≡ Ok more) × (later more ≡ Ok r)
-on-inv number (Ok more) later r e = (more, refl, e)
-on-inv number (Err kind) later r e = absurd (cc e)
+evidence-fits : (f : TextFile) (form : Form) (left : Left) (method : Method) (certificate : Certificate) (next : Left) → IsFile f → method ≡ Dpop
+    → evidence_read f form left ≡ Ok (certificate, next) → FitsCertificate f.problem.sizes method certificate
+evidence-fits f forms.Tables left method certificate next file is e =
+    let a = and-inv (tables_read f.names f.problem.sizes left.over [] left.lines) _ (certificate, next) e in
+    let fit = tables-fit f left.over [] left.lines a.0 a.1 file (no-tables f) a.2 in
+    subst (λ (c : Certificate). FitsCertificate f.problem.sizes method c) (pair-same (Tables a.0) certificate a.1 next a.3) (is, tables-whole f a.0 file fit.0 fit.1)
 
-lines-fit : (over : ℕ) (f : TextFile) (d : Draft) (ls : List Plain) (r : Report) → IsFile f → Stands f d → lines_read over f d ls ≡ Ok r → HasFit f r
-lines-fit over f d [] r file stands e = over-fits d.stage over f d r file stands.0 stands.1 e
-lines-fit over f d (l ∷ ls) r file stands e =
-    let t = on-inv l.number (line_at d.stage f d l.words) (λ more. lines_read over f more ls) r e in
-    lines-fit over f t.0 ls r file (line-stands d.stage f d t.0 l.words file stands.0 refl stands.1 t.1) t.2
+certificate-read-fits : (f : TextFile) (method : Method) (left : Left) (certificate : Certificate) (next : Left) → IsFile f
+    → certificate_read f method left ≡ Ok (certificate, next) → FitsCertificate f.problem.sizes method certificate
+certificate-read-fits f method left certificate next file e =
+    let a = and-inv (one_line (certificate_line method) left) _ (certificate, next) e in
+    let line = line-inv (certificate_line method) left a.0 a.1 a.2 in
+    evidence-fits f a.0 a.1 method certificate next file (certificate-fits method line.0 a.0 line.1) a.3
+
+whole-same : (made : Report) (ls : List Plain) (r : Report) → nothing_behind made ls ≡ Ok r → made ≡ r
+whole-same made [] r e = ok-same made r e
+whole-same made (l ∷ ls) r e = absurd (cc e)
 
 -- a report that was read fits its file
 pub read-fits : (bytes : List ℕ) (f : TextFile) (r : Report) → IsFile f → report_read bytes f ≡ Ok r → HasFit f r
 read-fits bytes f r file e =
-    let nothing : IsDraft f nothing_told = record {
-      error = omega arith;
-      deliveries = omega arith;
-      cost = omega arith;
-      lower = omega arith;
-      upper = omega arith;
-      room = omega arith;
-      below = λ k h. absurd (omega (arith, h));
-      each = λ k d h. absurd (omega (arith, h));
-      once = λ var. omega arith;
-    } in
-    lines-fit _ f nothing_told (plain_lines 1 bytes) r file (nothing, tt) e
+    let a = and-inv (head_read f.goal (whole bytes)) _ r e in
+    let b = and-inv (bounds_read a.1) _ r a.3 in
+    let c = and-inv (values_read f.names f.labels f.problem.sizes b.1) _ r b.3 in
+    let d = and-inv (certificate_read f a.0.method c.1) _ r c.3 in
+    let head = head-fits f.goal (whole bytes) a.0 a.1 a.2 in
+    let bounds = bounds-fit a.1 b.0 b.1 b.2 in
+    subst (λ (r : Report). HasFit f r) (whole-same (report_of a.0 b.0 c.0 d.0) d.1.lines r d.3) (
+      refl,
+      record {
+        values = values-fit f.names f.labels f.problem.sizes b.1 c.0 c.1 file.named file.labels c.2;
+        error = head.error;
+        deliveries = head.deliveries;
+        cost = bounds.cost;
+        lower = bounds.lower;
+        upper = bounds.upper;
+        certificate = certificate-read-fits f a.0.method c.1 d.0 d.1 file d.2;
+        goal = head.goal;
+      },
+    )
 
 -- what code gave, where it gave a report
 pub result-fits : (bytes : List ℕ) (f : TextFile) (result : Result Report ReportFault) → ReadsReport bytes f result → ((r : Report) → report_read bytes f ≡ Ok r → HasFit f r) → IfOk result (HasFit f)

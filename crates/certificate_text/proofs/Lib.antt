@@ -3,5 +3,7 @@ mod UtilLineLaws
 mod ValueLineLaws
 mod LineAgainLaws
 pub mod AgainLaws
+mod StepLaws
 mod LineFitsLaws
 mod FitsLaws
+pub mod NumberLaws

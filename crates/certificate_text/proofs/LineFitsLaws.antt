@@ -18,23 +18,16 @@ use Rattle.problem_text.proofs.TableLineLaws.{some-same, named-within}
 use Rattle.certificate_text.specs.declared.certificate.Util.{Util}
 use Rattle.certificate_text.specs.declared.report.Method.{Method}
 use Rattle.certificate_text.specs.declared.report.Method.TheVariants.{Plain as MethodPlain, Dpop, Adopt, Cut}
-use Rattle.certificate_text.specs.declared.draft.Draft.{Draft}
-use Rattle.certificate_text.specs.declared.draft.Stage.{Stage}
-use Rattle.certificate_text.specs.declared.draft.Stage.TheVariants as stages
-use Rattle.certificate_text.specs.Told.{or_fails, then_tells, is_alone, capped, amount_of, amounts_of}
+use Rattle.certificate_text.specs.declared.certificate_line.Form.{Form}
+use Rattle.certificate_text.specs.Told.{or_fails, is_alone, capped, amount_of, amounts_of}
 use Rattle.certificate_text.specs.HeadLines.{number_told}
 use Rattle.certificate_text.specs.ValueLine.{value_below, value_told, value_line}
 use Rattle.certificate_text.specs.UtilLine.{has_util, is_again, and_known, known_among, parent_told, util_told, util_parts, util_line}
-use Rattle.certificate_text.specs.ReportLines.{certificate_told, certificate_line}
+use Rattle.certificate_text.specs.CertificateLine.{form_told, certificate_line}
 use Rattle.certificate_text.specs.Fits.{FitsUtil}
 
 pub ok-same : {A E : Type 0} (x y : A) → ◌≡◌ {A = Result A E} (Ok x) (Ok y) → x ≡ y
 ok-same x y e = cc
-
--- what a line told, where more is told with it
-pub tells-inv : {A : Type 0} (t : Result A ReportKind) (g : A → Draft) (more : Draft) → then_tells t g ≡ Ok more → (x : A) × (t ≡ Ok x) × (g x ≡ more)
-tells-inv (Ok x) g more e = (x, refl, ok-same (g x) more e)
-tells-inv (Err kind) g more e = absurd (cc e)
 
 or_fails-ok : {A : Type 0} (kind : ReportKind) (o : Option A) (x : A) → or_fails kind o ≡ Ok x → o ≡ Some x
 or_fails-ok {A} kind (Some y) x e = ap (λ (y : A). Some y) (ok-same y x e)
@@ -46,7 +39,7 @@ one-ok true kind r x e = absurd (cc e)
 one-ok false kind r x e = (refl, e)
 
 -- a test that has to pass, and what it lets through
-other-ok : {A : Type 0} (t : Bool) (kind : ReportKind) (r : Result A ReportKind) (x : A) → cond t r (Err kind) ≡ Ok x → (t ≡ true) × (r ≡ Ok x)
+pub other-ok : {A : Type 0} (t : Bool) (kind : ReportKind) (r : Result A ReportKind) (x : A) → cond t r (Err kind) ≡ Ok x → (t ≡ true) × (r ≡ Ok x)
 other-ok true kind r x e = (refl, e)
 other-ok false kind r x e = absurd (cc e)
 
@@ -93,21 +86,19 @@ value-fits name labels size (a ∷ b ∷ w ∷ []) v fit e =
     let second = one-ok (not (bytes_eq b name)) UnknownName (value_told labels size w) v first.1 in
     value_told-fits labels size w v fit second.1
 
-certificate_told-fits : (method : Method) (ws : List (List ℕ)) (stage : Stage) → certificate_told method ws ≡ Ok stage → (method ≡ Dpop) × (stages.Utils ≡ stage)
-certificate_told-fits MethodPlain ws stage e = absurd (cc e)
-certificate_told-fits Dpop ws stage e =
-    let test = other-ok (is_alone (codes "tables") ws) BadLine (Ok stages.Utils) stage e in
-    (refl, ok-same stages.Utils stage test.1)
-certificate_told-fits Adopt ws stage e = absurd (false≢true (none-ok _ NotYet BadLine stage e))
-certificate_told-fits Cut ws stage e = absurd (false≢true (none-ok _ NotYet BadLine stage e))
+form_told-fits : (method : Method) (ws : List (List ℕ)) (form : Form) → form_told method ws ≡ Ok form → method ≡ Dpop
+form_told-fits MethodPlain ws form e = absurd (cc e)
+form_told-fits Dpop ws form e = refl
+form_told-fits Adopt ws form e = absurd (false≢true (none-ok _ NotYet BadLine form e))
+form_told-fits Cut ws form e = absurd (false≢true (none-ok _ NotYet BadLine form e))
 
--- a certificate's first line is one of tables, with the method of tables
-pub certificate-fits : (method : Method) (ws : List (List ℕ)) (stage : Stage) → certificate_line method ws ≡ Ok stage → (method ≡ Dpop) × (stages.Utils ≡ stage)
-certificate-fits method [] stage e = absurd (cc e)
-certificate-fits method (w ∷ ws) stage e =
-    let first = one-ok (is_alone (codes "end") (w ∷ ws)) NoCertificate (cond (bytes_eq w (codes "certificate")) (certificate_told method ws) (Err BadLine)) stage e in
-    let second = other-ok (bytes_eq w (codes "certificate")) BadLine (certificate_told method ws) stage first.1 in
-    certificate_told-fits method ws stage second.1
+-- the method of a certificate's first line
+pub certificate-fits : (method : Method) (ws : List (List ℕ)) (form : Form) → certificate_line method ws ≡ Ok form → method ≡ Dpop
+certificate-fits method [] form e = absurd (cc e)
+certificate-fits method (w ∷ ws) form e =
+    let first = one-ok (is_alone (codes "end") (w ∷ ws)) NoCertificate (cond (bytes_eq w (codes "certificate")) (form_told method ws) (Err BadLine)) form e in
+    let second = other-ok (bytes_eq w (codes "certificate")) BadLine (form_told method ws) form first.1 in
+    form_told-fits method ws form second.1
 
 known-step : (o : Option ℕ) (r : Option (List ℕ)) (known scope : List ℕ) → onto o r ≡ Some scope → ((xs : List ℕ) → r ≡ Some xs → known ≡ xs) → and_known o known ≡ scope
 known-step (Some x) (Some xs) known scope e ih = ap (λ (ys : List ℕ). x ∷ ys) (ih xs refl) ∙ some-same (x ∷ xs) scope e

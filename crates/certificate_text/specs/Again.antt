@@ -1,21 +1,16 @@
--- What the reader of reports gives beside what the text says.
+-- What the reader of reports gives beside what the text says. Want of memory says nothing.
 use Rattle.std.specs.Prelude.{◌≡◌, ℕ, List, Result, Ok, Err, IsTrue, is_some}
 use Rattle.problem_text.specs.File.{TextFile}
 use Rattle.problem_text.specs.declared.fault.ReportFault.{ReportFault}
-use Rattle.problem_text.specs.declared.fault.ReportFault.TheVariants.{Bad, NoMemory}
 use Rattle.certificate_text.specs.declared.report.Report.{Report}
 use Rattle.certificate_text.specs.Fits.{Fits}
-use Rattle.certificate_text.specs.ReportReading.{Fault, report_read}
-
--- what code gives, beside what lines are read as. Want of memory says nothing
-abbrev pub IsReading : Result Report Fault → Result Report ReportFault → Type 0
-IsReading read (Ok report) = read ≡ Ok report
-IsReading read (Err NoMemory) = Unit {0}
-IsReading read (Err (Bad line kind)) = read ≡ Err (record { line = line; kind = kind })
+use Rattle.certificate_text.specs.ReportReading.{report_read}
+use Rattle.certificate_text.specs.Steps.{IsFault}
 
 -- reading: a report is what the text tells; a fault is the text's first
 abbrev pub ReadsReport : List ℕ → TextFile → Result Report ReportFault → Type 0
-ReadsReport bytes f result = IsReading (report_read bytes f) result
+ReadsReport bytes f (Ok report) = report_read bytes f ≡ Ok report
+ReadsReport bytes f (Err fault) = IsFault (report_read bytes f) fault
 
 -- a text is read as this report, where the report has a certificate and fits the file
 abbrev pub IsReadBack : List ℕ → TextFile → Report → Type 0

@@ -6,7 +6,9 @@ pub mod HeadLines
 pub mod ValueLine
 pub mod UtilLine
 pub mod UtilWords
+pub mod CertificateLine
 pub mod ReportLines
 pub mod ReportReading
 pub mod Fits
+pub mod Steps
 pub mod Again

@@ -1,53 +1,112 @@
--- What the text of a report is read as: the report that its lines tell, or its first fault.
-use Rattle.std.specs.Prelude.{ℕ, ◌+◌, ◌==◌, List, [], ◌∷◌, Some, Result, Ok, Err, count_by}
+-- What the text of a report is read as: its parts, line by line in their order, or its first fault.
+use Rattle.std.specs.Prelude.{ℕ, List, [], ◌∷◌, ◌++◌, length, Some, Result, Ok, Err, if◌then◌else◌, codes}
 use Rattle.problem_text.specs.declared.file.Goal.{Goal}
+use Rattle.problem_text.specs.declared.file.Goal.TheVariants.{Min, Max}
 use Rattle.problem_text.specs.declared.fault.ReportKind.{ReportKind}
-use Rattle.problem_text.specs.declared.fault.ReportKind.TheVariants.{NoEnd}
-use Rattle.problem_text.specs.Bytes.{line_feed}
+use Rattle.problem_text.specs.declared.fault.ReportKind.TheVariants.{BadLine, NoEnd, AfterEnd}
 use Rattle.problem_text.specs.File.{TextFile}
-use Rattle.problem_text.specs.PlainLines.{Plain, plain_lines}
+use Rattle.problem_text.specs.PlainLines.{Plain}
+use Rattle.certificate_text.specs.declared.certificate.Certificate.{Certificate}
+use Rattle.certificate_text.specs.declared.certificate.Certificate.TheVariants as certificates
+use Rattle.certificate_text.specs.declared.certificate.Util.{Util}
+use Rattle.certificate_text.specs.declared.certificate_line.Form.{Form}
+use Rattle.certificate_text.specs.declared.certificate_line.Form.TheVariants as forms
+use Rattle.certificate_text.specs.declared.head.Head.{Head}
+use Rattle.certificate_text.specs.declared.head.Bounds.{Bounds}
+use Rattle.certificate_text.specs.declared.report.Method.{Method}
 use Rattle.certificate_text.specs.declared.report.Report.{Report}
-use Rattle.certificate_text.specs.declared.certificate.Certificate.TheVariants.{Tables}
-use Rattle.certificate_text.specs.declared.draft.Stage.{Stage}
-use Rattle.certificate_text.specs.declared.draft.Stage.TheVariants as stages
-use Rattle.certificate_text.specs.declared.draft.Draft.{Draft}
-use Rattle.certificate_text.specs.ReportLines.{nothing_told, line_at}
+use Rattle.certificate_text.specs.Told.{is_alone}
+use Rattle.certificate_text.specs.HeadLines.{status_line, method_line, max_line, number_line}
+use Rattle.certificate_text.specs.ValueLine.{value_line}
+use Rattle.certificate_text.specs.CertificateLine.{certificate_line}
+use Rattle.certificate_text.specs.UtilLine.{util_line, lacks_util}
+use Rattle.certificate_text.specs.ReportLines.{Fault, Left, whole, told_at, one_line, and_then}
 
--- the first fault of a report: its line and its kind
-pub record Fault : Type 0 where
-  pub line : ℕ
-  pub kind : ReportKind
+-- the goal of the file: a line `goal max` where it is max, no line where it is min
+abbrev pub goal_read : Goal → Left → Result (Goal × Left) Fault
+goal_read Min left = Ok (Min, left)
+goal_read Max left = one_line max_line left
 
--- the report that lines told, with the file's goal
-abbrev pub report_told : Goal → Draft → Report
-report_told goal d = record {
-  status = d.status;
-  method = d.method;
-  goal = goal;
-  error = d.error;
-  deliveries = d.deliveries;
-  cost = d.cost;
-  lower = d.lower;
-  upper = d.upper;
-  values = d.values;
-  certificate = Some (Tables d.utils);
+-- the lines above the cost: the status, the method, the goal, the error and the deliveries
+abbrev pub head_read : Goal → Left → Result (Head × Left) Fault
+head_read file_goal left =
+    and_then (one_line status_line left) (λ status left.
+    and_then (one_line method_line left) (λ method left.
+    and_then (goal_read file_goal left) (λ goal left.
+    and_then (one_line (number_line (codes "error")) left) (λ error left.
+    and_then (one_line (number_line (codes "deliveries")) left) (λ deliveries left.
+    Ok (record { status = status; method = method; goal = goal; error = error; deliveries = deliveries }, left))))))
+
+-- the lines of the cost and the bounds
+abbrev pub bounds_read : Left → Result (Bounds × Left) Fault
+bounds_read left =
+    and_then (one_line (number_line (codes "cost")) left) (λ cost left.
+    and_then (one_line (number_line (codes "lower")) left) (λ lower left.
+    and_then (one_line (number_line (codes "upper")) left) (λ upper left.
+    Ok (record { cost = cost; lower = lower; upper = upper }, left))))
+
+-- a value's line for each variable, in order
+abbrev pub values_read : List (List ℕ) → List (List (List ℕ)) → List ℕ → Left → Result (List ℕ × Left) Fault
+values_read (name ∷ names) (labels ∷ more) (size ∷ sizes) left =
+    and_then (one_line (value_line name labels size) left) (λ value left.
+    and_then (values_read names more sizes left) (λ values left.
+    Ok (value ∷ values, left)))
+values_read _ _ _ left = Ok ([], left)
+
+-- the tables behind which the line `end` stands: each variable has its table
+abbrev pub ended : List (List ℕ) → List Util → Result (List Util) ReportKind
+ended names utils = if lacks_util utils (length names) then Err BadLine else Ok utils
+
+-- lines of tables, each behind these and those before it, up to the line `end`
+abbrev pub tables_read : List (List ℕ) → List ℕ → ℕ → List Util → List Plain → Result (List Util × Left) Fault
+tables_read names sizes over utils [] = Err (record { line = over; kind = NoEnd })
+tables_read names sizes over utils (line ∷ later) =
+    if is_alone (codes "end") line.words
+    then told_at line.number (ended names utils) (record { lines = later; over = over })
+    else and_then (told_at line.number (util_line names sizes utils line.words) (record { lines = later; over = over })) (λ util left.
+    tables_read names sizes over (utils ++ (util ∷ [])) later)
+
+-- the lines of a certificate of this form, and the line `end`
+abbrev pub evidence_read : TextFile → Form → Left → Result (Certificate × Left) Fault
+evidence_read f forms.Tables left =
+    and_then (tables_read f.names f.problem.sizes left.over [] left.lines) (λ utils left.
+    Ok (certificates.Tables utils, left))
+
+-- the certificate: its first line, which fits the method, and its further ones, up to the line `end`
+abbrev pub certificate_read : TextFile → Method → Left → Result (Certificate × Left) Fault
+certificate_read f method left =
+    and_then (one_line (certificate_line method) left) (λ form left.
+    evidence_read f form left)
+
+-- behind the line `end` no line is left
+abbrev pub nothing_behind : Report → List Plain → Result Report Fault
+nothing_behind report [] = Ok report
+nothing_behind report (line ∷ later) = Err (record { line = line.number; kind = AfterEnd })
+
+-- the report with these parts
+abbrev pub report_of : Head → Bounds → List ℕ → Certificate → Report
+report_of head bounds values certificate = record {
+  status = head.status;
+  method = head.method;
+  goal = head.goal;
+  error = head.error;
+  deliveries = head.deliveries;
+  cost = bounds.cost;
+  lower = bounds.lower;
+  upper = bounds.upper;
+  values = values;
+  certificate = Some certificate;
 }
 
--- where the lines are over: a report, where the line `end` came
-abbrev pub over_at : Stage → ℕ → Goal → Draft → Result Report Fault
-over_at stages.End over goal d = Ok (report_told goal d)
-over_at _ over goal d = Err (record { line = over; kind = NoEnd })
+-- a report on a file: the lines above the cost, those of the cost and the bounds, the values, the certificate, and nothing behind
+abbrev pub lines_read : TextFile → Left → Result Report Fault
+lines_read f left =
+    and_then (head_read f.goal left) (λ head left.
+    and_then (bounds_read left) (λ bounds left.
+    and_then (values_read f.names f.labels f.problem.sizes left) (λ values left.
+    and_then (certificate_read f head.method left) (λ certificate left.
+    nothing_behind (report_of head bounds values certificate) left.lines))))
 
--- how reading goes on behind a line that tells this
-abbrev pub read_on : ℕ → Result Draft ReportKind → (Draft → Result Report Fault) → Result Report Fault
-read_on number (Ok more) later = later more
-read_on number (Err kind) later = Err (record { line = number; kind = kind })
-
--- what lines with words are read as, behind lines that told this; where they are over, `end` is wanted at that line
-abbrev pub lines_read : ℕ → TextFile → Draft → List Plain → Result Report Fault
-lines_read over f d [] = over_at d.stage over f.goal d
-lines_read over f d (line ∷ later) = read_on line.number (line_at d.stage f d line.words) (λ more. lines_read over f more later)
-
--- what the text of a report on a file is read as; where it is over without `end`, the line is 1 plus the number of line_feed bytes
+-- what the text of a report on a file is read as
 abbrev pub report_read : List ℕ → TextFile → Result Report Fault
-report_read bytes f = lines_read (1 + count_by (λ b. b == line_feed) bytes) f nothing_told (plain_lines 1 bytes)
+report_read bytes f = lines_read f (whole bytes)

@@ -5,18 +5,13 @@ use Rattle.problem_text.specs.declared.fault.ReportKind.{ReportKind}
 use Rattle.problem_text.specs.Tables.{onto}
 use Rattle.dcop_base.specs.NumberWord.{number_of}
 use Rattle.dcop_base.specs.Limits.{amount_limit}
-use Rattle.certificate_text.specs.declared.line_end.LineEnd.{LineEnd}
-use Rattle.certificate_text.specs.declared.line_end.LineEnd.TheVariants.{NoMemory, Fault}
+use Rattle.problem_text.specs.declared.line_end.LineEnd.{LineEnd}
+use Rattle.problem_text.specs.declared.line_end.LineEnd.TheVariants.{NoMemory, Fault}
 
 -- what is there, or a fault of this kind where nothing is
 abbrev pub or_fails : {A : Type 0} → ReportKind → Option A → Result A ReportKind
 or_fails kind (Some x) = Ok x
 or_fails kind None = Err kind
-
--- what comes of what a line tells; a fault stays
-abbrev pub then_tells : {A B : Type 0} → Result A ReportKind → (A → B) → Result B ReportKind
-then_tells (Ok x) f = Ok (f x)
-then_tells (Err kind) f = Err kind
 
 -- the word behind this one, in a line of the two
 abbrev pub word_behind : List ℕ → List (List ℕ) → Option (List ℕ)
@@ -43,7 +38,7 @@ amounts_of [] = Some []
 amounts_of (word ∷ later) = onto (amount_of word) (amounts_of later)
 
 -- what code reads of a line, beside what the line tells. Want of memory says nothing
-abbrev pub Reads : {A : Type 0} → Result A LineEnd → Result A ReportKind → Type 0
+abbrev pub Reads : {A : Type 0} → Result A (LineEnd ReportKind) → Result A ReportKind → Type 0
 Reads (Ok x) told = told ≡ Ok x
 Reads (Err NoMemory) told = Unit {0}
 Reads (Err (Fault kind)) told = told ≡ Err kind

@@ -5,10 +5,9 @@ ghost use Rattle.problem_text.specs.Lines.{words};
 ghost use Rattle.certificate_text.specs.Told.{word_behind, is_alone, amount_of as amount_of_word, Reads};
 ghost use Rattle.certificate_text.specs.HeadLines.{status_line, method_line, max_line, number_line};
 
-use crate::line_end::LineEnd;
 use crate::report::{Ending, Method};
 use dcop_base::{CAP, number_of_word};
-use problem_text::{Goal, ReportKind, is_word, next_word};
+use problem_text::{Goal, LineEnd, ReportKind, is_word, next_word};
 
 /// The word behind `key` in a line of the two; `None` exactly where the line is not of that form.
 fn word_of<'a>(text: &'a [u8], key: &[u8]) -> Option<&'a [u8]>
@@ -44,7 +43,7 @@ pub fn amount_of(word: &[u8]) -> Option<u64>
 }
 
 /// The ending that a line `status` tells.
-pub fn status_of(text: &[u8]) -> Result<Ending, LineEnd>
+pub fn status_of(text: &[u8]) -> Result<Ending, LineEnd<ReportKind>>
     ensures { Reads result (status_line (words text.now)) }
 {
     let Some(word) = word_of(text, b"status") else {
@@ -60,7 +59,7 @@ pub fn status_of(text: &[u8]) -> Result<Ending, LineEnd>
 }
 
 /// The method that a line `method` tells.
-pub fn method_of(text: &[u8]) -> Result<Method, LineEnd>
+pub fn method_of(text: &[u8]) -> Result<Method, LineEnd<ReportKind>>
     ensures { Reads result (method_line (words text.now)) }
 {
     let Some(word) = word_of(text, b"method") else {
@@ -82,7 +81,7 @@ pub fn method_of(text: &[u8]) -> Result<Method, LineEnd>
 }
 
 /// The goal that a line `goal max` tells.
-pub fn max_of(text: &[u8]) -> Result<Goal, LineEnd>
+pub fn max_of(text: &[u8]) -> Result<Goal, LineEnd<ReportKind>>
     ensures { Reads result (max_line (words text.now)) }
 {
     let Some(word) = word_of(text, b"goal") else {
@@ -95,7 +94,7 @@ pub fn max_of(text: &[u8]) -> Result<Goal, LineEnd>
 }
 
 /// The number that a line of `key` and a number tells.
-pub fn number_of(text: &[u8], key: &[u8]) -> Result<u64, LineEnd>
+pub fn number_of(text: &[u8], key: &[u8]) -> Result<u64, LineEnd<ReportKind>>
     ensures { Reads result (number_line key.now (words text.now)) }
 {
     let Some(word) = word_of(text, key) else {

@@ -6,12 +6,11 @@
 #![tactic(auto)]
 
 mod certificate;
-mod draft;
+mod certificate_line;
+mod head;
 mod head_line;
-mod line_end;
+mod lines;
 mod reader;
-#[cfg(test)]
-mod reader_tests;
 mod report;
 #[cfg(test)]
 mod tests;

@@ -16,12 +16,8 @@ ghost use Rattle.certificate_text.specs.UtilWords.{IsLineOf, where_whole};
 
 use crate::certificate::Util;
 use crate::head_line::amount_of;
-use crate::line_end::LineEnd;
-use dcop_base::{CellList, MAX_VARIABLES, NoMemory, VarId, VarList};
-use problem_text::{
-    Names, ReportKind, is_word, next_word, past_colon, product_of, repeats, sizes_of,
-    variable_of_word,
-};
+use dcop_base::{CellList, MAX_VARIABLES, NoMemory, VarId, VarList, product_of, repeats, sizes_of};
+use problem_text::{LineEnd, Names, ReportKind, is_word, next_word, past_colon, variable_of_word};
 use std::alloc::Global;
 
 /// The table that a line `util` tells, behind these tables.
@@ -31,7 +27,7 @@ pub fn util_of(
     sizes: &[u16],
     utils: &[Util],
     text: &[u8],
-) -> Result<Util, LineEnd>
+) -> Result<Util, LineEnd<ReportKind>>
     requires named { list_all is_name names.now ≡ true }
     requires many { length names.now ≡ length sizes.now }
     ensures { Reads result (lines.util_line names.now sizes.now utils.now (words text.now)) }
@@ -79,7 +75,7 @@ fn util_with(
     sizes: &[u16],
     utils: &[Util],
     line: &UtilWords<'_>,
-) -> Result<Util, LineEnd>
+) -> Result<Util, LineEnd<ReportKind>>
     requires named { list_all is_name names.now ≡ true }
     requires many { length names.now ≡ length sizes.now }
     ensures { Reads result (lines.util_parts names.now sizes.now utils.now line.now.name.now line.now.parent.now
@@ -187,7 +183,7 @@ fn counted(
     parent: Option<VarId>,
     scope: Vec<VarId>,
     text: &[u8],
-) -> Result<Util, LineEnd>
+) -> Result<Util, LineEnd<ReportKind>>
     requires { All (λ v. v < length sizes.now) scope.items }
     ensures { Reads result (lines.util_told sizes.now (Some var) (Some parent) (Some scope.items)
         (amounts_of (words text.now))) }
@@ -196,7 +192,7 @@ fn counted(
         return Err(LineEnd::Fault(ReportKind::BadNumber));
     };
     let own = sizes_of(alloc, sizes, scope.as_slice())?;
-    if !is_product(count as u64, own.as_slice()) {
+    if !is_product(count, own.as_slice()) {
         return Err(LineEnd::Fault(ReportKind::CellCount));
     }
     let cells = cells_of(alloc, text, count)?;
@@ -209,7 +205,7 @@ fn counted(
 }
 
 /// Whether a number is the product of the sizes.
-fn is_product(count: u64, sizes: &[u16]) -> bool
+fn is_product(count: usize, sizes: &[u16]) -> bool
     requires { count < 2 ^ 64 - 1 }
     ensures { result ≡ count == product sizes.now }
 {
@@ -235,7 +231,7 @@ fn count_of(text: &[u8]) -> Option<usize>
 }
 
 /// The cells that the words of a text write, of which there are so many.
-fn cells_of(alloc: Global, text: &[u8], count: usize) -> Result<CellList, LineEnd>
+fn cells_of(alloc: Global, text: &[u8], count: usize) -> Result<CellList, LineEnd<ReportKind>>
     ensures { Reads result (or_fails BadNumber (amounts_of (words text.now))) }
 {
     let mut cells = Vec::with_capacity(alloc, count)?;

@@ -10,13 +10,17 @@ ghost use Rattle.certificate_text.specs.Told.{amount_of as amount_of_word, Reads
 ghost use Rattle.certificate_text.specs.ValueLine.{value_below, value_told, value_line};
 
 use crate::head_line::amount_of;
-use crate::line_end::LineEnd;
 use dcop_base::{MAX_SIZE, Val};
-use problem_text::{Labels, ReportKind, is_word, name_of, next_word};
+use problem_text::{Labels, LineEnd, ReportKind, is_word, name_of, next_word};
 
 /// The value that a line `value NAME V` tells of the variable with this name, these value names
 /// and this size.
-pub fn value_of(text: &[u8], name: &str, labels: &Labels, size: u16) -> Result<Val, LineEnd>
+pub fn value_of(
+    text: &[u8],
+    name: &str,
+    labels: &Labels,
+    size: u16,
+) -> Result<Val, LineEnd<ReportKind>>
     requires few { length labels.now ≤ size_limit }
     requires named { list_all is_name labels.now ≡ true }
     ensures { Reads result (value_line name.now labels.now size (words text.now)) }
@@ -40,7 +44,7 @@ pub fn value_of(text: &[u8], name: &str, labels: &Labels, size: u16) -> Result<V
 }
 
 /// The value that a word tells: by its name where there are value names, by its number otherwise.
-fn value_of_word(word: &[u8], labels: &Labels, size: u16) -> Result<Val, LineEnd>
+fn value_of_word(word: &[u8], labels: &Labels, size: u16) -> Result<Val, LineEnd<ReportKind>>
     requires few { length labels.now ≤ size_limit }
     requires named { list_all is_name labels.now ≡ true }
     ensures { Reads result (value_told labels.now size word.now) }
@@ -55,7 +59,7 @@ fn value_of_word(word: &[u8], labels: &Labels, size: u16) -> Result<Val, LineEnd
 }
 
 /// The value that a word writes as a number.
-fn numbered(word: &[u8], size: u16) -> Result<Val, LineEnd>
+fn numbered(word: &[u8], size: u16) -> Result<Val, LineEnd<ReportKind>>
     ensures { Reads result (value_below size (amount_of_word word.now)) }
 {
     let Some(number) = amount_of(word) else {

@@ -1,4 +1,4 @@
--- Laws of products and places: zeros, what a walk over the sizes has so far, and the first place of a variable.
+-- Laws of products and places: zeros, what a count over the sizes has so far, and the first place of a variable.
 use Rattle.std.proofs.Common.{◌≡◌, ℕ, zero, suc, ◌+◌, ◌*◌, ◌<◌, ◌≤◌, Bool, true, false, not, cond, eqb, ltb, List, [], ◌∷◌, Some, None, length, get_or, drop, refl, sym, ap, ◌∙◌, inl, inr, arith}
 use Rattle.std.proofs.Math.Nat.{mul-le-mul_left, mul_assoc}
 use Rattle.std.specs.List.{list_any, position}
@@ -51,34 +51,6 @@ count-over sizes k p limit total lt h none e =
 pub count-whole : (sizes : List ℕ) (k p total : ℕ) → length sizes ≤ k → p * product (drop k sizes) ≡ total → p ≡ total
 count-whole sizes k p total h e =
     let whole = rw (drop_all k sizes h) at e in
-    omega (arith, whole)
-
--- what is summed up to a place is no more than the whole
-bound-cons : (place s v : ℕ) (ss vs : List ℕ) → AreWithin (s ∷ ss) (v ∷ vs) → place * s + v ≤ place * product (s ∷ ss) + cell_place (s ∷ ss) (v ∷ vs)
-bound-cons place s v ss vs h = omega (arith, mul-le-mul_left (place * s + v) (product-pos ss vs h.1))
-
-pub walk-bound : (sizes values : List ℕ) (k place : ℕ) → k < length sizes → k < length values → AreWithin (drop k sizes) (drop k values) → place * get_or sizes k 0 + get_or values k 0 ≤ place * product (drop k sizes) + cell_place (drop k sizes) (drop k values)
-walk-bound sizes values k place hs hv h =
-    let h2 = rw (drop_more sizes k 0 hs, drop_more values k 0 hv) at h in
-    rw (drop_more sizes k 0 hs, drop_more values k 0 hv) (bound-cons place (get_or sizes k 0) (get_or values k 0) (drop (k + 1) sizes) (drop (k + 1) values) h2)
-
--- a turn of the walk
-step-cons : (place s v p c : ℕ) → place * (s * p) + (v * p + c) ≡ (place * s + v) * p + c
-step-cons place s v p c = grind arith
-
-pub walk-within : (sizes values : List ℕ) (k : ℕ) → k < length sizes → k < length values → AreWithin (drop k sizes) (drop k values) → AreWithin (drop (k + 1) sizes) (drop (k + 1) values)
-walk-within sizes values k hs hv h =
-    let h2 = rw (drop_more sizes k 0 hs, drop_more values k 0 hv) at h in h2.1
-
-pub walk-more : (sizes values : List ℕ) (k place total : ℕ) → k < length sizes → k < length values → place * product (drop k sizes) + cell_place (drop k sizes) (drop k values) ≡ total → (place * get_or sizes k 0 + get_or values k 0) * product (drop (k + 1) sizes) + cell_place (drop (k + 1) sizes) (drop (k + 1) values) ≡ total
-walk-more sizes values k place total hs hv h =
-    let h2 = rw (drop_more sizes k 0 hs, drop_more values k 0 hv) at h in
-    sym (step-cons place (get_or sizes k 0) (get_or values k 0) (product (drop (k + 1) sizes)) (cell_place (drop (k + 1) sizes) (drop (k + 1) values))) ∙ h2
-
--- the end of the walk
-pub walk-whole : (sizes values : List ℕ) (k place total : ℕ) → length sizes ≤ k → place * product (drop k sizes) + cell_place (drop k sizes) (drop k values) ≡ total → place ≡ total
-walk-whole sizes values k place total h so_far =
-    let whole = rw (drop_all k sizes h) at so_far in
     omega (arith, whole)
 
 -- what a search found

@@ -13,5 +13,5 @@ mod slicing;
 mod tests;
 
 pub use cut::slice;
-pub use place::{cells_of, place_at, place_in, place_of};
+pub use place::{cells_of, place_at, place_in};
 pub use slicing::{fix, scope_without, sizes_without};

@@ -3,6 +3,7 @@ pub mod LabelLaws
 pub mod FirstLaws
 pub mod JointLaws
 pub mod TableLaws
+pub mod PlaceLaws
 pub mod FaultLaws
 pub mod ProblemLaws
 pub mod UniqueLaws

@@ -10,3 +10,4 @@ pub mod Knowledge
 pub mod Totals
 pub mod Made
 pub mod Values
+pub mod Place

@@ -5,7 +5,7 @@ use Rattle.std.specs.Prelude.{ℕ}
 abbrev pub amount_limit : ℕ
 amount_limit = 4611686018427387904
 
--- the greatest count that is told, 2^64 - 1: a greater one is told as this
+-- the greatest count that is told, of cells, assignments, deliveries and faults, and the greatest place in a stream, 2^64 - 1: a greater one is told as this
 abbrev pub count_limit : ℕ
 count_limit = 18446744073709551615
 
@@ -45,7 +45,7 @@ input_limit = 268435456
 abbrev pub assignment_limit : ℕ
 assignment_limit = 65536
 
--- the most cells of an agent's joined table in a narrow tree, 2^20
+-- the most cells of an agent's joined table in a narrow tree, 2^20; so the most of a table in a message, and the most that `--cells` takes
 abbrev pub joined_limit : ℕ
 joined_limit = 1048576
 

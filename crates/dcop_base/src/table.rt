@@ -7,6 +7,7 @@ ghost use Rattle.dcop_base.specs.Table.{CostTable, product, table_fault, IsTable
 
 use crate::limit::CAP;
 use crate::number::{Val, VarId};
+use crate::place::place_of;
 use crate::scope::repeats;
 use crate::sequence::{CellList, SizeList, VarList};
 use crate::size::{have_zero, product_of};
@@ -77,7 +78,7 @@ impl Table {
         let scope = self.scope.as_slice();
         let sizes = self.sizes.as_slice();
         let cells = self.cells.as_slice();
-        cells[place_of(scope, sizes, values)]
+        cells[place_at(scope, sizes, values)]
     }
 }
 
@@ -120,16 +121,14 @@ fn exceed_cap(cells: &[u64]) -> bool
 }
 
 /// The place of the cell at the values of the scope's variables.
-fn place_of(scope: &[VarId], sizes: &[u16], values: &[Val]) -> usize
+fn place_at(scope: &[VarId], sizes: &[u16], values: &[Val]) -> usize
     requires entries { All (λ v. v < length values.now) scope.now }
     requires sizes { AreWithin sizes.now (values_at scope.now values.now) }
     requires few { product sizes.now ≤ usize.MAX }
     ensures { result ≡ cell_place sizes.now (values_at scope.now values.now) }
 {
-    let mut place: usize = 0;
-    for (k, var) in scope.iter().enumerate() {
-        let value = values[var.0 as usize];
-        place = place * usize::from(sizes[k]) + usize::from(value.0);
-    }
-    place
+    place_of(scope.len(), |k| {
+        let var = scope[k];
+        (sizes[k], values[var.0 as usize])
+    })
 }

@@ -161,33 +161,6 @@ mod tests {
     use super::*;
     use std::test::Fail;
 
-    // Moves all bytes from a source to a sink, as a caller that knows only the traits.
-    fn pass<S: Source, K: Sink>(source: &mut S, sink: &mut K) -> Result<(), Failed> {
-        let mut block = [0; 3];
-        for _ in 0..9 {
-            let count = source.read(&mut block)?;
-            let mut at = 0;
-            for _ in 0..count {
-                if at < count {
-                    at += sink.write(&block[at..count])?;
-                }
-            }
-        }
-        sink.finish()
-    }
-
-    #[test]
-    fn passes_bytes_on(rt: HostRuntime) -> Result<(), Fail> {
-        let mut written = Vec::new(rt.alloc());
-        {
-            let mut source = StdSource::new(b"an answer\n".as_slice());
-            let mut sink = StdSink::new(&mut written);
-            assert_eq!(rt; pass(&mut source, &mut sink), Ok(()));
-        }
-        assert_eq!(rt; written.as_slice(), b"an answer\n".as_slice());
-        Ok(())
-    }
-
     #[test]
     fn refused_write_is_a_fault(rt: HostRuntime) {
         let mut room = [0; 2];

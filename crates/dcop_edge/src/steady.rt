@@ -151,14 +151,9 @@ mod tests {
 
     #[test]
     fn sink_keeps_what_fits_its_room(rt: HostRuntime) -> Result<(), Fail> {
-        let mut source = SteadySource::new(b"value 7\n".to_vec(rt.alloc())?);
-        let mut block = [0; 16];
-        assert_eq!(rt; source.read(&mut block), Ok(8));
-        let mut sink = SteadySink::with_room(rt.alloc(), 8)?;
-        assert_eq!(rt; sink.write(&block[..8]), Ok(8));
-        assert_eq!(rt; sink.finish(), Ok(()));
-        assert_eq!(rt; sink.bytes(), b"value 7\n".as_slice());
-        assert_eq!(rt; SteadySink::new(rt.alloc()).write(b"value 7\n"), Ok(8));
+        let mut sink = SteadySink::with_room(rt.alloc(), 4)?;
+        assert_eq!(rt; sink.write(b"kept"), Ok(4));
+        assert_eq!(rt; sink.bytes(), b"kept".as_slice());
         Ok(())
     }
 }

@@ -13,8 +13,6 @@
 mod goal;
 mod law;
 mod plain;
-#[cfg(test)]
-mod tests;
 mod tree_law;
 
 pub use dcop_base::MAX_ASSIGNMENTS;

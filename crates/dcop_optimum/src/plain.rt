@@ -6,7 +6,7 @@ ghost use Rattle.dcop_base.specs.Table.{product, cell_place, AreWithin};
 ghost use Rattle.dcop_base.specs.Problem.{cost, IsAssignment};
 ghost use Rattle.dcop_optimum.specs.Optimum.{assignment_count, IsOptimum, IsFirstOptimum};
 
-use dcop_base::{MAX_ASSIGNMENTS, NoMemory, Problem, Val, ValList, cost_of};
+use dcop_base::{MAX_ASSIGNMENTS, NoMemory, Problem, Val, ValList, cost_of, product_of};
 use std::alloc::{AllocError, Global};
 
 /// A best assignment, and what it costs.
@@ -104,11 +104,7 @@ fn try_all(problem: &Problem, values: &mut [Val], best: &mut [Val]) -> u64
 fn assignments_of(sizes: &[u16]) -> u64
     ensures { result ≡ min (product sizes.now) u64.MAX }
 {
-    let mut assignments: u64 = 1;
-    for size in sizes {
-        assignments = assignments.saturating_mul(u64::from(*size));
-    }
-    assignments
+    product_of(sizes) as u64
 }
 
 /// Puts the next assignment in lexicographic order in place of this one; behind the last one

@@ -2,7 +2,6 @@ mod ListLaws
 mod LinkLaws
 mod KindLaws
 mod InboxLaws
-mod StartedLaws
 mod DeliverLaws
 mod NearLaws
 mod ShownLaws
@@ -12,3 +11,7 @@ mod CountLaws
 mod RunLaws
 mod TurnLaws
 mod PlayLaws
+mod DeliveredLaws
+mod StopLaws
+mod RoundLaws
+mod PlayedOutLaws

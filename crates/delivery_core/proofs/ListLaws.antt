@@ -18,3 +18,7 @@ pub written_back : {A : Type 0} (n : ℕ) (new old : List A) → length new ≡ 
 written_back n new old p q =
     let e : length new ≡ length old = p ∙ sym q in
     ap (λ m. take n (new ++ drop m old)) e ∙ ap (λ zs. take n (new ++ zs)) (drop-length old) ∙ ap (λ zs. take n zs) (append-nil new) ∙ take_all n new (omega (arith, p))
+
+pub map-map : {X Y Z : Type 0} (g : Y → Z) (f : X → Y) (xs : List X) → map (λ x. g (f x)) xs ≡ map g (map f xs)
+map-map g f [] = refl
+map-map {X} {Y} {Z} g f (x ∷ xs) = ap (λ (zs : List Z). g (f x) ∷ zs) (map-map g f xs)

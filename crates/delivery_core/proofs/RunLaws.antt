@@ -2,26 +2,20 @@
 use Rattle.std.proofs.Common.{◌≡◌, ℕ, ◌+◌, ◌<◌, List, [], ◌∷◌, ◌++◌, take, length, get_or, Option, Some, None, refl, sym, ap, ◌∙◌}
 use Rattle.std.specs.List.{last_or}
 use Rattle.std.proofs.lemmas.List.{take_more, map-append}
-use Rattle.std.proofs.lemmas.List.Sums.{fold_push}
 use Rattle.dcop_base.specs.Problem.{Dcop}
 use Rattle.protocol_steps.specs.declared.message.Message.{Message}
 use Rattle.protocol_steps.specs.declared.event.Event.{Event}
 use Rattle.protocol_steps.specs.declared.event.EventFault.{EventFault}
 use Rattle.protocol_steps.specs.Network.{Network}
 use Rattle.protocol_steps.specs.Effect.{effect}
-use Rattle.protocol_steps.specs.Run.{event_fault, unless, happen, run}
+use Rattle.protocol_steps.specs.Run.{event_fault, run}
+use Rattle.protocol_steps.proofs.RunLaws.{run_push}
 use Rattle.delivery_core.specs.State.{CoreView, message_of, waiting_from, inbox_at}
 use Rattle.delivery_core.specs.NetworkState.{IsStateOf, letters_of}
 use Rattle.delivery_core.specs.Shown.{IsCore}
 use Rattle.delivery_core.proofs.ShownLaws.{waits_is, last_append}
 
--- one more lawful event of a run
-pub happens_next : (net : Network) (e : Event) → event_fault net e ≡ None → happen (Some net) e ≡ Some (effect net e)
-happens_next net e fine = ap (λ (f : Option EventFault). unless f (effect net e)) fine
-
-pub run_push : (first net : Network) (es : List Event) (e : Event) → run first es ≡ Some net → event_fault net e ≡ None → run first (es ++ e ∷ []) ≡ Some (effect net e)
-run_push first net es e so fine = fold_push happen (Some first) es e ∙ ap (λ (o : Option Network). happen o e) so ∙ happens_next net e fine
-
+-- a run by one more of its events
 pub run_more : (first net : Network) (es : List Event) (at : ℕ) (e : Event) → at < length es → e ≡ get_or es at e → run first (take at es) ≡ Some net → event_fault net e ≡ None
     → run first (take (at + 1) es) ≡ Some (effect net e)
 run_more first net es at e lt is so fine =

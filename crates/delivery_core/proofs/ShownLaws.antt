@@ -27,7 +27,7 @@ use Rattle.delivery_core.specs.Inboxes.{senders, without_next, take_off, letters
 use Rattle.delivery_core.specs.SeatEvents.{seat_after, seat_sends, deliver_all, seats_after, seat_fault, core_fault}
 use Rattle.delivery_core.specs.Shown.{IsRunning, Shows}
 use Rattle.delivery_core.proofs.NearLaws.{near_back}
-use Rattle.delivery_core.proofs.StartedLaws.{step_started, step_private}
+use Rattle.protocol_steps.proofs.StartedLaws.{step_started, step_private}
 use Rattle.delivery_core.proofs.InboxLaws.{map_link, with_lasts, from_of, link_off, link_kept, off_senders, kept_senders, letters_all, taken_of, none_of, asc_parts}
 use Rattle.delivery_core.proofs.DeliverLaws.{Delivered, delivered, inbox_set, seen_from}
 

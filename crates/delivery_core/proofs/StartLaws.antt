@@ -26,7 +26,7 @@ use Rattle.delivery_core.specs.Agents.{agents_of}
 use Rattle.delivery_core.specs.Starts.{agent_of, new_link, new_seat, sends_in, first_sends, IsFresh, Begun}
 use Rattle.delivery_core.specs.Shown.{IsRunning, Shows}
 use Rattle.delivery_core.proofs.NearLaws.{near_back}
-use Rattle.delivery_core.proofs.StartedLaws.{start_starts, start_private}
+use Rattle.protocol_steps.proofs.StartedLaws.{start_starts, start_private}
 use Rattle.delivery_core.proofs.DeliverLaws.{Delivered, delivered, inbox_set, seen_from}
 use Rattle.delivery_core.proofs.ShownLaws.{there_is}
 

@@ -25,7 +25,7 @@ use Rattle.delivery_core.proofs.NearLaws.{from_filter}
 use Rattle.delivery_core.proofs.ShownLaws.{view_there, waits_is, fault_same}
 use Rattle.delivery_core.proofs.ActLaws.{waits_of, seated}
 use Rattle.delivery_core.proofs.CountLaws.{counts, deliveries_after}
-use Rattle.delivery_core.proofs.RunLaws.{happens_next}
+use Rattle.protocol_steps.proofs.RunLaws.{happens_next}
 
 -- numbers that ascend, from b on
 abbrev AscFrom : ℕ → List ℕ → Type 0

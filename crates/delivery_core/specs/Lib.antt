@@ -9,3 +9,4 @@ pub mod SeatTurns
 pub mod Starts
 pub mod Kinds
 pub mod Shown
+pub mod PlayedOut

@@ -159,6 +159,19 @@ impl Agent {
         }
     }
 
+    /// What the agent has made: the UTIL table of a DPOP agent that has joined, and the place of a
+    /// token agent that has ended.
+    pub(crate) fn into_made(self) -> (Option<Table>, Option<Place>)
+        ensures table { result.0 ≡ table_of self }
+        ensures place { result.1 ≡ place_of self }
+    {
+        match self.kind {
+            Kind::Token(agent) => (None, agent.into_place()),
+            Kind::Dpop(agent) => (agent.into_table(), None),
+            Kind::Adopt(_) => (None, None),
+        }
+    }
+
     /// The UTIL table that a DPOP agent made.
     pub(crate) fn table(&self) -> Option<&Table>
         ensures { MatchOption result (table_of self.now ≡ None) (λ t. table_of self.now ≡ Some t.now) }

@@ -2,7 +2,8 @@
 //!
 //! [`replay`] runs a list of events, and refuses the first one that is not lawful; [`play`] makes
 //! the events itself, in rounds, until all agents have ended or a budget of deliveries is spent.
-//! Both end in a [`CoreState`], which is the network state at the end of that run.
+//! Both end in a [`CoreState`], which is the network state at the end of that run. [`play_out`]
+//! plays the same rounds, and hands on what the agents have come to.
 #![tactic(auto)]
 
 mod agent;
@@ -10,6 +11,7 @@ mod deliver;
 mod inbox;
 mod lawful;
 mod link;
+mod outcome;
 mod replaying;
 mod seat;
 mod start;
@@ -21,4 +23,4 @@ mod turn;
 pub use replaying::{ReplayFault, replay};
 pub use start::Start;
 pub use state::CoreState;
-pub use turn::{Played, play};
+pub use turn::{Played, play, play_out};

@@ -57,6 +57,13 @@ impl Seat {
         &self.agent
     }
 
+    /// The agent alone.
+    pub(crate) fn into_agent(self) -> Agent
+        ensures { result ≡ self.view }
+    {
+        self.agent
+    }
+
     /// What it was sent.
     pub(crate) fn links(&self) -> &[Link]
         ensures { result.now ≡ self.now.inbox }

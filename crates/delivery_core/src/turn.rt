@@ -1,17 +1,19 @@
 //! Playing in rounds.
 
-ghost use Rattle.std.specs.Prelude.{◌≡◌, ◌<◌, ◌≤◌, [], length, IfOk, OnOk};
-ghost use Rattle.dcop_base.specs.Limits.{variable_limit};
-ghost use Rattle.delivery_core.specs.Agents.{IsStartFor, network_of};
+ghost use Rattle.std.specs.Prelude.{◌≡◌, ◌<◌, ◌≤◌, ◌++◌, length, IfOk, OnOk};
+ghost use Rattle.dcop_base.specs.Limits.{variable_limit, budget_limit};
+ghost use Rattle.delivery_core.specs.Agents.{IsStartFor, agents_of, network_of};
 ghost use Rattle.delivery_core.specs.Turns.{IsPlayed};
 ghost use Rattle.delivery_core.specs.Shown.{IsSomeCore};
-ghost use Rattle.delivery_core.specs.SeatTurns.{is_over, TakesTurn, PlaysRound, PlaysOut};
+ghost use Rattle.delivery_core.specs.PlayedOut.{IsPlayedOut};
+ghost use Rattle.delivery_core.specs.SeatTurns.{is_over, kept_if, TakesTurn, PlaysRound, PlaysOut};
 
+use crate::outcome::outcome_of;
 use crate::replaying::begin;
 use crate::start::Start;
 use crate::state::CoreState;
-use dcop_base::{MAX_VARIABLES, NoMemory, Problem, Sequence, VarId};
-use protocol_steps::{Event, EventList};
+use dcop_base::{MAX_VARIABLES, NoMemory, Problem, Sequence, VarId, problem_is_whole};
+use protocol_steps::{Event, EventList, Outcome};
 use std::alloc::Global;
 
 /// What was played.
@@ -67,29 +69,42 @@ fn is_over(state: &CoreState, budget: u64) -> bool
     state.all_ended() || state.deliveries() >= budget
 }
 
-/// Plays rounds until playing stops.
+/// The events, and after them those of one more round, where events are kept.
+fn keep_round(kept: &mut Vec<Event>, events: Vec<Event>, keep: bool) -> Result<(), NoMemory>
+    ensures { OnOk result (kept.new.items ≡ kept.old.items ++ kept_if keep events.items) }
+{
+    if keep {
+        for event in events {
+            kept.push(event)?;
+        }
+    }
+    Ok(())
+}
+
+/// Plays rounds until playing stops. Gives what happened, where events are kept, and else nothing.
 fn play_rounds(
     alloc: Global,
     state: &mut CoreState,
     budget: u64,
-    events: &mut Vec<Event>,
-) -> Result<(), NoMemory>
+    keep: bool,
+) -> Result<Vec<Event>, NoMemory>
     requires core { IsSomeCore state.old }
     requires few { length state.old.seats ≤ variable_limit }
-    requires empty { events.old.items ≡ [] }
-    ensures { OnOk result (PlaysOut budget state.old state.new events.new.items) }
+    ensures { IfOk result (λ kept. PlaysOut budget keep state.old state.new kept.items) }
 {
+    let mut kept = Vec::new(alloc);
     for _ in 0..budget {
         if is_over(state, budget) {
-            return Ok(());
+            return Ok(kept);
         }
-        let before = events.len();
-        play_round(alloc, state, events)?;
-        if events.len() == before {
-            return Ok(());
+        let mut events = Vec::new(alloc);
+        play_round(alloc, state, &mut events)?;
+        if events.is_empty() {
+            return Ok(kept);
         }
+        keep_round(&mut kept, events, keep)?;
     }
-    Ok(())
+    Ok(kept)
 }
 
 /// Plays the agents in rounds from the start state. In a round the agents come in ascending order,
@@ -108,10 +123,31 @@ pub fn play(alloc: Global, problem: &Problem, start: Start, budget: u64) -> Resu
     ensures size { IfOk result (λ played. length played.state.seats ≡ length problem.now.sizes) }
 {
     let mut state = begin(alloc, problem, &start)?;
-    let mut events = Vec::new(alloc);
-    play_rounds(alloc, &mut state, budget, &mut events)?;
+    let events = play_rounds(alloc, &mut state, budget, true)?;
     Ok(Played {
         state,
         events: Sequence::from_vec(events),
     })
+}
+
+/// Plays the agents as [`play`] does, and tells what they have come to. No event is kept. The
+/// budget is at most 10,000,000.
+///
+/// # Errors
+///
+/// [`NoMemory`] where memory was wanted and not had.
+pub fn play_out(
+    alloc: Global,
+    problem: &Problem,
+    start: Start,
+    budget: u64,
+) -> Result<Outcome, NoMemory>
+    requires start { IsStartFor problem.now start }
+    requires budget { budget ≤ budget_limit }
+    ensures { IfOk result (IsPlayedOut budget (agents_of problem.now start)) }
+{
+    problem_is_whole(problem);
+    let mut state = begin(alloc, problem, &start)?;
+    play_rounds(alloc, &mut state, budget, false)?;
+    outcome_of(alloc, state)
 }

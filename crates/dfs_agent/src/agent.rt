@@ -4,7 +4,7 @@ ghost use Rattle.std.specs.Prelude.{◌≡◌, ℕ, true, false, [], ◌↔◌, 
 ghost use Rattle.std.specs.List.{All, Contains};
 ghost use Rattle.protocol_steps.specs.declared.message.Message.TheVariants.{Token, Done};
 ghost use Rattle.protocol_steps.specs.Ranges.{AreVariables};
-ghost use Rattle.protocol_steps.specs.Token.{new_token};
+ghost use Rattle.protocol_steps.specs.Token.{new_token, token_place};
 ghost use Rattle.protocol_steps.specs.TokenStep.{look, pass_on, takes_token, takes_done, token_message, token_start, token_step};
 ghost use Rattle.protocol_steps.specs.View.{TokenKind};
 ghost use Rattle.protocol_steps.specs.Laws.{IsParentBeside};
@@ -72,6 +72,23 @@ impl TokenAgent {
             path: VarList::from_vec(Vec::new(alloc)),
             kept: Vec::new(alloc),
         })
+    }
+
+    /// The place that the agent found; `None` exactly before it has ended.
+    pub fn into_place(self) -> Option<Place>
+        ensures { result ≡ token_place self }
+    {
+        let TokenAgent {
+            alloc: _,
+            own: _,
+            stage,
+            path: _,
+            kept: _,
+        } = self;
+        match stage {
+            Stage::Ended { place } => Some(place),
+            _ => None,
+        }
     }
 
     /// Sends the token on to the lowest neighbour that was not visited, or ends the search.

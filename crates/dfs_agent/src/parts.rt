@@ -11,7 +11,7 @@ ghost use Rattle.dfs_agent.specs.Search.{sent};
 ghost use Rattle.dfs_agent.specs.Sound.{AreOthers};
 
 use crate::visited::lower_of;
-use dcop_base::{MAX_VARIABLES, NoMemory, Private, SizeList, VarId, VarList};
+use dcop_base::{NoMemory, Private, SizeList, VarId, VarList};
 use protocol_steps::{Message, Parcel};
 use pseudotree::Place;
 use std::alloc::Global;

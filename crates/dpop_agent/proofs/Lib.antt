@@ -7,6 +7,5 @@ pub mod ParcelLaws
 pub mod AgentLaws
 pub mod RangeLaws
 pub mod BatchLaws
-mod StartedLaws
 pub mod RemakeLaws
 pub mod TakeLaws

@@ -18,12 +18,11 @@ ghost use Rattle.dpop_agent.specs.Deed.{Gives, IsRunning};
 
 use crate::child::{are_sized, table_of, util_for};
 use crate::joint::joined_of;
-use crate::kept::found_in;
 use crate::stage::Stage;
 use crate::util::{best_of, util_of};
 use crate::values::values_for;
 use adopt_context::AgentContext;
-use dcop_base::{NoMemory, Private, Table, Val, VarId};
+use dcop_base::{NoMemory, Private, Table, Val, VarId, position_of};
 use protocol_steps::{Batch, Letter, Machine, Message, Outbox, Parcel, Standing};
 use pseudotree::Place;
 use std::alloc::Global;
@@ -36,11 +35,15 @@ use std::marker::Model;
 #[derive(Debug, Drop)]
 pub struct DpopAgent {
     alloc: Global,
+    /// What it knows of the problem.
     own: Private,
     place: Place,
     stage: Stage,
+    /// The table of each child, in the order of the children, where it has come.
     kept: Vec<Option<Table>>,
+    /// The joined table, from when it is made until the value is taken.
     joined: Option<Table>,
+    /// The UTIL table, projected from the joined one.
     made: Option<Table>,
     value: Val,
 }
@@ -79,6 +82,13 @@ impl DpopAgent {
             made: None,
             value: Val(0),
         })
+    }
+
+    /// The UTIL table that the agent made; `None` exactly before it has joined.
+    pub fn into_table(self) -> Option<Table>
+        ensures { result ≡ self.made }
+    {
+        self.made
     }
 
     /// Takes the best value at these values, tells the children, and ends. Without a joined table
@@ -150,7 +160,7 @@ impl DpopAgent {
         ensures gives { IfOk result (λ ps.
             Gives (dpop_message self.old from (Util scope.now cells.now)) self.new ps.items) }
     {
-        let Some(child) = found_in(self.place.children.as_slice(), from) else {
+        let Some(child) = position_of(self.place.children.as_slice(), from) else {
             return Ok(Vec::new(self.alloc));
         };
         let kept = self.kept.as_slice();

@@ -15,10 +15,10 @@ ghost use Rattle.dpop_agent.specs.Keeping.{keeping};
 ghost use Rattle.dpop_agent.specs.Sound.{IsKeeper};
 ghost use Rattle.dpop_agent.specs.Deed.{IsTaken, parcels_up};
 
-use crate::kept::stands_in;
-use crate::separator::{size_beside, sizes_of, variables_with};
+use crate::separator::{sizes_of, variables_with};
+use adopt_context::size_beside;
 use cost_table::cells_of;
-use dcop_base::{CellList, NoMemory, Private, SizeList, Table, Val, VarId, VarList};
+use dcop_base::{CellList, NoMemory, Private, SizeList, Table, Val, VarId, VarList, stands_in};
 use protocol_steps::{Message, Parcel};
 use pseudotree::{MAX_JOINED_CELLS, Place};
 use std::alloc::Global;

@@ -9,9 +9,9 @@ ghost use Rattle.dpop_agent.specs.Keeping.{keeping};
 ghost use Rattle.dpop_agent.specs.Joint.{HasGained, IsZeroOver, IsZeroWhereNarrow, IsJointWhereMay};
 ghost use Rattle.dpop_agent.specs.Sound.{IsKeeper};
 
-use crate::kept::{are_all_there, stands_in};
+use crate::kept::are_all_there;
 use crate::separator::{sizes_of, variables_with};
-use dcop_base::{NoMemory, Private, SizeList, Table, VarId, VarList};
+use dcop_base::{NoMemory, Private, SizeList, Table, VarId, VarList, stands_in};
 use pseudotree::Place;
 use std::alloc::Global;
 use util_join::{JoinFault, Joined};

@@ -11,7 +11,7 @@ ghost use Rattle.protocol_steps.specs.Dpop.{there};
 
 use crate::util::value_of;
 use adopt_context::AgentContext;
-use dcop_base::{MAX_SIZE, MAX_VARIABLES, NoMemory, Table, Val, VarId};
+use dcop_base::{NoMemory, Table, Val, VarId};
 use protocol_steps::{Message, Parcel};
 use std::alloc::Global;
 

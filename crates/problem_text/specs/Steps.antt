@@ -1,5 +1,6 @@
 -- What the reader gives, line by line and of a whole text, beside what the text says. Want of memory says nothing.
 use Rattle.std.specs.Prelude.{◌≡◌, ◌<◌, ℕ, List, length, Result, Ok, Err}
+use Rattle.problem_text.specs.declared.fault.TextKind.{TextKind}
 use Rattle.problem_text.specs.declared.line_end.LineEnd.{LineEnd}
 use Rattle.problem_text.specs.declared.reader.Step.{Step}
 use Rattle.problem_text.specs.declared.reader.Step.TheVariants as steps
@@ -12,7 +13,7 @@ use Rattle.problem_text.specs.Declarations.{Declared, Outcome, Declares, Ends}
 use Rattle.problem_text.specs.Reading.{text_read}
 
 -- a step of a draft beside the line's outcome; a text ends with a variable at least
-abbrev pub IsStep : Declared → Result Step LineEnd → Outcome → Type 0
+abbrev pub IsStep : Declared → Result Step (LineEnd TextKind) → Outcome → Type 0
 IsStep d (Ok (steps.Declares more)) outcome = outcome ≡ Declares more
 IsStep d (Ok (steps.Ends same)) outcome = (outcome ≡ Ends) × (same ≡ d) × (0 < length d.sizes)
 IsStep d (Err e) outcome = line_ends.Ends e outcome

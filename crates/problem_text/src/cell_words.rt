@@ -1,8 +1,8 @@
 //! Cells among the words of a line.
 
-ghost use Rattle.std.specs.Prelude.{◌≡◌, ◌<◌, ℕ, List, Some, length, ◌^◌, ◌-◌, ◌≤◌, min, IfOk, IfErr, IfSome};
+ghost use Rattle.std.specs.Prelude.{◌≡◌, ◌<◌, ℕ, List, Some, length, ◌^◌, ◌-◌, ◌≤◌, IfOk, IfErr, IfSome};
 ghost use Rattle.std.specs.Option.{option_map};
-ghost use Rattle.dcop_base.specs.Table.{CostTable, product};
+ghost use Rattle.dcop_base.specs.Table.{CostTable};
 ghost use Rattle.problem_text.specs.Lines.{words};
 ghost use Rattle.problem_text.specs.LineEnds.{Ends};
 ghost use Rattle.problem_text.specs.Declarations.{Declared};
@@ -13,7 +13,7 @@ use crate::draft::Draft;
 use crate::fault::TextKind;
 use crate::line_end::LineEnd;
 use crate::word::next_word;
-use dcop_base::{CAP, MAX_CELLS, MAX_COST, number_of_word};
+use dcop_base::{CAP, MAX_CELLS, MAX_COST, number_of_word, product_of};
 use std::alloc::Global;
 
 /// How many cells there are, and the greatest, 0 of none.
@@ -49,7 +49,7 @@ pub fn fault_of(draft: &Draft, sizes: &[u16], cells: &Summary) -> Option<TextKin
 {
     let count = cells.count;
     let greatest = cells.greatest;
-    if count != product_of(sizes) {
+    if count != product_of(sizes) as u64 {
         return Some(TextKind::Problem { number: 6 });
     }
     if greatest > MAX_COST {
@@ -64,19 +64,8 @@ pub fn fault_of(draft: &Draft, sizes: &[u16], cells: &Summary) -> Option<TextKin
     None
 }
 
-/// The product of the sizes, or `u64::MAX` where it is more.
-pub fn product_of(sizes: &[u16]) -> u64
-    ensures { result ≡ min (product sizes.now) u64.MAX }
-{
-    let mut product: u64 = 1;
-    for size in sizes {
-        product = product.saturating_mul(u64::from(*size));
-    }
-    product
-}
-
 /// The cells that the words of a text write, of which there are so many.
-pub fn cells_of(alloc: Global, text: &[u8], count: usize) -> Result<Vec<u64>, LineEnd>
+pub fn cells_of(alloc: Global, text: &[u8], count: usize) -> Result<Vec<u64>, LineEnd<TextKind>>
     ensures found { IfOk result (λ v. numbers_of (words text.now) ≡ Some v.items) }
     ensures bad { (d : Declared) → (scope : List ℕ)
         → IfErr result (λ e. Ends e (with_cells d scope (numbers_of (words text.now)))) }

@@ -21,8 +21,6 @@ mod names;
 mod numbered;
 mod plain_line;
 mod reader;
-#[cfg(test)]
-mod reader_tests;
 mod scope_words;
 mod table_line;
 #[cfg(test)]
@@ -32,17 +30,17 @@ mod word;
 mod word_line;
 
 pub use canonical::{write_cells, write_goal, write_problem, write_scope};
-pub use cell_words::product_of;
 pub use dcop_base::MAX_NAME;
 pub use edited::{Edited, EditedList};
 pub use fault::{ReportFault, ReportKind, TextFault, TextKind};
 pub use file::{Goal, LabelList, ProblemFile, ReadFile};
 pub use line::{CR, HASH, LF, line_behind};
+pub use line_end::LineEnd;
 pub use name::is_name;
 pub use name_word::name_of;
 pub use names::{Labels, NameSet, Names};
 pub use plain_line::{PlainLine, next_plain_line};
 pub use reader::read_problem;
-pub use scope_words::{past_colon, repeats, sizes_of, variable_of_word};
+pub use scope_words::{past_colon, variable_of_word};
 pub use word::{is_word, next_word};
 pub use word_line::{WordLine, next_line};

@@ -1,22 +1,21 @@
 //! Why the reading of a line ends early.
 
-use crate::fault::TextKind;
+ghost use Rattle.std.specs.Prelude.{◌≡◌};
+ghost use Rattle.problem_text.specs.declared.line_end.LineEnd.TheVariants.{NoMemory as no_memory};
+
 use dcop_base::NoMemory;
 use std::alloc::{AllocError, AllocFailed};
 
-/// Why nothing comes of a line.
-#[derive(Clone, Copy, Debug, PartialEq, Eq)]
-pub enum LineEnd {
+/// Why nothing comes of a line, where a fault is told by its kind.
+#[derive(Clone, Copy, Debug)]
+pub enum LineEnd<K> {
     /// The line's first fault.
-    Fault(TextKind),
+    Fault(K),
     /// Memory was wanted and not had.
     NoMemory,
 }
 
-impl From<NoMemory> for LineEnd {
-    ghost use Rattle.std.specs.Prelude.{◌≡◌};
-    ghost use Rattle.problem_text.specs.declared.line_end.LineEnd.TheVariants.{NoMemory as no_memory};
-
+impl<K> From<NoMemory> for LineEnd<K> {
     ghost from_gives = { λ _ e. e ≡ no_memory };
 
     fn from(_refused: NoMemory) -> Self {
@@ -24,10 +23,7 @@ impl From<NoMemory> for LineEnd {
     }
 }
 
-impl From<AllocError> for LineEnd {
-    ghost use Rattle.std.specs.Prelude.{◌≡◌};
-    ghost use Rattle.problem_text.specs.declared.line_end.LineEnd.TheVariants.{NoMemory as no_memory};
-
+impl<K> From<AllocError> for LineEnd<K> {
     ghost from_gives = { λ _ e. e ≡ no_memory };
 
     fn from(_refused: AllocError) -> Self {
@@ -35,10 +31,7 @@ impl From<AllocError> for LineEnd {
     }
 }
 
-impl<T: Drop> From<AllocFailed<T>> for LineEnd {
-    ghost use Rattle.std.specs.Prelude.{◌≡◌};
-    ghost use Rattle.problem_text.specs.declared.line_end.LineEnd.TheVariants.{NoMemory as no_memory};
-
+impl<K, T: Drop> From<AllocFailed<T>> for LineEnd<K> {
     ghost from_gives = { λ _ e. e ≡ no_memory };
 
     fn from(_refused: AllocFailed<T>) -> Self {

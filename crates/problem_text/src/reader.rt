@@ -32,7 +32,7 @@ pub enum Step {
 }
 
 /// The step of a line with words, behind so many others.
-fn step_of(alloc: Global, draft: Draft, before: u64, text: &[u8]) -> Result<Step, LineEnd>
+fn step_of(alloc: Global, draft: Draft, before: u64, text: &[u8]) -> Result<Step, LineEnd<TextKind>>
     ensures { IsStep draft result (line_outcome before draft (words text.now)) }
 {
     if before > 0 {
@@ -45,7 +45,12 @@ fn step_of(alloc: Global, draft: Draft, before: u64, text: &[u8]) -> Result<Step
 }
 
 /// The step of a line behind the header.
-fn later_step(alloc: Global, draft: Draft, is_second: bool, text: &[u8]) -> Result<Step, LineEnd>
+fn later_step(
+    alloc: Global,
+    draft: Draft,
+    is_second: bool,
+    text: &[u8],
+) -> Result<Step, LineEnd<TextKind>>
     ensures { IsStep draft result (later_line is_second draft (words text.now)) }
 {
     let Some((first, further)) = next_word(text) else {
@@ -67,7 +72,7 @@ fn later_step(alloc: Global, draft: Draft, is_second: bool, text: &[u8]) -> Resu
 }
 
 /// The draft with the variable that the words behind `var` declare.
-fn with_variable(alloc: Global, draft: Draft, text: &[u8]) -> Result<Draft, LineEnd>
+fn with_variable(alloc: Global, draft: Draft, text: &[u8]) -> Result<Draft, LineEnd<TextKind>>
     ensures { Gives (λ d. Declares d) result (lines.var_line draft (words text.now)) }
 {
     let variable = variable_of(alloc, &draft, text)?;
@@ -75,7 +80,7 @@ fn with_variable(alloc: Global, draft: Draft, text: &[u8]) -> Result<Draft, Line
 }
 
 /// The draft with the table that the words behind `table` declare.
-fn with_table(alloc: Global, draft: Draft, text: &[u8]) -> Result<Draft, LineEnd>
+fn with_table(alloc: Global, draft: Draft, text: &[u8]) -> Result<Draft, LineEnd<TextKind>>
     ensures { Gives (λ d. Declares d) result (table_line draft (words text.now)) }
 {
     let (table, told) = table_of(alloc, &draft, text)?;
@@ -83,7 +88,7 @@ fn with_table(alloc: Global, draft: Draft, text: &[u8]) -> Result<Draft, LineEnd
 }
 
 /// The draft with the goal that the words behind `goal` name.
-fn with_goal(draft: Draft, is_second: bool, text: &[u8]) -> Result<Draft, LineEnd>
+fn with_goal(draft: Draft, is_second: bool, text: &[u8]) -> Result<Draft, LineEnd<TextKind>>
     requires { draft.version ≡ 2 }
     ensures { Gives (λ d. Declares d) result (lines.goal_line is_second draft (words text.now)) }
 {
@@ -97,7 +102,7 @@ fn with_goal(draft: Draft, is_second: bool, text: &[u8]) -> Result<Draft, LineEn
 }
 
 /// The step of the line `end`, by the words behind it.
-fn ended(draft: Draft, text: &[u8]) -> Result<Step, LineEnd>
+fn ended(draft: Draft, text: &[u8]) -> Result<Step, LineEnd<TextKind>>
     ensures { IsStep draft result (lines.end_line draft (words text.now)) }
 {
     if next_word(text).is_some() {

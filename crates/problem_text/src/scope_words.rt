@@ -1,9 +1,8 @@
 //! Scopes among the words of a line.
 
-ghost use Rattle.std.specs.Prelude.{◌≡◌, ◌<◌, true, false, ℕ, List, Some, length, map, position, slice_index, MatchOption, IfOk, IfErr, IfSome};
-ghost use Rattle.std.specs.List.{list_any, list_all, before_first, after_first, All};
+ghost use Rattle.std.specs.Prelude.{◌≡◌, true, false, ℕ, List, Some, length, position, MatchOption, IfOk, IfErr, IfSome};
+ghost use Rattle.std.specs.List.{list_any, list_all, before_first, after_first};
 ghost use Rattle.std.specs.Str.{bytes_eq};
-ghost use Rattle.dcop_base.specs.Table.{has, has_repeat};
 ghost use Rattle.problem_text.specs.Lines.{words};
 ghost use Rattle.problem_text.specs.LineEnds.{Ends};
 ghost use Rattle.problem_text.specs.Name.{is_name as is_name_of};
@@ -15,7 +14,7 @@ use crate::line_end::LineEnd;
 use crate::name_word::name_of;
 use crate::names::Names;
 use crate::word::{is_word, next_word};
-use dcop_base::{MAX_SCOPE, NoMemory, VarId};
+use dcop_base::{MAX_SCOPE, VarId};
 use std::alloc::Global;
 
 /// How many words stand before the first `:`, and what stands behind it; `None` exactly where
@@ -46,7 +45,7 @@ pub fn most_names(version: u8) -> usize
 }
 
 /// The variables that the words before the first `:` name.
-pub fn scope_of(alloc: Global, names: &Names, text: &[u8]) -> Result<Vec<VarId>, LineEnd>
+pub fn scope_of(alloc: Global, names: &Names, text: &[u8]) -> Result<Vec<VarId>, LineEnd<TextKind>>
     requires { list_all is_name_of names.now ≡ true }
     ensures found { IfOk result
         (λ v. named_by names.now (before_first is_colon (words text.now)) ≡ Some v.items) }
@@ -77,37 +76,4 @@ pub fn variable_of_word(names: &Names, word: &[u8]) -> Option<VarId>
         Some(name) => names.find(name),
         None => None,
     }
-}
-
-/// Whether a variable stands twice.
-pub fn repeats(scope: &[VarId]) -> bool
-    ensures { result ≡ has_repeat scope.now }
-{
-    let mut rest = scope;
-    while let Some((first, later)) = rest.split_first() {
-        if stands_in(later, *first) {
-            return true;
-        }
-        rest = later;
-    }
-    false
-}
-
-fn stands_in(vars: &[VarId], sought: VarId) -> bool
-    ensures { result ≡ has vars.now sought }
-{
-    vars.iter().any(|var| *var == sought)
-}
-
-/// The sizes of the variables of a scope.
-pub fn sizes_of(alloc: Global, sizes: &[u16], scope: &[VarId]) -> Result<Vec<u16>, NoMemory>
-    requires { All (λ v. v < length sizes.now) scope.now }
-    ensures { IfOk result (λ v. v.items ≡ map (λ v. slice_index sizes.now v) scope.now) }
-{
-    let mut own = Vec::with_capacity(alloc, scope.len())?;
-    for var in scope {
-        let place = *var;
-        own.push(sizes[place.0 as usize])?;
-    }
-    Ok(own)
 }

@@ -12,12 +12,16 @@ use crate::cell_words::{Summary, cells_of, fault_of, summary_of};
 use crate::draft::Draft;
 use crate::fault::TextKind;
 use crate::line_end::LineEnd;
-use crate::scope_words::{most_names, past_colon, repeats, scope_of, sizes_of};
-use dcop_base::{CellList, SizeList, Table, VarId, VarList};
+use crate::scope_words::{most_names, past_colon, scope_of};
+use dcop_base::{CellList, Table, VarId, VarList, repeats, sizes_of};
 use std::alloc::Global;
 
 /// The table that the words behind `table` declare, and what is told of its cells.
-pub fn table_of(alloc: Global, draft: &Draft, text: &[u8]) -> Result<(Table, Summary), LineEnd>
+pub fn table_of(
+    alloc: Global,
+    draft: &Draft,
+    text: &[u8],
+) -> Result<(Table, Summary), LineEnd<TextKind>>
     ensures gives { GivesTable draft.now result (lines.table_line draft.now (words text.now)) }
     ensures told { IfOk result (λ r. summary r.0.cells ≡ r.1) }
     ensures sound { IfOk result (λ r. lines.cells_fault draft.now.tables r.0 ≡ None) }
@@ -41,7 +45,7 @@ fn table_with(
     draft: &Draft,
     scope: Vec<VarId>,
     text: &[u8],
-) -> Result<(Table, Summary), LineEnd>
+) -> Result<(Table, Summary), LineEnd<TextKind>>
     requires within { All (λ v. v < length draft.now.sizes) scope.items }
     requires apart { has_repeat scope.items ≡ false }
     ensures gives { GivesTable draft.now result
@@ -59,7 +63,7 @@ fn table_with(
     let cells = cells_of(alloc, text, summary.count as usize)?;
     let table = Table {
         scope: VarList::from_vec(scope),
-        sizes: SizeList::from_vec(sizes),
+        sizes,
         cells: CellList::from_vec(cells),
     };
     Ok((table, summary))

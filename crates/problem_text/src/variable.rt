@@ -28,7 +28,7 @@ pub fn variable_of<'a>(
     alloc: Global,
     draft: &Draft,
     text: &'a [u8],
-) -> Result<Variable<'a>, LineEnd>
+) -> Result<Variable<'a>, LineEnd<TextKind>>
     ensures gives { GivesVariable draft.now result (lines.var_line draft.now (words text.now)) }
     ensures fresh { IfOk result (λ v. is_among draft.now.names v.name.now ≡ false) }
 {
@@ -51,7 +51,7 @@ fn valued<'a>(
     draft: &Draft,
     name: &'a [u8],
     values: &[u8],
-) -> Result<Variable<'a>, LineEnd>
+) -> Result<Variable<'a>, LineEnd<TextKind>>
     ensures gives { GivesVariable draft.now result
         (lines.with_values draft.now name.now (words values.now)) }
     ensures fresh { IfOk result (λ v. is_among draft.now.names v.name.now ≡ false) }
@@ -79,7 +79,7 @@ fn sized<'a>(
     name: &'a [u8],
     size: &[u8],
     further: &[u8],
-) -> Result<Variable<'a>, LineEnd>
+) -> Result<Variable<'a>, LineEnd<TextKind>>
     ensures gives { GivesVariable draft.now result
         (lines.with_size draft.now name.now size.now (words further.now)) }
     ensures fresh { IfOk result (λ v. is_among draft.now.names v.name.now ≡ false) }
@@ -105,7 +105,7 @@ fn sized<'a>(
 }
 
 /// A further variable's size, behind so many variables.
-fn size_of(many: usize, size: u64) -> Result<u16, LineEnd>
+fn size_of(many: usize, size: u64) -> Result<u16, LineEnd<TextKind>>
     ensures { (d : Declared) → (name : List ℕ) → (values : List (List ℕ)) → length d.sizes ≡ many
         → Gives (λ s. Declares (with_variable d name values s)) result (lines.variable d name values size) }
 {

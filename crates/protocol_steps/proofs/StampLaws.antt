@@ -25,10 +25,10 @@ use Rattle.protocol_steps.proofs.AccountLaws.{within, Later, sent_later, taken_l
 abbrev pub after_one : (ℕ → Account) → Deed → ℕ → Account
 after_one now d i = fold do_one (now i) (own_deed i d)
 
-same_after : (now : ℕ → Account) (d : Deed) (ds : List Deed) → after_all (after_one now d) ds ≡ after_all now (d ∷ ds)
+pub same_after : (now : ℕ → Account) (d : Deed) (ds : List Deed) → after_all (after_one now d) ds ≡ after_all now (d ∷ ds)
 same_after now d ds = fun_ext (λ i. sym (fold-append do_one (now i) (own_deed i d) (deeds_of i ds)))
 
-same_pieces : (now : ℕ → Account) (ds es : List Deed) → after_all (after_all now ds) es ≡ after_all now (ds ++ es)
+pub same_pieces : (now : ℕ → Account) (ds es : List Deed) → after_all (after_all now ds) es ≡ after_all now (ds ++ es)
 same_pieces now ds es = fun_ext (λ i.
     sym (fold-append do_one (now i) (deeds_of i ds) (deeds_of i es)) ∙ ap (λ (all : List Deed). fold do_one (now i) all) (sym (flat_map-append (own_deed i) ds es)))
 
@@ -43,7 +43,7 @@ own_account : (now : ℕ → Account) (d : Deed) (ds : List Deed) → after_all 
 own_account now d ds = ap (λ (own : Bool). fold do_one (now d.agent) ((if own then d ∷ [] else []) ++ deeds_of d.agent ds)) (eq-eqb d.agent d.agent refl)
 
 -- what an activation takes is the first part of what waits
-next_prefix : (now : ℕ → Account) (d : Deed) (ds : List Deed) (j : ℕ) → (before : IsPrefix (gained_from j (now d.agent).gains) (posted_to d.agent (now j).posted))
+pub next_prefix : (now : ℕ → Account) (d : Deed) (ds : List Deed) (j : ℕ) → (before : IsPrefix (gained_from j (now d.agent).gains) (posted_to d.agent (now j).posted))
     → d.stamp ≡ max (now d.agent).stamp (greatest_of d.gains) + 1 → ByStampFrom d.stamp ds → TakenIsPrefix (after_all now (d ∷ ds)) → IsPrefix (gained_from j d.gains) before.0
 next_prefix now d ds j before right sorted after =
     let i : ℕ = d.agent in
@@ -66,7 +66,7 @@ next_prefix now d ds j before right sorted after =
     (high_posted i d.stamp l.more l.high)
 
 -- after an activation, what was taken is still a first part of what was sent
-still_prefix : (now : ℕ → Account) (d : Deed) → TakenIsPrefix now → ((j : ℕ) → IsPrefix (gained_from j ((now d.agent).gains ++ d.gains)) (posted_to d.agent (now j).posted)) → TakenIsPrefix (after_one now d)
+pub still_prefix : (now : ℕ → Account) (d : Deed) → TakenIsPrefix now → ((j : ℕ) → IsPrefix (gained_from j ((now d.agent).gains ++ d.gains)) (posted_to d.agent (now j).posted)) → TakenIsPrefix (after_one now d)
 still_prefix now d before own i j =
     let taken : IsPrefix (gained_from j (after_one now d i).gains) (posted_to i (now j).posted) = elim (cases_Bool (d.agent == i)) [
       | inl mine ↦
@@ -132,7 +132,7 @@ desks_after desks now d j x at own =
     ])
 
 -- a first part, and then more of what is left
-longer_prefix : (j : ℕ) (gs hs : List Gain) (all : List (ℕ × Message)) (before : IsPrefix (gained_from j gs) all) → IsPrefix (gained_from j hs) before.0 → IsPrefix (gained_from j (gs ++ hs)) all
+pub longer_prefix : (j : ℕ) (gs hs : List Gain) (all : List (ℕ × Message)) (before : IsPrefix (gained_from j gs) all) → IsPrefix (gained_from j hs) before.0 → IsPrefix (gained_from j (gs ++ hs)) all
 longer_prefix j gs hs all before next = (
   next.0,
   ap (λ (es : List (ℕ × Message)). es ++ next.0) (flat_map-append (gain_from j) gs hs)
@@ -186,7 +186,7 @@ one_deed n net now d ds shows before deed sorted after =
     }
 
 -- what the account of each agent allows, after one activation
-deeds_next : (n : ℕ) (now : ℕ → Account) (d : Deed) (ds : List Deed) (i : ℕ) → AreDeeds n (now i) (deeds_of i (d ∷ ds)) → AreDeeds n (after_one now d i) (deeds_of i ds)
+pub deeds_next : (n : ℕ) (now : ℕ → Account) (d : Deed) (ds : List Deed) (i : ℕ) → AreDeeds n (now i) (deeds_of i (d ∷ ds)) → AreDeeds n (after_one now d i) (deeds_of i ds)
 deeds_next n now d ds i h = elim (cases_Bool (d.agent == i)) [
   | inl mine ↦
       let mine_h : AreDeeds n (now i) (d ∷ deeds_of i ds) = subst (λ (b : Bool). AreDeeds n (now i) ((if b then d ∷ [] else []) ++ deeds_of i ds)) mine h in
@@ -196,7 +196,7 @@ deeds_next n now d ds i h = elim (cases_Bool (d.agent == i)) [
       (subst (λ (b : Bool). AreDeeds n (now i) ((if b then d ∷ [] else []) ++ deeds_of i ds)) other h)
 ]
 
-deed_now : (n : ℕ) (now : ℕ → Account) (d : Deed) (ds : List Deed) → AreDeeds n (now d.agent) (deeds_of d.agent (d ∷ ds)) → IsDeed n (now d.agent) d
+pub deed_now : (n : ℕ) (now : ℕ → Account) (d : Deed) (ds : List Deed) → AreDeeds n (now d.agent) (deeds_of d.agent (d ∷ ds)) → IsDeed n (now d.agent) d
 deed_now n now d ds h =
     let own : AreDeeds n (now d.agent) (d ∷ deeds_of d.agent ds) = subst (λ (b : Bool). AreDeeds n (now d.agent) ((if b then d ∷ [] else []) ++ deeds_of d.agent ds)) (eq-eqb d.agent d.agent refl) h in
     own.0

@@ -17,8 +17,6 @@ mod law;
 mod marks;
 mod order;
 mod separator;
-#[cfg(test)]
-mod tests;
 mod tree;
 mod width;
 

@@ -22,13 +22,13 @@ use Rattle.certificate_text.specs.declared.verdict.Verdict.{Verdict}
 use Rattle.certificate_text.specs.declared.verdict.Verdict.TheVariants.{Yes, No}
 use Rattle.certificate_text.specs.declared.verdict.Differs.{Differs}
 use Rattle.certificate_text.specs.declared.verdict.Differs.TheVariants as differences
-use Rattle.certificate_check.specs.Goal.{problem_solved}
-use Rattle.certificate_check.specs.Told.{told, parents_told, variables, root_cell}
-use Rattle.certificate_check.specs.Cells.{children_told}
+use Rattle.problem_solved.specs.Goal.{problem_solved}
+use Rattle.problem_solved.specs.Told.{told, parents_told, variables}
+use Rattle.certificate_check.specs.Cells.{children_told, root_cell}
 use Rattle.certificate_check.specs.Differences.{IsTreeDifference, first_of, scope_difference, value_difference, cell_difference, table_difference, cells_difference, unless_same, status_difference, bound_difference, number_difference, difference_in}
 use Rattle.certificate_check.specs.Verdicts.{IsTablesVerdict, IsVerdictOn}
 use Rattle.certificate_check.proofs.FitLaws.{told_fits}
-use Rattle.certificate_check.proofs.ExactLaws.{solved_sizes}
+use Rattle.problem_solved.proofs.SolvedLaws.{solved_sizes}
 use Rattle.solve_report.specs.Verdict.{IsNamedDifference, IsNamedVerdict}
 
 -- what is told, where something is, speaks of variables among so many

@@ -9,7 +9,7 @@ use Rattle.certificate_text.specs.ReportReading.{Fault, report_read}
 use Rattle.certificate_check.specs.Verdicts.{IsVerdict, IsExact, ShowsBest}
 use Rattle.solve_report.specs.declared.answer.Answer.{Answer}
 use Rattle.solve_report.specs.declared.answer.Answer.TheVariants as answers
-use Rattle.solve_check.specs.Kinds.{number_of_report}
+use Rattle.problem_text.specs.Kinds.{number_of_report}
 
 -- the answer to what the text of a report was read as, behind so many lines: the verdict on the report, yes exactly where its certificate holds, or its first fault, with lines that count on
 abbrev pub IsReadAnswer : TextFile → ℕ → Result Report Fault → Answer → Type 0

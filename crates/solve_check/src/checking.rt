@@ -1,19 +1,17 @@
 //! Checking the text of a report.
 
 ghost use Rattle.std.specs.Prelude.{◌≡◌, ◌+◌, ◌≤◌, length, IfOk};
-ghost use Rattle.dcop_base.specs.Whole.{IsProblem};
 ghost use Rattle.problem_text.specs.Steps.{declared_by};
 ghost use Rattle.certificate_text.specs.Again.{HasFit};
 ghost use Rattle.certificate_check.specs.Verdicts.{IsVerdict, IsExact, ShowsBest};
 ghost use Rattle.solve_report.specs.AnswerText.{HasText};
 ghost use Rattle.solve_report.specs.Verdict.{IsNamedVerdict};
-ghost use Rattle.solve_check.specs.Kinds.{number_of_report};
 ghost use Rattle.solve_check.specs.Checking.{AnswersCheck};
 
 use certificate_check::check;
 use certificate_text::{Report, Verdict, read_report};
-use dcop_base::NoMemory;
-use problem_text::{ProblemFile, ReportFault, ReportKind};
+use dcop_base::{NoMemory, problem_is_whole};
+use problem_text::{ProblemFile, ReportFault};
 use solve_report::Answer;
 use std::alloc::Global;
 
@@ -33,7 +31,7 @@ pub fn check_answer(
     ensures belongs { IfOk result (AnswersCheck (declared_by file) before text.now) }
     ensures told { IfOk result HasText }
 {
-    stay_within_limits(&file);
+    problem_is_whole(&file.problem);
     match read_report(alloc, text, &file) {
         Ok(report) => {
             let verdict = verdict_on(alloc, &file, &report)?;
@@ -44,19 +42,10 @@ pub fn check_answer(
         }
         Err(ReportFault::Bad { line, kind }) => Ok(Answer::ReportText {
             line: before + line,
-            kind: number_of(kind),
+            kind: kind.number(),
         }),
         Err(ReportFault::NoMemory) => Err(NoMemory),
     }
-}
-
-/// The problem of every file is within its limits. One that is read is known to be, so this does
-/// no more.
-fn stay_within_limits(file: &ProblemFile)
-    ensures { IsProblem file.now.problem }
-{
-    let problem = &file.problem;
-    let _sizes = problem.sizes.as_slice();
 }
 
 /// The verdict on a report. Each variable of which it speaks has a name.
@@ -69,22 +58,4 @@ fn verdict_on(alloc: Global, file: &ProblemFile, report: &Report) -> Result<Verd
 {
     let _names = &file.names;
     check(alloc, file, report)
-}
-
-/// The number of a kind.
-fn number_of(kind: ReportKind) -> u8
-    ensures { result ≡ number_of_report kind }
-{
-    match kind {
-        ReportKind::BadLine => 1,
-        ReportKind::BadNumber => 2,
-        ReportKind::UnknownName => 3,
-        ReportKind::CellCount => 4,
-        ReportKind::NoCertificate => 5,
-        ReportKind::NoEnd => 6,
-        ReportKind::AfterEnd => 7,
-        ReportKind::BadValue => 8,
-        ReportKind::NoLog => 9,
-        ReportKind::NotYet => 10,
-    }
 }

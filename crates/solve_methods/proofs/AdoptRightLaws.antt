@@ -14,7 +14,8 @@ use Rattle.problem_text.specs.declared.file.Goal.TheVariants.{Min, Max}
 use Rattle.certificate_text.specs.declared.report.Report.{Report}
 use Rattle.certificate_text.specs.declared.report.Ending.TheVariants.{Solved, Spent}
 use Rattle.certificate_text.specs.declared.report.Method.TheVariants.{Adopt}
-use Rattle.certificate_check.specs.Goal.{solved, problem_solved, IsBestSum, IsAtMostWorse}
+use Rattle.problem_solved.specs.Goal.{solved, problem_solved, IsBestSum, IsAtMostWorse}
+use Rattle.problem_solved.proofs.SolvedLaws.{solved_problem}
 use Rattle.solve_methods.specs.Goal.{IsRightReport}
 use Rattle.solve_methods.specs.Adopt.{least_known, lower_for, upper_for}
 use Rattle.solve_methods.specs.Reached.{HaveReached}
@@ -24,11 +25,6 @@ use Rattle.solve_methods.specs.declared.adopt.Reached.{Reached}
 pub solved-assigned : (goal : Goal) (p : Dcop) (values : List ℕ) → IsAssignment (solved goal p) values → IsAssignment p values
 solved-assigned Min p values within = within
 solved-assigned Max p values within = within
-
--- the problem solved is one too
-solved-whole : (goal : Goal) (p : Dcop) → IsProblem p → IsProblem (solved goal p)
-solved-whole Min p whole = whole
-solved-whole Max p whole = turned_problem p whole
 
 -- in it an assignment costs at most the top sum
 solved-top : (goal : Goal) (p : Dcop) → IsProblem p → (values : List ℕ) → IsAssignment (solved goal p) values → cost (solved goal p) values ≤ top_of p
@@ -50,7 +46,7 @@ module _ (goal : Goal) (p : Dcop) (whole : IsProblem p) (error budget : ℕ) (r 
 
   pub lower-top : r.lower ≤ top_of p
   lower-top =
-      let some = some_optimum (solved goal p) (solved-whole goal p whole) in
+      let some = some_optimum (solved goal p) (solved_problem goal p whole) in
       let both = is.enclosed some.0 some.1 in
       let top = upper-top in
       omega (arith, both.0, both.1, top)

@@ -4,7 +4,6 @@ use Rattle.std.proofs.lemmas.List.Elements.{All-weaker}
 use Rattle.dcop_base.specs.Problem.{Dcop, IsAssignment, cost}
 use Rattle.dcop_base.specs.Whole.{IsProblem}
 use Rattle.pseudotree.specs.DepthFirst.{dfs, DepthFirstTreesAreLinked}
-use Rattle.dcop_optimum.proofs.TurnLaws.{turned_problem}
 use Rattle.problem_text.specs.File.{TextFile, IsFile}
 use Rattle.problem_text.specs.declared.file.Goal.{Goal}
 use Rattle.problem_text.specs.declared.file.Goal.TheVariants.{Min, Max}
@@ -16,22 +15,13 @@ use Rattle.certificate_text.specs.declared.report.Ending.TheVariants.{Solved}
 use Rattle.certificate_text.specs.declared.report.Method.TheVariants.{Dpop}
 use Rattle.certificate_text.specs.Fits.{FitsUtil, FitsTables}
 use Rattle.certificate_text.specs.Named.{IsNamedUtil, IsNamedCertificate, CanTell}
-use Rattle.certificate_check.specs.Goal.{solved, problem_solved}
+use Rattle.problem_solved.specs.Goal.{solved, problem_solved}
+use Rattle.problem_solved.proofs.SolvedLaws.{solved_problem, solved_sizes}
 use Rattle.solve_methods.specs.Certified.{AreUtilsOf, HasUtilsOf, AreTablesOf, IsCertifiedBy, IsCertified}
 use Rattle.solve_methods.specs.Dpop.{dpop_deliveries, IsFirstOfTree, IsDpopReport, AreBestChosen}
 use Rattle.solve_methods.specs.declared.dpop.Chosen.{Chosen}
 use Rattle.solve_methods.proofs.TellLaws.{CanTell-certified}
 use Rattle.solve_methods.proofs.UtilLaws.{tables_fit, tables_show}
-
--- the problem solved is a problem
-pub solved_problem : (goal : Goal) (p : Dcop) → IsProblem p → IsProblem (solved goal p)
-solved_problem Min p whole = whole
-solved_problem Max p whole = turned_problem p whole
-
--- of the same sizes
-sizes_solved : (goal : Goal) (p : Dcop) → (solved goal p).sizes ≡ p.sizes
-sizes_solved Min p = refl
-sizes_solved Max p = refl
 
 module _ (trees : DepthFirstTreesAreLinked) (file : TextFile) (whole : IsProblem file.problem) where
   -- the tables of the problem solved fit the file's problem
@@ -39,7 +29,7 @@ module _ (trees : DepthFirstTreesAreLinked) (file : TextFile) (whole : IsProblem
   tables_fit_file utils are =
       let q : Dcop = problem_solved file in
       let whole_q = solved_problem file.goal file.problem whole in
-      subst (λ (sizes : List ℕ). FitsTables sizes utils) (sizes_solved file.goal file.problem) (tables_fit q (dfs q) whole_q (trees q whole_q).0 utils are)
+      subst (λ (sizes : List ℕ). FitsTables sizes utils) (solved_sizes file.goal file.problem) (tables_fit q (dfs q) whole_q (trees q whole_q).0 utils are)
 
   -- so the names of the file can tell a certificate of them
   certificate_named : length file.names ≡ length file.problem.sizes → (certificate : Option Certificate) → IfSome certificate (HasUtilsOf (problem_solved file))

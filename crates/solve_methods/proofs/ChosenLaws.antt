@@ -1,5 +1,5 @@
 -- The answer of DPOP, from what the agents of the problem solved chose.
-use Rattle.std.proofs.Common.{◌≡◌, ℕ, ◌-◌, ◌<◌, Bool, true, false, cond, ltb, List, length, Option, Some, None, is_some, Result, Ok, Err, refl, sym, ap, subst, ◌∙◌, arith}
+use Rattle.std.proofs.Common.{◌≡◌, ℕ, ◌-◌, ◌*◌, ◌<◌, Bool, true, false, cond, ltb, List, length, Option, Some, None, is_some, refl, sym, ap, subst, ◌∙◌, arith}
 use Rattle.std.specs.List.{position, position_or_len, range_with_len}
 use Rattle.std.proofs.lemmas.Bool.{ltb-true}
 use Rattle.std.proofs.lemmas.List.FromFn.{length-range_with_len, length-map-range_with_len}
@@ -20,54 +20,25 @@ use Rattle.certificate_text.specs.declared.report.Report.{Report}
 use Rattle.solve_report.specs.AnswerText.{HasText}
 use Rattle.solve_report.specs.declared.answer.Answer.{Answer}
 use Rattle.solve_report.specs.declared.answer.Answer.TheVariants as answers
-use Rattle.certificate_check.specs.Goal.{solved, IsBestSum}
+use Rattle.problem_solved.specs.Goal.{solved, IsBestSum}
+use Rattle.problem_solved.proofs.SolvedLaws.{solved_sizes}
 use Rattle.solve_methods.proofs.RightLaws.{right_of_best}
+use Rattle.solve_methods.proofs.BestLaws.{best_of}
 use Rattle.solve_methods.specs.Goal.{IsRightReport, TellsRight}
-use Rattle.solve_methods.specs.Dpop.{wide_in, wide_answer, IsFirstOfTree, IsDpopReport, IsAnswerBy, AnswersDpop, AreBestChosen, GivesChosen, GivesBestChosen}
+use Rattle.solve_methods.specs.Dpop.{wide_in, wide_answer, IsFirstOfTree, IsDpopReport, IsAnswerBy, AnswersDpop, HaveAgreed, AreBestChosen}
 use Rattle.solve_methods.specs.declared.dpop.Chosen.{Chosen}
-use Rattle.solve_methods.specs.declared.dpop.DpopFault.{DpopFault}
-use Rattle.solve_methods.specs.declared.dpop.DpopFault.TheVariants.{TooWide, NoMemory}
 
--- for goal min the problem solved is the problem
-pub best_min : (p : Dcop) (certified : Bool) → IsProblem p → (result : Result Chosen DpopFault) → GivesChosen p certified result → GivesBestChosen Min p certified result
-best_min p certified whole (Ok chosen) is = (
-  is.1,
-  record {
-    whole = whole;
-    fits = is.0;
-    first = is.2.first;
-    deliveries = is.2.deliveries;
-    assignment = is.2.first.assignment;
-    best = is.2.first.optimal;
-    certificate = is.2.certificate;
-  },
-)
-best_min p certified whole (Err (TooWide wide)) is = (whole, is)
-best_min p certified whole (Err NoMemory) is = tt
-
--- the first optimum of the turned problem costs the greatest sum in the problem
-greatest_of_turned : (p : Dcop) → IsProblem p → (values : List ℕ) → IsFirstOfTree (turned p) values → IsGreatestSum p (cost p values)
-greatest_of_turned p whole values first =
-    let sum = sum_to_top p whole values first.assignment in
-    let left : top_of p - cost (turned p) values ≡ cost p values = omega arith in
-    subst (IsGreatestSum p) left (tells_greatest p whole (cost (turned p) values) first.optimal)
-
--- for goal max it is the turned one
-pub best_max : (p : Dcop) (certified : Bool) → IsProblem p → (result : Result Chosen DpopFault) → GivesChosen (turned p) certified result → GivesBestChosen Max p certified result
-best_max p certified whole (Ok chosen) is = (
-  is.1,
-  record {
-    whole = whole;
-    fits = is.0;
-    first = is.2.first;
-    deliveries = is.2.deliveries;
-    assignment = is.2.first.assignment;
-    best = greatest_of_turned p whole chosen.values is.2.first;
-    certificate = is.2.certificate;
-  },
-)
-best_max p certified whole (Err (TooWide wide)) is = (whole, is)
-best_max p certified whole (Err NoMemory) is = tt
+pub best_chosen : (goal : Goal) (p : Dcop) → IsProblem p → (chosen : Chosen) → wide_in (solved goal p) ≡ None → HaveAgreed (solved goal p) chosen → AreBestChosen goal p chosen
+best_chosen goal p whole chosen fits is =
+    let best = best_of goal p whole chosen.values is.first.assignment is.first.optimal in record {
+      whole = whole;
+      fits = fits;
+      first = is.first;
+      deliveries = is.deliveries ∙ ap (λ (sizes : List ℕ). 2 * (length sizes - 1)) (solved_sizes goal p);
+      assignment = best.0;
+      best = best.1;
+      certificate = is.certificate;
+    }
 
 -- a report of what the agents chose is the answer
 pub report_answers : (file : TextFile) (certified : Bool) (report : Report) (chosen : Chosen) → is_some chosen.certificate ≡ certified → AreBestChosen file.goal file.problem chosen
@@ -136,10 +107,6 @@ wide_told goal p names named (Agent var cells) is =
     let q : Dcop = solved goal p in
     let within : var < length (dfs q) = wide_within q (dfs q) (first_wide q (dfs q)) var cells refl is in
     let long : length (dfs q) ≡ length q.sizes = length-map-range_with_len (path_in (search_of q)) 0 (length q.sizes) in
-    let same : length q.sizes ≡ length p.sizes = sizes_solved goal p in
+    let same : length q.sizes ≡ length p.sizes = ap length (solved_sizes goal p) in
     omega arith
-  where
-    sizes_solved : (goal : Goal) (p : Dcop) → length (solved goal p).sizes ≡ length p.sizes
-    sizes_solved Min p = refl
-    sizes_solved Max p = refl
 wide_told goal p names named (Total cells) is = tt

@@ -1,44 +1,56 @@
--- What token agents have found that were played under the budget of their messages.
-use Rattle.std.proofs.Common.{◌≡◌, ℕ, ◌<◌, List, length, Some, sym, ap, subst, ◌∙◌, arith}
+-- What token agents have found that have run under the budget of their messages.
+use Rattle.std.proofs.Common.{◌≡◌, ℕ, ◌<◌, List, [], ◌∷◌, map, length, Option, Some, refl, sym, ap, subst, ◌∙◌, arith}
+use Rattle.std.specs.List.{flat_map, range_with_len, slice_get}
+use Rattle.std.specs.Option.{option_map}
 use Rattle.std.proofs.lemmas.List.{length-map}
+use Rattle.std.proofs.lemmas.List.FromFn.{length-map-range_with_len}
+use Rattle.std.proofs.lemmas.Option.{slice_get-map}
 use Rattle.dcop_base.specs.Problem.{Dcop}
 use Rattle.dcop_base.specs.Whole.{IsProblem}
-use Rattle.pseudotree.specs.DepthFirst.{dfs}
+use Rattle.pseudotree.specs.DepthFirst.{dfs, path_in, search_of}
 use Rattle.pseudotree.specs.Tree.{parent_of}
+use Rattle.pseudotree.specs.Fault.{parents_of}
+use Rattle.pseudotree.specs.declared.agent.Place.{Place}
 use Rattle.protocol_steps.specs.declared.event.Event.{Event}
-use Rattle.token_runs.specs.Agents.{place_found, FoundPlaces}
+use Rattle.protocol_steps.specs.declared.outcome.Outcome.{Outcome}
+use Rattle.protocol_steps.specs.View.{View, place_of}
+use Rattle.protocol_steps.specs.Network.{start_state}
+use Rattle.protocol_steps.specs.Rounds.{RoundsAreARun}
+use Rattle.token_runs.specs.Agents.{place_found}
 use Rattle.token_runs.specs.Laws.{TokenRuns}
-use Rattle.delivery_core.specs.State.{CoreView, views_of, view_at, place_in}
-use Rattle.delivery_core.specs.Agents.{network_of}
-use Rattle.delivery_core.specs.Turns.{PlaysTo, IsPlayed}
-use Rattle.delivery_core.specs.declared.start.Start.TheVariants.{Token}
+use Rattle.token_runs.specs.TokenRun.{token_agents}
 use Rattle.solve_methods.specs.Tree.{token_deliveries}
-use Rattle.solve_methods.specs.Found.{HaveFound, parent_on}
-use Rattle.solve_methods.proofs.PlayLaws.{played-ended}
+use Rattle.solve_methods.specs.Found.{HaveFound, places_found, parent_on}
+use Rattle.solve_methods.specs.Run.{HaveRun}
+use Rattle.solve_methods.proofs.EndLaws.{run-ended, same-by}
 
--- the place that an agent has found
-found-place : (p : Dcop) (s : CoreView) → FoundPlaces p (views_of s.seats) → (i : ℕ) → i < length p.sizes → place_in (view_at s i) ≡ Some (place_found p i)
-found-place p s found i lt = let at = found i lt in ap place_in at.1 ∙ at.2
+map-map : {X Y : Type 0} (g : X → Y) (f : ℕ → X) (is : List ℕ) → map g (map f is) ≡ map (λ i. g (f i)) is
+map-map g f [] = refl
+map-map {X} {Y} g f (i ∷ is) = ap (λ (ys : List Y). g (f i) ∷ ys) (map-map g f is)
 
--- the parent that it has found is that of the depth-first tree
-pub found-parent : (p : Dcop) (s : CoreView) → FoundPlaces p (views_of s.seats) → (i : ℕ) → i < length p.sizes → parent_on (place_in (view_at s i)) ≡ parent_of (dfs p) i
-found-parent p s found i lt = ap parent_on (found-place p s found i lt)
+-- the parents that agents have found are those of the depth-first tree
+pub found-parents : (p : Dcop) (places : List (Option Place)) → places ≡ places_found p → map parent_on places ≡ parents_of (dfs p)
+found-parents p places found =
+    let long : length p.sizes ≡ length (dfs p) = sym (length-map-range_with_len (path_in (search_of p)) 0 (length p.sizes)) in
+    ap (map parent_on) found
+    ∙ map-map parent_on (λ i. Some (place_found p i)) (range_with_len 0 (length p.sizes))
+    ∙ ap (λ (n : ℕ). map (parent_of (dfs p)) (range_with_len 0 n)) long
 
--- token agents that were played under the budget of their messages have found the depth-first tree
-pub played-found : (p : Dcop) → IsProblem p → TokenRuns → (budget : ℕ) → budget ≡ token_deliveries p → (events : List Event) (state : CoreView)
-    → IsPlayed budget (network_of p Token) events state → HaveFound p state
-played-found p whole law budget same events state is =
-    let plays : PlaysTo (token_deliveries p) (network_of p Token) is.pieces is.end = subst (λ (b : ℕ). PlaysTo b (network_of p Token) is.pieces is.end) same is.plays in
-    let holds = law.runs p whole events is.end is.leads in
-    let all = holds.whole (played-ended (token_deliveries p) is.end holds.early holds.pending (network_of p Token) is.pieces plays) in record {
-      whole = whole;
-      sized = sym (length-map state.seats (λ x. x.view)) ∙ ap length is.shows.views ∙ holds.sized;
-      places = subst (FoundPlaces p) (sym is.shows.views) all.places;
+-- token agents that have run under the budget of their messages have found the depth-first tree
+pub run-found : (p : Dcop) → IsProblem p → TokenRuns → RoundsAreARun → (outcome : Outcome) → HaveRun (token_deliveries p) (token_agents p) outcome → HaveFound p outcome
+run-found p whole law rounds outcome is =
+    let events : List Event = flat_map (λ es. es) is.rounds in
+    let holds = law.runs p whole events is.end (rounds (token_deliveries p) (start_state (token_agents p)) is.end is.rounds is.are_rounds) in
+    let all = holds.whole (run-ended (token_deliveries p) is.end holds.pending is.how is.stopped holds.early) in record {
+      places =
+          is.told.places
+          ∙ same-by (map place_of is.end.views) (λ i. Some (place_found p i)) (length p.sizes) (length-map is.end.views place_of ∙ holds.sized) (λ i lt.
+          let at = all.places i lt in
+          slice_get-map place_of is.end.views i ∙ ap (λ (o : Option View). option_map place_of o) at.1 ∙ ap (λ (o : Option Place). Some o) at.2);
       deliveries =
-          let counted = is.shows.delivered in
+          let told = is.told.deliveries in
           let tokens = all.all_tokens in
           let dones = all.all_dones in
           let sum = holds.nothing_else in
-          let few = whole.few in
-          omega arith;
+          omega (arith, told, tokens, dones, sum);
     }

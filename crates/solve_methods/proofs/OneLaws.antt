@@ -20,11 +20,11 @@ use Rattle.certificate_text.specs.declared.certificate.Util.{Util}
 use Rattle.certificate_text.specs.declared.report.Report.{Report}
 use Rattle.certificate_text.specs.declared.report.Ending.{Ending}
 use Rattle.certificate_text.specs.declared.report.Method.{Method}
-use Rattle.certificate_check.specs.Goal.{problem_solved}
+use Rattle.problem_solved.specs.Goal.{problem_solved}
 use Rattle.dpop_runs.specs.Agents.{IsOptimumTable}
 use Rattle.solve_methods.specs.Certified.{IsUtilOf, IsCertifiedBy, IsCertified}
 use Rattle.solve_methods.specs.Dpop.{IsDpopReport}
-use Rattle.solve_methods.proofs.CertifiedLaws.{solved_problem}
+use Rattle.problem_solved.proofs.SolvedLaws.{solved_problem}
 use Rattle.solve_methods.proofs.UtilLaws.{cell_optimum}
 
 -- a table with these parts

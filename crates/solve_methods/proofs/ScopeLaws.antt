@@ -16,8 +16,8 @@ use Rattle.pseudotree.proofs.NestLaws.{has_filter}
 use Rattle.dcop_optimum.specs.Subtree.{AreValuesAbove}
 use Rattle.dcop_optimum.proofs.OwnerLaws.{map_same}
 use Rattle.dcop_optimum.proofs.JoinLaws.{size_some, own_here, own_else, above_in_problem}
-use Rattle.certificate_check.specs.Cells.{values_of_cell}
-use Rattle.certificate_check.proofs.ValueLaws.{place_of_values}
+use Rattle.problem_solved.specs.Cells.{values_of_cell}
+use Rattle.problem_solved.proofs.CellLaws.{place_of_values}
 
 or_none : (a b : Bool) → a ≡ false → b ≡ false → (a || b) ≡ false
 or_none false false x y = refl

@@ -24,8 +24,8 @@ use Rattle.dcop_optimum.proofs.PreorderLaws.{has_preorder, preorder_below}
 use Rattle.dcop_optimum.proofs.OptimumTableLaws.{costs_are_within_cap, optima_make_certificates}
 use Rattle.certificate_text.specs.declared.certificate.Util.{Util}
 use Rattle.certificate_text.specs.Fits.{FitsUtil, FitsTables}
-use Rattle.certificate_check.specs.Told.{told, parents_told, scopes_told, cells_told}
-use Rattle.certificate_check.proofs.HoldsLaws.{map_same, table_is}
+use Rattle.problem_solved.specs.Told.{told, parents_told, scopes_told, cells_told}
+use Rattle.problem_solved.proofs.TellingLaws.{map_same, table_is}
 use Rattle.dpop_runs.specs.Agents.{IsOptimumTable}
 use Rattle.solve_methods.specs.Certified.{IsUtilOf}
 use Rattle.solve_methods.proofs.OnceLaws.{preorder_once}
@@ -119,10 +119,10 @@ module _ (p : Dcop) (paths : List (List ℕ)) (problem : IsProblem p) (pseudo : 
           ∙ ap (λ (n : ℕ). map (separator_of p paths) (range_with_len 0 n)) (sym pseudo.sized);
       full = λ i lt.
           let count = pseudo.sized in
-          subst (λ (t : CostTable). length t.cells ≡ product t.sizes) (sym (table_is p paths utils pseudo tables_fit i (omega arith))) (told_is i lt).table.full;
+          subst (λ (t : CostTable). length t.cells ≡ product t.sizes) (sym (table_is p utils i (omega arith))) (told_is i lt).table.full;
       cells_are = λ i value lt above.
           let count = pseudo.sized in
-          subst (λ (t : CostTable). IsSubtreeOptimum p paths i value (cell_with t value)) (sym (table_is p paths utils pseudo tables_fit i (omega arith))) ((told_is i lt).table.cells value above);
+          subst (λ (t : CostTable). IsSubtreeOptimum p paths i value (cell_with t value)) (sym (table_is p utils i (omega arith))) ((told_is i lt).table.cells value above);
     }
 
     -- and with optimal values they are a certificate

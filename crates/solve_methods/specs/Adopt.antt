@@ -9,11 +9,11 @@ use Rattle.dcop_optimum.specs.Goal.{top_of}
 use Rattle.protocol_steps.specs.declared.event.Event.{Event}
 use Rattle.protocol_steps.specs.Network.{Network, start_state}
 use Rattle.protocol_steps.specs.Effect.{has_ended, deliveries}
+use Rattle.protocol_steps.specs.Rounds.{AreRounds}
 use Rattle.protocol_steps.specs.Adopt.{AdoptView}
 use Rattle.protocol_steps.specs.AdoptBounds.{lower_bound, upper_bound}
 use Rattle.protocol_steps.specs.View.{AdoptKind}
 use Rattle.protocol_steps.specs.TreeAgents.{adopt_agents}
-use Rattle.delivery_core.specs.Turns.{PlaysTo}
 use Rattle.adopt_runs.specs.AdoptRun.{IsAdoptRun}
 use Rattle.adopt_ends.specs.EndLaw.{values_of}
 use Rattle.problem_text.specs.File.{TextFile}
@@ -25,15 +25,15 @@ use Rattle.certificate_text.specs.declared.report.Report.{Report}
 use Rattle.certificate_text.specs.declared.report.Ending.{Ending}
 use Rattle.certificate_text.specs.declared.report.Ending.TheVariants.{Solved, Spent}
 use Rattle.certificate_text.specs.declared.report.Method.TheVariants.{Adopt}
-use Rattle.certificate_check.specs.Goal.{problem_solved}
+use Rattle.problem_solved.specs.Goal.{problem_solved}
 use Rattle.solve_report.specs.declared.answer.Answer.{Answer}
 use Rattle.solve_report.specs.declared.answer.Answer.TheVariants as answers
 
--- a run of the ADOPT agents of a problem on its depth-first tree, for a requested error, in rounds until all have ended or so many messages are delivered; it ends in this network
+-- a run of the ADOPT agents of a problem on its depth-first tree, for a requested error, in rounds each of which begins with fewer deliveries than the budget; it ends in this network
 pub record IsAdoptPlay (p : Dcop) (error budget : ℕ) (end : Network) : Type 0 where
   pub rounds : List (List Event)
   pub run : IsAdoptRun p (dfs p) error (flat_map (λ es. es) rounds) end
-  pub plays : PlaysTo budget (start_state (adopt_agents p (dfs p) error)) rounds end
+  pub in_rounds : AreRounds budget (start_state (adopt_agents p (dfs p) error)) rounds end
 
 -- the root's agent in a network on the depth-first tree of a problem
 pub record IsRootAgent (p : Dcop) (end : Network) (v : AdoptView) : Type 0 where

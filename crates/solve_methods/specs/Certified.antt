@@ -13,8 +13,8 @@ use Rattle.certificate_text.specs.declared.certificate.Certificate.TheVariants.{
 use Rattle.certificate_text.specs.declared.certificate.Util.{Util}
 use Rattle.certificate_text.specs.declared.report.Report.{Report}
 use Rattle.certificate_text.specs.Fits.{FitsTables}
-use Rattle.certificate_check.specs.Goal.{problem_solved}
-use Rattle.certificate_check.specs.Holds.{HoldsTables}
+use Rattle.problem_solved.specs.Goal.{problem_solved}
+use Rattle.problem_solved.specs.Holds.{HoldsTables}
 
 -- the table of variable i as a certificate tells it: its parent, its separator from the root down, and the subtree optimum for each choice of values there
 pub record IsUtilOf (p : Dcop) (paths : List (List ℕ)) (i : ℕ) (u : Util) : Type 0 where

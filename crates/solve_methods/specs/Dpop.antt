@@ -1,5 +1,5 @@
 -- What DPOP gives on a file.
-use Rattle.std.specs.Prelude.{◌≡◌, ℕ, Bool, ◌-◌, ◌*◌, List, length, Option, Some, None, IfSome, is_some, Result, Ok, Err}
+use Rattle.std.specs.Prelude.{◌≡◌, ℕ, Bool, ◌-◌, ◌*◌, List, length, Option, Some, None, IfSome, is_some}
 use Rattle.dcop_base.specs.Problem.{Dcop, IsAssignment, cost}
 use Rattle.dcop_base.specs.Whole.{IsProblem}
 use Rattle.pseudotree.specs.DepthFirst.{dfs}
@@ -16,11 +16,11 @@ use Rattle.certificate_text.specs.declared.report.Ending.TheVariants.{Solved}
 use Rattle.certificate_text.specs.declared.report.Method.TheVariants.{Dpop}
 use Rattle.solve_report.specs.declared.answer.Answer.{Answer}
 use Rattle.solve_report.specs.declared.answer.Answer.TheVariants as answers
-use Rattle.certificate_check.specs.Goal.{solved, IsBestSum}
+use Rattle.problem_solved.specs.Goal.{solved, IsBestSum}
 use Rattle.solve_methods.specs.Certified.{HasUtilsOf, IsCertified}
 use Rattle.solve_methods.specs.declared.dpop.Chosen.{Chosen}
-use Rattle.solve_methods.specs.declared.dpop.DpopFault.{DpopFault}
-use Rattle.solve_methods.specs.declared.dpop.DpopFault.TheVariants as faults
+use Rattle.solve_methods.specs.declared.dpop.Choice.{Choice}
+use Rattle.solve_methods.specs.declared.dpop.Choice.TheVariants as choices
 
 -- how many messages DPOP takes: one UTIL of each variable but the root, and one VALUE to it
 abbrev pub dpop_deliveries : Dcop → ℕ
@@ -79,11 +79,10 @@ pub record HaveAgreed (p : Dcop) (chosen : Chosen) : Type 0 where
   pub deliveries : chosen.deliveries ≡ dpop_deliveries p
   pub certificate : IfSome chosen.certificate (HasUtilsOf p)
 
--- what the agents of a problem chose, with a certificate exactly where one is asked for, unless its tree is too wide or memory was wanted
-abbrev pub GivesChosen : Dcop → Bool → Result Chosen DpopFault → Type 0
-GivesChosen p certified (Ok chosen) = (wide_in p ≡ None) × (is_some chosen.certificate ≡ certified) × HaveAgreed p chosen
-GivesChosen p certified (Err (faults.TooWide wide)) = wide_in p ≡ Some wide
-GivesChosen p certified (Err faults.NoMemory) = Unit {0}
+-- what the agents of a problem chose, with a certificate exactly where one is asked for, or what is too wide in its tree
+abbrev pub GivesChosen : Dcop → Bool → Choice → Type 0
+GivesChosen p certified (choices.Values chosen) = (wide_in p ≡ None) × (is_some chosen.certificate ≡ certified) × HaveAgreed p chosen
+GivesChosen p certified (choices.TooWide wide) = wide_in p ≡ Some wide
 
 -- values that the agents of the problem solved chose, seen from the problem itself: an assignment whose cost is the best sum
 pub record AreBestChosen (goal : Goal) (p : Dcop) (chosen : Chosen) : Type 0 where
@@ -94,9 +93,3 @@ pub record AreBestChosen (goal : Goal) (p : Dcop) (chosen : Chosen) : Type 0 whe
   pub assignment : IsAssignment p chosen.values
   pub best : IsBestSum goal p (cost p chosen.values)
   pub certificate : IfSome chosen.certificate (HasUtilsOf (solved goal p))
-
--- the best values of a problem by its goal, with a certificate exactly where one is asked for, unless the tree of the problem solved is too wide or memory was wanted
-abbrev pub GivesBestChosen : Goal → Dcop → Bool → Result Chosen DpopFault → Type 0
-GivesBestChosen goal p certified (Ok chosen) = (is_some chosen.certificate ≡ certified) × AreBestChosen goal p chosen
-GivesBestChosen goal p certified (Err (faults.TooWide wide)) = IsProblem p × (wide_in (solved goal p) ≡ Some wide)
-GivesBestChosen goal p certified (Err faults.NoMemory) = Unit {0}

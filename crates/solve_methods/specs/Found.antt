@@ -1,22 +1,25 @@
 -- What the token agents of a problem have found.
-use Rattle.std.specs.Prelude.{◌≡◌, ℕ, length, Option, Some, None}
+use Rattle.std.specs.Prelude.{◌≡◌, ℕ, List, map, length, Option, Some, None}
+use Rattle.std.specs.List.{range_with_len}
 use Rattle.dcop_base.specs.Problem.{Dcop}
 use Rattle.dcop_base.specs.Whole.{IsProblem}
 use Rattle.pseudotree.specs.DepthFirst.{dfs}
-use Rattle.pseudotree.specs.Pseudotree.{IsPseudotreeOf}
+use Rattle.pseudotree.specs.Pseudotree.{IsPseudotreeOf, IsLinked}
 use Rattle.pseudotree.specs.declared.agent.Place.{Place}
+use Rattle.protocol_steps.specs.declared.outcome.Outcome.{Outcome}
 use Rattle.protocol_steps.specs.Agent.{last_of}
-use Rattle.token_runs.specs.Agents.{FoundPlaces}
-use Rattle.delivery_core.specs.State.{CoreView, views_of}
+use Rattle.token_runs.specs.Agents.{place_found}
 use Rattle.solve_methods.specs.Tree.{token_deliveries}
 use Rattle.solve_methods.specs.declared.tree.Found.{Found}
 
+-- the places of all variables in the depth-first tree of a problem, as its token agents find them
+abbrev pub places_found : Dcop → List (Option Place)
+places_found p = map (λ i. Some (place_found p i)) (range_with_len 0 (length p.sizes))
+
 -- each agent of a problem has found its place in the depth-first tree, and they took so many messages as the search takes
-pub record HaveFound (p : Dcop) (state : CoreView) : Type 0 where
-  pub whole : IsProblem p
-  pub sized : length state.seats ≡ length p.sizes
-  pub places : FoundPlaces p (views_of state.seats)
-  pub deliveries : state.delivered ≡ token_deliveries p
+pub record HaveFound (p : Dcop) (outcome : Outcome) : Type 0 where
+  pub places : outcome.places ≡ places_found p
+  pub deliveries : outcome.deliveries ≡ token_deliveries p
 
 -- the parent in the place of an agent: the last variable of its path
 abbrev pub parent_on : Option Place → Option ℕ
@@ -27,5 +30,6 @@ parent_on (Some place) = last_of place.path
 pub record IsFound (p : Dcop) (found : Found) : Type 0 where
   pub whole : IsProblem p
   pub tree : IsPseudotreeOf p found.tree
+  pub linked : IsLinked p found.tree.paths
   pub paths : found.tree.paths ≡ dfs p
   pub deliveries : found.deliveries ≡ token_deliveries p

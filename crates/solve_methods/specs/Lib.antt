@@ -1,4 +1,5 @@
 pub mod Goal
+pub mod Run
 pub mod Plain
 pub mod Certified
 pub mod Dpop

@@ -12,7 +12,7 @@ use Rattle.certificate_text.specs.declared.report.Method.TheVariants.{Plain}
 use Rattle.certificate_text.specs.Named.{CanTell}
 use Rattle.solve_report.specs.declared.answer.Answer.{Answer}
 use Rattle.solve_report.specs.declared.answer.Answer.TheVariants as answers
-use Rattle.certificate_check.specs.Goal.{solved, IsBestSum}
+use Rattle.problem_solved.specs.Goal.{solved, IsBestSum}
 use Rattle.solve_methods.specs.Goal.{IsRightReport}
 
 -- a report of the plain method on a file: its cost is that of its values in the file's problem, and is lower and upper too

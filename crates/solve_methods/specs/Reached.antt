@@ -1,32 +1,16 @@
 -- What the ADOPT agents of a problem have reached.
-use Rattle.std.specs.Prelude.{◌≡◌, ℕ, ◌+◌, ◌≤◌, true, false, length}
+use Rattle.std.specs.Prelude.{◌≡◌, ℕ, ◌+◌, ◌≤◌, true, false}
 use Rattle.dcop_base.specs.Problem.{Dcop, IsAssignment, cost}
-use Rattle.dcop_base.specs.Whole.{IsProblem}
-use Rattle.pseudotree.specs.DepthFirst.{dfs}
 use Rattle.dcop_optimum.specs.Optimum.{IsOptimum}
 use Rattle.protocol_steps.specs.Network.{Network}
 use Rattle.protocol_steps.specs.Effect.{has_ended, deliveries}
 use Rattle.protocol_steps.specs.Adopt.{AdoptView}
 use Rattle.protocol_steps.specs.AdoptBounds.{lower_bound}
-use Rattle.delivery_core.specs.State.{CoreView, views_of}
-use Rattle.adopt_runs.specs.Agents.{AreAgents}
-use Rattle.adopt_ends.specs.EndLaw.{values_of, HoldsAtEnd}
+use Rattle.adopt_ends.specs.EndLaw.{values_of}
 use Rattle.solve_methods.specs.Adopt.{IsAdoptPlay, IsRootAgent, ending_of, least_shown}
 use Rattle.solve_methods.specs.declared.adopt.Reached.{Reached}
 
--- the ADOPT agents of a problem were played, for this error under this budget, to this state; where an agent has not ended, the budget is spent
-pub record HavePlayed (p : Dcop) (error budget : ℕ) (state : CoreView) : Type 0 where
-  pub whole : IsProblem p
-  pub end : Network
-  pub play : IsAdoptPlay p error budget end
-  pub views : views_of state.seats ≡ end.views
-  pub sized : length state.seats ≡ length p.sizes
-  pub delivered : state.delivered ≡ deliveries end
-  pub spent : has_ended end ≡ false → budget ≤ deliveries end
-  pub agents : AreAgents p (dfs p) error end.views
-  pub ended : has_ended end ≡ true → HoldsAtEnd p (dfs p) error end
-
--- what such a play gave: the ending, the deliveries and the values of its end, and the root's bounds, with the values' cost; the values are an assignment, the bounds enclose the optimum, and where all agents have ended the values cost at most the error more
+-- what such a run gave: the ending, the deliveries and the values of its end, and the root's bounds, with the values' cost; the values are an assignment, the bounds enclose the optimum, and where all agents have ended the values cost at most the error more
 pub record HaveReached (p : Dcop) (error budget : ℕ) (reached : Reached) : Type 0 where
   pub end : Network
   pub play : IsAdoptPlay p error budget end

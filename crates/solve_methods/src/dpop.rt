@@ -1,29 +1,28 @@
 //! The answer of DPOP.
 
-ghost use Rattle.std.specs.Prelude.{◌≡◌, is_some, IfOk};
-ghost use Rattle.dcop_base.specs.Problem.{IsAssignment};
+ghost use Rattle.std.specs.Prelude.{◌≡◌, ◌≤◌, Bool, is_some, IfOk, IfSome};
+ghost use Rattle.dcop_base.specs.Limits.{budget_limit};
 ghost use Rattle.pseudotree.specs.DepthFirst.{dfs};
-ghost use Rattle.pseudotree.specs.Pseudotree.{IsPseudotreeOf};
 ghost use Rattle.pseudotree.specs.Width.{IsNarrow};
+ghost use Rattle.protocol_steps.specs.TreeAgents.{dpop_agents};
 ghost use Rattle.problem_text.specs.Steps.{declared_by};
 ghost use Rattle.certificate_text.specs.Named.{CanTell};
+ghost use Rattle.problem_solved.specs.Goal.{problem_solved};
 ghost use Rattle.solve_report.specs.AnswerText.{HasText};
-ghost use Rattle.solve_methods.specs.Agreed.{HaveValues};
 ghost use Rattle.solve_methods.specs.Dpop.{AnswersDpop, HaveAgreed, IsDpopReport, wide_answer};
-ghost use Rattle.solve_methods.specs.Dpop.{GivesBestChosen, GivesChosen, AreBestChosen};
+ghost use Rattle.solve_methods.specs.Dpop.{dpop_deliveries, AreBestChosen, GivesChosen};
 ghost use Rattle.solve_methods.specs.Goal.{TellsRight};
+ghost use Rattle.solve_methods.specs.Run.{HaveRun};
+ghost use Rattle.solve_methods.specs.Tree.{rows_of};
 
-use crate::tables::certificate_in;
-use crate::tree::{Found, find_tree, node_rows_if};
-use crate::values::values_in;
+use crate::tables::certificate_of;
 use certificate_text::{Certificate, Ending, Method, Report};
-use dcop_base::{NoMemory, Problem, ValList, cost_of};
-use dcop_optimum::turn;
-use delivery_core::{CoreState, Start, play};
+use dcop_base::{NoMemory, Problem, ValList, cost_of, problem_is_whole};
 use dpop_runs::dpop_runs;
-use problem_text::{Goal, Names, ProblemFile};
-use pseudotree::{Tree, Wide, depth_first_trees_are_linked, widths};
-use solve_report::Answer;
+use problem_text::{Names, ProblemFile};
+use protocol_steps::{Outcome, rounds_are_a_run};
+use pseudotree::{Wide, depth_first_trees_are_linked};
+use solve_report::{Answer, NodeRowList};
 use std::alloc::Global;
 use token_runs::token_runs;
 
@@ -36,39 +35,70 @@ pub struct Chosen {
     certificate: Option<Certificate>,
 }
 
-/// Why agents chose no values.
-#[derive(Clone, Copy, Debug, PartialEq, Eq)]
-pub enum DpopFault {
-    /// This is too wide in their tree.
+/// What the agents of a problem choose.
+#[derive(Debug, Drop)]
+pub enum Choice {
+    /// These values.
+    Values(Chosen),
+    /// None, since this is too wide in their tree.
     TooWide(Wide),
-    /// Memory was wanted and not had.
-    NoMemory,
 }
 
-impl From<NoMemory> for DpopFault {
-    ghost use Rattle.solve_methods.specs.declared.dpop.DpopFault.TheVariants.{NoMemory as no_memory};
-
-    ghost from_gives = { λ _ e. e ≡ no_memory };
-
-    fn from(_refused: NoMemory) -> Self {
-        DpopFault::NoMemory
-    }
-}
-
-/// The report of DPOP on a file, or what is too wide in its tree. Where the report is to be
-/// certified, it has the tables of all variables, in preorder, as its certificate.
-pub fn dpop_answer(alloc: Global, file: ProblemFile, certified: bool) -> Result<Answer, NoMemory>
-    ensures belongs { IfOk result (AnswersDpop (declared_by file) certified) }
-    ensures right { IfOk result TellsRight }
-    ensures told { IfOk result HasText }
+/// The messages that the DPOP agents of a problem take: one UTIL of each variable but the root, and
+/// one VALUE to it. So many are budget enough for them.
+pub fn choice_deliveries(problem: &Problem) -> u64
+    ensures all { result ≡ dpop_deliveries problem.now }
+    ensures few { result ≤ budget_limit }
 {
-    match choose_for(alloc, file.goal, &file.problem, certified) {
-        Ok(chosen) => Ok(Answer::Report {
+    2 * (problem.sizes.as_slice().len() as u64 - 1)
+}
+
+/// The values that the DPOP agents of a problem chose on its depth-first tree, with their tables as
+/// a certificate where the nodes of the tree are given.
+///
+/// # Errors
+///
+/// [`NoMemory`] where memory was wanted and not had.
+pub fn chosen_by(
+    alloc: Global,
+    problem: &Problem,
+    nodes: Option<NodeRowList>,
+    outcome: Outcome,
+) -> Result<Chosen, NoMemory>
+    requires narrow { IsNarrow problem.now (dfs problem.now) }
+    requires nodes { IfSome nodes (λ rows. rows ≡ rows_of problem.now (dfs problem.now)) }
+    requires run { HaveRun (dpop_deliveries problem.now) (dpop_agents problem.now (dfs problem.now)) outcome }
+    ensures asked { IfOk result (λ chosen. is_some chosen.certificate ≡ is_some nodes) }
+    ensures agreed { IfOk result (HaveAgreed problem.now) }
+{
+    token_runs();
+    dpop_runs();
+    rounds_are_a_run();
+    problem_is_whole(problem);
+    let certificate = certificate_of(alloc, nodes, outcome.tables.as_slice())?;
+    Ok(Chosen {
+        values: outcome.values,
+        deliveries: outcome.deliveries,
+        certificate,
+    })
+}
+
+/// The answer of DPOP on a file, from what the agents of the problem solved chose: their report, or
+/// what is too wide in their tree.
+pub fn dpop_answer(file: ProblemFile, choice: Choice) -> Answer
+    requires { (certified : Bool) × GivesChosen (problem_solved file) certified choice }
+    ensures belongs { (certified : Bool) → GivesChosen (problem_solved file) certified choice
+        → AnswersDpop (declared_by file) certified result }
+    ensures right { TellsRight result }
+    ensures told { HasText result }
+{
+    problem_is_whole(&file.problem);
+    match choice {
+        Choice::Values(chosen) => Answer::Report {
             report: dpop_report(&file, chosen),
             file,
-        }),
-        Err(DpopFault::TooWide(wide)) => Ok(too_wide(wide, file.names)),
-        Err(DpopFault::NoMemory) => Err(NoMemory),
+        },
+        Choice::TooWide(wide) => too_wide(wide, file.names),
     }
 }
 
@@ -108,74 +138,4 @@ fn dpop_report(file: &ProblemFile, chosen: Chosen) -> Report
         values,
         certificate,
     }
-}
-
-/// The values that the agents of the problem solved choose: it is this one, or for goal max the
-/// turned one.
-fn choose_for(
-    alloc: Global,
-    goal: Goal,
-    problem: &Problem,
-    certified: bool,
-) -> Result<Chosen, DpopFault>
-    ensures { GivesBestChosen goal problem.now certified result }
-{
-    // One that is read is known to be within its limits.
-    let _ = problem.sizes.as_slice();
-    match goal {
-        Goal::Min => choose(alloc, problem, certified),
-        Goal::Max => choose(alloc, &turn(alloc, problem)?, certified),
-    }
-}
-
-/// The values that the agents of a problem choose. They search its depth-first tree first; where
-/// it is too wide for their tables, they choose none.
-fn choose(alloc: Global, problem: &Problem, certified: bool) -> Result<Chosen, DpopFault>
-    ensures { GivesChosen problem.now certified result }
-{
-    let Found {
-        tree,
-        deliveries: _,
-    } = find_tree(alloc, problem)?;
-    match widths(&tree, problem) {
-        Some(wide) => Err(DpopFault::TooWide(wide)),
-        None => Ok(choose_on(alloc, problem, tree, certified)?),
-    }
-}
-
-/// The values that the agents of a problem choose on its depth-first tree. The nodes of the tree are
-/// kept from them only where the values are to be certified.
-fn choose_on(
-    alloc: Global,
-    problem: &Problem,
-    tree: Tree,
-    certified: bool,
-) -> Result<Chosen, NoMemory>
-    requires tree { IsPseudotreeOf problem.now tree }
-    requires paths { tree.paths ≡ dfs problem.now }
-    requires narrow { IsNarrow problem.now tree.paths }
-    ensures asked { IfOk result (λ chosen. is_some chosen.certificate ≡ certified) }
-    ensures agreed { IfOk result (HaveAgreed problem.now) }
-{
-    let nodes = node_rows_if(alloc, certified, &tree)?;
-    let state = play_tables(alloc, problem, tree)?;
-    Ok(Chosen {
-        values: values_in(alloc, problem, &state)?,
-        deliveries: state.deliveries(),
-        certificate: certificate_in(alloc, nodes, &state)?,
-    })
-}
-
-/// The state in which the DPOP agents of a problem have ended: one UTIL of each variable but the
-/// root, and one VALUE to it, are all that they send.
-fn play_tables(alloc: Global, problem: &Problem, tree: Tree) -> Result<CoreState, NoMemory>
-    requires tree { IsPseudotreeOf problem.now tree }
-    requires paths { tree.paths ≡ dfs problem.now }
-    requires narrow { IsNarrow problem.now tree.paths }
-    ensures { IfOk result (HaveValues problem.now) }
-{
-    token_runs();
-    dpop_runs();
-    let count = problem.sizes.as_slice().len() as u64;
-    Ok(play(alloc, problem, Start::Dpop(tree), 2 * (count - 1))?.state)
 }

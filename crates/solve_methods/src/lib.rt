@@ -1,7 +1,9 @@
 //! What each method answers on a file: plain search, the search for a tree, DPOP and ADOPT.
 //!
-//! Each call takes the file of a problem and gives an [`Answer`](solve_report::Answer). Its
-//! clauses say which answer that is, and that what a report says of the file is right.
+//! The plain method is run here. The others are run by agents, and whoever runs those: this crate
+//! says what follows from how their run ended, which is told by an
+//! [`Outcome`](protocol_steps::Outcome) of the network. The [`Answer`](solve_report::Answer)s have
+//! clauses that say which answer that is, and that what a report says of the file is right.
 #![tactic(auto)]
 
 mod adopt;
@@ -9,9 +11,8 @@ mod dpop;
 mod plain;
 mod tables;
 mod tree;
-mod values;
 
-pub use adopt::adopt_answer;
-pub use dpop::dpop_answer;
+pub use adopt::{Asked, Reached, adopt_answer, reached_by};
+pub use dpop::{Choice, Chosen, choice_deliveries, chosen_by, dpop_answer};
 pub use plain::plain_answer;
-pub use tree::tree_answer;
+pub use tree::{Found, node_rows_if, search_deliveries, tree_answer, tree_found};

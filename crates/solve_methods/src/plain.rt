@@ -6,9 +6,10 @@ ghost use Rattle.certificate_text.specs.Named.{CanTell};
 ghost use Rattle.solve_methods.specs.Plain.{IsPlainReport, GivesFirst, GivesBest, IsPlainAnswer};
 
 use certificate_text::{Ending, Method, Report};
-use dcop_base::{NoMemory, Problem, ValList, cost_of};
-use dcop_optimum::{PlainFault, least_plain, turn};
-use problem_text::{Goal, ProblemFile};
+use dcop_base::{NoMemory, Problem, ValList, cost_of, problem_is_whole};
+use dcop_optimum::{PlainFault, least_plain};
+use problem_solved::ProblemSolved;
+use problem_text::ProblemFile;
 use solve_report::Answer;
 use std::alloc::Global;
 
@@ -31,10 +32,9 @@ pub fn plain_answer(alloc: Global, file: ProblemFile) -> Result<Answer, NoMemory
 fn best_values(alloc: Global, file: &ProblemFile) -> Result<ValList, PlainFault>
     ensures { GivesBest file.now result }
 {
-    match file.goal {
-        Goal::Min => first_values(alloc, &file.problem),
-        Goal::Max => first_values(alloc, &turn(alloc, &file.problem)?),
-    }
+    problem_is_whole(&file.problem);
+    let solved = ProblemSolved::of(alloc, file)?;
+    first_values(alloc, solved.problem())
 }
 
 /// The first optimal values of a problem.

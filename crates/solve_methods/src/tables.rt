@@ -1,47 +1,45 @@
 //! The tables that DPOP agents made, as a certificate.
 
-ghost use Rattle.std.specs.Prelude.{◌≡◌, ◌<◌, length, map, option_map, IfOk, IfSome};
-ghost use Rattle.std.specs.List.{All};
-ghost use Rattle.delivery_core.specs.State.{table_in, view_at};
+ghost use Rattle.std.specs.Prelude.{◌≡◌, map, option_map, slice_get, IfOk};
 ghost use Rattle.solve_methods.specs.Agreed.{cells_on, certificate_with, util_with};
 
 use certificate_text::{Certificate, Util, UtilList};
-use dcop_base::{CellList, NoMemory, VarId};
-use delivery_core::CoreState;
+use dcop_base::{CellList, NoMemory, Table, VarId};
 use solve_report::{NodeRow, NodeRowList};
 use std::alloc::Global;
 
 /// The certificate of the tables that the agents of these nodes made, where there are nodes.
-pub(crate) fn certificate_in(
+pub(crate) fn certificate_of(
     alloc: Global,
     nodes: Option<NodeRowList>,
-    state: &CoreState,
+    tables: &[Option<Table>],
 ) -> Result<Option<Certificate>, NoMemory>
-    requires { IfSome nodes (All (λ node. node.var < length state.now.seats)) }
-    ensures { IfOk result (λ certificate. certificate ≡ option_map (certificate_with state.now) nodes) }
+    ensures { IfOk result (λ certificate. certificate ≡ option_map (certificate_with tables.now) nodes) }
 {
     match nodes {
-        Some(nodes) => Ok(Some(Certificate::Tables(utils_in(alloc, nodes, state)?))),
+        Some(nodes) => Ok(Some(Certificate::Tables(utils_of(alloc, nodes, tables)?))),
         None => Ok(None),
     }
 }
 
 /// The tables that the agents of these nodes made.
-fn utils_in(alloc: Global, nodes: NodeRowList, state: &CoreState) -> Result<UtilList, NoMemory>
-    requires { All (λ node. node.var < length state.now.seats) nodes }
-    ensures { IfOk result (λ utils. utils ≡ map (util_with state.now) nodes) }
+fn utils_of(
+    alloc: Global,
+    nodes: NodeRowList,
+    tables: &[Option<Table>],
+) -> Result<UtilList, NoMemory>
+    ensures { IfOk result (λ utils. utils ≡ map (util_with tables.now) nodes) }
 {
     let mut utils = Vec::with_capacity(alloc, nodes.as_slice().len())?;
     for node in nodes.into_vec() {
-        utils.push(util_at(alloc, node, state)?)?;
+        utils.push(util_of(alloc, node, tables)?)?;
     }
     Ok(UtilList::from_vec(utils))
 }
 
 /// The table that the agent of a node made.
-fn util_at(alloc: Global, node: NodeRow, state: &CoreState) -> Result<Util, NoMemory>
-    requires { node.var < length state.now.seats }
-    ensures { IfOk result (λ util. util ≡ util_with state.now node) }
+fn util_of(alloc: Global, node: NodeRow, tables: &[Option<Table>]) -> Result<Util, NoMemory>
+    ensures { IfOk result (λ util. util ≡ util_with tables.now node) }
 {
     let NodeRow {
         var,
@@ -52,20 +50,19 @@ fn util_at(alloc: Global, node: NodeRow, state: &CoreState) -> Result<Util, NoMe
         var,
         parent,
         scope: separator,
-        cells: cells_at(alloc, var, state)?,
+        cells: cells_of(alloc, var, tables)?,
     })
 }
 
 /// The cells of the table that an agent made.
-fn cells_at(alloc: Global, var: VarId, state: &CoreState) -> Result<CellList, NoMemory>
-    requires { var < length state.now.seats }
-    ensures { IfOk result (λ cells. cells ≡ cells_on (table_in (view_at state.now var))) }
+fn cells_of(alloc: Global, var: VarId, tables: &[Option<Table>]) -> Result<CellList, NoMemory>
+    ensures { IfOk result (λ cells. cells ≡ cells_on (slice_get tables.now var)) }
 {
-    match state.table(var) {
-        Some(table) => {
+    match tables.get(var.0 as usize) {
+        Some(Some(table)) => {
             let cells = Vec::from_slice(alloc, table.cells.as_slice())?;
             Ok(CellList::from_vec(cells))
         }
-        None => Ok(CellList::from_vec(Vec::new(alloc))),
+        _ => Ok(CellList::from_vec(Vec::new(alloc))),
     }
 }

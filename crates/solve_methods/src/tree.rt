@@ -1,40 +1,78 @@
-//! The answer of the command `tree`.
+//! The tree that token agents find, and the answer of the command `tree`.
 
-ghost use Rattle.std.specs.Prelude.{◌≡◌, ◌<◌, length, Some, None, IfOk, if◌then◌else◌};
+ghost use Rattle.std.specs.Prelude.{◌≡◌, ◌<◌, ◌≤◌, length, map, Some, None, IfOk, if◌then◌else◌};
+ghost use Rattle.dcop_base.specs.Limits.{budget_limit};
+ghost use Rattle.dcop_base.specs.Problem.{Dcop};
 ghost use Rattle.pseudotree.specs.DepthFirst.{dfs};
 ghost use Rattle.pseudotree.specs.Fault.{parents_of};
 ghost use Rattle.pseudotree.specs.Pseudotree.{IsPseudotreeOf, separator_at};
-ghost use Rattle.delivery_core.specs.State.{view_at, place_in};
+ghost use Rattle.token_runs.specs.TokenRun.{token_agents};
 ghost use Rattle.problem_text.specs.Steps.{declared_by};
 ghost use Rattle.solve_report.specs.AnswerText.{HasText};
-ghost use Rattle.solve_methods.specs.Found.{HaveFound, IsFound, parent_on};
+ghost use Rattle.solve_methods.specs.Found.{IsFound, parent_on, places_found};
 ghost use Rattle.solve_methods.specs.Goal.{TellsRight};
-ghost use Rattle.solve_methods.specs.Tree.{row_with, rows_with, AnswersTree};
+ghost use Rattle.solve_methods.specs.Run.{HaveRun};
+ghost use Rattle.solve_methods.specs.Tree.{row_with, rows_with, rows_of, token_deliveries, AnswersTree};
 
-use dcop_base::{NoMemory, Problem, VarId, VarList};
-use delivery_core::{CoreState, Start, play};
+use dcop_base::{NoMemory, Problem, VarId, VarList, problem_is_whole};
 use problem_text::ProblemFile;
-use pseudotree::{Tree, TreeFault, check_tree};
+use protocol_steps::{Outcome, rounds_are_a_run};
+use pseudotree::{Place, Tree, TreeFault, check_tree};
 use solve_report::{Answer, NodeRow, NodeRowList};
 use std::alloc::Global;
 use token_runs::token_runs;
 
 /// A tree, and how many messages the agents took to find it.
 #[derive(Debug, Drop)]
-pub(crate) struct Found {
+pub struct Found {
+    /// The tree.
     pub tree: Tree,
+    /// How many messages were taken.
     pub deliveries: u64,
 }
 
-/// The depth-first tree of a file's problem, with the messages that its agents took to find it.
+/// The messages that the token agents of a problem take: one TOKEN to each variable but the root,
+/// and one DONE from it. So many are budget enough for them.
+pub fn search_deliveries(problem: &Problem) -> u64
+    ensures all { result ≡ token_deliveries problem.now }
+    ensures few { result ≤ budget_limit }
+{
+    2 * (problem.sizes.as_slice().len() as u64 - 1)
+}
+
+/// The depth-first tree of a problem, which its token agents found.
+///
+/// # Errors
+///
+/// [`NoMemory`] where memory was wanted and not had.
+pub fn tree_found(alloc: Global, problem: &Problem, outcome: &Outcome) -> Result<Found, NoMemory>
+    requires { HaveRun (token_deliveries problem.now) (token_agents problem.now) outcome.now }
+    ensures { IfOk result (IsFound problem.now) }
+{
+    token_runs();
+    rounds_are_a_run();
+    problem_is_whole(problem);
+    let parents = parents_found(alloc, outcome.places.as_slice())?;
+    Ok(Found {
+        tree: tree_of(alloc, problem, parents.as_slice())?,
+        deliveries: outcome.deliveries,
+    })
+}
+
+/// The answer of `tree` on a file, from the depth-first tree of its problem.
 ///
 /// Token agents look at no cost, so the tree is the same for both goals.
-pub fn tree_answer(alloc: Global, file: ProblemFile) -> Result<Answer, NoMemory>
+///
+/// # Errors
+///
+/// [`NoMemory`] where memory was wanted and not had.
+pub fn tree_answer(alloc: Global, file: ProblemFile, found: Found) -> Result<Answer, NoMemory>
+    requires { IsFound file.problem found }
     ensures belongs { IfOk result (AnswersTree (declared_by file)) }
     ensures right { IfOk result TellsRight }
     ensures told { IfOk result HasText }
 {
-    let Found { tree, deliveries } = find_tree(alloc, &file.problem)?;
+    let Found { tree, deliveries } = found;
     let nodes = node_rows(alloc, &tree)?;
     Ok(Answer::Tree {
         deliveries,
@@ -43,51 +81,22 @@ pub fn tree_answer(alloc: Global, file: ProblemFile) -> Result<Answer, NoMemory>
     })
 }
 
-/// The tree that the token agents of a problem find.
-pub(crate) fn find_tree(alloc: Global, problem: &Problem) -> Result<Found, NoMemory>
-    ensures { IfOk result (IsFound problem.now) }
+/// The parents that agents have found.
+fn parents_found(alloc: Global, places: &[Option<Place>]) -> Result<Vec<Option<VarId>>, NoMemory>
+    ensures { IfOk result (λ parents. parents.items ≡ map parent_on places.now) }
 {
-    let state = play_tokens(alloc, problem)?;
-    let parents = parents_found(alloc, problem, &state)?;
-    Ok(Found {
-        tree: tree_of(alloc, problem, parents.as_slice())?,
-        deliveries: state.deliveries(),
-    })
-}
-
-/// The state in which the token agents of a problem have ended: one TOKEN to each variable but the
-/// root, and one DONE from it, are all that they send.
-fn play_tokens(alloc: Global, problem: &Problem) -> Result<CoreState, NoMemory>
-    ensures { IfOk result (HaveFound problem.now) }
-{
-    token_runs();
-    let count = problem.sizes.as_slice().len() as u64;
-    Ok(play(alloc, problem, Start::Token, 2 * (count - 1))?.state)
-}
-
-/// The parents that the agents of a problem have found.
-fn parents_found(
-    alloc: Global,
-    problem: &Problem,
-    state: &CoreState,
-) -> Result<Vec<Option<VarId>>, NoMemory>
-    requires { HaveFound problem.now state.now }
-    ensures { IfOk result (λ parents. parents.items ≡ parents_of (dfs problem.now)) }
-{
-    let count = problem.sizes.as_slice().len();
-    let mut parents = Vec::with_capacity(alloc, count)?;
-    for index in 0..count {
-        parents.push(parent_found(state, VarId(index as u32)))?;
+    let mut parents = Vec::with_capacity(alloc, places.len())?;
+    for place in places {
+        parents.push(parent_on(place))?;
     }
     Ok(parents)
 }
 
 /// The parent that an agent has found: the last variable of its path.
-fn parent_found(state: &CoreState, var: VarId) -> Option<VarId>
-    requires { var < length state.now.seats }
-    ensures { result ≡ parent_on (place_in (view_at state.now var)) }
+fn parent_on(place: &Option<Place>) -> Option<VarId>
+    ensures { result ≡ parent_on place.now }
 {
-    match state.place(var) {
+    match place {
         Some(place) => place.path.as_slice().last().copied(),
         None => None,
     }
@@ -100,8 +109,7 @@ fn tree_of(alloc: Global, problem: &Problem, parents: &[Option<VarId>]) -> Resul
     ensures paths { IfOk result (λ tree. tree.paths ≡ dfs problem.now) }
 {
     token_runs();
-    // One that is read is known to be within its limits.
-    let _ = problem.sizes.as_slice();
+    problem_is_whole(problem);
     match check_tree(alloc, problem, parents) {
         Ok(tree) => Ok(tree),
         Err(fault) => Err(only_memory(fault)),
@@ -119,13 +127,17 @@ fn only_memory(fault: TreeFault) -> NoMemory
 }
 
 /// The nodes of a tree in preorder, each with its parent and its separator, where they are wanted.
-pub(crate) fn node_rows_if(
+///
+/// # Errors
+///
+/// [`NoMemory`] where memory was wanted and not had.
+pub fn node_rows_if(
     alloc: Global,
     wanted: bool,
     tree: &Tree,
 ) -> Result<Option<NodeRowList>, NoMemory>
-    ensures { IfOk result (λ rows. rows ≡
-        if wanted then Some (rows_with (separator_at tree.now) tree.now.paths) else None) }
+    ensures { (p : Dcop) → IsPseudotreeOf p tree.now → IfOk result (λ rows.
+        rows ≡ if wanted then Some (rows_of p tree.now.paths) else None) }
 {
     if wanted {
         Ok(Some(node_rows(alloc, tree)?))

@@ -1,54 +1,16 @@
 -- Lines without words in front of a report change nothing in what it is read as.
-use Rattle.std.proofs.Common.{◌≡◌, ℕ, ◌+◌, ◌≤◌, zero, suc, Bool, true, false, cond, nat_eq, List, [], ◌∷◌, ◌++◌, length, drop, count_by, ◌⊎◌, inl, inr, Result, Ok, Err, refl, sym, ap, subst, ◌∙◌, arith}
+use Rattle.std.proofs.Common.{◌≡◌, ℕ, ◌+◌, ◌≤◌, zero, suc, Bool, true, false, cond, nat_eq, List, [], ◌∷◌, ◌++◌, length, drop, count_by, ◌⊎◌, inl, inr, Ok, refl, sym, ap, subst, ◌∙◌, arith}
 use Rattle.std.specs.List.{filter}
 use Rattle.std.proofs.lemmas.List.{drop-append-le}
 use Rattle.problem_text.specs.Bytes.{line_feed}
-use Rattle.problem_text.specs.declared.file.Goal.{Goal}
-use Rattle.problem_text.specs.declared.fault.ReportKind.{ReportKind}
 use Rattle.problem_text.specs.File.{TextFile}
 use Rattle.problem_text.specs.Lines.{has_some, lines, words}
 use Rattle.problem_text.specs.PlainLines.{Plain, plain_content, plain_numbered, plain_lines}
-use Rattle.certificate_text.specs.declared.draft.Draft.{Draft}
-use Rattle.certificate_text.specs.declared.draft.Stage.{Stage}
-use Rattle.certificate_text.specs.declared.draft.Stage.TheVariants as stages
 use Rattle.certificate_text.specs.declared.report.Report.{Report}
-use Rattle.certificate_text.specs.ReportLines.{nothing_told, line_at}
-use Rattle.certificate_text.specs.ReportReading.{Fault, over_at, read_on, lines_read, report_read}
+use Rattle.certificate_text.specs.ReportLines.{Left, whole}
+use Rattle.certificate_text.specs.ReportReading.{lines_read, report_read}
+use Rattle.certificate_text.proofs.NumberLaws.{SameWords, read-same}
 use Rattle.solve_top.proofs.PrefixLaws.{lines_join}
-
--- lines with the same words, whatever their numbers
-abbrev SameWords : List Plain → List Plain → Type 0
-SameWords [] [] = Unit {0}
-SameWords (x ∷ xs) (y ∷ ys) = (x.words ≡ y.words) × SameWords xs ys
-SameWords [] (y ∷ ys) = ⊥
-SameWords (x ∷ xs) [] = ⊥
-
-over_same : (s : Stage) (over over' : ℕ) (goal : Goal) (d : Draft) (r : Report) → over_at s over goal d ≡ Ok r → over_at s over' goal d ≡ Ok r
-over_same stages.Status over over' goal d r is = absurd (cc)
-over_same stages.Method over over' goal d r is = absurd (cc)
-over_same stages.Goal over over' goal d r is = absurd (cc)
-over_same stages.Error over over' goal d r is = absurd (cc)
-over_same stages.Deliveries over over' goal d r is = absurd (cc)
-over_same stages.Cost over over' goal d r is = absurd (cc)
-over_same stages.Lower over over' goal d r is = absurd (cc)
-over_same stages.Upper over over' goal d r is = absurd (cc)
-over_same stages.Values over over' goal d r is = absurd (cc)
-over_same stages.Utils over over' goal d r is = absurd (cc)
-over_same stages.End over over' goal d r is = is
-
-step_same : (n m : ℕ) (o : Result Draft ReportKind) (later later' : Draft → Result Report Fault) (r : Report)
-    → ((more : Draft) → later more ≡ Ok r → later' more ≡ Ok r) → read_on n o later ≡ Ok r → read_on m o later' ≡ Ok r
-step_same n m (Ok more) later later' r on is = on more is
-step_same n m (Err kind) later later' r on is = absurd (cc)
-
-read_same : (over over' : ℕ) (f : TextFile) (d : Draft) (xs ys : List Plain) (r : Report) → SameWords xs ys → lines_read over f d xs ≡ Ok r → lines_read over' f d ys ≡ Ok r
-read_same over over' f d [] [] r same is = over_same d.stage over over' f.goal d r is
-read_same over over' f d [] (y ∷ ys) r same is = absurd same
-read_same over over' f d (x ∷ xs) [] r same is = absurd same
-read_same over over' f d (x ∷ xs) (y ∷ ys) r same is =
-    step_same x.number y.number (line_at d.stage f d y.words) (λ more. lines_read over f more xs) (λ more. lines_read over' f more ys) r
-    (λ more on. read_same over over' f more xs ys r same.1 on)
-    (subst (λ (ws : List (List ℕ)). read_on x.number (line_at d.stage f d ws) (λ more. lines_read over f more xs) ≡ Ok r) same.0 is)
 
 kept_same : (c : Bool) (x y : Plain) (xs ys : List Plain) → x.words ≡ y.words → SameWords xs ys → SameWords (cond c (x ∷ xs) xs) (cond c (y ∷ ys) ys)
 kept_same true x y xs ys same later = (same, later)
@@ -92,10 +54,9 @@ ended_kept bytes text f r none is =
     ∙ worded_join (plain_numbered 1 (lines tail)) (plain_numbered number (lines text))
     ∙ ap (λ (ls : List Plain). ls ++ worded (plain_numbered number (lines text))) none in
     let over : ℕ = 1 + count_by (λ b. nat_eq b line_feed) (tail ++ text) in
-    let told : lines_read over f nothing_told (worded (plain_numbered number (lines text))) ≡ Ok r =
-    read_same (1 + count_by (λ b. nat_eq b line_feed) text) over f nothing_told (plain_lines 1 text) (worded (plain_numbered number (lines text))) r
-    (numbers_free 1 number (lines text)) is in
-    subst (λ (ls : List Plain). lines_read over f nothing_told ls ≡ Ok r) (sym joined) told
+    let later : Left = record { lines = worded (plain_numbered number (lines text)); over = over } in
+    let told : lines_read f later ≡ Ok r = read-same f (whole text) later r (numbers_free 1 number (lines text)) is in
+    subst (λ (ls : List Plain). lines_read f (record { lines = ls; over = over }) ≡ Ok r) (sym joined) told
 
 -- what stands behind the first bytes of a text that ends with line_feed: nothing, or it ends with line_feed too
 abbrev IsTail : List ℕ → Type 0

@@ -6,4 +6,5 @@ mod SameLaws
 mod PrintedLaws
 mod AnswerLaws
 mod OneLaws
+mod NodeLaws
 mod ShowLaws

@@ -22,7 +22,7 @@ use Rattle.certificate_text.specs.Fits.{FitsCertificate, Fits}
 use Rattle.certificate_text.specs.ReportText.{report_text}
 use Rattle.certificate_text.specs.ReportReading.{Fault as ReportFault, report_read}
 use Rattle.certificate_text.proofs.AgainLaws.{report-again}
-use Rattle.certificate_check.specs.Goal.{solved}
+use Rattle.problem_solved.specs.Goal.{solved}
 use Rattle.certificate_check.specs.Verdicts.{IsExactOn}
 use Rattle.solve_report.specs.declared.answer.Answer.{Answer}
 use Rattle.solve_report.specs.declared.answer.Answer.TheVariants as answers

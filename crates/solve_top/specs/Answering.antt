@@ -19,7 +19,8 @@ use Rattle.solve_top.specs.declared.task.FileTask.TheVariants as tasks
 use Rattle.solve_methods.specs.Adopt.{AnswersAdopt}
 use Rattle.solve_methods.specs.Dpop.{AnswersDpop}
 use Rattle.solve_top.specs.Input.{Input, Unread, Broken, TooLong, Whole}
-use Rattle.solve_top.specs.Kinds.{number_of_words, number_of_text, number_of_problem}
+use Rattle.problem_text.specs.Kinds.{number_of_text, number_of_problem}
+use Rattle.solve_words.specs.Kinds.{number_of_words}
 use Rattle.solve_methods.specs.Plain.{IsPlainReport, HasFirstOptimum, IsTooMany}
 use Rattle.solve_top.specs.Served.{task_of}
 use Rattle.solve_methods.specs.Tree.{AnswersTree}

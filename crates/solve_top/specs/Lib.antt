@@ -1,6 +1,5 @@
 pub mod Input
 pub mod Output
-pub mod Kinds
 pub mod Served
 pub mod Whole
 pub mod Texts

@@ -26,7 +26,7 @@ use Rattle.solve_top.specs.declared.task.FileTask.{FileTask}
 use Rattle.solve_top.specs.declared.task.FileTask.TheVariants as tasks
 use Rattle.solve_top.specs.Answering.{IsAnswer}
 use Rattle.solve_methods.specs.Dpop.{wide_in, AnswersDpop}
-use Rattle.certificate_check.specs.Goal.{solved}
+use Rattle.problem_solved.specs.Goal.{solved}
 use Rattle.solve_methods.specs.Goal.{TellsRight}
 use Rattle.solve_top.specs.Input.{Input, SourceState, IsReadFrom}
 use Rattle.solve_top.specs.Output.{SinkState, AddsPrefix}

@@ -10,9 +10,13 @@ ghost use Rattle.solve_top.specs.Input.{source_state};
 ghost use Rattle.solve_top.specs.Answering.{IsFileAnswer, IsTextAnswer, IsReportAnswer, IsTaskAnswer, lines_in};
 ghost use Rattle.solve_top.specs.Served.{IsTaskInRange};
 ghost use Rattle.solve_top.specs.Solving.{Answered};
-ghost use Rattle.solve_top.specs.Kinds.{number_of_words, number_of_text, number_of_problem};
+ghost use Rattle.problem_text.specs.Kinds.{number_of_text, number_of_problem};
+ghost use Rattle.solve_words.specs.Kinds.{number_of_words};
 ghost use Rattle.solve_top.specs.Whole.{whole_read};
 
+use crate::agents::by_search;
+use crate::choosing::by_dpop;
+use crate::reaching::by_adopt;
 use crate::reading::{MAX_INPUT, ReadEnd, read_all};
 use crate::task::{FileTask, Task};
 use crate::whole::read_whole;
@@ -20,7 +24,7 @@ use dcop_base::NoMemory;
 use dcop_edge::Source;
 use problem_text::{ProblemFile, TextFault, TextKind, read_problem};
 use solve_check::check_answer;
-use solve_methods::{adopt_answer, dpop_answer, plain_answer, tree_answer};
+use solve_methods::{Asked, plain_answer};
 use solve_report::Answer;
 use solve_words::{WordFault, WordKind, read_words};
 use std::alloc::Global;
@@ -90,9 +94,9 @@ fn file_answer(alloc: Global, task: FileTask, file: ProblemFile) -> Result<Answe
 {
     match task {
         FileTask::Plain => plain_answer(alloc, file),
-        FileTask::Dpop { certified } => dpop_answer(alloc, file, certified),
-        FileTask::Adopt { error, budget } => adopt_answer(alloc, file, error, budget),
-        FileTask::Tree => tree_answer(alloc, file),
+        FileTask::Dpop { certified } => by_dpop(alloc, file, certified),
+        FileTask::Adopt { error, budget } => by_adopt(alloc, file, Asked { error, budget }),
+        FileTask::Tree => by_search(alloc, file),
         FileTask::Upgrade => Ok(Answer::Upgraded {
             file: upgraded(file),
         }),
@@ -149,7 +153,7 @@ fn words_answer(at: u64, kind: WordKind) -> Answer
 {
     Answer::Words {
         at,
-        kind: kind as u8,
+        kind: kind.number(),
     }
 }
 
@@ -157,20 +161,9 @@ fn words_answer(at: u64, kind: WordKind) -> Answer
 fn fault_answer(line: u64, kind: TextKind) -> Answer
     ensures { result ≡ Answer.ProblemText line (number_of_text kind) (number_of_problem kind) }
 {
-    let (kind, problem) = match kind {
-        TextKind::BadHeader => (1, 0),
-        TextKind::BadWord => (2, 0),
-        TextKind::BadNumber => (3, 0),
-        TextKind::UnknownName => (4, 0),
-        TextKind::NameTwice => (5, 0),
-        TextKind::NoEnd => (6, 0),
-        TextKind::Problem { number } => (7, number),
-        TextKind::AfterEnd => (8, 0),
-        TextKind::TooLong => (9, 0),
-    };
     Answer::ProblemText {
         line,
-        kind,
-        problem,
+        kind: kind.number(),
+        problem: kind.problem(),
     }
 }

@@ -5,20 +5,15 @@
 //! tells of its file is right, and when each fault may come.
 #![tactic(auto)]
 
-#[cfg(test)]
-mod adopt_tests;
 mod after_end;
+mod agents;
 mod answering;
-#[cfg(test)]
-mod check_tests;
-#[cfg(test)]
-mod dpop_tests;
+mod choosing;
 mod law;
+mod reaching;
 mod reading;
 mod status;
 mod task;
-#[cfg(test)]
-mod tests;
 mod top;
 mod whole;
 mod writing;

@@ -3,11 +3,10 @@
 ghost use Rattle.std.specs.Prelude.{◌≡◌};
 ghost use Rattle.solve_top.specs.Input.{IsReading, source_state};
 
+pub use dcop_base::MAX_INPUT;
 use dcop_base::{Bytes, NoMemory};
 use dcop_edge::{Failed, Source};
 use std::alloc::{AllocError, Global};
-
-pub use dcop_base::MAX_INPUT;
 
 /// The most bytes of one read.
 const BLOCK: usize = 4_096;

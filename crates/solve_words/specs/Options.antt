@@ -35,6 +35,10 @@ options =
 abbrev pub option_named : List ℕ → Option WordOption
 option_named word = find (λ option. bytes_eq (word_of option) word) options
 
+-- how many events a replay may be told to play at most
+abbrev pub most_events : ℕ
+most_events = 1000000000
+
 -- what an option's number may be, and what it is where the option is not given
 abbrev pub numbers_of : Quantity → Numbers
 numbers_of Workers = record { least = 1; most = 64; default = 1 }

@@ -6,6 +6,7 @@ ghost use Rattle.solve_words.specs.Standing.{commands_of, refused_with, belongs_
 
 use crate::command::Choice;
 use crate::verb::Verb;
+use dcop_base::{CAP, MAX_BUDGET, MAX_JOINED_CELLS, MAX_VARIABLES};
 
 /// An option.
 #[derive(Clone, Copy, Debug)]
@@ -149,6 +150,9 @@ fn first_named(options: &[WordOption], word: &str) -> Option<WordOption>
     options.iter().copied().find(|option| option.word() == word)
 }
 
+/// How many events a replay may be told to play at most.
+pub(crate) const MOST_EVENTS: u64 = 1_000_000_000;
+
 /// What the number of an option may be, and what it is where the option is not given.
 #[derive(Clone, Copy, Debug)]
 pub struct Numbers {
@@ -164,15 +168,15 @@ impl Quantity {
     {
         let (least, most, default) = match self {
             Quantity::Workers => (1, 64, 1),
-            Quantity::Error => (0, 4_611_686_018_427_387_904, 0),
-            Quantity::Budget => (0, 10_000_000, 1_000_000),
+            Quantity::Error => (0, CAP, 0),
+            Quantity::Budget => (0, MAX_BUDGET, 1_000_000),
             Quantity::Nodes => (1, 8, 1),
             Quantity::Seed => (0, 9_999_999_999_999_999_999, 0),
-            Quantity::Vars => (1, 1000, 20),
+            Quantity::Vars => (1, MAX_VARIABLES as u64, 20),
             Quantity::Size => (1, 16, 4),
             Quantity::Degree => (1, 8, 2),
             Quantity::Top => (0, 1_000_000, 100),
-            Quantity::Cells => (1024, 1_048_576, 1_048_576),
+            Quantity::Cells => (1024, MAX_JOINED_CELLS, MAX_JOINED_CELLS),
         };
         Numbers {
             least,

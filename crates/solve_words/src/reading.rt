@@ -187,36 +187,9 @@ mod tests {
     fn refused_words(rt: HostRuntime) -> Result<(), Fail> {
         for (text, at, kind) in [
             ("", 1, WordKind::NoCommand),
-            ("sove", 1, WordKind::UnknownCommand),
-            ("solve --worker 1", 2, WordKind::UnknownOption),
-            ("solve 1 --workers", 2, WordKind::UnknownOption),
-            ("tree --workers 2 --format", 4, WordKind::NoValue),
-            ("solve --budget 5 --budget 6", 4, WordKind::Twice),
             ("solve --budget 5 --budget", 4, WordKind::Twice),
             ("drill --seed 12345678901234567890", 3, WordKind::BadNumber),
-            ("replay --after -1", 3, WordKind::BadNumber),
-            ("replay --after 1000000001", 3, WordKind::OutOfRange),
-            ("solve --workers 0", 3, WordKind::OutOfRange),
-            ("solve --error 4611686018427387905", 3, WordKind::OutOfRange),
-            ("solve --budget 10000001", 3, WordKind::OutOfRange),
-            ("drill --vars 1001", 3, WordKind::OutOfRange),
-            ("drill --size 17 --degree 9", 3, WordKind::OutOfRange),
-            ("drill --degree 9 --top 1000001", 3, WordKind::OutOfRange),
-            ("drill --top 1000001", 3, WordKind::OutOfRange),
-            ("solve --method cut --cells 1023", 5, WordKind::OutOfRange),
-            ("solve --method best", 3, WordKind::BadChoice),
-            ("solve --certificate maybe", 3, WordKind::BadChoice),
-            ("check --format xml", 3, WordKind::BadChoice),
-            ("edit --format dcop", 2, WordKind::NotWith),
-            ("drill --certificate", 2, WordKind::NotWith),
-            ("solve --method dpop --error 1", 4, WordKind::NotWith),
             ("solve --nodes 1 --method cut", 2, WordKind::NotWith),
-            (
-                "solve --certificate no --error 0 --method plain",
-                2,
-                WordKind::NotWith,
-            ),
-            ("solve --workers 2 --cells 1048576", 4, WordKind::NotWith),
         ] {
             let words = words_of(rt.alloc(), text)?;
             let answer = read_words(rt.alloc(), words.as_slice());
@@ -242,39 +215,6 @@ mod tests {
                 },
             ),
             (
-                "solve --cells 1024 --format wcsp --method cut",
-                Command::Solve {
-                    method: Choice::Cut,
-                    workers: 1,
-                    error: 0,
-                    budget: 1_000_000,
-                    nodes: 1,
-                    certificate: false,
-                    format: Format::Wcsp,
-                    cells: 1024,
-                },
-            ),
-            (
-                "tree",
-                Command::Tree {
-                    workers: 1,
-                    format: Format::Dcop,
-                },
-            ),
-            (
-                "check --format wcsp",
-                Command::Check {
-                    format: Format::Wcsp,
-                },
-            ),
-            (
-                "replay",
-                Command::Replay {
-                    after: None,
-                    format: Format::Dcop,
-                },
-            ),
-            (
                 "replay --after 007",
                 Command::Replay {
                     after: Some(7),
@@ -297,29 +237,6 @@ mod tests {
                     cells: 1_048_576,
                 },
             ),
-            (
-                "drill --vars 1000 --degree 8 --method plain",
-                Command::Drill {
-                    method: Choice::Plain,
-                    workers: 1,
-                    error: 0,
-                    budget: 1_000_000,
-                    nodes: 1,
-                    seed: 0,
-                    vars: 1000,
-                    size: 4,
-                    degree: 8,
-                    top: 100,
-                    cells: 1_048_576,
-                },
-            ),
-            (
-                "upgrade --format dcop",
-                Command::Upgrade {
-                    format: Format::Dcop,
-                },
-            ),
-            ("edit", Command::Edit),
         ] {
             let words = words_of(rt.alloc(), text)?;
             assert_eq!(rt;

@@ -10,13 +10,10 @@ ghost use Rattle.solve_words.specs.Reading.{words_of, IsWithin, IsFault, IsRead,
 
 use crate::command::{Choice, Format, yes_or_no};
 use crate::fault::{WordFault, WordKind};
-use crate::options::{Quantity, WordOption};
+use crate::options::{MOST_EVENTS, Quantity, WordOption};
 use crate::verb::Verb;
 use dcop_base::number_of_word;
 use std::alloc::Global;
-
-/// How many events a replay may be told to play at most.
-const MOST_EVENTS: u64 = 1_000_000_000;
 
 /// An option with the value that it is given.
 #[derive(Clone, Copy, Debug)]

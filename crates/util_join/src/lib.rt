@@ -8,8 +8,6 @@ mod add;
 mod joined;
 mod row;
 mod stride;
-#[cfg(test)]
-mod tests;
 
 pub use dcop_base::MAX_JOINED_CELLS;
 pub use joined::{JoinFault, Joined};

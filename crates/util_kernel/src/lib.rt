@@ -8,8 +8,6 @@
 mod add;
 mod add_one;
 mod least;
-#[cfg(test)]
-mod tests;
 
 pub use add::add_lanes;
 pub use add_one::add_one_lanes;

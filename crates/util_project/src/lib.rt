@@ -8,8 +8,6 @@
 mod leasts;
 mod picking;
 mod projecting;
-#[cfg(test)]
-mod tests;
 
 pub use picking::pick;
 pub use projecting::project;

@@ -53,8 +53,8 @@ fn pick_at(sizes: &[u16], cells: &[u64], place: usize, values: &[Val]) -> Val
     let (front, back) = values.split_at(place);
     let inner = product_of(behind);
     let size = sizes[place];
-    let block = place_at(before, front, product_of(before));
-    let first = block * (usize::from(size) * inner) + place_at(behind, back, inner);
+    let block = place_at(before, front);
+    let first = block * (usize::from(size) * inner) + place_at(behind, back);
     lowest(cells, first, inner, size)
 }
 

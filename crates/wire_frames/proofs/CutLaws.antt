@@ -1,9 +1,8 @@
 -- Cutting bytes into frames, one frame after the other.
-use Rattle.std.proofs.Common.{◌≡◌, ℕ, ◌+◌, ◌<◌, ◌≤◌, List, [], ◌∷◌, ◌++◌, length, take, drop, All, refl, sym, ap, ◌∙◌, append_assoc, arith, length-append}
-use Rattle.std.specs.List.{flat_map}
-use Rattle.std.proofs.lemmas.List.{append-nil, drop_at}
+use Rattle.std.proofs.Common.{◌≡◌, ℕ, ◌+◌, ◌≤◌, List, [], ◌∷◌, ◌++◌, length, refl, sym, ap, ◌∙◌, append_assoc, arith, length-append}
+use Rattle.std.proofs.lemmas.List.{append-nil}
 use Rattle.std.proofs.lemmas.List.Concat.{flat_map-append}
-use Rattle.std.proofs.lemmas.List.Elements.{All-nil, All-push}
+use Rattle.std.proofs.lemmas.List.Elements.{All-push}
 use Rattle.std.specs.Prelude.{min, Bool}
 use Rattle.dcop_base.specs.Limits.{count_limit}
 use Rattle.wire_frames.specs.Frame.{framed, framed_all, EndsAt}
@@ -14,15 +13,6 @@ use Rattle.wire_frames.specs.Cut.{Holds}
 pub framed_all-push : (ps : List (List ℕ)) (p : List ℕ) → framed_all (ps ++ p ∷ []) ≡ framed_all ps ++ framed p
 framed_all-push ps p = flat_map-append framed ps (p ∷ []) ∙ ap (λ (x : List ℕ). framed_all ps ++ x) (append-nil (framed p))
 
--- nothing is held yet
-pub holds_none : (limit : ℕ) (bytes : List ℕ) (before : List (List ℕ)) → Holds limit bytes before bytes before
-holds_none limit bytes before = record {
-  payloads = [];
-  whole = refl;
-  within = All-nil (λ p. length p ≤ limit);
-  held = sym (append-nil before);
-}
-
 -- one more frame is held
 pub holds_more : (limit : ℕ) (bytes : List ℕ) (before : List (List ℕ)) (rest : List ℕ) (mid : List (List ℕ)) (p behind : List ℕ) (after : List (List ℕ)) → Holds limit bytes before rest mid
     → length p ≤ limit → rest ≡ framed p ++ behind → after ≡ mid ++ p ∷ [] → Holds limit bytes before behind after
@@ -32,16 +22,6 @@ holds_more limit bytes before rest mid p behind after h le is more = record {
   within = All-push (λ q. length q ≤ limit) h.payloads p h.within le;
   held = more ∙ ap (λ (x : List (List ℕ)). x ++ p ∷ []) h.held ∙ append_assoc before h.payloads (p ∷ []);
 }
-
--- a rest is no longer than the bytes
-pub rest_within : (limit : ℕ) (bytes : List ℕ) (before : List (List ℕ)) (rest : List ℕ) (after : List (List ℕ)) → Holds limit bytes before rest after → length rest ≤ length bytes
-rest_within limit bytes before rest after h = omega (arith, ap length h.whole, length-append (framed_all h.payloads) rest)
-
--- a rest is what stands from its place on
-pub rest_at : (limit : ℕ) (bytes : List ℕ) (before : List (List ℕ)) (rest : List ℕ) (after : List (List ℕ)) (place : ℕ) → Holds limit bytes before rest after → place + length rest ≡ length bytes → drop place bytes ≡ rest
-rest_at limit bytes before rest after place h is =
-    let at : length (framed_all h.payloads) ≡ place = omega (arith, ap length h.whole, length-append (framed_all h.payloads) rest) in
-    ap (drop place) h.whole ∙ drop_at (framed_all h.payloads) rest place at
 
 -- a reader takes a piece where it is cut into frames behind the rest
 pub taken : (limit place cut_at new_place : ℕ) (ready new_ready : List (List ℕ)) (rest piece new_rest : List ℕ) (was is : Bool) → Holds limit (rest ++ piece) ready new_rest new_ready

@@ -1,19 +1,17 @@
 -- Whole streams, in whatever pieces.
-use Rattle.std.proofs.Common.{◌≡◌, ℕ, ◌+◌, ◌<◌, ◌≤◌, ◌^◌, min, Bool, true, false, List, [], ◌∷◌, ◌++◌, length, take, drop, get_or, All, Option, Some, None, Result, Ok, Err, refl, sym, ap, subst, ◌∙◌, append_assoc, arith, length-append}
-use Rattle.std.specs.List.{flat_map}
+use Rattle.std.proofs.Common.{◌≡◌, ℕ, ◌+◌, ◌<◌, ◌≤◌, min, Bool, true, false, List, [], ◌∷◌, ◌++◌, length, take, drop, All, Option, Some, None, Ok, Err, refl, sym, ap, subst, ◌∙◌, append_assoc, arith, length-append}
 use Rattle.std.proofs.lemmas.List.{append-nil, drop_at, take_at}
 use Rattle.std.proofs.lemmas.List.Concat.{flat_map-append, flat_map-cons}
 use Rattle.std.proofs.lemmas.List.Elements.{All-nil, All-append, All-head, All-tail}
 use Rattle.dcop_base.specs.Limits.{count_limit}
-use Rattle.wire_frames.specs.declared.fault.FrameFault.{FrameFault}
 use Rattle.wire_frames.specs.declared.fault.FrameFault.TheVariants.{TooLong, NoMemory}
-use Rattle.std.specs.Prelude.{cond, ltb, MatchOption, IfSome}
+use Rattle.std.specs.Prelude.{ltb, MatchOption, IfSome}
 use Rattle.std.specs.Int.{w32, to_be_bytes, from_be_bytes}
 use Rattle.std.proofs.lemmas.Bool.{le-ltb}
 use Rattle.std.proofs.lemmas.Nat.{from_be_bytes-to_be_bytes_4}
-use Rattle.wire_frames.specs.Frame.{payload_limit, framed, framed_all, length_field, IsShort, IsTooLong, EndsAt}
-use Rattle.wire_frames.specs.Reader.{Reader, fresh, Takes, Stops, Feeds, Hands, first_of, after_first}
-use Rattle.wire_frames.specs.Run.{Deed, fed, asked, Does, Lead, stream_of, handed, Splits, HasRead, TakesOn, HandsOn, ReadsWhole, SplitsOnce}
+use Rattle.wire_frames.specs.Frame.{payload_limit, framed, framed_all, length_field, EndsAt}
+use Rattle.wire_frames.specs.Reader.{Reader, fresh, Takes, Stops, Hands, first_of, after_first}
+use Rattle.wire_frames.specs.Run.{Deed, fed, asked, Lead, stream_of, handed, HasRead, TakesOn, HandsOn, ReadsWhole, SplitsOnce}
 
 framed_all-append : (ps qs : List (List ℕ)) → framed_all (ps ++ qs) ≡ framed_all ps ++ framed_all qs
 framed_all-append ps qs = flat_map-append framed ps qs

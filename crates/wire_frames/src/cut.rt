@@ -3,7 +3,7 @@
 ghost use Rattle.std.specs.Prelude.{◌≡◌, ◌+◌, ◌≤◌, ◌++◌, ◌∷◌, [], length, take, drop, IfSome, OnOk, OnErr};
 ghost use Rattle.std.specs.Int.{w32, to_be_bytes, from_be_bytes};
 ghost use Rattle.wire_frames.specs.Frame.{length_field};
-ghost use Rattle.wire_frames.specs.Cut.{IsFront, HoldsAll, Cuts};
+ghost use Rattle.wire_frames.specs.Cut.{IsFront, HoldsAll, Cuts, missing};
 
 use dcop_base::{Bytes, NoMemory};
 use std::alloc::Global;
@@ -119,6 +119,7 @@ pub(crate) fn cut(
     ensures { Cuts limit rest.old.items ready.old.items piece.now result rest.new.items ready.new.items }
 {
     let (left, held) = (rest.len(), ready.len());
+    rest.reserve(piece.len().max(missing(rest.as_slice())))?;
     rest.extend_from_slice(piece)?;
     match store_all(*rest.allocator(), limit, rest.as_slice(), ready) {
         Ok(end) => {
@@ -130,6 +131,16 @@ pub(crate) fn cut(
             ready.truncate(held);
             Err(refused)
         }
+    }
+}
+
+/// How many bytes of the frame at the front are still to come, where its length field is there.
+fn missing(bytes: &[u8]) -> usize
+    ensures { result ≡ missing bytes.now }
+{
+    match length_field(bytes) {
+        Some(length) => (4 + length as usize).saturating_sub(bytes.len()),
+        None => 0,
     }
 }
 

@@ -15,6 +15,8 @@ mod fault;
 mod law;
 mod payload;
 mod reader;
+#[cfg(test)]
+mod tests;
 
 pub use fault::FrameFault;
 pub use law::{hands_on, reads_whole, splits_once, takes_on};

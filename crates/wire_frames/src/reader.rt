@@ -75,7 +75,8 @@ impl FrameReader {
             return Err(FrameFault::TooLong { place: self.place });
         }
         let end = cut(self.limit, &mut self.rest, &mut self.ready, piece)?;
-        self.place = self.place.saturating_add(end.place as u64);
+        let place = self.place.saturating_add(end.place as u64);
+        self.place = place;
         self.stuck = end.is_too_long;
         if self.stuck {
             return Err(FrameFault::TooLong { place: self.place });

@@ -3,3 +3,16 @@ pub mod ActLaws
 pub mod VisitLaws
 pub mod SortLaws
 pub mod MergeLaws
+pub mod EachLaws
+pub mod TakeLaws
+pub mod TellLaws
+pub mod PieceLaws
+pub mod HistoryLaws
+pub mod CellRunLaws
+pub mod EndLaws
+pub mod IdleLaws
+pub mod StampCountLaws
+pub mod CellStampLaws
+pub mod PairRow
+pub mod NodeLaws
+pub mod PlayedLaws

@@ -1,11 +1,13 @@
 -- The run that cells have made.
 use Rattle.std.specs.Prelude.{◌≡◌, ℕ, ◌<◌, ◌≤◌, true, false, Bool, List, map, length, Some, slice_get}
 use Rattle.std.specs.List.{list_all, fold}
+use Rattle.std.specs.Option.{option_map}
 use Rattle.protocol_steps.specs.declared.message.Message.{Message}
 use Rattle.protocol_steps.specs.declared.event.Entry.{Entry}
 use Rattle.protocol_steps.specs.declared.run_end.RunEnd.{RunEnd}
 use Rattle.protocol_steps.specs.declared.run_end.RunEnd.TheVariants.{AllEnded, Spent, Still}
-use Rattle.protocol_steps.specs.View.{View, ended_of}
+use Rattle.protocol_steps.specs.declared.outcome.Outcome.{Outcome}
+use Rattle.protocol_steps.specs.View.{View, ended_of, value_of, standing_of, table_of, place_of}
 use Rattle.protocol_steps.specs.Network.{Network, start_state, link}
 use Rattle.protocol_steps.specs.Effect.{deliveries}
 use Rattle.protocol_steps.specs.Links.{taken_at}
@@ -17,7 +19,7 @@ use Rattle.protocol_steps.specs.Deeds.{AreDeeds, posted_to}
 use Rattle.protocol_steps.specs.StampLaw.{IsPrefix}
 use Rattle.protocol_steps.specs.JournalStamps.{journal_at, deeds_from, AreEnough, AreStarts}
 use Rattle.worker_runs.specs.Cells.{CellState, lane}
-use Rattle.worker_runs.specs.CellRounds.{AreStarted, total}
+use Rattle.worker_runs.specs.CellRounds.{total}
 use Rattle.worker_runs.specs.Merges.{AscendsAbove, IsMerge, events_in}
 
 -- the journals of all cells
@@ -49,6 +51,7 @@ pub record AreRightStamps (made : List View) (cells : List CellState) : Type 0 w
 -- cells have made a run of agents that were made so, which ends in this network: it has the cells' views and links; the journals' stamps are right; the merge of the journals is such a run; and the journals are in rounds under the budget
 pub record IsRunOfCells (budget : ℕ) (made : List View) (cells : List CellState) (end : Network) : Type 0 where
   pub views : end.views ≡ map (λ c. c.view) cells
+  pub sized : length end.desks ≡ length cells
   pub links : (i j : ℕ) (to from : CellState) → slice_get cells i ≡ Some to → slice_get cells j ≡ Some from → IsLinkIn end i j to from
   pub delivered : deliveries end ≡ total cells
   pub right : AreRightStamps made cells
@@ -70,6 +73,15 @@ IsCellEnd budget cells (AllEnded n) = (n ≡ total cells) × (all_ended cells �
 IsCellEnd budget cells (Spent n) = (n ≡ total cells) × (all_ended cells ≡ false) × (budget ≤ total cells)
 IsCellEnd budget cells (Still n) = (n ≡ total cells) × (all_ended cells ≡ false) × (total cells < budget) × NothingWaits cells
 
--- of whatever agents these cells were when they started, the cells at the end have made a run that ended so
-abbrev pub MakesARun : ℕ → List CellState → List CellState → RunEnd → Type 0
-MakesARun budget started cells answer = (made : List View) → AreStarted made started → (end : Network) × IsRunOfCells budget made cells end × IsRunEnd budget end answer
+-- cells have made a run of agents that were made so, under a budget, which ended so
+abbrev pub MakesARun : ℕ → List View → List CellState → RunEnd → Type 0
+MakesARun budget made cells answer = (end : Network) × IsRunOfCells budget made cells end × IsRunEnd budget end answer
+
+-- an outcome tells of these cells: each agent's value, the table and the place that it made, where it did, the standing of agent 0, how many messages were taken, and whether all agents have ended
+pub record IsCellOutcome (cells : List CellState) (outcome : Outcome) : Type 0 where
+  pub values : outcome.values ≡ map (λ c. value_of c.view) cells
+  pub tables : outcome.tables ≡ map (λ c. table_of c.view) cells
+  pub places : outcome.places ≡ map (λ c. place_of c.view) cells
+  pub top : option_map (λ c. standing_of c.view) (slice_get cells 0) ≡ Some outcome.top
+  pub deliveries : outcome.deliveries ≡ total cells
+  pub ended : outcome.ended ≡ all_ended cells

@@ -1,13 +1,15 @@
 -- Laws on cells.
 use Rattle.std.specs.Prelude.{◌≡◌, ℕ, ◌+◌, List}
 use Rattle.protocol_steps.specs.declared.run_end.RunEnd.{RunEnd}
+use Rattle.protocol_steps.specs.declared.outcome.Outcome.{Outcome}
 use Rattle.protocol_steps.specs.View.{View}
 use Rattle.protocol_steps.specs.Network.{Network}
 use Rattle.protocol_steps.specs.RunEnds.{IsRunEnd}
+use Rattle.protocol_steps.specs.Outcomes.{IsOutcomeOf}
 use Rattle.worker_runs.specs.Cells.{CellState, EachAre}
 use Rattle.worker_runs.specs.Visits.{IsQuiet, IsVisit}
 use Rattle.worker_runs.specs.CellRounds.{AreSettled, AreStarted, IsCellRound, AreCellRounds, taken_by, total}
-use Rattle.worker_runs.specs.CellRuns.{IsRunOfCells, NothingWaits, IsCellEnd}
+use Rattle.worker_runs.specs.CellRuns.{IsRunOfCells, NothingWaits, IsCellEnd, IsCellOutcome}
 
 -- cells that have started, played in rounds under a budget, with every link settled at the end, have made a run in rounds under the budget, which ends in their views and links
 abbrev pub WorkersMakeARun : Type 0
@@ -19,6 +21,11 @@ WorkersMakeARun = (budget : ℕ) (made : List View) (cells after last : List Cel
 abbrev pub CellsTellEnds : Type 0
 CellsTellEnds = (budget : ℕ) (made : List View) (cells : List CellState) (end : Network) (answer : RunEnd) → IsRunOfCells budget made cells end → IsCellEnd budget cells answer
     → IsRunEnd budget end answer
+
+-- what agents of the run have come to is what the cells tell
+abbrev pub CellsTellOutcomes : Type 0
+CellsTellOutcomes = (budget : ℕ) (made : List View) (cells : List CellState) (end : Network) (outcome : Outcome) → IsRunOfCells budget made cells end → IsCellOutcome cells outcome
+    → IsOutcomeOf end outcome
 
 -- after a round that took nothing, nothing waits for an agent that has not ended
 abbrev pub IdleRoundsLeaveNothing : Type 0

@@ -7,3 +7,5 @@ pub mod Merges
 pub mod CellRuns
 pub mod StampCounts
 pub mod Laws
+pub mod NodeRounds
+pub mod Played

@@ -13,4 +13,8 @@
 
 mod law;
 
-pub use law::{journals_merge, sprints_are_visits, totals_add};
+pub use law::{
+    cell_stamps_are_few, cells_tell_ends, cells_tell_outcomes, idle_rounds_leave_nothing,
+    journals_merge, one_node_is_all, played_cells_make_runs, sprints_are_visits, stamps_are_few,
+    totals_add, workers_make_a_run,
+};

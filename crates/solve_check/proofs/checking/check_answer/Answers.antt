@@ -1,5 +1,5 @@
 use Rattle.std.proofs.Common.{arith}
-use Rattle.solve_check.proofs.LineLaws.{fault-line}
+use Rattle.certificate_text.proofs.NumberLaws.{fault-line}
 use Rattle.solve_check.proofs.checking.check_answer.Goals as goal
 
 pub overflow_add-result : goal.overflow_add-result

@@ -9,16 +9,16 @@ place_at-block-requires-clause-within c =
     let parts = pick-parts c.args.sizes.now c.args.cells.now c.args.values.now c.args.place c.requires.inside c.requires.full c.requires.within in
     subst₂ (λ (xs ys : List ℕ). AreWithin xs ys) (sym c.split_at.ensures.front) (sym c.split_at-3.ensures.front) parts.front
 
-pub place_at-block-requires-clause-full : goal.place_at-block-requires-clause-full
-place_at-block-requires-clause-full c =
+pub place_at-block-requires-clause-few : goal.place_at-block-requires-clause-few
+place_at-block-requires-clause-few c =
     let most : product c.args.sizes.now ≤ 18446744073709551615 = omega (arith, c.requires.full) in
-    let counts = counts-of _ _ _ _ _ _ _ c.requires.inside c.requires.some most c.split_at.ensures.front c.split_at-2.ensures.back c.product_of.ensures c.product_of-inner.ensures in
-    counts.before ∙ ap product (sym c.split_at.ensures.front)
+    let counts = counts-of _ _ _ _ _ _ _ c.requires.inside c.requires.some most c.split_at.ensures.front c.split_at-2.ensures.back refl c.product_of-inner.ensures in
+    omega (arith, counts.before, ap product c.split_at.ensures.front)
 
 pub overflow_mul-first : goal.overflow_mul-first
 overflow_mul-first c =
     let most : product c.args.sizes.now ≤ 18446744073709551615 = omega (arith, c.requires.full) in
-    let counts = counts-of _ _ _ _ _ _ _ c.requires.inside c.requires.some most c.split_at.ensures.front c.split_at-2.ensures.back c.product_of.ensures c.product_of-inner.ensures in
+    let counts = counts-of _ _ _ _ _ _ _ c.requires.inside c.requires.some most c.split_at.ensures.front c.split_at-2.ensures.back refl c.product_of-inner.ensures in
     let parts = pick-parts c.args.sizes.now c.args.cells.now c.args.values.now c.args.place c.requires.inside c.requires.full c.requires.within in
     let fits = block-fits c.args.sizes.now c.args.cells.now c.args.values.now c.args.place c.product_of-inner.result c.from.result parts counts.behind c.from.ensures in
     omega (arith, fits)
@@ -29,7 +29,7 @@ overflow_mul-first-2 c =
     let sizes = c.args.sizes.now in
     let values = c.args.values.now in
     let most : product sizes ≤ 18446744073709551615 = omega (arith, c.requires.full) in
-    let counts = counts-of _ _ _ _ _ _ _ c.requires.inside c.requires.some most c.split_at.ensures.front c.split_at-2.ensures.back c.product_of.ensures c.product_of-inner.ensures in
+    let counts = counts-of _ _ _ _ _ _ _ c.requires.inside c.requires.some most c.split_at.ensures.front c.split_at-2.ensures.back refl c.product_of-inner.ensures in
     let parts = pick-parts sizes c.args.cells.now values k c.requires.inside c.requires.full c.requires.within in
     let block = c.place_at-block.ensures ∙ ap₂ cell_place c.split_at.ensures.front c.split_at-3.ensures.front in
     let some : 0 < c.from.result = omega (arith, c.from.ensures, c.requires.some k 0 c.requires.inside) in
@@ -42,12 +42,12 @@ place_at-requires-clause-within c =
     let back = c.split_at-2.ensures.back ∙ ap (λ (n : ℕ). drop n c.args.sizes.now) (add-one c.args.place) in
     subst₂ (λ (xs ys : List ℕ). AreWithin xs ys) (sym back) (sym c.split_at-3.ensures.back) parts.back
 
-pub place_at-requires-clause-full : goal.place_at-requires-clause-full
-place_at-requires-clause-full c =
+pub place_at-requires-clause-few : goal.place_at-requires-clause-few
+place_at-requires-clause-few c =
     let most : product c.args.sizes.now ≤ 18446744073709551615 = omega (arith, c.requires.full) in
-    let counts = counts-of _ _ _ _ _ _ _ c.requires.inside c.requires.some most c.split_at.ensures.front c.split_at-2.ensures.back c.product_of.ensures c.product_of-inner.ensures in
+    let counts = counts-of _ _ _ _ _ _ _ c.requires.inside c.requires.some most c.split_at.ensures.front c.split_at-2.ensures.back refl c.product_of-inner.ensures in
     let back = c.split_at-2.ensures.back ∙ ap (λ (n : ℕ). drop n c.args.sizes.now) (add-one c.args.place) in
-    counts.behind ∙ ap product (sym back)
+    omega (arith, counts.behind, c.product_of-inner.ensures, ap product back)
 
 pub overflow_add-first : goal.overflow_add-first
 overflow_add-first c =
@@ -55,7 +55,7 @@ overflow_add-first c =
     let sizes = c.args.sizes.now in
     let values = c.args.values.now in
     let most : product sizes ≤ 18446744073709551615 = omega (arith, c.requires.full) in
-    let counts = counts-of _ _ _ _ _ _ _ c.requires.inside c.requires.some most c.split_at.ensures.front c.split_at-2.ensures.back c.product_of.ensures c.product_of-inner.ensures in
+    let counts = counts-of _ _ _ _ _ _ _ c.requires.inside c.requires.some most c.split_at.ensures.front c.split_at-2.ensures.back refl c.product_of-inner.ensures in
     let parts = pick-parts sizes c.args.cells.now values k c.requires.inside c.requires.full c.requires.within in
     let block = c.place_at-block.ensures ∙ ap₂ cell_place c.split_at.ensures.front c.split_at-3.ensures.front in
     let back = c.split_at-2.ensures.back ∙ ap (λ (n : ℕ). drop n sizes) (add-one k) in
@@ -71,7 +71,7 @@ lowest-requires-clause-inside c =
     let sizes = c.args.sizes.now in
     let values = c.args.values.now in
     let most : product sizes ≤ 18446744073709551615 = omega (arith, c.requires.full) in
-    let counts = counts-of _ _ _ _ _ _ _ c.requires.inside c.requires.some most c.split_at.ensures.front c.split_at-2.ensures.back c.product_of.ensures c.product_of-inner.ensures in
+    let counts = counts-of _ _ _ _ _ _ _ c.requires.inside c.requires.some most c.split_at.ensures.front c.split_at-2.ensures.back refl c.product_of-inner.ensures in
     let parts = pick-parts sizes c.args.cells.now values k c.requires.inside c.requires.full c.requires.within in
     let block = c.place_at-block.ensures ∙ ap₂ cell_place c.split_at.ensures.front c.split_at-3.ensures.front in
     let back = c.split_at-2.ensures.back ∙ ap (λ (n : ℕ). drop n sizes) (add-one k) in
@@ -85,7 +85,7 @@ returns c =
     let sizes = c.args.sizes.now in
     let values = c.args.values.now in
     let most : product sizes ≤ 18446744073709551615 = omega (arith, c.requires.full) in
-    let counts = counts-of _ _ _ _ _ _ _ c.requires.inside c.requires.some most c.split_at.ensures.front c.split_at-2.ensures.back c.product_of.ensures c.product_of-inner.ensures in
+    let counts = counts-of _ _ _ _ _ _ _ c.requires.inside c.requires.some most c.split_at.ensures.front c.split_at-2.ensures.back refl c.product_of-inner.ensures in
     let parts = pick-parts sizes c.args.cells.now values k c.requires.inside c.requires.full c.requires.within in
     let block = c.place_at-block.ensures ∙ ap₂ cell_place c.split_at.ensures.front c.split_at-3.ensures.front in
     let back = c.split_at-2.ensures.back ∙ ap (λ (n : ℕ). drop n sizes) (add-one k) in

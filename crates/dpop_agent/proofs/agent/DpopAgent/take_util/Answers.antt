@@ -18,7 +18,7 @@ returns-in_default-2-clause-gives c =
     let k = c.in-Some.child in
     let scope = c.args.scope.now in
     let cells = c.args.cells.now in
-    let found = ap (λ (cs : List ℕ). position (λ x. eqb x c.args.from) cs) (sym c.as_slice.ensures) ∙ sym c.found_in.ensures ∙ c.in-Some.is in
+    let found = ap (λ (cs : List ℕ). position (λ x. eqb x c.args.from) cs) (sym c.as_slice.ensures) ∙ sym c.position_of.ensures ∙ c.in-Some.is in
     let tried = subst (λ (es : List (Option CostTable)). IsTaken (keeping a.own a.place es) k scope cells c.in_ok-table.field-0) c.as_slice-kept.ensures.value c.in_ok-table.ensures in
     let not_taken = untaken (keeping a.own a.place a.kept.items) k scope cells c.in_ok-table.field-0 tried c.in_default-2.not-Some in
     passes_over a.own a.place a.stage a.kept.items a.made a.value c.args.self.now c.args.from k scope cells c.new-in_default-2.result.items c.self.view_is found not_taken c.new-in_default-2.ensures.items
@@ -61,7 +61,7 @@ returns-clause-gives c =
     let v = c.args.self.now in
     let after = c.join.new.self in
     let mid : DpopView = view_at a.own a.place a.stage (slice_set a.kept.items k (Some t)) a.made a.value in
-    let found = ap (λ (cs : List ℕ). position (λ x. eqb x c.args.from) cs) (sym c.as_slice.ensures) ∙ sym c.found_in.ensures ∙ c.in-Some.is in
+    let found = ap (λ (cs : List ℕ). position (λ x. eqb x c.args.from) cs) (sym c.as_slice.ensures) ∙ sym c.position_of.ensures ∙ c.in-Some.is in
     let taken = subst (λ (es : List (Option CostTable)). IsTaken (keeping a.own a.place es) k scope cells (Some t)) c.as_slice-kept.ensures.value
     (subst (λ (o : Option CostTable). IsTaken (keeping a.own a.place now) k scope cells o) c.in-Some-2.is c.in_ok-table.ensures) in
     IfOk-weaker c.join.result (λ ps. Gives (join mid) after ps.items) (λ ps. Gives (dpop_message v c.args.from (Util scope cells)) after ps.items)

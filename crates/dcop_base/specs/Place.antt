@@ -1,0 +1,9 @@
+-- The sizes and values of a cell's variables, told one by one.
+use Rattle.std.specs.Prelude.{◌≡◌, ℕ, ◌<◌, List, length, slice_index}
+use Rattle.dcop_base.specs.Table.{AreWithin}
+
+-- for each of so many variables the size and the value are told that stand in these lists
+pub record AreDigits (tells : ℕ → ℕ × ℕ → Type 0) (count : ℕ) (sizes : List ℕ) (values : List ℕ) : Type 0 where
+  pub counted : length sizes ≡ count
+  pub within : AreWithin sizes values
+  pub each : (k : ℕ) (digit : ℕ × ℕ) → k < count → tells k digit → digit ≡ (slice_index sizes k, slice_index values k)

@@ -1,0 +1,66 @@
+//! What agents have come to.
+
+ghost use Rattle.std.specs.Prelude.{◌≡◌, ◌<◌, length, map, IfOk};
+ghost use Rattle.protocol_steps.specs.View.{value_of, table_of, place_of};
+ghost use Rattle.delivery_core.specs.PlayedOut.{TellsOf};
+
+use crate::seat::Seat;
+use crate::state::CoreState;
+use dcop_base::{NoMemory, Sequence, Table, ValList, VarId};
+use protocol_steps::Outcome;
+use pseudotree::Place;
+use std::alloc::Global;
+
+/// What agents have made, one item for each.
+#[derive(Drop)]
+struct Made {
+    tables: Vec<Option<Table>>,
+    places: Vec<Option<Place>>,
+}
+
+/// The values of agents.
+fn values_of(alloc: Global, seats: &[Seat]) -> Result<ValList, NoMemory>
+    ensures { IfOk result (λ values. values ≡ map (λ x. value_of x.view) seats.now) }
+{
+    let mut values = Vec::with_capacity(alloc, seats.len())?;
+    for seat in seats {
+        values.push(seat.agent().value())?;
+    }
+    Ok(ValList::from_vec(values))
+}
+
+/// What agents have made.
+fn made_by(alloc: Global, seats: Vec<Seat>) -> Result<Made, NoMemory>
+    ensures tables { IfOk result (λ made. made.tables.items ≡ map (λ x. table_of x.view) seats.items) }
+    ensures places { IfOk result (λ made. made.places.items ≡ map (λ x. place_of x.view) seats.items) }
+{
+    let mut tables = Vec::with_capacity(alloc, seats.len())?;
+    let mut places = Vec::with_capacity(alloc, seats.len())?;
+    for seat in seats {
+        let (table, place) = seat.into_agent().into_made();
+        tables.push(table)?;
+        places.push(place)?;
+    }
+    Ok(Made { tables, places })
+}
+
+/// What the agents of a core state have come to. Their tables and places are handed on, and not
+/// copied.
+pub(crate) fn outcome_of(alloc: Global, state: CoreState) -> Result<Outcome, NoMemory>
+    requires { 0 < length state.seats }
+    ensures { IfOk result (TellsOf state) }
+{
+    let top = state.standing(VarId(0));
+    let ended = state.all_ended();
+    let deliveries = state.deliveries();
+    let values = values_of(alloc, state.seats.as_slice())?;
+    let made = made_by(alloc, state.seats)?;
+    Ok(Outcome {
+        values,
+        tables: Sequence::from_vec(made.tables),
+        places: Sequence::from_vec(made.places),
+        top,
+        deliveries,
+        ended,
+    })
+}

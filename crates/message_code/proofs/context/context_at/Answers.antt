@@ -1,0 +1,20 @@
+use Rattle.std.proofs.Common.{◌+◌, arith}
+use Rattle.std.specs.Int.{w32}
+use Rattle.std.proofs.lemmas.Result.{err_from_is_err_and}
+use Rattle.dcop_base.specs.Limits.{variable_limit}
+use Rattle.message_code.specs.Form.{number, pairs}
+use Rattle.message_code.proofs.NumberLaws.{wide32}
+use Rattle.message_code.proofs.PartLaws.{stopped_first, field_stops}
+use Rattle.message_code.proofs.context.context_at.Goals as goal
+
+pub returns-in_err-count-clause-read : goal.returns-in_err-count-clause-read
+returns-in_err-count-clause-read c =
+    let p = err_from_is_err_and c.from_residual.result c.from_residual.ensures.1 in
+    rw (p.1, p.2) (stopped_first (number w32 0 (variable_limit + 1)) (λ next k. pairs k 0 next) c.args.bytes.now c.in_err-count.field-0.0 c.in_err-count.ensures.read)
+
+pub returns-in_err-context-clause-read : goal.returns-in_err-context-clause-read
+returns-in_err-context-clause-read c =
+    let p = err_from_is_err_and c.from_residual-in_err-context.result c.from_residual-in_err-context.ensures.1 in
+    let range = c.in_ok-count.ensures.range in
+    rw (p.1, p.2) (field_stops w32 _ wide32 0 (variable_limit + 1) c.in_ok-count.count (λ k. pairs k 0) c.args.bytes.now c.in_ok-count.rest.now c.in_err-context.field-0.0
+    c.in_ok-count.ensures.read (omega (arith, range.1)) range.0 range.1 c.in_err-context.ensures.read)

@@ -1,0 +1,4 @@
+pub mod Code
+pub mod Form
+pub mod Decode
+pub mod Reading

@@ -1,0 +1,40 @@
+//! Where the reading of a part stops.
+
+ghost use Rattle.std.specs.Prelude.{◌≡◌};
+ghost use Rattle.message_code.specs.declared.stop.Stop.TheVariants.{NoMemory as no_memory};
+
+use dcop_base::NoMemory;
+use std::alloc::{AllocError, AllocFailed};
+
+/// Why a part of a code is not read.
+#[derive(Clone, Copy, Debug)]
+pub(crate) enum Stop {
+    /// A field is cut short or outside its range; so many bytes are left from it on.
+    Bad { left: usize },
+    /// Memory was wanted and not had.
+    NoMemory,
+}
+
+impl From<NoMemory> for Stop {
+    ghost from_gives = { λ _ e. e ≡ no_memory };
+
+    fn from(_refused: NoMemory) -> Self {
+        Stop::NoMemory
+    }
+}
+
+impl From<AllocError> for Stop {
+    ghost from_gives = { λ _ e. e ≡ no_memory };
+
+    fn from(_refused: AllocError) -> Self {
+        Stop::NoMemory
+    }
+}
+
+impl<T: Drop> From<AllocFailed<T>> for Stop {
+    ghost from_gives = { λ _ e. e ≡ no_memory };
+
+    fn from(_refused: AllocFailed<T>) -> Self {
+        Stop::NoMemory
+    }
+}

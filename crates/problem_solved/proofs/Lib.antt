@@ -1,0 +1,3 @@
+pub mod SolvedLaws
+pub mod TellingLaws
+pub mod CellLaws

@@ -1,0 +1,70 @@
+//! What a case file says.
+
+use std::alloc::Global;
+
+/// A worked case: what the program is given, and what it has to answer.
+#[derive(Drop)]
+pub struct Case {
+    /// The command's words.
+    pub words: Vec<String>,
+    /// What the input is joined from, in order.
+    pub pieces: Vec<Piece>,
+    /// What is then altered in the input, in order.
+    pub changes: Vec<Change>,
+    /// The numbers of the reads that fail, from 0.
+    pub failing_reads: Vec<u64>,
+    /// The numbers of the writes that fail, from 0, the finish counted among them.
+    pub failing_writes: Vec<u64>,
+    /// What is expected, of the whole input or of prefixes of it.
+    pub answers: Vec<Answer>,
+}
+
+/// A part of an input.
+#[derive(Drop)]
+pub enum Piece {
+    /// The bytes of a file, or the output that a case expects.
+    File(String),
+    /// A text, so many times.
+    Text(Vec<u8>, u64),
+}
+
+/// A text that stands once in the input, and what comes in its place.
+#[derive(Drop)]
+pub struct Change {
+    pub from: Vec<u8>,
+    pub to: Vec<u8>,
+}
+
+/// What is expected.
+#[derive(Drop)]
+pub struct Answer {
+    /// Of which prefixes, the first and the last length of them; the whole input where it is none.
+    pub lengths: Option<(usize, usize)>,
+    pub status: u8,
+    pub output: Output,
+}
+
+/// What is expected of an output.
+#[derive(Drop)]
+pub enum Output {
+    /// Nothing is said of it.
+    Any,
+    /// It is this text.
+    Whole(Vec<u8>),
+    /// The lines of this text stand in it, in this order.
+    Lines(Vec<u8>),
+}
+
+impl Case {
+    /// A case that says nothing yet.
+    pub fn new(alloc: Global) -> Self {
+        Case {
+            words: Vec::new(alloc),
+            pieces: Vec::new(alloc),
+            changes: Vec::new(alloc),
+            failing_reads: Vec::new(alloc),
+            failing_writes: Vec::new(alloc),
+            answers: Vec::new(alloc),
+        }
+    }
+}

@@ -1,0 +1,106 @@
+//! A case, run and compared.
+
+use crate::case::{Answer, Case, Output};
+use crate::escape::written;
+use crate::input::{case_at, input_of};
+use anyhow::{Result, bail};
+use dcop_edge::{MemorySink, MemorySource};
+use solve_top::solve;
+use std::alloc::Global;
+use std::rt::Files;
+
+/// How often cases were run, and how many of these runs differ.
+#[derive(Clone, Copy, Default)]
+pub struct Tally {
+    pub runs: u64,
+    pub differ: u64,
+}
+
+impl Tally {
+    fn count_run(&mut self) {
+        self.runs = self.runs.saturating_add(1);
+    }
+
+    pub fn count_different(&mut self) {
+        self.differ = self.differ.saturating_add(1);
+    }
+}
+
+/// What the program answered.
+#[derive(Drop)]
+struct Found {
+    status: u8,
+    output: Vec<u8>,
+}
+
+/// Runs a case, and prints each of its answers that differs.
+pub fn run_case<R: Files + Print + AllocGlobal>(
+    rt: &R,
+    name: &str,
+    tally: &mut Tally,
+) -> Result<()> {
+    let path = format!(in rt.alloc(); "cases/{name}.case")?;
+    let case = case_at(rt, path.as_str())?;
+    let input = input_of(rt, &case)?;
+    for answer in case.answers.iter() {
+        let (first, last) = answer.lengths.unwrap_or((input.len(), input.len()));
+        for length in first..=last {
+            let Some(prefix) = input.get(..length) else {
+                bail!("the input has only {} bytes", input.len());
+            };
+            let found = found_on(rt.alloc(), &case, prefix)?;
+            tally.count_run();
+            if !is_as_expected(answer, &found) {
+                tally.count_different();
+                println!(rt; "{name}, on {length} bytes:")?;
+                print_difference(rt, answer, &found)?;
+            }
+        }
+    }
+    Ok(())
+}
+
+/// What the program answers to the words of a case on this input.
+fn found_on(alloc: Global, case: &Case, input: &[u8]) -> Result<Found> {
+    let input = input.to_vec(alloc)?;
+    let mut source = MemorySource::new(input, case.failing_reads.clone()?);
+    let mut sink = MemorySink::new(alloc, case.failing_writes.clone()?);
+    let status = solve(alloc, &case.words, &mut source, &mut sink);
+    Ok(Found {
+        status: status.code(),
+        output: sink.bytes().to_vec(alloc)?,
+    })
+}
+
+fn is_as_expected(answer: &Answer, found: &Found) -> bool {
+    if answer.status != found.status {
+        return false;
+    }
+    match &answer.output {
+        Output::Any => true,
+        Output::Whole(bytes) => bytes.as_slice() == found.output.as_slice(),
+        Output::Lines(bytes) => has_lines(&found.output, bytes),
+    }
+}
+
+/// Whether the lines of the second text stand in the first one, in this order.
+fn has_lines(text: &[u8], lines: &[u8]) -> bool {
+    let mut expected = lines.split(|byte| *byte == b'\n');
+    let mut next = expected.next();
+    for line in text.split(|byte| *byte == b'\n') {
+        if next == Some(line) {
+            next = expected.next();
+        }
+    }
+    next.is_none()
+}
+
+fn print_difference<R: Print + AllocGlobal>(rt: &R, answer: &Answer, found: &Found) -> Result<()> {
+    println!(rt; "expected: status {}", answer.status)?;
+    if let Output::Whole(bytes) | Output::Lines(bytes) = &answer.output {
+        print!(rt; "{}", written(rt.alloc(), bytes)?)?;
+    }
+    println!(rt; "found: status {}", found.status)?;
+    print!(rt; "{}", written(rt.alloc(), &found.output)?)?;
+    Ok(())
+}
