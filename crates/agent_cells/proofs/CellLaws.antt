@@ -113,6 +113,7 @@ visited_none s t n hs gs letters takes greatest up c count nothing old known new
     record {
       gains = g.gains;
       counted = count ∙ g.counted;
+      each = g.each;
       few = omega (arith, nothing);
       served = λ j. subst (λ (ks : List (ℕ × ℕ)). known_from j ks ≤ length (gained_from j g.gains)) (sym known) (g.served j);
       idle = λ _. record { me = me; viewed = view; stamped = stamp; noted = journal; sent = sent; taken = new ∙ g.idle (sym count ∙ nothing) ∙ sym old };
@@ -131,6 +132,7 @@ visited_some s m t n hs gs letters takes greatest up c count positive old known 
     record {
       gains = g.gains;
       counted = count ∙ g.counted;
+      each = g.each;
       few = subst (λ (ls : List Lane). n ≤ most_found * length ls) (sym old) (let f = g.few in omega (arith, f, count));
       served = λ j. subst (λ (ks : List (ℕ × ℕ)). known_from j ks ≤ length (gained_from j g.gains)) (sym known) (g.served j);
       idle = λ (none : n ≡ 0). absurd (omega (arith, none, positive));

@@ -21,7 +21,7 @@ use Rattle.protocol_steps.proofs.PrivateLaws.{contains_from_has}
 use Rattle.fifo_links.specs.Slots.{ring_slots}
 use Rattle.fifo_links.specs.Link.{taken_from, known_to}
 use Rattle.worker_runs.specs.Cells.{Lane, peers, grown, known_from}
-use Rattle.worker_runs.specs.Visits.{IsFrom}
+use Rattle.worker_runs.specs.Visits.{IsFew, IsFrom}
 use Rattle.worker_runs.proofs.LaneLaws.{once, grown_none}
 use Rattle.agent_cells.specs.Links.{Head, lanes_taken, known_of}
 use Rattle.agent_cells.specs.Collected.{Finding, some_from, some_of, gains_in, HasCollected}
@@ -176,6 +176,15 @@ few (f ∷ fs) =
     let rest : sum_by (λ g. length g.envelopes) (gains_in fs) ≤ ring_slots * length (lanes_taken (befores fs)) = few fs in
     omega (arith, one-few f.gain.from f.gain.envelopes (gains_in fs), f.most, rest)
 
+-- of each link it is no more than a ring holds
+one-each : (j : ℕ) (es : List (ℕ × Message)) → length es ≤ ring_slots → All IsFew (some_from j es)
+one-each j [] h = All-nil IsFew
+one-each j (e ∷ es) h = All-cons IsFew (record { from = j; envelopes = e ∷ es }) [] h (All-nil IsFew)
+
+each : (fs : List Finding) → All IsFew (gains_in fs)
+each [] = All-nil IsFew
+each (f ∷ fs) = All-append IsFew (some_of f.gain) (gains_in fs) (one-each f.gain.from f.gain.envelopes f.most) (each fs)
+
 -- what was known is taken
 one-served : (b : Bool) (n : ℕ) (es : List (ℕ × Message)) → n ≤ length es → (if b then n else 0) ≤ length (if b then es else gained-nothing)
 one-served true n es h = h
@@ -216,6 +225,7 @@ pub record AreGains (before after : List Head) (letters : List (ℕ × Message))
   pub takes_are : takes ≡ takes_of gains
   pub greatest_is : greatest ≡ greatest_of gains
   pub counted : length letters ≡ sum_by (λ g. length g.envelopes) gains
+  pub each : All IsFew gains
   pub few : length letters ≤ ring_slots * length (lanes_taken before)
   pub served : (j : ℕ) → known_from j (known_of before) ≤ length (gained_from j gains)
   pub grown : lanes_taken after ≡ grown (λ j. gained_from j gains) (lanes_taken before)
@@ -239,6 +249,7 @@ are_gains before after letters takes greatest up c =
       takes_are = c.takes_are;
       greatest_is = c.greatest_is;
       counted = count;
+      each = each fs;
       few = subst (λ (hs : List Head). length letters ≤ ring_slots * length (lanes_taken hs)) (sym c.before_is) (let n = few fs in omega (arith, n, count));
       served = λ j. subst (λ (hs : List Head). known_from j (known_of hs) ≤ length (gained_from j (gains_in fs))) (sym c.before_is) (served j fs);
       grown = grew;

@@ -18,7 +18,7 @@ use Rattle.protocol_steps.specs.Deeds.{takes_of, greatest_of, posted_to, gained_
 use Rattle.protocol_steps.proofs.NetworkRows.{pair_x, pair_y}
 use Rattle.protocol_steps.proofs.PrivateLaws.{contains_from_has}
 use Rattle.worker_runs.specs.Cells.{Lane, CellState, peers, lane, grown, known_from, IsWired}
-use Rattle.worker_runs.specs.Visits.{IsFrom, IsTo, IsStarted, IsQuiet, IsVisit}
+use Rattle.worker_runs.specs.Visits.{IsFew, IsFrom, IsTo, IsStarted, IsQuiet, IsVisit}
 use Rattle.worker_runs.specs.Sprints.{IsSprint}
 use Rattle.worker_runs.specs.CellRounds.{IsSettled, AreSettled, AreStarted, total, IsCellRound}
 use Rattle.worker_runs.specs.CellRuns.{all_ended, IsRunOfCells}
@@ -110,6 +110,7 @@ visits c k count es t =
     record {
       gains = gains k es;
       counted = omega arith;
+      each = one_all IsFew (record { from = k; envelopes = es }) few;
       few = omega (arith, few, one);
       served = λ j. subst (λ (ks : List (ℕ × ℕ)). known_from j ks ≤ length (gained_from j (gains k es))) (sym t.knows) (serves (k == j) enough);
       idle = λ none. absurd (nothing es t.some none);

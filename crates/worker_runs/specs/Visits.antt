@@ -13,6 +13,10 @@ use Rattle.worker_runs.specs.Cells.{CellState, peers, lane, grown, known_from}
 abbrev pub most_found : ℕ
 most_found = 64
 
+-- of one link no more is taken than that
+abbrev pub IsFew : Gain → Type 0
+IsFew g = length g.envelopes ≤ most_found
+
 -- what is taken comes from one of these peers
 abbrev pub IsFrom : List ℕ → Gain → Type 0
 IsFrom among g = Contains among g.from
@@ -57,6 +61,7 @@ pub record IsEvent (before : CellState) (gains : List Gain) (after : CellState) 
 pub record IsVisit (before : CellState) (count : ℕ) (after : CellState) : Type 0 where
   pub gains : List Gain
   pub counted : count ≡ sum_by (λ g. length g.envelopes) gains
+  pub each : All IsFew gains
   pub few : count ≤ most_found * length before.taken
   pub served : (j : ℕ) → known_from j before.known ≤ length (gained_from j gains)
   pub idle : count ≡ 0 → IsQuiet before after
