@@ -75,7 +75,10 @@ fn place_at(scope: &[VarId], sizes: &[u16], me: VarId, d: Val, known: &AgentCont
     requires few { product sizes.now ≤ usize.MAX }
     ensures { result ≡ cell_place sizes.now (map (with_own me d (valued known.now)) scope.now) }
 {
-    place_of(scope.len(), |k| (sizes[k], value_of(scope[k], me, d, known)))
+    place_of(
+        scope.len(),
+        |k| (sizes[k], value_of(scope[k], me, d, known)),
+    )
 }
 
 /// A table's cell at an own value and the known values.

@@ -8,12 +8,16 @@ pub place_of-requires-clause-few : goal.place_of-requires-clause-few
 place_of-requires-clause-few c =
     let sizes : List ℕ = c.args.sizes.now in
     let scope : List ℕ = c.args.scope.now in
-    let values : List ℕ = c.args.values.now in
-    (sizes_at sizes scope, values_at scope values, record {
-      counted = length-map scope (λ v. get_or sizes v 0);
-      within = scope_within sizes values scope c.requires.within c.requires.named;
-      each = λ k digit lt told. search rules;
-    }, c.requires.few)
+    let values : List ℕ = c.args.values.now in (
+      sizes_at sizes scope,
+      values_at scope values,
+      record {
+        counted = length-map scope (λ v. get_or sizes v 0);
+        within = scope_within sizes values scope c.requires.within c.requires.named;
+        each = λ k digit lt told. search rules;
+      },
+      c.requires.few,
+    )
 
 pub returns : goal.returns
 returns c =
