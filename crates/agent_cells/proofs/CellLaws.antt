@@ -158,6 +158,8 @@ reached_end s m t n hs gs letters takes greatest up c count positive old new vie
     let g = are_gains hs gs letters takes greatest up c in
     record {
       gains = g.gains;
+      senders = subst (λ (ls : List Lane). All (IsFrom (peers ls)) g.gains) (sym old) g.senders;
+      each = g.each;
       some = let k = g.counted in omega (arith, positive, count, k);
       last = sym (ap₂ (λ (x y : ℕ). max x y) stamp g.greatest_is) ∙ e.last;
       taken = new ∙ g.grown ∙ ap (grown (λ j. gained_from j g.gains)) (sym old);

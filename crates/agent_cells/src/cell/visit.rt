@@ -1,6 +1,7 @@
 //! A visit of a cell.
 
-ghost use Rattle.std.specs.Prelude.{◌≡◌, ◌⊎◌, true, false, IfOk, OnOk, IfErr, IfSome, Err, None, Some};
+ghost use Rattle.std.specs.Prelude.{◌≡◌, ◌≤◌, ◌⊎◌, true, false, IfOk, OnOk, IfErr, IfSome, Err, None, Some};
+ghost use Rattle.dcop_base.specs.Limits.{amount_limit};
 ghost use Rattle.protocol_steps.specs.View.{made_of, ended_of};
 ghost use Rattle.worker_runs.specs.Visits.{IsVisit};
 ghost use Rattle.agent_cells.specs.declared.fault.VisitFault.TheVariants.{StampEnd};
@@ -15,8 +16,8 @@ use dcop_edge::Gate;
 impl Cell {
     /// Passes the gate, takes all that it finds on each link, at most 64 messages of each, lets the
     /// agent react once, and sends what it sends with the next stamp. Answers how many messages it
-    /// took; it is 0 only where none was known to wait, and then nothing has changed. It takes
-    /// memory.
+    /// took; it is 0 only where none was known to wait, and then nothing has changed but what it
+    /// knows of its links. It takes memory.
     ///
     /// [`VisitFault::StampEnd`] comes exactly where something was taken and the greatest of the
     /// cell's stamp and the taken ones is `CAP`; then the agent does not react and nothing is sent.
@@ -32,6 +33,7 @@ impl Cell {
         ensures origin { made_of (state_of (λ b. meaning b) self.new).view ≡ made_of (state_of (λ b. meaning b) self.old).view }
         ensures ok { IfOk result (λ n. IsVisit (state_of (λ b. meaning b) self.old) n (state_of (λ b. meaning b) self.new)) }
         ensures fine { OnOk result (fault_in self.new ≡ None) }
+        ensures bounded { (state_of (λ b. meaning b) self.new).stamp ≤ amount_limit }
         ensures err { IfErr result (λ f. fault_in self.new ≡ Some f) }
         ensures again { IfSome (fault_in self.old) (λ f. (result ≡ Err f) × (self.new ≡ self.old)) }
         ensures end { result ≡ Err StampEnd → (fault_in self.old ≡ Some StampEnd)
