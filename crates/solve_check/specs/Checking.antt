@@ -5,7 +5,8 @@ use Rattle.problem_text.specs.File.{TextFile}
 use Rattle.problem_text.specs.Declarations.{Declared}
 use Rattle.problem_text.specs.Steps.{declared_by}
 use Rattle.certificate_text.specs.declared.report.Report.{Report}
-use Rattle.certificate_text.specs.ReportReading.{Fault, report_read}
+use Rattle.certificate_text.specs.ReportLines.{Fault}
+use Rattle.certificate_text.specs.ReportReading.{report_read}
 use Rattle.certificate_check.specs.Verdicts.{IsVerdict, IsExact, ShowsBest}
 use Rattle.solve_report.specs.declared.answer.Answer.{Answer}
 use Rattle.solve_report.specs.declared.answer.Answer.TheVariants as answers

@@ -18,7 +18,8 @@ use Rattle.certificate_text.specs.declared.report.Ending.TheVariants as endings
 use Rattle.certificate_text.specs.declared.report.Report.{Report}
 use Rattle.certificate_text.specs.declared.verdict.Verdict.{Verdict}
 use Rattle.certificate_text.specs.declared.verdict.Verdict.TheVariants as verdicts
-use Rattle.certificate_text.specs.ReportReading.{Fault as ReportFault, report_read}
+use Rattle.certificate_text.specs.ReportLines.{Fault as ReportFault}
+use Rattle.certificate_text.specs.ReportReading.{report_read}
 use Rattle.solve_report.specs.declared.answer.Answer.{Answer}
 use Rattle.solve_report.specs.declared.answer.Answer.TheVariants as answers
 use Rattle.solve_top.specs.declared.status.Status.{Status}

@@ -20,7 +20,8 @@ use Rattle.certificate_text.specs.declared.verdict.Verdict.{Verdict}
 use Rattle.certificate_text.specs.declared.verdict.Verdict.TheVariants.{Yes, No}
 use Rattle.certificate_text.specs.Fits.{FitsCertificate, Fits}
 use Rattle.certificate_text.specs.ReportText.{report_text}
-use Rattle.certificate_text.specs.ReportReading.{Fault as ReportFault, report_read}
+use Rattle.certificate_text.specs.ReportLines.{Fault as ReportFault}
+use Rattle.certificate_text.specs.ReportReading.{report_read}
 use Rattle.certificate_text.proofs.AgainLaws.{report-again}
 use Rattle.problem_solved.specs.Goal.{solved}
 use Rattle.certificate_check.specs.Verdicts.{IsExactOn}
