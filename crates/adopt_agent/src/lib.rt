@@ -14,7 +14,5 @@ mod messages;
 mod range;
 mod send;
 mod stage;
-#[cfg(test)]
-mod tests;
 
 pub use agent::AdoptAgent;

@@ -10,8 +10,6 @@ mod allot;
 mod bounds;
 mod forget;
 mod interval;
-#[cfg(test)]
-mod tests;
 mod totals;
 
 pub use bounds::Bounds;

@@ -9,8 +9,6 @@
 mod context;
 mod pairs;
 mod sizes;
-#[cfg(test)]
-mod tests;
 
 pub use context::AgentContext;
 pub use sizes::size_beside;

@@ -295,8 +295,8 @@ module _ (p : Dcop) (paths : List (List ℕ)) (problem : IsProblem p) (pseudo : 
     pub uncut : AreUncut p i v
     uncut = record {
       each = uncut_at;
-      least = uncut_at (best_lower v) (last_within (best_lower v) (lowest_within nat_lt (lower_of v) (v.own.size - 1)));
-      greatest = uncut_at (best_upper v) (last_within (best_upper v) (lowest_within is_below (upper_of v) (v.own.size - 1)));
+      lower = uncut_at (best_lower v) (last_within (best_lower v) (lowest_within nat_lt (lower_of v) (v.own.size - 1)));
+      upper = uncut_at (best_upper v) (last_within (best_upper v) (lowest_within is_below (upper_of v) (v.own.size - 1)));
     }
 
     pub value_small : v.value < get_or p.sizes i 0

@@ -22,5 +22,5 @@ pub record IsUncutAt (v : AdoptView) (d : ℕ) : Type 0 where
 -- they are so for each own value of the agent of variable i, and so are LB, which is the least LB(d), and UB, the least UB(d)
 pub record AreUncut (p : Dcop) (i : ℕ) (v : AdoptView) : Type 0 where
   pub each : (d : ℕ) → d < slice_index p.sizes i → IsUncutAt v d
-  pub least : IsUncutAt v (best_lower v)
-  pub greatest : IsUncutAt v (best_upper v)
+  pub lower : IsUncutAt v (best_lower v)
+  pub upper : IsUncutAt v (best_upper v)

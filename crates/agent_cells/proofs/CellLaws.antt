@@ -19,7 +19,8 @@ use Rattle.protocol_steps.specs.Deeds.{posted_to, gained_from}
 use Rattle.protocol_steps.proofs.StartedLaws.{start_starts, step_started}
 use Rattle.worker_runs.specs.Cells.{CellState, Lane, peers, lane, grown, known_from}
 use Rattle.protocol_steps.specs.Run.{ascends_from, has_nothing}
-use Rattle.worker_runs.specs.Visits.{most_found, IsFrom, IsTo, IsStarted, IsQuiet, IsVisit}
+use Rattle.protocol_steps.specs.Rounds.{link_share}
+use Rattle.worker_runs.specs.Visits.{IsFrom, IsTo, IsStarted, IsQuiet, IsVisit}
 use Rattle.worker_runs.specs.Acts.{moment, IsLater}
 use Rattle.worker_runs.proofs.LaneLaws.{lane_grown, has_from_contains}
 use Rattle.worker_runs.proofs.VisitLaws.{quiet_later, event_later, later_then}
@@ -85,10 +86,10 @@ visit-later (suc n) s t v = (_, event_later s t v.gains (v.event (omega arith)))
 pub history_on : (s t : CellState) (n : ℕ) → HasHistory s → IsVisit s n t → HasHistory t
 history_on s t n h v =
     let l = visit-later n s t v in
-    record { made = h.made; first = h.first; deeds = h.deeds ++ l.0; started = h.started; later = later_then h.first s t h.deeds l.0 h.later l.1 }
+    record { made = h.made; unstarted = h.unstarted; first = h.first; deeds = h.deeds ++ l.0; started = h.started; later = later_then h.first s t h.deeds l.0 h.later l.1 }
 
-pub history_begins : (v : View) (s : CellState) → IsStarted v s → HasHistory s
-history_begins v s h = record { made = v; first = s; deeds = []; started = h; later = quiet_later s s (record { me = refl; viewed = refl; stamped = refl; noted = refl; sent = refl; taken = refl }) }
+pub history_begins : (v : View) (s : CellState) → started_of v ≡ false → IsStarted v s → HasHistory s
+history_begins v s new h = record { made = v; unstarted = new; first = s; deeds = []; started = h; later = quiet_later s s (record { me = refl; viewed = refl; stamped = refl; noted = refl; sent = refl; taken = refl }) }
 
 -- the invariant after a call
 pub sound_on : (begun begun_on : Bool) (fault fault_on : Option VisitFault) (s t : CellState) → IsSound begun fault s → begun_on ≡ true → made_of t.view ≡ made_of s.view → t.me ≡ s.me
@@ -101,6 +102,7 @@ sound_on begun begun_on fault fault_on s t i b made me sent taken history =
       taken = taken ∙ i.taken ∙ sym (ap (λ (p : Private). p.neighbours) same);
       ascend = subst (λ (p : Private). IsStrictlyIncreasing p.neighbours) (sym same) i.ascend;
       fresh = λ e. absurd (true≢false (sym b ∙ e));
+      unfailed = λ e. absurd (true≢false (sym b ∙ e));
       running = λ _ none. history none;
     }
 
@@ -133,7 +135,7 @@ visited_some s m t n hs gs letters takes greatest up c count positive old known 
       gains = g.gains;
       counted = count ∙ g.counted;
       each = g.each;
-      few = subst (λ (ls : List Lane). n ≤ most_found * length ls) (sym old) (let f = g.few in omega (arith, f, count));
+      few = subst (λ (ls : List Lane). n ≤ link_share * length ls) (sym old) (let f = g.few in omega (arith, f, count));
       served = λ j. subst (λ (ks : List (ℕ × ℕ)). known_from j ks ≤ length (gained_from j g.gains)) (sym known) (g.served j);
       idle = λ (none : n ≡ 0). absurd (omega (arith, none, positive));
       event = λ _. record {
@@ -189,6 +191,7 @@ fresh_cell s started me sent taken up stamp journal unsent untaken = record {
   taken = taken;
   ascend = up;
   fresh = λ _. record { started = started; stamp = stamp; journal = journal; sent = λ j. lanes-empty s.sent j unsent; taken = λ j. lanes-empty s.taken j untaken };
+  unfailed = λ _. refl;
   running = λ (e : false ≡ true). absurd (true≢false (sym e));
 }
 
@@ -244,6 +247,7 @@ sound_quiet begun fault s t i q = record {
     sent = λ j. ap (lane j) q.sent ∙ f.sent j;
     taken = λ j. ap (lane j) q.taken ∙ f.taken j;
   };
+  unfailed = i.unfailed;
   running = λ b none. let h = i.running b none in
-      record { made = h.made; first = h.first; deeds = h.deeds ++ []; started = h.started; later = later_then h.first s t h.deeds [] h.later (quiet_later s t q) };
+      record { made = h.made; unstarted = h.unstarted; first = h.first; deeds = h.deeds ++ []; started = h.started; later = later_then h.first s t h.deeds [] h.later (quiet_later s t q) };
 }

@@ -1,9 +1,10 @@
 mod MachineLaws
 mod CollectLaws
-mod SameLaws
+pub mod SameLaws
 mod ResultLaws
 mod DeliverLaws
 mod FoundLaws
-mod CellLaws
+pub mod CellLaws
 mod SettleLaws
 pub mod PlainLaws
+mod NeighbourLaws

@@ -20,21 +20,23 @@ pub record IsFresh (s : CellState) : Type 0 where
   pub sent : (j : ℕ) → lane j s.sent ≡ []
   pub taken : (j : ℕ) → lane j s.taken ≡ []
 
--- a cell has come from its agent's start by the activations of its journal
+-- a cell has come from the start of its agent, which had not started before, by the activations of its journal
 pub record HasHistory (s : CellState) : Type 0 where
   pub made : View
+  pub unstarted : started_of made ≡ false
   pub first : CellState
   pub deeds : List Deed
   pub started : IsStarted made first
   pub later : IsLater first deeds s
 
--- the invariant of a cell: its links are those of its agent's neighbours; before its start it is fresh; and from its start on, while it has not failed, it has come from there by its journal
+-- the invariant of a cell: its links are those of its agent's neighbours; before its start it is fresh and has no fault; and from its start on, while it has not failed, it has come from there by its journal
 pub record IsSound (begun : Bool) (fault : Option VisitFault) (s : CellState) : Type 0 where
   pub me : (private_of s.view).me ≡ s.me
   pub sent : peers s.sent ≡ (private_of s.view).neighbours
   pub taken : peers s.taken ≡ (private_of s.view).neighbours
   pub ascend : IsStrictlyIncreasing (private_of s.view).neighbours
   pub fresh : begun ≡ false → IsFresh s
+  pub unfailed : begun ≡ false → fault ≡ None
   pub running : begun ≡ true → fault ≡ None → HasHistory s
 
 module _ {X : Type 0} {F : X → Type 0} where

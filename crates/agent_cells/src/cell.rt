@@ -8,6 +8,7 @@ ghost use Rattle.fifo_links.specs.Slots.{ring_slots};
 mod begin;
 mod handle;
 mod make;
+mod neighbours;
 mod read;
 mod settle;
 mod visit;

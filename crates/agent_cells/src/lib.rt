@@ -14,10 +14,12 @@ mod cell;
 mod collect;
 mod deliver;
 mod fault;
+mod law;
 mod machine;
 mod sealed;
 mod settling;
 
 pub use cell::{Cell, HeadList, TailList};
 pub use fault::VisitFault;
+pub use law::slots_are_a_share;
 pub use sealed::Sealed;

@@ -15,8 +15,6 @@ mod odometer;
 mod parts;
 mod scopes;
 mod sums;
-#[cfg(test)]
-mod tests;
 mod told;
 mod tree;
 

@@ -12,8 +12,6 @@ mod head_line;
 mod lines;
 mod reader;
 mod report;
-#[cfg(test)]
-mod tests;
 mod util_line;
 mod value_line;
 mod verdict;

@@ -9,8 +9,6 @@
 mod cut;
 mod place;
 mod slicing;
-#[cfg(test)]
-mod tests;
 
 pub use cut::slice;
 pub use place::{cells_of, place_at, place_in};

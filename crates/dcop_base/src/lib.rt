@@ -30,7 +30,7 @@ pub use limit::{
 pub use memory::NoMemory;
 pub use number::{Amount, Val, VarId};
 pub use number_word::number_of_word;
-pub use part::private;
+pub use part::{acquaintance, private};
 pub use place::place_of;
 pub use problem::{Problem, ProblemFault, problem_is_whole};
 pub use scope::{position_of, repeats, sizes_of, stands_in};

@@ -137,34 +137,3 @@ impl Sink for MemorySink {
         Ok(())
     }
 }
-
-#[cfg(test)]
-mod tests {
-    use super::*;
-    use std::test::Fail;
-
-    #[test]
-    fn source_fails_at_its_second_call(rt: HostRuntime) -> Result<(), Fail> {
-        let bytes = b"agents".to_vec(rt.alloc())?;
-        let mut source = MemorySource::new(bytes, vec![in rt.alloc(); 1]?);
-        let mut block = [0; 4];
-        assert_eq!(rt; source.read(&mut block), Ok(4));
-        assert_eq!(rt; source.read(&mut block), Err(Failed));
-        assert_eq!(rt; &block, b"agen", "a failed read changes nothing");
-        assert_eq!(rt; source.read(&mut block), Ok(2));
-        assert_eq!(rt; &block, b"tsen");
-        assert_eq!(rt; source.read(&mut block), Ok(0));
-        Ok(())
-    }
-
-    #[test]
-    fn sink_fails_at_its_first_and_third_call(rt: HostRuntime) -> Result<(), Fail> {
-        let mut sink = MemorySink::new(rt.alloc(), vec![in rt.alloc(); 0, 2]?);
-        assert_eq!(rt; sink.write(b"lost"), Err(Failed));
-        assert_eq!(rt; sink.write(b"kept"), Ok(4));
-        assert_eq!(rt; sink.finish(), Err(Failed));
-        assert_eq!(rt; sink.finish(), Ok(()));
-        assert_eq!(rt; sink.bytes(), b"kept".as_slice());
-        Ok(())
-    }
-}

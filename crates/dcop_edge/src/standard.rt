@@ -155,17 +155,3 @@ fn flush_again<W: Write>(writer: &mut W) -> bool {
 fn is_interrupted(error: &Error) -> bool {
     error.kind() == ErrorKind::Interrupted
 }
-
-#[cfg(test)]
-mod tests {
-    use super::*;
-    use std::test::Fail;
-
-    #[test]
-    fn refused_write_is_a_fault(rt: HostRuntime) {
-        let mut room = [0; 2];
-        let mut sink = StdSink::new(room.as_mut_slice());
-        assert_eq!(rt; sink.write(b"no"), Ok(2));
-        assert_eq!(rt; sink.write(b"more"), Err(Failed));
-    }
-}

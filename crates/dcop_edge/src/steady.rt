@@ -143,17 +143,3 @@ impl Sink for SteadySink {
         Ok(())
     }
 }
-
-#[cfg(test)]
-mod tests {
-    use super::*;
-    use std::test::Fail;
-
-    #[test]
-    fn sink_keeps_what_fits_its_room(rt: HostRuntime) -> Result<(), Fail> {
-        let mut sink = SteadySink::with_room(rt.alloc(), 4)?;
-        assert_eq!(rt; sink.write(b"kept"), Ok(4));
-        assert_eq!(rt; sink.bytes(), b"kept".as_slice());
-        Ok(())
-    }
-}

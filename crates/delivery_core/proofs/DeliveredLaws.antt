@@ -15,7 +15,8 @@ use Rattle.protocol_steps.specs.Network.{Desk, Network, start_state, batch}
 use Rattle.protocol_steps.specs.Effect.{desk_after, effect, effect_at, pending, has_ended, deliveries}
 use Rattle.protocol_steps.proofs.TallyLaws.{sum-set}
 use Rattle.dcop_base.specs.Limits.{budget_limit}
-use Rattle.delivery_core.specs.Turns.{most_taken, take_some, turn_takes, turn, after, turns, round, stops, PlaysTo}
+use Rattle.protocol_steps.specs.Rounds.{link_share}
+use Rattle.delivery_core.specs.Turns.{take_some, turn_takes, turn, after, turns, round, stops, PlaysTo}
 
 -- how many messages these takes take
 abbrev counts : List Take → ℕ
@@ -26,10 +27,10 @@ abbrev taken_by : Desk → ℕ
 taken_by x = counts x.takes
 
 -- of one sender at most 64
-take-few : (j count : ℕ) (b : Bool) → counts (cond b [] (record { from = j; count = min count most_taken } ∷ [])) ≤ 64
+take-few : (j count : ℕ) (b : Bool) → counts (cond b [] (record { from = j; count = min count link_share } ∷ [])) ≤ 64
 take-few j count true = omega arith
 take-few j count false =
-    let t : Take = record { from = j; count = min count most_taken } in
+    let t : Take = record { from = j; count = min count link_share } in
     let one : counts (t ∷ []) ≡ min count 64 + 0 = sum_by-cons (λ (x : Take). x.count) t [] in
     omega (arith, one)
 

@@ -11,11 +11,11 @@ use Rattle.protocol_steps.specs.Step.{start_of}
 use Rattle.protocol_steps.specs.Network.{Desk, Network, start_state}
 use Rattle.protocol_steps.specs.Effect.{deliveries}
 use Rattle.protocol_steps.specs.Run.{run}
-use Rattle.protocol_steps.specs.Outcomes.{IsOutcomeOf}
+use Rattle.protocol_steps.specs.Outcomes.{IsOutcomeOf, HaveRun}
 use Rattle.delivery_core.specs.State.{CoreView}
 use Rattle.delivery_core.specs.NetworkState.{IsStateOf}
 use Rattle.delivery_core.specs.Turns.{IsPlayed}
-use Rattle.delivery_core.specs.PlayedOut.{TellsOf, IsPlayedOut}
+use Rattle.delivery_core.specs.PlayedOut.{TellsOf}
 use Rattle.delivery_core.proofs.DeliveredLaws.{played-few}
 use Rattle.delivery_core.proofs.StopLaws.{played-stops, stopped-how}
 use Rattle.delivery_core.proofs.RoundLaws.{plays-rounds}
@@ -32,7 +32,7 @@ told-of end s outcome shows few tells = record {
 }
 
 pub played-out : (budget : ℕ) (made : List View) (events : List Event) (s : CoreView) (outcome : Outcome) → budget ≤ budget_limit → length made ≤ 1000 → IsPlayed budget (start_state made) events s → TellsOf s outcome
-    → IsPlayedOut budget made outcome
+    → HaveRun budget made outcome
 played-out budget made events s outcome few agents is tells =
     let first : Network = start_state made in
     let desk : View → Desk = λ v. record { sent = (start_of v).sends; takes = [] } in

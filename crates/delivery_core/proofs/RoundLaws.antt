@@ -13,11 +13,11 @@ use Rattle.protocol_steps.specs.declared.event.EventFault.{EventFault}
 use Rattle.protocol_steps.specs.View.{View, ended_of}
 use Rattle.protocol_steps.specs.Step.{step_of}
 use Rattle.protocol_steps.specs.Network.{Desk, Network, message_to, messages_to, taken_from, sent_at, takes_at, link, waiting, batch}
-use Rattle.protocol_steps.specs.Effect.{desk_after, network_after, effect, effect_at, pending, pending_at, deliveries}
+use Rattle.protocol_steps.specs.Effect.{desk_after, network_after, effect, effect_at, pending, pending_at}
 use Rattle.protocol_steps.specs.Run.{event_fault, unless, happen, run, journal}
-use Rattle.protocol_steps.specs.Rounds.{taken_in, IsRound, AreRounds}
+use Rattle.protocol_steps.specs.Rounds.{taken_in, IsRound, AreRounds, link_share}
 use Rattle.protocol_steps.proofs.EventLaws.{get_same, get_other}
-use Rattle.delivery_core.specs.Turns.{most_taken, take_some, turn_takes, event_with, turn, after, turns, round, PlaysTo}
+use Rattle.delivery_core.specs.Turns.{take_some, turn_takes, turn, after, turns, round, PlaysTo}
 use Rattle.delivery_core.proofs.DeliveredLaws.{on-below}
 use Rattle.delivery_core.proofs.StopLaws.{past-none}
 
@@ -155,10 +155,10 @@ few-one net i s (suc m) =
     ]
 
 -- what is taken of one sender by takes of the senders from s on
-some-taken : (j k count : ℕ) (b : Bool) → eqb count 0 ≡ b → k ≡ j → taken_from j (cond b [] (record { from = k; count = min count most_taken } ∷ [])) ≡ min count 64
+some-taken : (j k count : ℕ) (b : Bool) → eqb count 0 ≡ b → k ≡ j → taken_from j (cond b [] (record { from = k; count = min count link_share } ∷ [])) ≡ min count 64
 some-taken j k count true none same = let e = eqb-true count 0 none in omega (arith, e)
 some-taken j k count false some same =
-    let t : Take = record { from = k; count = min count most_taken } in
+    let t : Take = record { from = k; count = min count link_share } in
     let one : taken_from j (t ∷ []) ≡ cond (eqb k j) (min count 64) 0 + 0 = sum_by-cons (λ (x : Take). if x.from == j then x.count else 0) t [] in
     let here : cond (eqb k j) (min count 64) 0 ≡ min count 64 = ap (λ (b : Bool). cond b (min count 64) 0) (eq-eqb k j same) in
     omega (arith, one, here)

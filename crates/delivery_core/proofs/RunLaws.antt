@@ -5,7 +5,6 @@ use Rattle.std.proofs.lemmas.List.{take_more, map-append}
 use Rattle.dcop_base.specs.Problem.{Dcop}
 use Rattle.protocol_steps.specs.declared.message.Message.{Message}
 use Rattle.protocol_steps.specs.declared.event.Event.{Event}
-use Rattle.protocol_steps.specs.declared.event.EventFault.{EventFault}
 use Rattle.protocol_steps.specs.Network.{Network}
 use Rattle.protocol_steps.specs.Effect.{effect}
 use Rattle.protocol_steps.specs.Run.{event_fault, run}

@@ -9,6 +9,8 @@ use Rattle.std.proofs.lemmas.List.{append-nil, length-set, length-map, map-set, 
 use Rattle.std.proofs.lemmas.List.Elements.{All-weaker}
 use Rattle.std.proofs.lemmas.List.FromFn.{length-map-range_with_len, map-range_with_len_more}
 use Rattle.dcop_base.specs.Problem.{Dcop}
+use Rattle.dcop_base.specs.Whole.{IsProblem}
+use Rattle.protocol_steps.specs.Knowledge.{IsKnowledge, PrivatesAreKnowledge, AcquaintancesAreKnowledge}
 use Rattle.protocol_steps.specs.declared.message.Message.{Message}
 use Rattle.protocol_steps.specs.declared.event.Take.{Take}
 use Rattle.protocol_steps.specs.View.{View, private_of}
@@ -23,7 +25,7 @@ use Rattle.delivery_core.specs.NetworkState.{letters_of}
 use Rattle.delivery_core.specs.Inboxes.{senders}
 use Rattle.delivery_core.specs.SeatEvents.{deliver_all}
 use Rattle.delivery_core.specs.Agents.{agents_of}
-use Rattle.delivery_core.specs.Starts.{agent_of, new_link, new_seat, sends_in, first_sends, IsFresh, Begun}
+use Rattle.delivery_core.specs.Starts.{knowledge_for, agent_of, new_link, new_seat, sends_in, first_sends, IsFresh, Begun}
 use Rattle.delivery_core.specs.Shown.{IsRunning, Shows}
 use Rattle.delivery_core.proofs.NearLaws.{near_back}
 use Rattle.protocol_steps.proofs.StartedLaws.{start_starts, start_private}
@@ -189,6 +191,18 @@ fresh_agent : (p : Dcop) (start : Start) (i : ℕ) → IsFresh p i (agent_of p s
 fresh_agent p Token i = record { near = refl; fresh = refl }
 fresh_agent p (Dpop tree) i = record { near = refl; fresh = refl }
 fresh_agent p (Adopt tree error) i = record { near = refl; fresh = refl }
+
+-- an agent knows the neighbours of what it is made from
+pub neighbours_kept : (p : Dcop) (start : Start) (i : ℕ) → (private_of (agent_of p start i)).neighbours ≡ (knowledge_for p start i).neighbours
+neighbours_kept p Token i = refl
+neighbours_kept p (Dpop tree) i = refl
+neighbours_kept p (Adopt tree error) i = refl
+
+-- what agents are made from fits together, with tables or without
+pub knowledge_fits : PrivatesAreKnowledge → AcquaintancesAreKnowledge → (p : Dcop) (start : Start) (i : ℕ) → IsProblem p → i < length p.sizes → IsKnowledge (knowledge_for p start i)
+knowledge_fits privates acquaintances p Token i whole inside = acquaintances p i whole inside
+knowledge_fits privates acquaintances p (Dpop tree) i whole inside = privates p i whole inside
+knowledge_fits privates acquaintances p (Adopt tree error) i whole inside = privates p i whole inside
 
 pub agents_made : (p : Dcop) (start : Start) → agents_of p start ≡ map (agent_of p start) (range_with_len 0 (length p.sizes))
 agents_made p Token = refl

@@ -1,7 +1,7 @@
 -- Where playing stops, all agents have ended, or the budget is spent, or nothing is pending.
-use Rattle.std.proofs.Common.{◌≡◌, ℕ, zero, suc, ◌+◌, ◌<◌, ◌≤◌, min, Bool, true, false, cond, eqb, leb, ◌||◌, List, [], ◌∷◌, ◌++◌, length, drop, get_or, Option, Some, None, refl, sym, ap, subst, ◌∙◌, inl, inr, arith}
+use Rattle.std.proofs.Common.{◌≡◌, ℕ, zero, suc, ◌<◌, ◌≤◌, min, Bool, true, false, cond, eqb, leb, ◌||◌, List, [], ◌∷◌, ◌++◌, length, drop, get_or, Option, Some, None, refl, sym, ap, subst, ◌∙◌, inl, inr, arith}
 use Rattle.std.specs.List.{flat_map, range_with_len, slice_get}
-use Rattle.std.proofs.lemmas.Bool.{cases_Bool, cases_lt, or_cases, eqb-true, leb-true, leb-false}
+use Rattle.std.proofs.lemmas.Bool.{cases_Bool, cases_lt, eqb-true, leb-true, leb-false}
 use Rattle.std.proofs.lemmas.List.FromFn.{length-range_with_len, get_or-range_with_len}
 use Rattle.protocol_steps.specs.declared.message.Message.{Message}
 use Rattle.protocol_steps.specs.declared.event.Take.{Take}
@@ -12,7 +12,8 @@ use Rattle.protocol_steps.specs.View.{View}
 use Rattle.protocol_steps.specs.Network.{Desk, Network, messages_to, sent_at, takes_at, taken_from, waiting, link}
 use Rattle.protocol_steps.specs.Effect.{pending, pending_at, has_ended, deliveries}
 use Rattle.protocol_steps.specs.RunEnds.{NothingPending, IsRunEnd}
-use Rattle.delivery_core.specs.Turns.{most_taken, take_some, turn_takes, event_with, turn, after, turns, round, stops, PlaysTo}
+use Rattle.protocol_steps.specs.Rounds.{link_share}
+use Rattle.delivery_core.specs.Turns.{take_some, turn_takes, event_with, turn, after, turns, round, stops, PlaysTo}
 
 module _ {A : Type 0} where
   none_of : (xs ys : List A) → xs ++ ys ≡ [] → (xs ≡ []) × (ys ≡ [])
@@ -37,7 +38,7 @@ event-none : (i : ℕ) (ts : List Take) → event_with i ts ≡ [] → ts ≡ []
 event-none i ts none = none_long ts (eqb-true (length ts) 0 (test-none (eqb (length ts) 0) (record { agent = i; takes = ts }) none))
 
 take-none : (j count : ℕ) → take_some j count ≡ [] → count ≡ 0
-take-none j count none = eqb-true count 0 (test-none (eqb count 0) (record { from = j; count = min count most_taken }) none)
+take-none j count none = eqb-true count 0 (test-none (eqb count 0) (record { from = j; count = min count link_share }) none)
 
 -- turns without an event are turns in which nobody takes anything
 turns-none : (net : Network) (is : List ℕ) → turns net is ≡ [] → (k d : ℕ) → k < length is → turn net (get_or is k d) ≡ []

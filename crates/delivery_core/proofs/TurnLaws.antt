@@ -18,7 +18,8 @@ use Rattle.protocol_steps.specs.Effect.{effect, pending, pending_at, deliveries}
 use Rattle.delivery_core.specs.State.{LinkView, SeatView, CoreView, link_from, waiting_on, waiting_from, inbox_of}
 use Rattle.delivery_core.specs.Inboxes.{senders, short_in}
 use Rattle.delivery_core.specs.SeatEvents.{seat_fault, core_fault}
-use Rattle.delivery_core.specs.Turns.{most_taken, take_some, turn_takes, event_with, turn}
+use Rattle.protocol_steps.specs.Rounds.{link_share}
+use Rattle.delivery_core.specs.Turns.{take_some, turn_takes, event_with, turn}
 use Rattle.delivery_core.specs.SeatTurns.{inbox_takes, seat_takes, Leads}
 use Rattle.delivery_core.specs.Shown.{Shows, IsCore}
 use Rattle.delivery_core.proofs.NearLaws.{from_filter}
@@ -108,17 +109,17 @@ record Fine (n a : ℕ) (ls : List LinkView) (ts : List Take) : Type 0 where
   short : short_in ls ts ≡ None
 
 fine_step : (b : Bool) (n a : ℕ) (ls : List LinkView) (ts : List Take) → (length (waiting_from ls a) == 0) ≡ b → a < n → Fine n (a + 1) ls ts
-    → Fine n a ls ((if b then [] else record { from = a; count = min (length (waiting_from ls a)) most_taken } ∷ []) ++ ts)
+    → Fine n a ls ((if b then [] else record { from = a; count = min (length (waiting_from ls a)) link_share } ∷ []) ++ ts)
 fine_step true n a ls ts h lt f = record { known = f.known; counted = f.counted; asc = λ b le. f.asc b (omega (arith, le)); short = f.short }
 fine_step false n a ls ts h lt f =
     let c : ℕ = length (waiting_from ls a) in
     let some : c ≡ 0 → ⊥ = eqb-false c 0 h in
-    let least : min c most_taken ≡ 0 → ⊥ = λ e. some (omega (arith, e)) in
+    let least : min c link_share ≡ 0 → ⊥ = λ e. some (omega (arith, e)) in
     record {
       known = rw (lt-leb n a lt) f.known;
-      counted = rw (ne_eqb (min c most_taken) 0 least) f.counted;
+      counted = rw (ne_eqb (min c link_share) 0 least) f.counted;
       asc = λ b le. rw (le-leb b a le) (f.asc (a + 1) (omega arith));
-      short = rw (le-ltb c (min c most_taken) (omega arith)) f.short;
+      short = rw (le-ltb c (min c link_share) (omega arith)) f.short;
     }
 
 fine_takes : (m a n : ℕ) (ls : List LinkView) → a + m ≤ n → Fine n a ls (flat_map (by_sender ls) (range_with_len a m))

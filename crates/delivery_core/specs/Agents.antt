@@ -1,13 +1,10 @@
 -- The agents of a start, as they are made.
-use Rattle.std.specs.Prelude.{◌≤◌, List, map, length}
-use Rattle.std.specs.List.{range_with_len}
+use Rattle.std.specs.Prelude.{◌≤◌, List}
 use Rattle.dcop_base.specs.Problem.{Dcop}
-use Rattle.dcop_base.specs.Knowledge.{private_of}
 use Rattle.dcop_base.specs.Limits.{amount_limit}
 use Rattle.pseudotree.specs.Pseudotree.{RootedTree, IsPseudotreeOf, IsLinked}
-use Rattle.protocol_steps.specs.Token.{new_token}
-use Rattle.protocol_steps.specs.View.{View, TokenKind}
-use Rattle.protocol_steps.specs.TreeAgents.{dpop_agents, adopt_agents}
+use Rattle.protocol_steps.specs.View.{View}
+use Rattle.protocol_steps.specs.TreeAgents.{token_agents, dpop_agents, adopt_agents}
 use Rattle.protocol_steps.specs.Network.{Network, start_state}
 use Rattle.delivery_core.specs.declared.start.Start.{Start}
 use Rattle.delivery_core.specs.declared.start.Start.TheVariants.{Token, Dpop, Adopt}
@@ -25,7 +22,7 @@ IsStartFor p (Adopt tree error) = IsTreeFor p tree × (error ≤ amount_limit)
 
 -- the views of the agents of a start, as they are made
 abbrev pub agents_of : Dcop → Start → List View
-agents_of p Token = map (λ i. TokenKind (new_token (private_of p i))) (range_with_len 0 (length p.sizes))
+agents_of p Token = token_agents p
 agents_of p (Dpop tree) = dpop_agents p tree.paths
 agents_of p (Adopt tree error) = adopt_agents p tree.paths error
 

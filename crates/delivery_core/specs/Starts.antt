@@ -2,7 +2,8 @@
 use Rattle.std.specs.Prelude.{◌≡◌, ℕ, ◌<◌, false, List, [], ◌++◌, map, take, drop, length, Option, Some, None, nat_lt, if◌then◌else◌, slice_get}
 use Rattle.dcop_base.specs.Problem.{Dcop}
 use Rattle.dcop_base.specs.Graph.{neighbours}
-use Rattle.dcop_base.specs.Knowledge.{private_of as known_by}
+use Rattle.dcop_base.specs.declared.knowledge.Private.{Private}
+use Rattle.dcop_base.specs.Knowledge.{private_of as known_by, acquaintance_of}
 use Rattle.protocol_steps.specs.declared.message.Message.{Message}
 use Rattle.protocol_steps.specs.Token.{new_token}
 use Rattle.protocol_steps.specs.Dpop.{new_dpop}
@@ -17,9 +18,15 @@ use Rattle.delivery_core.specs.State.{LinkView, SeatView, waiting_from, last_tak
 use Rattle.delivery_core.specs.NetworkState.{letters_of}
 use Rattle.delivery_core.specs.Inboxes.{senders}
 
+-- what the agent of a variable is made from: a token agent gets no tables
+abbrev pub knowledge_for : Dcop → Start → ℕ → Private
+knowledge_for p Token i = acquaintance_of p i
+knowledge_for p (Dpop tree) i = known_by p i
+knowledge_for p (Adopt tree error) i = known_by p i
+
 -- the agent of a variable, as it is made
 abbrev pub agent_of : Dcop → Start → ℕ → View
-agent_of p Token i = TokenKind (new_token (known_by p i))
+agent_of p Token i = TokenKind (new_token (acquaintance_of p i))
 agent_of p (Dpop tree) i = DpopKind (new_dpop (known_by p i) (place_at p tree.paths i))
 agent_of p (Adopt tree error) i = AdoptKind (new_adopt (known_by p i) (place_at p tree.paths i) error)
 

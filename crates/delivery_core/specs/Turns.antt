@@ -6,16 +6,13 @@ use Rattle.protocol_steps.specs.declared.event.Event.{Event}
 use Rattle.protocol_steps.specs.Network.{Network}
 use Rattle.protocol_steps.specs.Effect.{effect, pending, has_ended, deliveries}
 use Rattle.protocol_steps.specs.Run.{run}
+use Rattle.protocol_steps.specs.Rounds.{link_share}
 use Rattle.delivery_core.specs.State.{CoreView}
 use Rattle.delivery_core.specs.NetworkState.{IsStateOf}
 
--- the most messages of one link that an event of a round takes
-abbrev pub most_taken : ℕ
-most_taken = 64
-
 -- a take of so many messages, at most 64, where there are some
 abbrev pub take_some : ℕ → ℕ → List Take
-take_some j count = if count == 0 then [] else record { from = j; count = min count most_taken } ∷ []
+take_some j count = if count == 0 then [] else record { from = j; count = min count link_share } ∷ []
 
 -- what agent i takes in its turn: of each sender what is pending, at most 64
 abbrev pub turn_takes : Network → ℕ → List Take

@@ -16,8 +16,6 @@ mod replaying;
 mod seat;
 mod start;
 mod state;
-#[cfg(test)]
-mod tests;
 mod turn;
 
 pub use replaying::{ReplayFault, replay};

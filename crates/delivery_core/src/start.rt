@@ -9,14 +9,14 @@ ghost use Rattle.protocol_steps.specs.Placing.{IsPlaceFor};
 ghost use Rattle.protocol_steps.specs.View.{View};
 ghost use Rattle.protocol_steps.specs.TreeAgents.{place_at};
 ghost use Rattle.delivery_core.specs.Agents.{IsTreeFor, IsStartFor, agents_of};
-ghost use Rattle.delivery_core.specs.Starts.{agent_of, new_seat, Begun, Starts};
+ghost use Rattle.delivery_core.specs.Starts.{agent_of, knowledge_for, new_seat, Begun, Starts};
 
 use crate::agent::Agent;
 use crate::deliver::post;
 use crate::inbox::new_links;
 use crate::seat::Seat;
-use dcop_base::{MAX_VARIABLES, NoMemory, Private, Problem, VarId, private};
-use protocol_steps::{places_fit, private_is_knowledge};
+use dcop_base::{MAX_VARIABLES, NoMemory, Private, Problem, VarId, acquaintance, private};
+use protocol_steps::{acquaintance_is_knowledge, places_fit, private_is_knowledge};
 use pseudotree::{Place, Tree, place};
 use std::alloc::Global;
 
@@ -44,6 +44,22 @@ fn place_in(alloc: Global, problem: &Problem, tree: &Tree, me: VarId) -> Result<
     place(alloc, tree, problem, me)
 }
 
+/// What the agent of a variable is made from. Token agents look at no cost, so they get no tables.
+fn known_for(
+    alloc: Global,
+    problem: &Problem,
+    start: &Start,
+    me: VarId,
+) -> Result<Private, NoMemory>
+    requires { me < length problem.now.sizes }
+    ensures { IfOk result (λ own. own ≡ knowledge_for problem.now start.now me) }
+{
+    match start {
+        Start::Token => acquaintance(alloc, problem, me),
+        Start::Dpop(_) | Start::Adopt(..) => private(alloc, problem, me),
+    }
+}
+
 /// The agent of a variable, which knows this.
 fn make_agent(
     alloc: Global,
@@ -55,10 +71,11 @@ fn make_agent(
     requires whole { IsProblem problem.now }
     requires start { IsStartFor problem.now start.now }
     requires inside { me < length problem.now.sizes }
-    requires known { own ≡ private_of problem.now me }
+    requires known { own ≡ knowledge_for problem.now start.now me }
     ensures { IfOk result (λ agent. agent ≡ agent_of problem.now start.now me) }
 {
     private_is_knowledge();
+    acquaintance_is_knowledge();
     match start {
         Start::Token => Agent::token(alloc, own),
         Start::Dpop(tree) => {
@@ -79,7 +96,7 @@ fn make_seat(alloc: Global, problem: &Problem, start: &Start, me: VarId) -> Resu
     requires inside { me < length problem.now.sizes }
     ensures { IfOk result (λ seat. seat ≡ new_seat (agent_of problem.now start.now me)) }
 {
-    let own = private(alloc, problem, me)?;
+    let own = known_for(alloc, problem, start, me)?;
     let links = new_links(alloc, own.neighbours.as_slice())?;
     let agent = make_agent(alloc, problem, start, me, own)?;
     Ok(Seat::new(agent, links))

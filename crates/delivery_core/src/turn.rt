@@ -5,7 +5,7 @@ ghost use Rattle.dcop_base.specs.Limits.{variable_limit, budget_limit};
 ghost use Rattle.delivery_core.specs.Agents.{IsStartFor, agents_of, network_of};
 ghost use Rattle.delivery_core.specs.Turns.{IsPlayed};
 ghost use Rattle.delivery_core.specs.Shown.{IsSomeCore};
-ghost use Rattle.delivery_core.specs.PlayedOut.{IsPlayedOut};
+ghost use Rattle.protocol_steps.specs.Outcomes.{HaveRun};
 ghost use Rattle.delivery_core.specs.SeatTurns.{is_over, kept_if, TakesTurn, PlaysRound, PlaysOut};
 
 use crate::outcome::outcome_of;
@@ -144,7 +144,7 @@ pub fn play_out(
 ) -> Result<Outcome, NoMemory>
     requires start { IsStartFor problem.now start }
     requires budget { budget ≤ budget_limit }
-    ensures { IfOk result (IsPlayedOut budget (agents_of problem.now start)) }
+    ensures { IfOk result (HaveRun budget (agents_of problem.now start)) }
 {
     problem_is_whole(problem);
     let mut state = begin(alloc, problem, &start)?;

@@ -16,14 +16,14 @@ ghost use Rattle.dfs_agent.specs.Search.{Gives, IsNew, IsRunning};
 use crate::parts::{copy_of, count_of, done_for, place_of, token_for};
 use crate::stage::Stage;
 use crate::visited::{are_distinct_without, first_unvisited};
-use dcop_base::{NoMemory, Private, Table, Val, VarId, VarList};
+use dcop_base::{MAX_VARIABLES, NoMemory, Private, Table, Val, VarId, VarList};
 use protocol_steps::{Batch, Letter, Machine, Message, Outbox, Parcel, Standing};
 use pseudotree::Place;
 use std::alloc::Global;
 use std::marker::Model;
 
 /// The most variables of a path that comes with a token, and of all subtrees that come back.
-const MOST_OTHERS: usize = 999;
+const MOST_OTHERS: usize = MAX_VARIABLES - 1;
 
 /// A token agent: its part in the depth-first search of the graph. Contracts see its view.
 ///
@@ -36,7 +36,7 @@ pub struct TokenAgent {
     alloc: Global,
     /// What it knows of the problem.
     own: Private,
-    pub(crate) stage: Stage,
+    stage: Stage,
     /// The path that came with the token.
     path: VarList,
     /// The subtrees that came back, one of each child, in their order.

@@ -10,8 +10,6 @@
 mod agent;
 mod parts;
 mod stage;
-#[cfg(test)]
-mod tests;
 mod visited;
 
 pub use agent::TokenAgent;

@@ -17,6 +17,11 @@ use std::collections::VecDeque;
 /// How many items the ring of a link holds, and so the most that one `take_all` gives.
 pub const SLOTS: usize = 64;
 
+/// The slots of the code are those of the definitions.
+pub fn slots_agree()
+    ensures { SLOTS ≡ ring_slots }
+{}
+
 /// The end of a link that sends.
 #[derive(Drop)]
 pub struct LinkTail<T: Send + Drop> {

@@ -15,5 +15,5 @@ mod memory;
 #[cfg(test)]
 mod tests;
 
-pub use ends::{LinkHead, LinkTail, SLOTS, link, settle};
+pub use ends::{LinkHead, LinkTail, SLOTS, link, settle, slots_agree};
 pub use memory::NoMemory;

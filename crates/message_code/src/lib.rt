@@ -15,8 +15,6 @@ mod message;
 mod number;
 mod reader;
 mod stop;
-#[cfg(test)]
-mod tests;
 mod writer;
 
 pub use fault::DecodeFault;

@@ -3,13 +3,14 @@ use Rattle.std.specs.Prelude.{ℕ, List, [], ◌∷◌, ◌++◌, map, codes}
 use Rattle.std.specs.List.{flat_map, join_with_byte, slice_index_or}
 use Rattle.std.specs.Fmt.{decimal}
 use Rattle.dcop_base.specs.Table.{CostTable}
+use Rattle.problem_text.specs.Bytes.{line_feed, space}
 use Rattle.problem_text.specs.File.{TextFile}
 use Rattle.problem_text.specs.declared.file.Goal.{Goal}
 use Rattle.problem_text.specs.declared.file.Goal.TheVariants.{Min, Max}
 
 -- the line of these words: one space between words, LF at the end
 abbrev pub line : List (List ℕ) → List ℕ
-line words = join_with_byte 32 words ++ (10 ∷ [])
+line words = join_with_byte space words ++ (line_feed ∷ [])
 
 -- `goal max`, where the goal is max
 abbrev pub goal_lines : Goal → List (List (List ℕ))

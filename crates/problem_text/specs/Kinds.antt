@@ -5,6 +5,10 @@ use Rattle.problem_text.specs.declared.fault.TextKind.TheVariants as texts
 use Rattle.problem_text.specs.declared.fault.ReportKind.{ReportKind}
 use Rattle.problem_text.specs.declared.fault.ReportKind.TheVariants as reports
 
+-- the number of a text that is refused for its problem
+abbrev pub problem_kind : ℕ
+problem_kind = 7
+
 -- the number of a kind of refused text
 abbrev pub number_of_text : TextKind → ℕ
 number_of_text texts.BadHeader = 1
@@ -13,7 +17,7 @@ number_of_text texts.BadNumber = 3
 number_of_text texts.UnknownName = 4
 number_of_text texts.NameTwice = 5
 number_of_text texts.NoEnd = 6
-number_of_text (texts.Problem number) = 7
+number_of_text (texts.Problem number) = problem_kind
 number_of_text texts.AfterEnd = 8
 number_of_text texts.TooLong = 9
 

@@ -1,7 +1,7 @@
 -- A text as lines, and a line as words.
 use Rattle.std.specs.Prelude.{ℕ, ◌+◌, Bool, true, false, ◌||◌, List, [], ◌∷◌, length, ◌==◌, if◌then◌else◌}
 use Rattle.std.specs.List.{filter, before_first}
-use Rattle.problem_text.specs.Bytes.{line_feed, carriage_return, hash_sign}
+use Rattle.problem_text.specs.Bytes.{line_feed, carriage_return, hash_sign, space, tab}
 
 -- whether a list has an element
 abbrev pub has_some : {X : Type 0} → List X → Bool
@@ -34,7 +34,7 @@ content line = before_comment (without_last carriage_return (without_last line_f
 
 -- whether a byte divides words: space or tab
 abbrev pub is_blank : ℕ → Bool
-is_blank b = b == 32 || b == 9
+is_blank b = b == space || b == tab
 
 -- bytes cut at each blank
 abbrev pub between_blanks : List ℕ → List (List ℕ)

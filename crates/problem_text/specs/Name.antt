@@ -3,14 +3,15 @@ use Rattle.std.specs.Prelude.{ℕ, Bool, false, ◌&&◌, ◌||◌, List, [], �
 use Rattle.std.specs.Char.{is_ascii_alphabetic, is_ascii_alphanumeric}
 use Rattle.std.specs.List.{list_all}
 use Rattle.dcop_base.specs.Limits.{name_limit}
+use Rattle.problem_text.specs.Bytes.{underscore, hyphen, full_stop}
 
 -- a byte that may begin a name: an ASCII letter or `_`
 abbrev pub is_name_start : ℕ → Bool
-is_name_start byte = is_ascii_alphabetic byte || byte == 95
+is_name_start byte = is_ascii_alphabetic byte || byte == underscore
 
 -- a byte of a name: an ASCII letter or digit, `_`, `-` or `.`
 abbrev pub is_name_byte : ℕ → Bool
-is_name_byte byte = is_ascii_alphanumeric byte || byte == 95 || byte == 45 || byte == 46
+is_name_byte byte = is_ascii_alphanumeric byte || byte == underscore || byte == hyphen || byte == full_stop
 
 -- whether a word is a name: 1 to name_limit bytes of a name, of which the first may begin one
 abbrev pub is_name : List ℕ → Bool

@@ -23,8 +23,6 @@ mod plain_line;
 mod reader;
 mod scope_words;
 mod table_line;
-#[cfg(test)]
-mod tests;
 mod variable;
 mod word;
 mod word_line;

@@ -13,13 +13,13 @@ use Rattle.dcop_base.specs.Table.{CostTable, has}
 use Rattle.dcop_base.specs.Problem.{Dcop}
 use Rattle.dcop_base.specs.Graph.{share_table, are_joined, are_neighbours, neighbours}
 use Rattle.dcop_base.specs.Whole.{IsTableOf, IsProblem}
-use Rattle.dcop_base.specs.Knowledge.{private_of}
+use Rattle.dcop_base.specs.Knowledge.{private_of, acquaintance_of}
 use Rattle.dcop_base.specs.Limits.{variable_limit}
 use Rattle.dcop_base.proofs.KnowledgeLaws.{All-filter-range}
 use Rattle.pseudotree.proofs.NestLaws.{filter_has}
 use Rattle.pseudotree.proofs.SpreadLaws.{any_in_range}
 use Rattle.adopt_context.specs.Context.{value_in}
-use Rattle.protocol_steps.specs.Knowledge.{IsSize, known_sizes, IsKnownTable, IsKnowledge, PrivatesAreKnowledge}
+use Rattle.protocol_steps.specs.Knowledge.{IsSize, known_sizes, IsKnownTable, IsKnowledge, PrivatesAreKnowledge, AcquaintancesAreKnowledge}
 
 -- a number that stands in a list is one of its elements, and each element stands in it
 pub contains_from_has : (xs : List ℕ) (x : ℕ) → has xs x ≡ true → Contains xs x
@@ -124,3 +124,17 @@ module _ (p : Dcop) (i : ℕ) (whole : IsProblem p) (known : i < length p.sizes)
 
 pub privates_are_knowledge : PrivatesAreKnowledge
 privates_are_knowledge p i whole known = fits_together p i whole known
+
+pub acquaintances_are_knowledge : AcquaintancesAreKnowledge
+acquaintances_are_knowledge p i whole known =
+    let own = fits_together p i whole known in
+    record {
+      ascend = own.ascend;
+      apart = own.apart;
+      sized = own.sized;
+      tables = All-nil (IsKnownTable (acquaintance_of p i));
+      me_below = own.me_below;
+      below = own.below;
+      size = own.size;
+      sizes = own.sizes;
+    }

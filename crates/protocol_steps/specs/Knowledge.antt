@@ -5,7 +5,7 @@ use Rattle.std.specs.List.Sorted.{IsStrictlyIncreasing}
 use Rattle.dcop_base.specs.Table.{CostTable}
 use Rattle.dcop_base.specs.Problem.{Dcop}
 use Rattle.dcop_base.specs.Whole.{IsProblem}
-use Rattle.dcop_base.specs.Knowledge.{private_of}
+use Rattle.dcop_base.specs.Knowledge.{private_of, acquaintance_of}
 use Rattle.dcop_base.specs.declared.knowledge.Private.{Private}
 use Rattle.dcop_base.specs.Limits.{variable_limit, size_limit}
 use Rattle.adopt_context.specs.Context.{value_in}
@@ -37,3 +37,7 @@ pub record IsKnowledge (own : Private) : Type 0 where
 -- what an agent is given of a problem is such knowledge
 abbrev pub PrivatesAreKnowledge : Type 0
 PrivatesAreKnowledge = (p : Dcop) (i : ℕ) → IsProblem p → i < length p.sizes → IsKnowledge (private_of p i)
+
+-- and so it is without the tables
+abbrev pub AcquaintancesAreKnowledge : Type 0
+AcquaintancesAreKnowledge = (p : Dcop) (i : ℕ) → IsProblem p → i < length p.sizes → IsKnowledge (acquaintance_of p i)

@@ -12,9 +12,9 @@ use Rattle.protocol_steps.specs.Run.{run, journal}
 abbrev pub most_events : ℕ
 most_events = 32
 
--- how many messages of one link a round takes at least, where as many are pending
-abbrev pub least_taken : ℕ
-least_taken = 64
+-- how many messages of one link are taken at a time: a round takes at least so many of each, where as many are pending, and who plays takes at most so many at once
+abbrev pub link_share : ℕ
+link_share = 64
 
 -- how many messages agent i takes from agent j in these events
 abbrev pub taken_in : ℕ → ℕ → List Event → ℕ
@@ -28,7 +28,7 @@ HasNotEnded net i = (v : View) × (slice_get net.views i ≡ Some v) × (ended_o
 pub record IsRound (before : Network) (es : List Event) (after : Network) : Type 0 where
   pub leads : run before es ≡ Some after
   pub few : (i : ℕ) → length (journal i es) ≤ most_events
-  pub served : (i j : ℕ) → HasNotEnded after i → min least_taken (length (pending before i j)) ≤ taken_in i j es
+  pub served : (i j : ℕ) → HasNotEnded after i → min link_share (length (pending before i j)) ≤ taken_in i j es
 
 -- rounds under a budget, which lead from one network state to another: each begins with fewer deliveries than the budget
 abbrev pub AreRounds : ℕ → Network → List (List Event) → Network → Type 0

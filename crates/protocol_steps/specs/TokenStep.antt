@@ -1,6 +1,7 @@
 -- The token step: a depth-first search by tokens.
-use Rattle.std.specs.Prelude.{ℕ, ◌+◌, Bool, true, not, ◌&&◌, List, [], ◌∷◌, ◌++◌, length, Option, Some, None, ◌==◌, nat_le, if◌then◌else◌, slice_get}
+use Rattle.std.specs.Prelude.{ℕ, ◌+◌, ◌-◌, Bool, true, not, ◌&&◌, List, [], ◌∷◌, ◌++◌, length, Option, Some, None, ◌==◌, nat_le, if◌then◌else◌, slice_get}
 use Rattle.std.specs.List.{concat}
+use Rattle.dcop_base.specs.Limits.{variable_limit}
 use Rattle.dcop_base.specs.Table.{has, has_repeat}
 use Rattle.adopt_context.specs.Context.{is_value}
 use Rattle.protocol_steps.specs.declared.message.Message.{Message}
@@ -10,7 +11,7 @@ use Rattle.protocol_steps.specs.Token.{TokenView, next_child}
 
 -- the most variables of a path that comes with a token, and of the subtrees that come back
 abbrev pub most_others : ℕ
-most_others = 999
+most_others = variable_limit - 1
 
 -- DONE for the parent, where there is one
 abbrev pub done_for : Option ℕ → List ℕ → List (ℕ × Message)

@@ -1,15 +1,16 @@
--- The agents of all variables of a problem on a tree, as they are made.
+-- The agents of all variables of a problem, as they are made: token agents, which find a tree, and agents on a tree.
 use Rattle.std.specs.Prelude.{ℕ, List, map, length}
 use Rattle.std.specs.List.{range_with_len}
 use Rattle.dcop_base.specs.Problem.{Dcop}
-use Rattle.dcop_base.specs.Knowledge.{private_of}
+use Rattle.dcop_base.specs.Knowledge.{private_of, acquaintance_of}
 use Rattle.pseudotree.specs.Tree.{path_of, children_of}
 use Rattle.pseudotree.specs.Pseudotree.{lower_of}
 use Rattle.pseudotree.specs.Place.{sizes_of}
 use Rattle.pseudotree.specs.declared.agent.Place.{Place}
+use Rattle.protocol_steps.specs.Token.{new_token}
 use Rattle.protocol_steps.specs.Dpop.{new_dpop}
 use Rattle.protocol_steps.specs.Adopt.{new_adopt}
-use Rattle.protocol_steps.specs.View.{View, DpopKind, AdoptKind}
+use Rattle.protocol_steps.specs.View.{View, TokenKind, DpopKind, AdoptKind}
 
 -- the place of variable i in a tree
 abbrev pub place_at : Dcop → List (List ℕ) → ℕ → Place
@@ -20,6 +21,10 @@ place_at p paths i = record {
   children = children_of paths i;
   lower = lower_of p paths i;
 }
+
+-- the token agents, which look at no cost
+abbrev pub token_agents : Dcop → List View
+token_agents p = map (λ i. TokenKind (new_token (acquaintance_of p i))) (range_with_len 0 (length p.sizes))
 
 -- the DPOP agents
 abbrev pub dpop_agents : Dcop → List (List ℕ) → List View

@@ -1,7 +1,7 @@
 //! Laws that follow from the definitions alone. Each is the contract of a call that does nothing:
 //! who needs the law calls it.
 
-ghost use Rattle.protocol_steps.specs.Knowledge.{PrivatesAreKnowledge};
+ghost use Rattle.protocol_steps.specs.Knowledge.{PrivatesAreKnowledge, AcquaintancesAreKnowledge};
 ghost use Rattle.protocol_steps.specs.Placing.{PlacesFit};
 ghost use Rattle.protocol_steps.specs.Laws.{OriginsStay, ParcelsGoToNeighbours, JournalsDecide};
 ghost use Rattle.protocol_steps.specs.Links.{LinksGrow};
@@ -12,6 +12,11 @@ ghost use Rattle.protocol_steps.specs.JournalStamps.{StartsShow, JournalsOrder};
 /// What an agent is given of a problem is what an agent may be made from.
 pub fn private_is_knowledge()
     ensures { PrivatesAreKnowledge }
+{}
+
+/// What an agent is given of a problem that looks at no cost is what an agent may be made from too.
+pub fn acquaintance_is_knowledge()
+    ensures { AcquaintancesAreKnowledge }
 {}
 
 /// The place of a variable in a linked pseudotree of a problem fits what its agent is given of the

@@ -1,6 +1,7 @@
 //! Checking the text of a report.
 
 ghost use Rattle.std.specs.Prelude.{◌≡◌, ◌+◌, ◌≤◌, length, IfOk};
+ghost use Rattle.dcop_base.specs.Limits.{input_limit};
 ghost use Rattle.problem_text.specs.Steps.{declared_by};
 ghost use Rattle.certificate_text.specs.Again.{HasFit};
 ghost use Rattle.certificate_check.specs.Verdicts.{IsVerdict, IsExact, ShowsBest};
@@ -16,7 +17,8 @@ use solve_report::Answer;
 use std::alloc::Global;
 
 /// The answer to the text of a report on a file, which stands behind so many lines: the verdict on
-/// the report, or the first fault of its text. Lines count on from the beginning of the input.
+/// the report, or the first fault of its text. Lines count on from the beginning of the input. Lines
+/// and bytes together are at most an input has bytes, 2^28.
 ///
 /// # Errors
 ///
@@ -27,7 +29,7 @@ pub fn check_answer(
     text: &[u8],
     before: u64,
 ) -> Result<Answer, NoMemory>
-    requires few { before + length text.now ≤ 1152921504606846976 }
+    requires few { before + length text.now ≤ input_limit }
     ensures belongs { IfOk result (AnswersCheck (declared_by file) before text.now) }
     ensures told { IfOk result HasText }
 {

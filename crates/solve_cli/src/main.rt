@@ -4,7 +4,7 @@
 //! printed where it is refused its arguments.
 #![tactic(auto)]
 
-use dcop_edge::{StdSink, StdSource};
+use dcop_edge::{OpenGate, StdSink, StdSource};
 use solve_top::solve;
 use std::process::ExitCode;
 use std::rt::Env;
@@ -19,7 +19,7 @@ fn main(rt: HostRuntime) -> ExitCode {
     };
     let mut source = StdSource::new(rt.stdin());
     let mut sink = StdSink::new(rt.stdout());
-    let status = solve(rt.alloc(), &words, &mut source, &mut sink);
+    let status = solve(&rt, rt.alloc(), &words, &mut source, &mut sink, &OpenGate);
     ExitCode::from(status.code())
 }
 

@@ -26,7 +26,7 @@ use Rattle.adopt_runs.specs.RunLaws.{HoldsOfAdopt, AdoptBoundsEnclose}
 use Rattle.adopt_ends.specs.EndLaw.{AdoptEnds}
 use Rattle.solve_methods.specs.Adopt.{least_known, least_shown, ending_of}
 use Rattle.solve_methods.specs.Reached.{HaveReached}
-use Rattle.solve_methods.specs.Run.{HaveRun}
+use Rattle.protocol_steps.specs.Outcomes.{HaveRun}
 use Rattle.solve_methods.specs.declared.adopt.Reached.{Reached}
 use Rattle.solve_methods.proofs.EndLaws.{run-spent}
 use Rattle.solve_methods.proofs.RootLaws.{root-zero}

@@ -19,7 +19,7 @@ use Rattle.dcop_optimum.specs.Certificate.{util_of}
 use Rattle.dpop_runs.specs.Laws.{DpopRuns, separators_of}
 use Rattle.solve_methods.specs.Agreed.{HaveValues}
 use Rattle.solve_methods.specs.Dpop.{IsFirstOfTree, dpop_deliveries}
-use Rattle.solve_methods.specs.Run.{HaveRun}
+use Rattle.protocol_steps.specs.Outcomes.{HaveRun}
 use Rattle.solve_methods.proofs.EndLaws.{run-ended}
 
 -- DPOP agents that have run under the budget of their messages have the first optimum of their tree

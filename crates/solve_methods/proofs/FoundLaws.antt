@@ -18,10 +18,10 @@ use Rattle.protocol_steps.specs.Network.{start_state}
 use Rattle.protocol_steps.specs.Rounds.{RoundsAreARun}
 use Rattle.token_runs.specs.Agents.{place_found}
 use Rattle.token_runs.specs.Laws.{TokenRuns}
-use Rattle.token_runs.specs.TokenRun.{token_agents}
+use Rattle.protocol_steps.specs.TreeAgents.{token_agents}
 use Rattle.solve_methods.specs.Tree.{token_deliveries}
 use Rattle.solve_methods.specs.Found.{HaveFound, places_found, parent_on}
-use Rattle.solve_methods.specs.Run.{HaveRun}
+use Rattle.protocol_steps.specs.Outcomes.{HaveRun}
 use Rattle.solve_methods.proofs.EndLaws.{run-ended, same-by}
 
 map-map : {X Y : Type 0} (g : X → Y) (f : ℕ → X) (is : List ℕ) → map g (map f is) ≡ map (λ i. g (f i)) is

@@ -13,6 +13,8 @@ mod AdoptRunLaws
 mod AdoptRightLaws
 mod OnceLaws
 mod ScopeLaws
+mod MarkLaws
+mod AutoLaws
 mod UtilLaws
 mod MadeLaws
 mod CertifiedLaws

@@ -1,10 +1,11 @@
 pub mod Goal
-pub mod Run
 pub mod Plain
 pub mod Certified
 pub mod Dpop
 pub mod Agreed
 pub mod Adopt
 pub mod Reached
+pub mod Auto
+pub mod Drill
 pub mod Tree
 pub mod Found

@@ -13,7 +13,7 @@ ghost use Rattle.solve_report.specs.AnswerText.{HasText};
 ghost use Rattle.solve_methods.specs.Adopt.{AnswersAdopt, IsAdoptReport, least_known, lower_for, upper_for};
 ghost use Rattle.solve_methods.specs.Goal.{IsRightReport, TellsRight};
 ghost use Rattle.solve_methods.specs.Reached.{HaveReached};
-ghost use Rattle.solve_methods.specs.Run.{HaveRun};
+ghost use Rattle.protocol_steps.specs.Outcomes.{HaveRun};
 
 use adopt_ends::adopt_ends;
 use adopt_runs::{adopt_bounds_enclose, adopt_pending};
@@ -85,7 +85,7 @@ pub fn adopt_answer(file: ProblemFile, asked: Asked, reached: Reached) -> Answer
 }
 
 /// The report of what the agents of the problem solved have reached.
-fn adopt_report(file: &ProblemFile, asked: Asked, reached: Reached) -> Report
+pub(crate) fn adopt_report(file: &ProblemFile, asked: Asked, reached: Reached) -> Report
     requires whole { IsProblem file.now.problem }
     requires reached { HaveReached (problem_solved file.now) asked.error asked.budget reached }
     ensures form { IsAdoptReport file.now asked.error asked.budget result }

@@ -12,7 +12,7 @@ ghost use Rattle.solve_report.specs.AnswerText.{HasText};
 ghost use Rattle.solve_methods.specs.Dpop.{AnswersDpop, HaveAgreed, IsDpopReport, wide_answer};
 ghost use Rattle.solve_methods.specs.Dpop.{dpop_deliveries, AreBestChosen, GivesChosen};
 ghost use Rattle.solve_methods.specs.Goal.{TellsRight};
-ghost use Rattle.solve_methods.specs.Run.{HaveRun};
+ghost use Rattle.protocol_steps.specs.Outcomes.{HaveRun};
 ghost use Rattle.solve_methods.specs.Tree.{rows_of};
 
 use crate::tables::certificate_of;
@@ -113,7 +113,7 @@ fn too_wide(wide: Wide, names: Names) -> Answer
 }
 
 /// The report of these values, with their certificate where there is one.
-fn dpop_report(file: &ProblemFile, chosen: Chosen) -> Report
+pub(crate) fn dpop_report(file: &ProblemFile, chosen: Chosen) -> Report
     requires { AreBestChosen file.now.goal file.now.problem chosen }
     ensures form { IsDpopReport file.now (is_some chosen.certificate) result }
     ensures values { result.values ≡ chosen.values }

@@ -1,4 +1,5 @@
-//! What each method answers on a file: plain search, the search for a tree, DPOP and ADOPT.
+//! What each method answers on a file: plain search, the search for a tree, DPOP, ADOPT, and auto,
+//! which is DPOP where its tables fit and ADOPT otherwise; and what `drill` tells of such an answer.
 //!
 //! The plain method is run here. The others are run by agents, and whoever runs those: this crate
 //! says what follows from how their run ended, which is told by an
@@ -7,12 +8,16 @@
 #![tactic(auto)]
 
 mod adopt;
+mod auto;
 mod dpop;
+mod drill;
 mod plain;
 mod tables;
 mod tree;
 
 pub use adopt::{Asked, Reached, adopt_answer, reached_by};
+pub use auto::{Settled, auto_answer};
 pub use dpop::{Choice, Chosen, choice_deliveries, chosen_by, dpop_answer};
+pub use drill::drill_answer;
 pub use plain::plain_answer;
 pub use tree::{Found, node_rows_if, search_deliveries, tree_answer, tree_found};

@@ -6,12 +6,12 @@ ghost use Rattle.dcop_base.specs.Problem.{Dcop};
 ghost use Rattle.pseudotree.specs.DepthFirst.{dfs};
 ghost use Rattle.pseudotree.specs.Fault.{parents_of};
 ghost use Rattle.pseudotree.specs.Pseudotree.{IsPseudotreeOf, separator_at};
-ghost use Rattle.token_runs.specs.TokenRun.{token_agents};
+ghost use Rattle.protocol_steps.specs.TreeAgents.{token_agents};
 ghost use Rattle.problem_text.specs.Steps.{declared_by};
 ghost use Rattle.solve_report.specs.AnswerText.{HasText};
 ghost use Rattle.solve_methods.specs.Found.{IsFound, parent_on, places_found};
 ghost use Rattle.solve_methods.specs.Goal.{TellsRight};
-ghost use Rattle.solve_methods.specs.Run.{HaveRun};
+ghost use Rattle.protocol_steps.specs.Outcomes.{HaveRun};
 ghost use Rattle.solve_methods.specs.Tree.{row_with, rows_with, rows_of, token_deliveries, AnswersTree};
 
 use dcop_base::{NoMemory, Problem, VarId, VarList, problem_is_whole};

@@ -1,1 +1,2 @@
 mod TreeLaws
+mod SummaryLaws

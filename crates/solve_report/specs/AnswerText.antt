@@ -5,10 +5,11 @@ use Rattle.problem_text.specs.Canonical.{line, canonical}
 use Rattle.certificate_text.specs.Named.{CanTell}
 use Rattle.certificate_text.specs.ReportText.{report_text}
 use Rattle.solve_report.specs.Refusal.{words_refusal, text_refusal, report_refusal, many_refusal, wide_refusal, total_refusal, read_refusal, not_yet_refusal}
+use Rattle.solve_report.specs.Summary.{summary_text}
 use Rattle.solve_report.specs.Tree.{IsNamedRow, tree_text}
 use Rattle.solve_report.specs.Verdict.{IsNamedVerdict, verdict_text}
 use Rattle.solve_report.specs.declared.answer.Answer.{Answer}
-use Rattle.solve_report.specs.declared.answer.Answer.TheVariants.{Report, Tree, Verdict, Upgraded, Words, ProblemText, ReportText, Many, WideAgent, WideTotal, Read, NotYet}
+use Rattle.solve_report.specs.declared.answer.Answer.TheVariants.{Report, Tree, Verdict, Drill, Upgraded, Words, ProblemText, ReportText, Many, WideAgent, WideTotal, Read, NotYet}
 
 -- an answer that has a text: the file beside a report can tell it, and each variable of a tree has its name, as has an agent whose table is too wide, or of which a verdict speaks
 abbrev pub HasText : Answer → Type 0
@@ -23,6 +24,7 @@ abbrev pub answer_text : Answer → List ℕ
 answer_text (Report report file) = report_text report file
 answer_text (Tree deliveries nodes names) = tree_text deliveries nodes names
 answer_text (Verdict verdict names) = verdict_text names verdict
+answer_text (Drill summary) = summary_text summary
 answer_text (Upgraded file) = canonical file
 answer_text (Words at kind) = line (words_refusal at kind)
 answer_text (ProblemText at kind problem) = line (text_refusal at kind problem)

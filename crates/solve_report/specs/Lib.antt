@@ -1,4 +1,5 @@
 pub mod Refusal
 pub mod Tree
 pub mod Verdict
+pub mod Summary
 pub mod AnswerText

@@ -2,6 +2,7 @@
 use Rattle.std.specs.Prelude.{ℕ, List, [], ◌∷◌, codes, ◌==◌, if◌then◌else◌}
 use Rattle.std.specs.Fmt.{decimal}
 use Rattle.dcop_base.specs.Limits.{assignment_limit, joined_limit, sent_limit}
+use Rattle.problem_text.specs.Kinds.{problem_kind}
 
 -- `refused words at A kind K`
 abbrev pub words_refusal : ℕ → ℕ → List (List ℕ)
@@ -9,7 +10,7 @@ words_refusal at kind = codes "refused" ∷ codes "words" ∷ codes "at" ∷ dec
 
 -- `problem P` behind kind 7, nothing behind another kind
 abbrev pub problem_words : ℕ → ℕ → List (List ℕ)
-problem_words kind problem = if kind == 7 then codes "problem" ∷ decimal problem ∷ [] else []
+problem_words kind problem = if kind == problem_kind then codes "problem" ∷ decimal problem ∷ [] else []
 
 -- `refused text line L kind K`, and `problem P` behind kind 7
 abbrev pub text_refusal : ℕ → ℕ → ℕ → List (List ℕ)

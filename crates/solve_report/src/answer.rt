@@ -7,6 +7,7 @@ use crate::refusal::{
     refuse_many, refuse_not_yet, refuse_read, refuse_report, refuse_text, refuse_total,
     refuse_wide, refuse_words,
 };
+use crate::summary::{Summary, write_summary};
 use crate::tree::{NodeRowList, write_tree};
 use crate::verdict::write_verdict;
 use certificate_text::{Report, Verdict, write_report};
@@ -33,6 +34,10 @@ pub enum Answer {
     Verdict {
         verdict: Verdict,
         names: Names,
+    },
+    /// What came of solving a problem that was made from a number.
+    Drill {
+        summary: Summary,
     },
     /// A file, told by its canonical text; `upgrade` gives it version 2.
     Upgraded {
@@ -81,7 +86,8 @@ pub enum Answer {
 
 /// The exact text of an answer.
 ///
-/// It is the text of the report, of the tree, of the verdict or of the file, or the one line of a refusal.
+/// It is the text of the report, of the tree, of the verdict, of the summary or of the file, or the
+/// one line of a refusal.
 pub fn text_of(alloc: Global, answer: &Answer) -> Result<Bytes, NoMemory>
     requires { HasText answer.now }
     ensures { IfOk result (λ text. text ≡ answer_text answer.now) }
@@ -94,6 +100,7 @@ pub fn text_of(alloc: Global, answer: &Answer) -> Result<Bytes, NoMemory>
             names,
         } => write_tree(alloc, *deliveries, nodes.as_slice(), names),
         Answer::Verdict { verdict, names } => write_verdict(alloc, verdict, names),
+        Answer::Drill { summary } => write_summary(alloc, summary),
         Answer::Upgraded { file } => write_problem(alloc, file),
         Answer::Words { at, kind } => refuse_words(alloc, *at, *kind),
         Answer::ProblemText {

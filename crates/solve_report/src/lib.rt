@@ -6,8 +6,10 @@
 
 mod answer;
 mod refusal;
+mod summary;
 mod tree;
 mod verdict;
 
 pub use answer::{Answer, text_of};
+pub use summary::Summary;
 pub use tree::{NodeRow, NodeRowList};

@@ -131,7 +131,7 @@ fn write_number(text: &mut String, word: &str, left: u64, right: u64) -> Result<
 }
 
 /// The word that tells an ending.
-fn word_of(ending: Ending) -> &'static str
+pub(crate) fn word_of(ending: Ending) -> &'static str
     ensures { result.now ≡ ending_word ending }
 {
     match ending {

@@ -1,5 +1,5 @@
 -- Which answer belongs to which words and input, case by case; and what its status says of the source.
-use Rattle.std.proofs.Common.{take, drop, ◌≡◌, ◌≢◌, ℕ, ◌<◌, Bool, List, Option, Some, None, Result, Ok, Err, IfOk, sym, ap, subst, arith, refl, ◌∙◌}
+use Rattle.std.proofs.Common.{take, drop, ◌≡◌, ◌≢◌, ℕ, ◌<◌, Bool, false, List, Option, Some, None, Result, Ok, Err, IfOk, sym, ap, subst, arith, refl, ◌∙◌}
 use Rattle.dcop_edge.specs.Faults.{Rose}
 use Rattle.dcop_base.specs.Whole.{IsProblem}
 use Rattle.pseudotree.specs.declared.width.Wide.{Wide}
@@ -28,14 +28,18 @@ use Rattle.solve_top.specs.declared.task.Task.{Task}
 use Rattle.solve_top.specs.declared.task.Task.TheVariants.{File, Check}
 use Rattle.solve_top.specs.declared.task.FileTask.{FileTask}
 use Rattle.solve_top.specs.declared.task.FileTask.TheVariants as tasks
-use Rattle.solve_top.specs.Answering.{lines_in, IsFileAnswer, IsTextAnswer, IsReportAnswer, IsTaskAnswer, IsInputAnswer, IsServedAnswer, IsCommandAnswer, IsAnswer}
+use Rattle.solve_top.specs.Answering.{lines_in, IsFileAnswer, IsTextAnswer, IsReportAnswer, IsTaskAnswer, IsInputAnswer, IsDrillAnswer, IsUnreadAnswer, IsServedAnswer, IsCommandAnswer, IsAnswer}
 use Rattle.solve_methods.specs.Adopt.{IsAdoptAnswer}
+use Rattle.solve_methods.specs.Auto.{IsAutoBy, IsAutoAnswer}
+use Rattle.solve_methods.specs.Drill.{drilled}
 use Rattle.solve_methods.specs.Dpop.{wide_in, wide_answer, IsDpopSolved, IsAnswerBy, IsDpopAnswer}
-use Rattle.problem_solved.specs.Goal.{solved}
+use Rattle.problem_solved.specs.Goal.{solved, problem_solved}
 use Rattle.solve_methods.specs.Goal.{TellsRight}
 use Rattle.solve_top.specs.Input.{Input, Unread, Broken, TooLong, Whole, SourceState, IsAllOf, HadMore, IsReadFrom}
 use Rattle.solve_top.specs.Served.{task_of}
-use Rattle.solve_top.specs.Solving.{Answered, HasFitTree, IsWithinLimits, IsTextFor, Accepts, GoesWell}
+use Rattle.solve_top.specs.Drilling.{drill_of, made_for}
+use Rattle.solve_top.specs.declared.drilling.Drill.{Drill}
+use Rattle.solve_top.specs.Solving.{Answered, HasFitTree, IsWithinLimits, IsTextFor, Accepts, AsksDrill, GoesWell}
 use Rattle.solve_top.specs.Statuses.{status_of, status_of_ending, status_of_verdict}
 use Rattle.solve_methods.specs.Tree.{IsTreeAnswer}
 use Rattle.solve_top.specs.Whole.{whole_read}
@@ -44,16 +48,16 @@ use Rattle.solve_top.proofs.SameLaws.{one_file, report_in}
 use Rattle.solve_top.proofs.PrintedLaws.{printed_solved}
 
 -- the answer of a task, where words ask for it
-IsAnswer-task : (words : List (List ℕ)) (command : Command) (task : Task) (input : Input) (answer : Answer)
+pub IsAnswer-task : (words : List (List ℕ)) (command : Command) (task : Task) (input : Input) (answer : Answer)
     → answer_to words ≡ Ok command → task_of command ≡ Some task → IsInputAnswer task input answer → IsAnswer words input answer
 IsAnswer-task words command task input answer asked served is =
     subst (λ (r : Result Command WordFault). IsCommandAnswer r input answer) (sym asked)
-    (subst (λ (t : Option Task). IsServedAnswer t input answer) (sym served) is)
+    (subst (λ (t : Option Task). IsServedAnswer command t input answer) (sym served) is)
 
 pub task-IsAnswer : (words : List (List ℕ)) (command : Command) (task : Task) (input : Input) (answer : Answer)
     → answer_to words ≡ Ok command → task_of command ≡ Some task → IsAnswer words input answer → IsInputAnswer task input answer
 task-IsAnswer words command task input answer asked served is =
-    subst (λ (t : Option Task). IsServedAnswer t input answer) served
+    subst (λ (t : Option Task). IsServedAnswer command t input answer) served
     (subst (λ (r : Result Command WordFault). IsCommandAnswer r input answer) asked is)
 
 pub Answered-task : (words : List (List ℕ)) (command : Command) (task : Task) (before after : SourceState) (input : Input) (answer : Answer)
@@ -74,6 +78,20 @@ Answered-text words command task before after bytes slice (Ok answer) asked serv
     Answered-task words command task before after (Whole bytes) answer asked served read (subst (λ (t : List ℕ). IsTaskAnswer task t answer) same is) right
 Answered-text words command task before after bytes slice (Err none) asked served read same is right = tt
 
+-- the answer where nothing is read, unless memory was wanted
+pub Answered-unread : (words : List (List ℕ)) (command : Command) (before after : SourceState) (result : Result Answer NoMemory)
+    → answer_to words ≡ Ok command → task_of command ≡ None → after ≡ before → IfOk result (IsUnreadAnswer (drill_of command)) → IfOk result TellsRight
+    → IfOk result (Answered words before after)
+Answered-unread words command before after (Ok answer) asked unread same is right = record {
+  input = Unread;
+  read = same;
+  belongs =
+      subst (λ (r : Result Command WordFault). IsCommandAnswer r Unread answer) (sym asked)
+      (subst (λ (t : Option Task). IsServedAnswer command t Unread answer) (sym unread) (refl, is));
+  right = right;
+}
+Answered-unread words command before after (Err none) asked unread same is right = tt
+
 -- the status of a report is no fault
 ending-told : (ending : Ending) → (status_of_ending ending ≢ WriteFault) × (status_of_ending ending ≢ no_memory) × (status_of_ending ending ≢ ReadFault)
 ending-told endings.Solved = (λ e. cc, λ e. cc, λ e. cc)
@@ -89,6 +107,7 @@ pub told-status : (answer : Answer) → (status_of answer ≢ WriteFault) × (st
 told-status (answers.Report report file) = let told = ending-told report.status in (told.0, told.1)
 told-status (answers.Verdict verdict names) = let told = verdict-told verdict in (told.0, told.1)
 told-status (answers.Tree deliveries nodes names) = (λ e. cc, λ e. cc)
+told-status (answers.Drill summary) = let told = ending-told summary.status in (told.0, told.1)
 told-status (answers.Upgraded file) = (λ e. cc, λ e. cc)
 told-status (answers.Words at kind) = (λ e. cc, λ e. cc)
 told-status (answers.ProblemText line kind problem) = (λ e. cc, λ e. cc)
@@ -102,6 +121,7 @@ told-status answers.NotYet = (λ e. cc, λ e. cc)
 -- one answer alone has the status of a source that failed
 read-alone : (answer : Answer) → status_of answer ≡ ReadFault → answer ≡ answers.Read
 read-alone (answers.Report report file) e = absurd ((ending-told report.status).2 e)
+read-alone (answers.Drill summary) e = absurd ((ending-told summary.status).2 e)
 read-alone (answers.Verdict verdict names) e = absurd ((verdict-told verdict).2 e)
 read-alone answers.Read e = refl
 read-alone (answers.Tree deliveries nodes names) e = cc
@@ -119,6 +139,7 @@ tree-solved : (file : TextFile) (answer : Answer) → IsTreeAnswer file answer �
 tree-solved file (answers.Tree deliveries nodes names) is = refl
 tree-solved file (answers.Report report same) is = absurd is
 tree-solved file (answers.Verdict verdict names) is = absurd is
+tree-solved file (answers.Drill summary) is = absurd is
 tree-solved file (answers.Upgraded same) is = absurd is
 tree-solved file (answers.Words at kind) is = absurd is
 tree-solved file (answers.ProblemText line kind problem) is = absurd is
@@ -147,10 +168,26 @@ dpop-sound file certified None is = is
 dpop-sound file certified (Some wide) is = let s = ap status_of is in let t = wide-status file.names wide in cc
 
 -- nothing is too wide in the tree of a file, where that is so of one that declares the same
-fit-none : (d : Declared) → HasFitTree d → (file : TextFile) → IsProblem file.problem → declared_by file ≡ d → wide_in (solved file.goal file.problem) ≡ None
+pub fit-none : (d : Declared) → HasFitTree d → (file : TextFile) → IsProblem file.problem → declared_by file ≡ d → wide_in (solved file.goal file.problem) ≡ None
 fit-none d fit file whole declared =
     subst (λ (f : TextFile). wide_in (solved f.goal f.problem) ≡ None) (one_file fit.file file fit.whole whole (fit.declared ∙ sym declared))
     fit.fits
+
+-- an answer of ADOPT has the status of a report
+adopt-status : (file : TextFile) (error budget : ℕ) (answer : Answer) → IsAdoptAnswer file error budget answer → (ending : Ending) × (status_of answer ≡ status_of_ending ending)
+adopt-status file error budget (answers.Report report same) is = (report.status, refl)
+adopt-status file error budget (answers.Tree deliveries nodes names) is = absurd is
+adopt-status file error budget (answers.Verdict verdict names) is = absurd is
+adopt-status file error budget (answers.Drill summary) is = absurd is
+adopt-status file error budget (answers.Upgraded same) is = absurd is
+adopt-status file error budget (answers.Words at kind) is = absurd is
+adopt-status file error budget (answers.ProblemText line kind problem) is = absurd is
+adopt-status file error budget (answers.ReportText line kind) is = absurd is
+adopt-status file error budget (answers.Many n) is = absurd is
+adopt-status file error budget (answers.WideAgent var cells names) is = absurd is
+adopt-status file error budget (answers.WideTotal cells) is = absurd is
+adopt-status file error budget answers.Read is = absurd is
+adopt-status file error budget answers.NotYet is = absurd is
 
 -- a report of ADOPT goes well
 ending-well : (error budget : ℕ) (ending : Ending) → GoesWell (status_of_ending ending) (File (tasks.Adopt error budget))
@@ -158,24 +195,31 @@ ending-well error budget endings.Solved = tt
 ending-well error budget endings.Spent = tt
 
 adopt-well : (file : TextFile) (error budget : ℕ) (answer : Answer) → IsAdoptAnswer file error budget answer → GoesWell (status_of answer) (File (tasks.Adopt error budget))
-adopt-well file error budget (answers.Report report same) is = ending-well error budget report.status
-adopt-well file error budget (answers.Tree deliveries nodes names) is = absurd is
-adopt-well file error budget (answers.Verdict verdict names) is = absurd is
-adopt-well file error budget (answers.Upgraded same) is = absurd is
-adopt-well file error budget (answers.Words at kind) is = absurd is
-adopt-well file error budget (answers.ProblemText line kind problem) is = absurd is
-adopt-well file error budget (answers.ReportText line kind) is = absurd is
-adopt-well file error budget (answers.Many n) is = absurd is
-adopt-well file error budget (answers.WideAgent var cells names) is = absurd is
-adopt-well file error budget (answers.WideTotal cells) is = absurd is
-adopt-well file error budget answers.Read is = absurd is
-adopt-well file error budget answers.NotYet is = absurd is
+adopt-well file error budget answer is =
+    let told = adopt-status file error budget answer is in
+    subst (λ (s : Status). GoesWell s (File (tasks.Adopt error budget))) (sym told.1) (ending-well error budget told.0)
+
+-- so does one of auto
+auto-ending : (error budget : ℕ) (ending : Ending) → GoesWell (status_of_ending ending) (File (tasks.Auto error budget))
+auto-ending error budget endings.Solved = tt
+auto-ending error budget endings.Spent = tt
+
+auto-status : (file : TextFile) (error budget : ℕ) (wide : Option Wide) (answer : Answer) → IsAutoBy file error budget wide answer → (ending : Ending) × (status_of answer ≡ status_of_ending ending)
+auto-status file error budget None answer is = (endings.Solved, report-solved file false answer is)
+auto-status file error budget (Some wide) answer is = adopt-status file error budget answer is
+
+auto-well : (file : TextFile) (error budget : ℕ) (answer : Answer) → IsAutoAnswer file error budget answer → GoesWell (status_of answer) (File (tasks.Auto error budget))
+auto-well file error budget answer is =
+    let told = auto-status file error budget (wide_in (problem_solved file)) answer is in
+    subst (λ (s : Status). GoesWell s (File (tasks.Auto error budget))) (sym told.1) (auto-ending error budget told.0)
 
 -- an answer to what a text declares is no failed reading
 file-sound : (task : FileTask) (d : Declared) → ¬ IsFileAnswer task d answers.Read
 file-sound tasks.Plain d is = is
 file-sound (tasks.Dpop certified) d is = dpop-sound is.file certified (wide_in (solved is.file.goal is.file.problem)) is.is
 file-sound (tasks.Adopt error budget) d is = is.is
+file-sound (tasks.Auto error budget) d is =
+    let told = auto-status is.file error budget (wide_in (problem_solved is.file)) answers.Read is.is in (ending-told told.0).2 (sym told.1)
 file-sound tasks.Tree d is = is.is
 file-sound tasks.Upgrade d is = is
 
@@ -203,22 +247,45 @@ input-sound task Broken answer is fault = refl
 input-sound task TooLong answer is fault = let s = ap status_of is in cc
 input-sound task (Whole bytes) answer is fault = absurd (task-sound task bytes (subst (IsTaskAnswer task bytes) (read-alone answer fault) is))
 
-served-sound : (task : Option Task) (input : Input) (answer : Answer) → IsServedAnswer task input answer → status_of answer ≡ ReadFault → input ≡ Broken
-served-sound (Some task) input answer is fault = input-sound task input answer is fault
-served-sound None input answer is fault = let s = ap status_of is.1 in cc
+-- what a drill tells has the status of the answer on the file that was made
+pub drilled-status : (seed : ℕ) (solved : Answer) → status_of (drilled seed solved) ≡ status_of solved
+drilled-status seed (answers.Report report file) = refl
+drilled-status seed (answers.Tree deliveries nodes names) = refl
+drilled-status seed (answers.Verdict verdict names) = refl
+drilled-status seed (answers.Drill summary) = refl
+drilled-status seed (answers.Upgraded file) = refl
+drilled-status seed (answers.Words at kind) = refl
+drilled-status seed (answers.ProblemText line kind problem) = refl
+drilled-status seed (answers.ReportText line kind) = refl
+drilled-status seed (answers.Many n) = refl
+drilled-status seed (answers.WideAgent var cells names) = refl
+drilled-status seed (answers.WideTotal cells) = refl
+drilled-status seed answers.Read = refl
+drilled-status seed answers.NotYet = refl
+
+-- nothing was read for such an answer, so no reading failed
+unread-sound : (drill : Option Drill) (answer : Answer) → IsUnreadAnswer drill answer → status_of answer ≡ ReadFault → ⊥
+unread-sound (Some drill) answer is fault =
+    let solved : status_of is.solved ≡ ReadFault = sym (drilled-status drill.seed is.solved) ∙ sym (ap status_of is.told) ∙ fault in
+    file-sound drill.task (declared_by (made_for drill)) (subst (λ (a : Answer). IsFileAnswer drill.task (declared_by (made_for drill)) a) (read-alone is.solved solved) is.is)
+unread-sound None answer is fault = let s = ap status_of is in cc
+
+served-sound : (command : Command) (task : Option Task) (input : Input) (answer : Answer) → IsServedAnswer command task input answer → status_of answer ≡ ReadFault → input ≡ Broken
+served-sound command (Some task) input answer is fault = input-sound task input answer is fault
+served-sound command None input answer is fault = absurd (unread-sound (drill_of command) answer is.1 fault)
 
 command-sound : (asked : Result Command WordFault) (input : Input) (answer : Answer) → IsCommandAnswer asked input answer → status_of answer ≡ ReadFault → input ≡ Broken
-command-sound (Ok command) input answer is fault = served-sound (task_of command) input answer is fault
+command-sound (Ok command) input answer is fault = served-sound command (task_of command) input answer is fault
 command-sound (Err (words.Bad at kind)) input answer is fault = let s = ap status_of is.1 in cc
 command-sound (Err words.NoMemory) input answer is fault = absurd is
 
 -- a broken input is answered by a failed reading
-served-broken : (task : Option Task) (answer : Answer) → IsServedAnswer task Broken answer → status_of answer ≡ ReadFault
-served-broken (Some task) answer is = ap status_of is
-served-broken None answer is = cc is.0
+served-broken : (command : Command) (task : Option Task) (answer : Answer) → IsServedAnswer command task Broken answer → status_of answer ≡ ReadFault
+served-broken command (Some task) answer is = ap status_of is
+served-broken command None answer is = cc is.0
 
 command-broken : (asked : Result Command WordFault) (answer : Answer) → IsCommandAnswer asked Broken answer → status_of answer ≡ ReadFault
-command-broken (Ok command) answer is = served-broken (task_of command) answer is
+command-broken (Ok command) answer is = served-broken command (task_of command) answer is
 command-broken (Err (words.Bad at kind)) answer is = cc is.0
 command-broken (Err words.NoMemory) answer is = absurd is
 
@@ -250,6 +317,7 @@ file-well tasks.Plain d (answers.Report report file) few is = solved-well (statu
 file-well tasks.Plain d (answers.Many n) few is = absurd (omega (arith, few, is.0))
 file-well tasks.Plain d (answers.Tree deliveries nodes names) few is = absurd is
 file-well tasks.Plain d (answers.Verdict verdict names) few is = absurd is
+file-well tasks.Plain d (answers.Drill summary) few is = absurd is
 file-well tasks.Plain d (answers.Upgraded file) few is = absurd is
 file-well tasks.Plain d (answers.Words at kind) few is = absurd is
 file-well tasks.Plain d (answers.ProblemText line kind problem) few is = absurd is
@@ -261,8 +329,10 @@ file-well tasks.Plain d answers.NotYet few is = absurd is
 file-well (tasks.Dpop certified) d answer few is =
     solved-well (status_of answer) (File (tasks.Dpop certified)) (dpop-solved is.file certified answer (fit-none d few is.file is.whole is.declared) is.is)
 file-well (tasks.Adopt error budget) d answer few is = adopt-well is.file error budget answer is.is
+file-well (tasks.Auto error budget) d answer few is = auto-well is.file error budget answer is.is
 file-well tasks.Tree d answer few is = solved-well (status_of answer) (File tasks.Tree) (tree-solved is.file answer is.is)
 file-well tasks.Upgrade d (answers.Upgraded file) few is = tt
+file-well tasks.Upgrade d (answers.Drill summary) few is = absurd is
 file-well tasks.Upgrade d (answers.Report report file) few is = absurd is
 file-well tasks.Upgrade d (answers.Tree deliveries nodes names) few is = absurd is
 file-well tasks.Upgrade d (answers.Verdict verdict names) few is = absurd is
@@ -297,3 +367,18 @@ pub well-answered : (words : List (List ℕ)) (text : List ℕ) (before after : 
 well-answered words text before after answer done told accepts steady =
     input-well text words accepts before after done.input answer told steady done.read
     (task-IsAnswer words accepts.command accepts.task done.input answer accepts.asked accepts.served done.belongs)
+
+-- the answer where words ask for a drill
+drill-IsAnswer : (words : List (List ℕ)) (asks : AsksDrill words) (input : Input) (answer : Answer) → IsAnswer words input answer → IsDrillAnswer asks.drill answer
+drill-IsAnswer words asks input answer is =
+    subst (λ (d : Option Drill). IsUnreadAnswer d answer) asks.served
+    (subst (λ (t : Option Task). IsServedAnswer asks.command t input answer) asks.unread
+    (subst (λ (r : Result Command WordFault). IsCommandAnswer r input answer) asks.asked is)).1
+
+-- a drill goes well
+pub drill-well : (words : List (List ℕ)) (before after : SourceState) (answer : Answer) → Answered words before after answer → (asks : AsksDrill words)
+    → GoesWell (status_of answer) (File asks.drill.task)
+drill-well words before after answer done asks =
+    let is = drill-IsAnswer words asks done.input answer done.belongs in
+    let same : status_of answer ≡ status_of is.solved = ap status_of is.told ∙ drilled-status asks.drill.seed is.solved in
+    subst (λ (s : Status). GoesWell s (File asks.drill.task)) (sym same) (file-well asks.drill.task (declared_by (made_for asks.drill)) is.solved asks.within is.is)

@@ -8,3 +8,4 @@ mod AnswerLaws
 mod OneLaws
 mod NodeLaws
 mod ShowLaws
+mod CrewLaws

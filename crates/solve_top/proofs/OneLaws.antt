@@ -1,17 +1,22 @@
--- Of inputs that are read alike DPOP has one answer.
-use Rattle.std.proofs.Common.{◌≡◌, Bool, Result, Ok, Err, sym, subst, ◌∙◌}
+-- Of inputs that are read alike DPOP has one answer, and auto has it too where DPOP fits.
+use Rattle.std.proofs.Common.{◌≡◌, ℕ, Bool, false, Option, None, Result, Ok, Err, sym, subst, ◌∙◌}
 use Rattle.dcop_optimum.specs.TreeOptimum.{FirstOptimaOfTreesAreOne}
 use Rattle.pseudotree.specs.DepthFirst.{DepthFirstTreesAreLinked}
+use Rattle.pseudotree.specs.declared.width.Wide.{Wide}
 use Rattle.problem_text.specs.Declarations.{Declared}
 use Rattle.problem_text.specs.Reading.{Fault}
+use Rattle.problem_solved.specs.Goal.{problem_solved}
+use Rattle.solve_methods.specs.Auto.{AnswersAuto, IsAutoBy}
+use Rattle.solve_methods.specs.Dpop.{wide_in, AnswersDpop, IsAnswerBy}
 use Rattle.solve_report.specs.declared.answer.Answer.{Answer}
 use Rattle.solve_top.specs.declared.task.Task.TheVariants.{File}
 use Rattle.solve_top.specs.declared.task.FileTask.TheVariants as tasks
 use Rattle.solve_top.specs.Answering.{IsTextAnswer, IsInputAnswer}
 use Rattle.solve_top.specs.Input.{Input, Unread, Broken, TooLong, Whole}
-use Rattle.solve_top.specs.Same.{AreReadAlike, DpopAnswersAreOne}
+use Rattle.solve_top.specs.Same.{AreReadAlike, AutoAnswersAreThoseOfDpop, DpopAnswersAreOne, HasFitProblem}
+use Rattle.solve_top.specs.Solving.{HasFitTree}
 use Rattle.solve_top.specs.Whole.{whole_read}
-use Rattle.solve_top.proofs.AnswerLaws.{task-IsAnswer}
+use Rattle.solve_top.proofs.AnswerLaws.{fit-none, IsAnswer-task, task-IsAnswer}
 use Rattle.solve_top.proofs.SameLaws.{one_answer}
 
 module _ (optima : FirstOptimaOfTreesAreOne) (trees : DepthFirstTreesAreLinked) (certified : Bool) where
@@ -43,3 +48,29 @@ dpop_answers_one optima trees certified words words' input input' a b asks asks'
     one_of_input optima trees certified input input' a b alike
     (task-IsAnswer words asks.command (File (tasks.Dpop certified)) input a asks.asked asks.served of_a)
     (task-IsAnswer words' asks'.command (File (tasks.Dpop certified)) input' b asks'.asked asks'.served of_b)
+
+-- an answer of auto is one of DPOP where nothing is too wide
+fit-dpop : (d : Declared) (error budget : ℕ) (answer : Answer) → HasFitTree d → AnswersAuto d error budget answer → AnswersDpop d false answer
+fit-dpop d error budget answer fit is =
+    let none : wide_in (problem_solved is.file) ≡ None = fit-none d fit is.file is.whole is.declared in record {
+      file = is.file;
+      whole = is.whole;
+      declared = is.declared;
+      is =
+          subst (λ (wide : Option Wide). IsAnswerBy is.file false wide answer) (sym none)
+          (subst (λ (wide : Option Wide). IsAutoBy is.file error budget wide answer) none is.is);
+    }
+
+auto_of_input : (error budget : ℕ) (input : Input) (answer : Answer) → HasFitProblem input → IsInputAnswer (File (tasks.Auto error budget)) input answer → IsInputAnswer (File (tasks.Dpop false)) input answer
+auto_of_input error budget Unread answer fit is = absurd fit
+auto_of_input error budget Broken answer fit is = absurd fit
+auto_of_input error budget TooLong answer fit is = absurd fit
+auto_of_input error budget (Whole bytes) answer fit is =
+    subst (λ (read : Result Declared Fault). IsTextAnswer (tasks.Dpop false) read answer) (sym fit.1)
+    (fit-dpop fit.0 error budget answer fit.2 (subst (λ (read : Result Declared Fault). IsTextAnswer (tasks.Auto error budget) read answer) fit.1 is))
+
+pub auto_answers_dpop : AutoAnswersAreThoseOfDpop
+auto_answers_dpop words words' input answer asks asks' fit is =
+    IsAnswer-task words' asks'.command (File (tasks.Dpop false)) input answer asks'.asked asks'.served
+    (auto_of_input asks.error asks.budget input answer fit
+    (task-IsAnswer words asks.command (File (tasks.Auto asks.error asks.budget)) input answer asks.asked asks.served is))

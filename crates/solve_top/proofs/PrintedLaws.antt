@@ -94,6 +94,7 @@ read_solved : (file : TextFile) (before : ℕ) (report : Report) (answer : Answe
 read_solved file before report (answers.Verdict verdict names) is certified = verdict_yes file report report.certificate verdict certified is.2
 read_solved file before report (answers.Report other same) is certified = absurd is
 read_solved file before report (answers.Tree deliveries nodes names) is certified = absurd is
+read_solved file before report (answers.Drill summary) is certified = absurd is
 read_solved file before report (answers.Upgraded same) is certified = absurd is
 read_solved file before report (answers.Words at kind) is certified = absurd is
 read_solved file before report (answers.ProblemText line kind problem) is certified = absurd is

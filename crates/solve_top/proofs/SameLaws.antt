@@ -42,6 +42,7 @@ report_in file certified (answers.Many n) is = absurd is
 report_in file certified (answers.WideAgent var cells names) is = absurd is
 report_in file certified (answers.WideTotal cells) is = absurd is
 report_in file certified (answers.Verdict verdict names) is = absurd is
+report_in file certified (answers.Drill summary) is = absurd is
 report_in file certified (answers.Upgraded same) is = absurd is
 report_in file certified (answers.ReportText line kind) is = absurd is
 report_in file certified (answers.Words at kind) is = absurd is

@@ -4,10 +4,11 @@ use Rattle.dcop_edge.specs.Faults.{Rose}
 use Rattle.solve_report.specs.declared.answer.Answer.{Answer}
 use Rattle.solve_top.specs.declared.status.Status.{Status}
 use Rattle.solve_top.specs.declared.status.Status.TheVariants.{ReadFault, WriteFault, NoMemory}
+use Rattle.solve_top.specs.declared.task.Task.TheVariants.{File}
 use Rattle.solve_top.specs.Input.{SourceState}
 use Rattle.solve_top.specs.Output.{SinkState}
-use Rattle.solve_top.specs.Solving.{GoesWell, Answered, Accepts, Shows, Solves}
-use Rattle.solve_top.proofs.AnswerLaws.{Rose-answered, ReadFault-answered, well-answered, told-status}
+use Rattle.solve_top.specs.Solving.{GoesWell, Answered, Accepts, AsksDrill, Shows, Solves}
+use Rattle.solve_top.proofs.AnswerLaws.{Rose-answered, ReadFault-answered, well-answered, drill-well, told-status}
 
 pub solved-so : (words : List (List ℕ)) (source source' : SourceState) (answer : Answer) → Answered words source source' answer
     → (sink sink' : SinkState) (faults faults' : ℕ) (status : Status) → Shows answer sink sink' faults faults' status → status ≢ NoMemory
@@ -46,3 +47,12 @@ complete-so words source source' answer answered sink sink' faults faults' statu
 complete-so words source source' answer answered sink sink' faults faults' status (inr (inl shown)) text told accepts steady quiet =
     subst (λ (s : Status). GoesWell s accepts.task) (sym shown.0.same) (well-answered words text source source' answer answered told accepts steady)
 complete-so words source source' answer answered sink sink' faults faults' status (inr (inr cut)) text told accepts steady quiet = absurd (quiet cut.1)
+
+pub drill-so : (words : List (List ℕ)) (source source' : SourceState) (answer : Answer) → Answered words source source' answer
+    → (sink sink' : SinkState) (faults faults' : ℕ) (status : Status) → Shows answer sink sink' faults faults' status
+    → (asks : AsksDrill words) → ¬ Rose faults faults' → GoesWell status (File asks.drill.task)
+drill-so words source source' answer answered sink sink' faults faults' status (inl none) asks quiet =
+    subst (λ (s : Status). GoesWell s (File asks.drill.task)) (sym none.0) tt
+drill-so words source source' answer answered sink sink' faults faults' status (inr (inl shown)) asks quiet =
+    subst (λ (s : Status). GoesWell s (File asks.drill.task)) (sym shown.0.same) (drill-well words source source' answer answered asks)
+drill-so words source source' answer answered sink sink' faults faults' status (inr (inr cut)) asks quiet = absurd (quiet cut.1)

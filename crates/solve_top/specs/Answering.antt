@@ -17,12 +17,16 @@ use Rattle.solve_top.specs.declared.task.Task.TheVariants.{File, Check}
 use Rattle.solve_top.specs.declared.task.FileTask.{FileTask}
 use Rattle.solve_top.specs.declared.task.FileTask.TheVariants as tasks
 use Rattle.solve_methods.specs.Adopt.{AnswersAdopt}
+use Rattle.solve_methods.specs.Auto.{AnswersAuto}
+use Rattle.solve_methods.specs.Drill.{drilled}
 use Rattle.solve_methods.specs.Dpop.{AnswersDpop}
 use Rattle.solve_top.specs.Input.{Input, Unread, Broken, TooLong, Whole}
 use Rattle.problem_text.specs.Kinds.{number_of_text, number_of_problem}
 use Rattle.solve_words.specs.Kinds.{number_of_words}
 use Rattle.solve_methods.specs.Plain.{IsPlainReport, HasFirstOptimum, IsTooMany}
 use Rattle.solve_top.specs.Served.{task_of}
+use Rattle.solve_top.specs.Drilling.{drill_of, made_for}
+use Rattle.solve_top.specs.declared.drilling.Drill.{Drill}
 use Rattle.solve_methods.specs.Tree.{AnswersTree}
 use Rattle.solve_check.specs.Checking.{AnswersCheck}
 use Rattle.solve_top.specs.Whole.{whole_read}
@@ -34,6 +38,7 @@ IsFileAnswer tasks.Plain d (answers.Report report file) =
 IsFileAnswer tasks.Plain d (answers.Many assignments) = IsTooMany (product d.sizes) assignments
 IsFileAnswer (tasks.Dpop certified) d answer = AnswersDpop d certified answer
 IsFileAnswer (tasks.Adopt error budget) d answer = AnswersAdopt d error budget answer
+IsFileAnswer (tasks.Auto error budget) d answer = AnswersAuto d error budget answer
 IsFileAnswer tasks.Tree d answer = AnswersTree d answer
 IsFileAnswer tasks.Upgrade d (answers.Upgraded file) = declared_by file ≡ record d { version = 2 }
 IsFileAnswer task d answer = ⊥
@@ -68,14 +73,25 @@ IsInputAnswer task Broken answer = answer ≡ answers.Read
 IsInputAnswer task TooLong answer = answer ≡ answers.ProblemText 0 9 0
 IsInputAnswer task (Whole bytes) answer = IsTaskAnswer task bytes answer
 
--- the answer to a command that is served, or not yet
-abbrev pub IsServedAnswer : Option Task → Input → Answer → Type 0
-IsServedAnswer (Some task) input answer = IsInputAnswer task input answer
-IsServedAnswer None input answer = (input ≡ Unread) × (answer ≡ answers.NotYet)
+-- the answer to a drill: what it tells of an answer of `solve` on the file that is made for it
+pub record IsDrillAnswer (drill : Drill) (answer : Answer) : Type 0 where
+  pub solved : Answer
+  pub is : IsFileAnswer drill.task (declared_by (made_for drill)) solved
+  pub told : answer ≡ drilled drill.seed solved
+
+-- the answer to a command for which nothing is read: a drill, or one that is not served yet
+abbrev pub IsUnreadAnswer : Option Drill → Answer → Type 0
+IsUnreadAnswer (Some drill) answer = IsDrillAnswer drill answer
+IsUnreadAnswer None answer = answer ≡ answers.NotYet
+
+-- the answer to a command, by its task on an input where it has one
+abbrev pub IsServedAnswer : Command → Option Task → Input → Answer → Type 0
+IsServedAnswer command (Some task) input answer = IsInputAnswer task input answer
+IsServedAnswer command None input answer = (input ≡ Unread) × IsUnreadAnswer (drill_of command) answer
 
 -- the answer to a command, or to words that give none
 abbrev pub IsCommandAnswer : Result Command WordFault → Input → Answer → Type 0
-IsCommandAnswer (Ok command) input answer = IsServedAnswer (task_of command) input answer
+IsCommandAnswer (Ok command) input answer = IsServedAnswer command (task_of command) input answer
 IsCommandAnswer (Err (words.Bad at kind)) input answer =
     (input ≡ Unread) × (answer ≡ answers.Words at (number_of_words kind))
 IsCommandAnswer (Err words.NoMemory) input answer = ⊥

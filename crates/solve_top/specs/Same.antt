@@ -1,5 +1,6 @@
--- The answer of DPOP is one function of what was read.
-use Rattle.std.specs.Prelude.{◌≡◌, ℕ, Bool, List, Some, Ok}
+-- The answer of DPOP is one function of what was read, and so is that of auto where DPOP fits.
+use Rattle.std.specs.Prelude.{◌≡◌, ℕ, Bool, false, List, Some, Ok}
+use Rattle.problem_text.specs.Declarations.{Declared}
 use Rattle.solve_words.specs.declared.command.Command.{Command}
 use Rattle.solve_words.specs.Command.{answer_to}
 use Rattle.solve_report.specs.declared.answer.Answer.{Answer}
@@ -8,6 +9,7 @@ use Rattle.solve_top.specs.declared.task.FileTask.TheVariants as tasks
 use Rattle.solve_top.specs.Answering.{IsAnswer}
 use Rattle.solve_top.specs.Input.{Input, Whole}
 use Rattle.solve_top.specs.Served.{task_of}
+use Rattle.solve_top.specs.Solving.{HasFitTree}
 use Rattle.solve_top.specs.Whole.{whole_read}
 
 -- words that ask for DPOP, with a certificate or without
@@ -25,3 +27,21 @@ AreReadAlike input input' = input ≡ input'
 abbrev pub DpopAnswersAreOne : Type 0
 DpopAnswersAreOne = (certified : Bool) (words words' : List (List ℕ)) (input input' : Input) (a b : Answer) → AskForDpop certified words → AskForDpop certified words' → AreReadAlike input input'
     → IsAnswer words input a → IsAnswer words' input' b → a ≡ b
+
+-- words that ask for auto
+pub record AskForAuto (words : List (List ℕ)) : Type 0 where
+  pub command : Command
+  pub error : ℕ
+  pub budget : ℕ
+  pub asked : answer_to words ≡ Ok command
+  pub served : task_of command ≡ Some (File (tasks.Auto error budget))
+
+-- a text was read that declares a problem in whose tree nothing is too wide for DPOP
+abbrev pub HasFitProblem : Input → Type 0
+HasFitProblem (Whole bytes) = (d : Declared) × (whole_read bytes ≡ Ok d) × HasFitTree d
+HasFitProblem input = ⊥
+
+-- an answer of auto on such an input is one of DPOP without a certificate
+abbrev pub AutoAnswersAreThoseOfDpop : Type 0
+AutoAnswersAreThoseOfDpop = (words words' : List (List ℕ)) (input : Input) (answer : Answer) → AskForAuto words → AskForDpop false words' → HasFitProblem input
+    → IsAnswer words input answer → IsAnswer words' input answer

@@ -31,6 +31,8 @@ use Rattle.solve_methods.specs.Goal.{TellsRight}
 use Rattle.solve_top.specs.Input.{Input, SourceState, IsReadFrom}
 use Rattle.solve_top.specs.Output.{SinkState, AddsPrefix}
 use Rattle.solve_top.specs.Served.{task_of}
+use Rattle.solve_top.specs.Drilling.{drill_of, made_for}
+use Rattle.solve_top.specs.declared.drilling.Drill.{Drill}
 use Rattle.solve_top.specs.Statuses.{status_of}
 use Rattle.solve_top.specs.Whole.{whole_read}
 
@@ -77,6 +79,7 @@ abbrev pub IsWithinLimits : FileTask → Declared → Type 0
 IsWithinLimits tasks.Plain d = product d.sizes ≤ assignment_limit
 IsWithinLimits (tasks.Dpop certified) d = HasFitTree d
 IsWithinLimits (tasks.Adopt error budget) d = Unit {0}
+IsWithinLimits (tasks.Auto error budget) d = Unit {0}
 IsWithinLimits tasks.Tree d = Unit {0}
 IsWithinLimits tasks.Upgrade d = Unit {0}
 
@@ -114,9 +117,19 @@ pub record Accepts (words : List (List ℕ)) (text : List ℕ) : Type 0 where
   pub short : length text ≤ input_limit
   pub fits : IsTextFor task text
 
--- a task that is served goes well: it is solved, or for ADOPT the budget is spent, or memory was wanted
+-- words that ask for a drill that can be served, with the problem that is made for it within the limits of its task
+pub record AsksDrill (words : List (List ℕ)) : Type 0 where
+  pub command : Command
+  pub drill : Drill
+  pub asked : answer_to words ≡ Ok command
+  pub unread : task_of command ≡ None
+  pub served : drill_of command ≡ Some drill
+  pub within : IsWithinLimits drill.task (declared_by (made_for drill))
+
+-- a task that is served goes well: it is solved, or for ADOPT, also where auto takes it, the budget is spent, or memory was wanted
 abbrev pub GoesWell : Status → Task → Type 0
 GoesWell statuses.Solved task = Unit {0}
 GoesWell statuses.NoMemory task = Unit {0}
 GoesWell statuses.Spent (File (tasks.Adopt error budget)) = Unit {0}
+GoesWell statuses.Spent (File (tasks.Auto error budget)) = Unit {0}
 GoesWell status task = ⊥

@@ -24,6 +24,7 @@ abbrev pub status_of : Answer → Status
 status_of (answers.Report report file) = status_of_ending report.status
 status_of (answers.Tree deliveries nodes names) = Solved
 status_of (answers.Verdict verdict names) = status_of_verdict verdict
+status_of (answers.Drill summary) = status_of_ending summary.status
 status_of (answers.Upgraded file) = Solved
 status_of (answers.Words at kind) = BadWords
 status_of answers.NotYet = BadWords

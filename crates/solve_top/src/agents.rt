@@ -2,52 +2,107 @@
 
 ghost use Rattle.std.specs.Prelude.{◌≡◌, ◌≤◌, IfOk};
 ghost use Rattle.dcop_base.specs.Limits.{budget_limit};
+ghost use Rattle.agent_links.specs.Ready.{IsNewCell};
 ghost use Rattle.delivery_core.specs.Agents.{IsStartFor, agents_of};
 ghost use Rattle.problem_text.specs.Steps.{declared_by};
 ghost use Rattle.solve_report.specs.AnswerText.{HasText};
 ghost use Rattle.solve_methods.specs.Found.{IsFound};
 ghost use Rattle.solve_methods.specs.Goal.{TellsRight};
-ghost use Rattle.solve_methods.specs.Run.{HaveRun};
+ghost use Rattle.protocol_steps.specs.Outcomes.{HaveRun};
 ghost use Rattle.solve_methods.specs.Tree.{AnswersTree};
+ghost use Rattle.agent_seats.specs.Kinds.{view_of};
 
-use dcop_base::{NoMemory, Problem};
-use delivery_core::{Start, play_out};
+use crate::crew::Crew;
+use agent_cells::Cell;
+use agent_links::{make_each, outcome_of};
+use agent_seats::{Agent, Seat, seats_of};
+use agent_workers::run;
+use dcop_base::{NoMemory, Problem, problem_is_whole};
+use dcop_edge::Gate;
+use delivery_core::Start;
 use problem_text::ProblemFile;
 use protocol_steps::Outcome;
 use solve_methods::{Found, search_deliveries, tree_answer, tree_found};
 use solve_report::Answer;
 use std::alloc::Global;
+use std::thread::Threads;
+use worker_runs::cells_tell_outcomes;
 
-/// What the agents of a problem come to that are run from this start, in rounds until all have
-/// ended or so many messages are delivered. This is the one place where agents are run.
-pub(crate) fn run_agents(
+/// What the agents of a problem come to that are run from this start, by workers in rounds until all
+/// have ended or so many messages are delivered. This is the one place where agents are run, and
+/// where they are boxed.
+pub(crate) fn run_agents<R: Threads + Sync, G: Gate>(
+    crew: &Crew<R, G>,
     alloc: Global,
     problem: &Problem,
-    start: Start,
+    start: &Start,
     budget: u64,
 ) -> Result<Outcome, NoMemory>
-    requires start { IsStartFor problem.now start }
+    requires start { IsStartFor problem.now start.now }
     requires budget { budget ≤ budget_limit }
-    ensures { IfOk result (HaveRun budget (agents_of problem.now start)) }
+    ensures { IfOk result (HaveRun budget (agents_of problem.now start.now)) }
 {
-    play_out(alloc, problem, start, budget)
+    cells_tell_outcomes();
+    problem_is_whole(problem);
+    let make = |seat: Seat| -> Result<Cell, NoMemory>
+        ensures { IfOk result (IsNewCell (λ b. meaning (b.vtable, b.value)) (view_of seat.agent) seat.me seat.tails.items seat.heads.items) }
+    {
+        let Seat {
+            agent,
+            me,
+            tails,
+            heads,
+        } = seat;
+        match agent {
+            Agent::Token(agent) => {
+                let Ok(machine) = Box::new(alloc, agent) else {
+                    return Err(NoMemory);
+                };
+                Cell::new(alloc, machine, me, tails, heads)
+            }
+            Agent::Dpop(agent) => {
+                let Ok(machine) = Box::new(alloc, agent) else {
+                    return Err(NoMemory);
+                };
+                Cell::new(alloc, machine, me, tails, heads)
+            }
+            Agent::Adopt(agent) => {
+                let Ok(machine) = Box::new(alloc, agent) else {
+                    return Err(NoMemory);
+                };
+                Cell::new(alloc, machine, me, tails, heads)
+            }
+        }
+    };
+    let seats = seats_of(alloc, problem, start)?;
+    let mut cells = make_each(alloc, seats, &make)?;
+    let end = run(crew.rt, &mut cells, crew.workers, budget, crew.gate)?;
+    outcome_of(alloc, cells.as_slice(), end)
 }
 
 /// The depth-first tree of a problem, which its token agents find.
-pub(crate) fn find_tree(alloc: Global, problem: &Problem) -> Result<Found, NoMemory>
+pub(crate) fn find_tree<R: Threads + Sync, G: Gate>(
+    crew: &Crew<R, G>,
+    alloc: Global,
+    problem: &Problem,
+) -> Result<Found, NoMemory>
     ensures { IfOk result (IsFound problem.now) }
 {
     let budget = search_deliveries(problem);
-    let outcome = run_agents(alloc, problem, Start::Token, budget)?;
+    let outcome = run_agents(crew, alloc, problem, &Start::Token, budget)?;
     tree_found(alloc, problem, &outcome)
 }
 
 /// The answer of `tree` on a file.
-pub(crate) fn by_search(alloc: Global, file: ProblemFile) -> Result<Answer, NoMemory>
+pub(crate) fn by_search<R: Threads + Sync, G: Gate>(
+    crew: &Crew<R, G>,
+    alloc: Global,
+    file: ProblemFile,
+) -> Result<Answer, NoMemory>
     ensures belongs { IfOk result (AnswersTree (declared_by file)) }
     ensures right { IfOk result TellsRight }
     ensures told { IfOk result HasText }
 {
-    let found = find_tree(alloc, &file.problem)?;
+    let found = find_tree(crew, alloc, &file.problem)?;
     tree_answer(alloc, file, found)
 }

@@ -16,25 +16,31 @@ ghost use Rattle.solve_top.specs.Whole.{whole_read};
 
 use crate::agents::by_search;
 use crate::choosing::by_dpop;
+use crate::crew::Crew;
+use crate::drilling::unread_answer;
 use crate::reaching::by_adopt;
 use crate::reading::{MAX_INPUT, ReadEnd, read_all};
-use crate::task::{FileTask, Task};
+use crate::settling::by_auto;
+use crate::task::{FileTask, Task, workers_of};
 use crate::whole::read_whole;
 use dcop_base::NoMemory;
-use dcop_edge::Source;
+use dcop_edge::{Gate, Source};
 use problem_text::{ProblemFile, TextFault, TextKind, read_problem};
 use solve_check::check_answer;
 use solve_methods::{Asked, plain_answer};
 use solve_report::Answer;
 use solve_words::{WordFault, WordKind, read_words};
 use std::alloc::Global;
+use std::thread::Threads;
 
 /// The answer to words, and where they are served to all that the source has left. The words are
 /// tested before anything is read.
-pub fn answer_of<S: Source>(
+pub fn answer_of<R: Threads + Sync, S: Source, G: Gate>(
+    rt: &R,
     alloc: Global,
     words: &[String],
     source: &mut S,
+    gate: &G,
 ) -> Result<Answer, NoMemory>
     ensures answered { IfOk result (Answered (map string_bytes words.now)
         (source_state (S.left source.old) (S.faults source.old))
@@ -46,11 +52,13 @@ pub fn answer_of<S: Source>(
         Err(WordFault::Bad { at, kind }) => return Ok(words_answer(at, kind)),
         Err(WordFault::NoMemory) => return Err(NoMemory),
     };
+    let workers = workers_of(&command);
+    let crew = Crew { rt, gate, workers };
     let Some(task) = Task::of(&command) else {
-        return Ok(Answer::NotYet);
+        return unread_answer(&crew, alloc, &command);
     };
     match read_all(alloc, source) {
-        Ok(bytes) => task_answer(alloc, task, bytes.as_slice()),
+        Ok(bytes) => task_answer(&crew, alloc, task, bytes.as_slice()),
         Err(ReadEnd::Failed) => Ok(Answer::Read),
         Err(ReadEnd::TooLong) => Ok(fault_answer(0, TextKind::TooLong)),
         Err(ReadEnd::NoMemory) => Err(NoMemory),
@@ -58,7 +66,12 @@ pub fn answer_of<S: Source>(
 }
 
 /// The answer to a task on all bytes of an input.
-fn task_answer(alloc: Global, task: Task, bytes: &[u8]) -> Result<Answer, NoMemory>
+fn task_answer<R: Threads + Sync, G: Gate>(
+    crew: &Crew<R, G>,
+    alloc: Global,
+    task: Task,
+    bytes: &[u8],
+) -> Result<Answer, NoMemory>
     requires range { IsTaskInRange task }
     requires short { length bytes.now ≤ input_limit }
     ensures belongs { IfOk result (IsTaskAnswer task bytes.now) }
@@ -66,27 +79,37 @@ fn task_answer(alloc: Global, task: Task, bytes: &[u8]) -> Result<Answer, NoMemo
     ensures told { IfOk result HasText }
 {
     match task {
-        Task::File(task) => text_answer(alloc, task, bytes),
+        Task::File(task) => text_answer(crew, alloc, task, bytes),
         Task::Check => report_answer(alloc, bytes),
     }
 }
 
 /// The answer to a task on the problem that a whole input tells.
-fn text_answer(alloc: Global, task: FileTask, bytes: &[u8]) -> Result<Answer, NoMemory>
+fn text_answer<R: Threads + Sync, G: Gate>(
+    crew: &Crew<R, G>,
+    alloc: Global,
+    task: FileTask,
+    bytes: &[u8],
+) -> Result<Answer, NoMemory>
     requires range { IsTaskInRange (Task.File task) }
     ensures belongs { IfOk result (IsTextAnswer task (whole_read bytes.now)) }
     ensures right { IfOk result TellsRight }
     ensures told { IfOk result HasText }
 {
     match read_whole(alloc, bytes) {
-        Ok(file) => file_answer(alloc, task, file),
+        Ok(file) => file_answer(crew, alloc, task, file),
         Err(TextFault::Bad { line, kind }) => Ok(fault_answer(line, kind)),
         Err(TextFault::NoMemory) => Err(NoMemory),
     }
 }
 
 /// The answer to a task on a file.
-fn file_answer(alloc: Global, task: FileTask, file: ProblemFile) -> Result<Answer, NoMemory>
+pub(crate) fn file_answer<R: Threads + Sync, G: Gate>(
+    crew: &Crew<R, G>,
+    alloc: Global,
+    task: FileTask,
+    file: ProblemFile,
+) -> Result<Answer, NoMemory>
     requires range { IsTaskInRange (Task.File task) }
     ensures belongs { IfOk result (IsFileAnswer task (declared_by file)) }
     ensures right { IfOk result TellsRight }
@@ -94,9 +117,10 @@ fn file_answer(alloc: Global, task: FileTask, file: ProblemFile) -> Result<Answe
 {
     match task {
         FileTask::Plain => plain_answer(alloc, file),
-        FileTask::Dpop { certified } => by_dpop(alloc, file, certified),
-        FileTask::Adopt { error, budget } => by_adopt(alloc, file, Asked { error, budget }),
-        FileTask::Tree => by_search(alloc, file),
+        FileTask::Dpop { certified } => by_dpop(crew, alloc, file, certified),
+        FileTask::Adopt { error, budget } => by_adopt(crew, alloc, file, Asked { error, budget }),
+        FileTask::Auto { error, budget } => by_auto(crew, alloc, file, Asked { error, budget }),
+        FileTask::Tree => by_search(crew, alloc, file),
         FileTask::Upgrade => Ok(Answer::Upgraded {
             file: upgraded(file),
         }),

@@ -10,7 +10,9 @@ ghost use Rattle.solve_methods.specs.Found.{IsFound};
 ghost use Rattle.solve_methods.specs.Goal.{TellsRight};
 
 use crate::agents::{find_tree, run_agents};
+use crate::crew::Crew;
 use dcop_base::{NoMemory, Problem};
+use dcop_edge::Gate;
 use delivery_core::Start;
 use problem_solved::ProblemSolved;
 use problem_text::ProblemFile;
@@ -20,41 +22,58 @@ use solve_methods::{
 };
 use solve_report::Answer;
 use std::alloc::Global;
+use std::thread::Threads;
 
 /// The answer of DPOP on a file. Where it is to be certified, the report has the tables of all
 /// variables, in preorder, as its certificate.
-pub(crate) fn by_dpop(alloc: Global, file: ProblemFile, certified: bool) -> Result<Answer, NoMemory>
+pub(crate) fn by_dpop<R: Threads + Sync, G: Gate>(
+    crew: &Crew<R, G>,
+    alloc: Global,
+    file: ProblemFile,
+    certified: bool,
+) -> Result<Answer, NoMemory>
     ensures belongs { IfOk result (AnswersDpop (declared_by file) certified) }
     ensures right { IfOk result TellsRight }
     ensures told { IfOk result HasText }
 {
-    let choice = choose_for(alloc, &file, certified)?;
+    let choice = choose_for(crew, alloc, &file, certified)?;
     Ok(dpop_answer(file, choice))
 }
 
 /// What the agents of the problem solved choose.
-fn choose_for(alloc: Global, file: &ProblemFile, certified: bool) -> Result<Choice, NoMemory>
+fn choose_for<R: Threads + Sync, G: Gate>(
+    crew: &Crew<R, G>,
+    alloc: Global,
+    file: &ProblemFile,
+    certified: bool,
+) -> Result<Choice, NoMemory>
     ensures { IfOk result (GivesChosen (problem_solved file.now) certified) }
 {
     let solved = ProblemSolved::of(alloc, file)?;
-    choose(alloc, solved.problem(), certified)
+    choose(crew, alloc, solved.problem(), certified)
 }
 
 /// What the agents of a problem choose. They search its depth-first tree first; where it is too
 /// wide for their tables, they choose nothing.
-fn choose(alloc: Global, problem: &Problem, certified: bool) -> Result<Choice, NoMemory>
+fn choose<R: Threads + Sync, G: Gate>(
+    crew: &Crew<R, G>,
+    alloc: Global,
+    problem: &Problem,
+    certified: bool,
+) -> Result<Choice, NoMemory>
     ensures { IfOk result (GivesChosen problem.now certified) }
 {
-    let found = find_tree(alloc, problem)?;
+    let found = find_tree(crew, alloc, problem)?;
     match widths(&found.tree, problem) {
         Some(wide) => Ok(Choice::TooWide(wide)),
-        None => Ok(Choice::Values(choose_on(alloc, problem, found, certified)?)),
+        None => Ok(Choice::Values(choose_on(crew, alloc, problem, found, certified)?)),
     }
 }
 
 /// The values that the agents of a problem choose on its depth-first tree. The nodes of the tree are
 /// kept from them only where the values are to be certified.
-fn choose_on(
+pub(crate) fn choose_on<R: Threads + Sync, G: Gate>(
+    crew: &Crew<R, G>,
     alloc: Global,
     problem: &Problem,
     found: Found,
@@ -67,6 +86,6 @@ fn choose_on(
 {
     let nodes = node_rows_if(alloc, certified, &found.tree)?;
     let budget = choice_deliveries(problem);
-    let outcome = run_agents(alloc, problem, Start::Dpop(found.tree), budget)?;
+    let outcome = run_agents(crew, alloc, problem, &Start::Dpop(found.tree), budget)?;
     chosen_by(alloc, problem, nodes, outcome)
 }

@@ -1,6 +1,6 @@
-//! The law of the answers of DPOP.
+//! The laws of the answers of DPOP and auto.
 
-ghost use Rattle.solve_top.specs.Same.{DpopAnswersAreOne};
+ghost use Rattle.solve_top.specs.Same.{AutoAnswersAreThoseOfDpop, DpopAnswersAreOne};
 
 use dcop_optimum::first_optima_of_trees_are_one;
 use pseudotree::depth_first_trees_are_linked;
@@ -16,3 +16,11 @@ pub fn dpop_answers_are_one()
     first_optima_of_trees_are_one();
     depth_first_trees_are_linked();
 }
+
+/// Where nothing is too wide for DPOP in the tree of what was read, the answer of `solve --method
+/// auto` is that of `solve --method dpop`, so it is solved, and one function of the file too.
+///
+/// It is the contract of a call that does nothing: who needs the law calls it.
+pub fn auto_answers_are_those_of_dpop()
+    ensures { AutoAnswersAreThoseOfDpop }
+{}

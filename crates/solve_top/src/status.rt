@@ -9,9 +9,9 @@ use solve_report::Answer;
 /// How a call ended.
 #[derive(Clone, Copy, Debug, PartialEq, Eq)]
 pub enum Status {
-    /// A solved report, a yes, a tree or an upgraded text was printed.
+    /// A solved report or summary, a yes, a tree or an upgraded text was printed.
     Solved,
-    /// ADOPT has spent its budget. A report with bounds was printed.
+    /// ADOPT has spent its budget. A report or a summary with bounds was printed.
     Spent,
     /// The words are refused, or ask for what is not served yet.
     BadWords,
@@ -76,6 +76,7 @@ impl Status {
     {
         match answer {
             Answer::Report { report, .. } => Status::of_ending(report.status),
+            Answer::Drill { summary } => Status::of_ending(summary.status),
             Answer::Verdict { verdict, .. } => Status::of_verdict(*verdict),
             Answer::Tree { .. } | Answer::Upgraded { .. } => Status::Solved,
             Answer::Words { .. } | Answer::NotYet => Status::BadWords,

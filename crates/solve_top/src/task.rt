@@ -1,6 +1,6 @@
 //! The commands that are served.
 
-ghost use Rattle.std.specs.Prelude.{◌≡◌, IfSome};
+ghost use Rattle.std.specs.Prelude.{◌≡◌, ◌<◌, IfSome};
 ghost use Rattle.solve_words.specs.Ranges.{IsInRange};
 ghost use Rattle.solve_top.specs.Served.{task_of, IsTaskInRange};
 
@@ -24,6 +24,8 @@ pub enum FileTask {
     Dpop { certified: bool },
     /// Solve the problem by ADOPT, for a requested error, with a budget of deliveries.
     Adopt { error: u64, budget: u64 },
+    /// Solve the problem by DPOP where its tables fit, and as by ADOPT otherwise.
+    Auto { error: u64, budget: u64 },
     /// Find the depth-first tree of the problem.
     Tree,
     /// Write the problem again in the newest version of its text.
@@ -64,6 +66,18 @@ impl Task {
                 error: *error,
                 budget: *budget,
             })),
+            Command::Solve {
+                method: Choice::Auto,
+                error,
+                budget,
+                nodes: 1,
+                certificate: false,
+                format: Format::Dcop,
+                ..
+            } => Some(Task::File(FileTask::Auto {
+                error: *error,
+                budget: *budget,
+            })),
             Command::Tree {
                 format: Format::Dcop,
                 ..
@@ -76,5 +90,16 @@ impl Task {
             } => Some(Task::File(FileTask::Upgrade)),
             _ => None,
         }
+    }
+}
+
+/// How many threads the agents of a command share.
+pub(crate) fn workers_of(command: &Command) -> u32
+    ensures { 0 < result }
+{
+    match command {
+        Command::Solve { workers, .. } => (*workers).max(1),
+        Command::Tree { workers, .. } => (*workers).max(1),
+        _ => 1,
     }
 }

@@ -5,14 +5,20 @@ ghost use Rattle.dcop_edge.specs.Faults.{Rose};
 ghost use Rattle.solve_top.specs.Input.{source_state};
 ghost use Rattle.solve_top.specs.Output.{sink_state};
 ghost use Rattle.solve_report.specs.AnswerText.{HasText};
-ghost use Rattle.solve_top.specs.Solving.{Shows, Solves, Accepts, GoesWell};
+ghost use Rattle.solve_top.specs.Solving.{Shows, Solves, Accepts, AsksDrill, GoesWell};
 
 use crate::answering::answer_of;
 use crate::status::Status;
+use crate::task::Task;
 use crate::writing::write_all;
-use dcop_edge::{Sink, Source};
+use dcop_edge::{Gate, Sink, Source};
 use solve_report::{Answer, text_of};
 use std::alloc::Global;
+use std::net::Net;
+use std::random::RandomSource;
+use std::sync::Wait;
+use std::thread::Threads;
+use std::time::Clock;
 
 /// Answers these words, which are the arguments of the program: reads the source as they ask,
 /// writes the answer to the sink, and says how it went.
@@ -22,7 +28,9 @@ use std::alloc::Global;
 /// all, and with `--method dpop`, by agents on a tree unless their tables would be too wide, its sum
 /// is the best of any; with `--method adopt`, by agents that agree step by step, it is at most the
 /// requested error worse than the best, or the budget of messages is spent and the report's bounds
-/// enclose the best sum. `check` reads a problem and a report behind it, and says whether the
+/// enclose the best sum; with `--method auto`, or without a method, as with `dpop` unless its tables
+/// would be too wide, and else as with `adopt`. `drill` reads nothing: it makes a problem from a
+/// number, solves it in the same ways and writes a summary. `check` reads a problem and a report behind it, and says whether the
 /// report's certificate shows that no better values exist. `tree` reads a problem and writes the
 /// tree over which its agents work, and `upgrade` reads a problem and writes it in the newest
 /// version of its text. Refusals are written to the sink too.
@@ -31,12 +39,12 @@ use std::alloc::Global;
 /// in this call. With `WriteFault` a prefix of the answer is written, with [`Status::NoMemory`],
 /// where memory was wanted and not had, nothing, and otherwise the whole answer, and the sink is
 /// finished.
-pub fn solve<S: Source, K: Sink>(
-    alloc: Global,
-    words: &[String],
-    source: &mut S,
-    sink: &mut K,
-) -> Status
+pub fn solve<
+    R: Threads + Wait + Clock + RandomSource + Net + AllocGlobal + Sync,
+    S: Source,
+    K: Sink,
+    G: Gate,
+>(rt: &R, alloc: Global, words: &[String], source: &mut S, sink: &mut K, gate: &G) -> Status
     ensures answered { result ≢ Status.NoMemory → Solves (map string_bytes words.now)
         (source_state (S.left source.old) (S.faults source.old))
         (source_state (S.left source.new) (S.faults source.new))
@@ -55,8 +63,10 @@ pub fn solve<S: Source, K: Sink>(
         ¬ Rose (S.faults source.old) (S.faults source.new) →
         ¬ Rose (K.faults sink.old) (K.faults sink.new) →
         GoesWell result accepts.task }
+    ensures drilled { (asks : AsksDrill (map string_bytes words.now)) →
+        ¬ Rose (K.faults sink.old) (K.faults sink.new) → GoesWell result (Task.File asks.drill.task) }
 {
-    let Ok(answer) = answer_of(alloc, words, source) else {
+    let Ok(answer) = answer_of(rt, alloc, words, source, gate) else {
         return Status::NoMemory;
     };
     show(alloc, &answer, sink)

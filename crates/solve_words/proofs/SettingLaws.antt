@@ -15,7 +15,7 @@ use Rattle.solve_words.specs.declared.settings.Setting.TheVariants as settings
 use Rattle.solve_words.specs.declared.fault.WordKind.TheVariants.{Twice, NotWith}
 use Rattle.solve_words.specs.declared.fault.WordFault.{WordFault}
 use Rattle.solve_words.specs.declared.fault.WordFault.TheVariants.{Bad, NoMemory}
-use Rattle.solve_words.specs.Options.{word_of, option_named, options, numbers_of}
+use Rattle.solve_words.specs.Options.{word_of, option_named, options, IsNumberOf}
 use Rattle.solve_words.specs.Standing.{belongs_to, stands_with}
 use Rattle.solve_words.specs.Command.{is_refused}
 use Rattle.solve_words.specs.declared.command.Choice.{Choice}
@@ -59,13 +59,13 @@ pub given-within :
     (xs : List Setting) (word : List ℕ) (quantity named : Quantity) (number : ℕ)
     → All IsWithin xs → word ≡ word_of (Number quantity)
     → find (λ s. bytes_eq (word_of (option_of s)) word) xs ≡ Some (settings.Number named number)
-    → number ≤ (numbers_of quantity).most
+    → IsNumberOf quantity number
 given-within xs word quantity named number all is found =
-    let within : number ≤ (numbers_of named).most = find-all IsWithin (λ s. bytes_eq (word_of (option_of s)) word) xs (settings.Number named number) all found in
+    let within : IsNumberOf named number = find-all IsWithin (λ s. bytes_eq (word_of (option_of s)) word) xs (settings.Number named number) all found in
     let passes : bytes_eq (word_of (Number named)) word ≡ true = find-passes (λ s. bytes_eq (word_of (option_of s)) word) xs (settings.Number named number) found in
     let same : Number named ≡ Number quantity = same_option (Number named) (Number quantity) (subst (λ w. bytes_eq (word_of (Number named)) w ≡ true) is passes) in
     let one : named ≡ quantity = cc in
-    subst (λ (q : Quantity). number ≤ (numbers_of q).most) one within
+    subst (λ (q : Quantity). IsNumberOf q number) one within
 
 -- the fault of a pair goes by the option that its name names
 pub pair_fault-named :

@@ -1,5 +1,5 @@
 -- The table of options: their words, and the numbers that they take.
-use Rattle.std.specs.Prelude.{ℕ, List, [], ◌∷◌, Option, bytes_eq, codes, find}
+use Rattle.std.specs.Prelude.{ℕ, ◌≤◌, List, [], ◌∷◌, Option, bytes_eq, codes, find}
 use Rattle.dcop_base.specs.Limits.{amount_limit, budget_limit, variable_limit, joined_limit}
 use Rattle.solve_words.specs.declared.options.WordOption.{WordOption}
 use Rattle.solve_words.specs.declared.options.WordOption.TheVariants.{Method, Certificate, Format, After, Number}
@@ -51,3 +51,7 @@ numbers_of Size = record { least = 1; most = 16; default = 4 }
 numbers_of Degree = record { least = 1; most = 8; default = 2 }
 numbers_of Top = record { least = 0; most = 1000000; default = 100 }
 numbers_of Cells = record { least = 1024; most = joined_limit; default = joined_limit }
+
+-- a number that an option takes
+abbrev pub IsNumberOf : Quantity → ℕ → Type 0
+IsNumberOf quantity number = ((numbers_of quantity).least ≤ number) × (number ≤ (numbers_of quantity).most)

@@ -1,6 +1,6 @@
 -- What reading promises of a pair and of all pairs.
-use Rattle.std.specs.Prelude.{◌≡◌, ◌≤◌, ℕ, List, [], map, Option, Some, None, Result, Ok, Err, All}
-use Rattle.solve_words.specs.Options.{word_of, numbers_of}
+use Rattle.std.specs.Prelude.{◌≡◌, ℕ, List, [], map, Option, Some, None, Result, Ok, Err, All}
+use Rattle.solve_words.specs.Options.{word_of, IsNumberOf}
 use Rattle.solve_words.specs.Settings.{Pair, pairs_of, names_of, option_of, setting_of, settings_of}
 use Rattle.solve_words.specs.Faults.{pair_fault, pairs_fault}
 use Rattle.solve_words.specs.declared.verb.Verb.{Verb}
@@ -9,9 +9,9 @@ use Rattle.solve_words.specs.declared.settings.Setting.TheVariants.{Number}
 use Rattle.solve_words.specs.declared.fault.WordFault.{WordFault}
 use Rattle.solve_words.specs.declared.fault.WordFault.TheVariants.{Bad, NoMemory}
 
--- a number is no greater than its option takes
+-- a number is one that its option takes
 abbrev pub IsWithin : Setting → Type 0
-IsWithin (Number quantity number) = number ≤ (numbers_of quantity).most
+IsWithin (Number quantity number) = IsNumberOf quantity number
 IsWithin _ = Unit {0}
 
 -- the words that name the options of settings

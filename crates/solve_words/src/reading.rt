@@ -121,6 +121,7 @@ fn drill(settings: &[Setting]) -> Command
 fn number(settings: &[Setting], quantity: Quantity) -> u64
     requires { All IsWithin settings.now }
     ensures same { result ≡ number_in quantity settings.now }
+    ensures least { (numbers_of quantity).least ≤ result }
     ensures within { result ≤ (numbers_of quantity).most }
 {
     match find_setting(settings, WordOption::Number(quantity).word()) {
@@ -166,85 +167,5 @@ fn after(settings: &[Setting]) -> Option<u64>
     match find_setting(settings, WordOption::After.word()) {
         Some(Setting::After(events)) => Some(events),
         _ => None,
-    }
-}
-
-#[cfg(test)]
-mod tests {
-    use super::*;
-    use std::alloc::AllocError;
-    use std::test::Fail;
-
-    fn words_of(alloc: Global, text: &str) -> Result<Vec<String>, AllocError> {
-        let mut words = Vec::new(alloc);
-        for word in text.split_whitespace() {
-            words.push(String::from_str(alloc, word)?)?;
-        }
-        Ok(words)
-    }
-
-    #[test]
-    fn refused_words(rt: HostRuntime) -> Result<(), Fail> {
-        for (text, at, kind) in [
-            ("", 1, WordKind::NoCommand),
-            ("solve --budget 5 --budget", 4, WordKind::Twice),
-            ("drill --seed 12345678901234567890", 3, WordKind::BadNumber),
-            ("solve --nodes 1 --method cut", 2, WordKind::NotWith),
-        ] {
-            let words = words_of(rt.alloc(), text)?;
-            let answer = read_words(rt.alloc(), words.as_slice());
-            assert_eq!(rt; answer, Err(WordFault::Bad { at, kind }), "{text}");
-        }
-        Ok(())
-    }
-
-    #[test]
-    fn accepted_words(rt: HostRuntime) -> Result<(), Fail> {
-        for (text, command) in [
-            (
-                "solve --method adopt --workers 64 --error 4 --budget 0 --nodes 8 --certificate yes",
-                Command::Solve {
-                    method: Choice::Adopt,
-                    workers: 64,
-                    error: 4,
-                    budget: 0,
-                    nodes: 8,
-                    certificate: true,
-                    format: Format::Dcop,
-                    cells: 1_048_576,
-                },
-            ),
-            (
-                "replay --after 007",
-                Command::Replay {
-                    after: Some(7),
-                    format: Format::Dcop,
-                },
-            ),
-            (
-                "drill --seed 9999999999999999999 --size 16 --top 0",
-                Command::Drill {
-                    method: Choice::Auto,
-                    workers: 1,
-                    error: 0,
-                    budget: 1_000_000,
-                    nodes: 1,
-                    seed: 9_999_999_999_999_999_999,
-                    vars: 20,
-                    size: 16,
-                    degree: 2,
-                    top: 0,
-                    cells: 1_048_576,
-                },
-            ),
-        ] {
-            let words = words_of(rt.alloc(), text)?;
-            assert_eq!(rt;
-                read_words(rt.alloc(), words.as_slice()),
-                Ok(command),
-                "{text}"
-            );
-        }
-        Ok(())
     }
 }

@@ -156,7 +156,7 @@ fn read_value(option: WordOption, word: &str) -> Result<Setting, WordKind>
 fn number_within(word: &str, least: u64, most: u64) -> Result<u64, WordKind>
     ensures { MatchResult result
         (λ number. (range_fault least most (number_of word.now) ≡ None)
-        × (number_of word.now ≡ Some number) × (number ≤ most))
+        × (number_of word.now ≡ Some number) × (least ≤ number) × (number ≤ most))
         (λ kind. range_fault least most (number_of word.now) ≡ Some kind) }
 {
     match number_of_word(word.as_bytes()) {

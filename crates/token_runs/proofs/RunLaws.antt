@@ -15,7 +15,8 @@ use Rattle.protocol_steps.specs.Token.{TokenView}
 use Rattle.protocol_steps.specs.View.{View, TokenKind, OfToken, ended_of}
 use Rattle.protocol_steps.specs.Network.{Network, start_state, waiting}
 use Rattle.protocol_steps.specs.Effect.{pending_at, pending, SomePending, has_ended, deliveries}
-use Rattle.token_runs.specs.TokenRun.{token_agents, IsTokenRun, is_token, is_done, tokens, dones}
+use Rattle.protocol_steps.specs.TreeAgents.{token_agents}
+use Rattle.token_runs.specs.TokenRun.{IsTokenRun, is_token, is_done, tokens, dones}
 use Rattle.token_runs.specs.Agents.{AreAgents, FoundPlaces}
 use Rattle.token_runs.specs.Laws.{HoldsOfTokens, TokenRuns}
 use Rattle.token_runs.proofs.Serial.{Flight, Serial, ticks, IsLive, Leads}

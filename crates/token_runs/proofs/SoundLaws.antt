@@ -7,7 +7,7 @@ use Rattle.std.proofs.lemmas.List.Elements.{All-head, All-cons, All-nil}
 use Rattle.dcop_base.specs.Table.{has}
 use Rattle.dcop_base.specs.Problem.{Dcop}
 use Rattle.dcop_base.specs.Graph.{neighbours}
-use Rattle.dcop_base.specs.Knowledge.{private_of}
+use Rattle.dcop_base.specs.Knowledge.{acquaintance_of}
 use Rattle.dcop_base.specs.declared.knowledge.Private.{Private}
 use Rattle.dcop_base.proofs.FirstLaws.{Contains-cases, Contains-head, Contains-tail, Contains-none}
 use Rattle.dcop_base.proofs.JointLaws.{are_neighbours-sym}
@@ -140,7 +140,7 @@ module _ (p : Dcop) where
 
   pub sound_first : 1 ≤ length p.sizes → IsSound p (first_state p)
   sound_first some =
-      let made : View = TokenKind (new_token (private_of p 0)) in
+      let made : View = TokenKind (new_token (acquaintance_of p 0)) in
       let reaches : ReachesNeighbours made (as_kind TokenKind (root_looks p)) =
       subst (λ (z : Stepped View). ReachesNeighbours made z) (start_is p 0) (parcels_go_to_neighbours.started made (λ parent e. absurd (none-some parent e))) in
       let before : Serial = record { views = fresh p; flight = None; tokens = 0; dones = 0 } in

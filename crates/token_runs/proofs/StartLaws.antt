@@ -7,7 +7,7 @@ use Rattle.std.proofs.lemmas.List.{length-map}
 use Rattle.std.proofs.lemmas.List.FromFn.{length-range_with_len}
 use Rattle.std.proofs.lemmas.List.Sums.{sum_by-cons}
 use Rattle.dcop_base.specs.Problem.{Dcop}
-use Rattle.dcop_base.specs.Knowledge.{private_of}
+use Rattle.dcop_base.specs.Knowledge.{acquaintance_of}
 use Rattle.protocol_steps.specs.declared.event.Take.{Take}
 use Rattle.protocol_steps.specs.Agent.{Stepped, quiet}
 use Rattle.protocol_steps.specs.Token.{TokenView, new_token}
@@ -16,7 +16,7 @@ use Rattle.protocol_steps.specs.View.{View, TokenKind}
 use Rattle.protocol_steps.specs.Step.{as_kind, start_of}
 use Rattle.protocol_steps.specs.Network.{Desk, Network, start_state, messages_to, sent_at, link}
 use Rattle.protocol_steps.specs.Effect.{deliveries}
-use Rattle.token_runs.specs.TokenRun.{token_agents}
+use Rattle.protocol_steps.specs.TreeAgents.{token_agents}
 use Rattle.token_runs.proofs.Serial.{Serial, stepped}
 use Rattle.token_runs.proofs.Visits.{fresh, open_view}
 use Rattle.protocol_steps.proofs.TallyLaws.{tally}
@@ -43,17 +43,17 @@ first_state p = stepped (fresh p) 0 0 0 (root_looks p)
 abbrev pub started : Dcop → ℕ → Stepped TokenView
 started p i = if i == 0 then root_looks p else quiet (fresh p i)
 
-start_root : (p : Dcop) → token_start (new_token (private_of p 0)) ≡ root_looks p
+start_root : (p : Dcop) → token_start (new_token (acquaintance_of p 0)) ≡ root_looks p
 start_root p = refl
 
-start_other : (p : Dcop) (i : ℕ) → (i ≡ 0 → ⊥) → token_start (new_token (private_of p i)) ≡ quiet (fresh p i)
+start_other : (p : Dcop) (i : ℕ) → (i ≡ 0 → ⊥) → token_start (new_token (acquaintance_of p i)) ≡ quiet (fresh p i)
 start_other p i ne = ap (λ (b : Bool). if b then open_with (fresh p i) [] else quiet (fresh p i)) (ne_eqb i 0 ne)
 
-pub start_is : (p : Dcop) (i : ℕ) → start_of (TokenKind (new_token (private_of p i))) ≡ as_kind TokenKind (started p i)
+pub start_is : (p : Dcop) (i : ℕ) → start_of (TokenKind (new_token (acquaintance_of p i))) ≡ as_kind TokenKind (started p i)
 unfolding start_of
 start_is p i = ap (λ (s : Stepped TokenView). as_kind TokenKind s) (elim (cases_eq i 0) [
   | inl same ↦
-      subst (λ (k : ℕ). token_start (new_token (private_of p k)) ≡ started p k) (sym same) (start_root p)
+      subst (λ (k : ℕ). token_start (new_token (acquaintance_of p k)) ≡ started p k) (sym same) (start_root p)
   | inr other ↦
       start_other p i other ∙ ap (λ (b : Bool). if b then root_looks p else quiet (fresh p i)) (sym (ne_eqb i 0 other))
 ])
@@ -62,20 +62,20 @@ module _ (p : Dcop) (some : 1 ≤ length p.sizes) where
   abbrev start : Network
   start = start_state (token_agents p)
 
-  made_at : (i : ℕ) → i < length p.sizes → slice_get (token_agents p) i ≡ Some (TokenKind (new_token (private_of p i)))
+  made_at : (i : ℕ) → i < length p.sizes → slice_get (token_agents p) i ≡ Some (TokenKind (new_token (acquaintance_of p i)))
   made_at i lt =
-      get-map (λ (k : ℕ). TokenKind (new_token (private_of p k))) (range_with_len 0 (length p.sizes)) i i
+      get-map (λ (k : ℕ). TokenKind (new_token (acquaintance_of p k))) (range_with_len 0 (length p.sizes)) i i
       (get-range 0 (length p.sizes) i lt ∙ ap (λ (x : ℕ). Some x) (zero-add i))
 
   abbrev first_desk : ℕ → Desk
   first_desk i = record { sent = (started p i).sends; takes = [] }
 
   agents : length (token_agents p) ≡ length p.sizes
-  agents = length-map (range_with_len 0 (length p.sizes)) (λ (k : ℕ). TokenKind (new_token (private_of p k))) ∙ length-range_with_len 0 (length p.sizes)
+  agents = length-map (range_with_len 0 (length p.sizes)) (λ (k : ℕ). TokenKind (new_token (acquaintance_of p k))) ∙ length-range_with_len 0 (length p.sizes)
 
   view_at : (i : ℕ) → i < length p.sizes → slice_get start.views i ≡ Some (TokenKind ((first_state p).views i))
   view_at i lt =
-      get-map (λ (v : View). (start_of v).view) (token_agents p) i (TokenKind (new_token (private_of p i))) (made_at i lt)
+      get-map (λ (v : View). (start_of v).view) (token_agents p) i (TokenKind (new_token (acquaintance_of p i))) (made_at i lt)
       ∙ ap (λ (s : Stepped View). Some s.view) (start_is p i)
       ∙ elim (cases_eq i 0) [
         | inl same ↦
@@ -88,7 +88,7 @@ module _ (p : Dcop) (some : 1 ≤ length p.sizes) where
 
   desk_at : (i : ℕ) → i < length p.sizes → slice_get start.desks i ≡ Some (first_desk i)
   desk_at i lt =
-      get-map (λ (v : View). let x : Desk = record { sent = (start_of v).sends; takes = [] } in x) (token_agents p) i (TokenKind (new_token (private_of p i))) (made_at i lt)
+      get-map (λ (v : View). let x : Desk = record { sent = (start_of v).sends; takes = [] } in x) (token_agents p) i (TokenKind (new_token (acquaintance_of p i))) (made_at i lt)
       ∙ ap (λ (s : Stepped View). let x : Desk = record { sent = s.sends; takes = [] } in Some x) (start_is p i)
 
   desks_count : length start.desks ≡ length p.sizes

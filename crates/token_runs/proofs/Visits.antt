@@ -4,7 +4,7 @@ use Rattle.std.specs.List.{concat, flat_map}
 use Rattle.dcop_base.specs.Table.{has, has_repeat}
 use Rattle.dcop_base.specs.Problem.{Dcop}
 use Rattle.dcop_base.specs.Graph.{are_neighbours}
-use Rattle.dcop_base.specs.Knowledge.{private_of}
+use Rattle.dcop_base.specs.Knowledge.{acquaintance_of}
 use Rattle.pseudotree.specs.DepthFirst.{Visit, path_in}
 use Rattle.protocol_steps.specs.Agent.{Phase, last_of}
 use Rattle.protocol_steps.specs.Token.{TokenView}
@@ -20,14 +20,14 @@ running = record { started = true; ended = false; failed = false }
 
 -- an agent that has not opened, one that is open, and one that has ended
 abbrev pub fresh : Dcop → ℕ → TokenView
-fresh p u = record { own = private_of p u; phase = running; opened = false; path = []; kept = []; awaited = None }
+fresh p u = record { own = acquaintance_of p u; phase = running; opened = false; path = []; kept = []; awaited = None }
 
 abbrev pub open_view : Dcop → ℕ → List ℕ → List (List ℕ) → Option ℕ → TokenView
-open_view p v path kept awaited = record { own = private_of p v; phase = running; opened = true; path = path; kept = kept; awaited = awaited }
+open_view p v path kept awaited = record { own = acquaintance_of p v; phase = running; opened = true; path = path; kept = kept; awaited = awaited }
 
 abbrev pub ended_view : Dcop → ℕ → List ℕ → List (List ℕ) → TokenView
 ended_view p v path kept = record {
-  own = private_of p v;
+  own = acquaintance_of p v;
   phase = record { started = true; ended = true; failed = false };
   opened = true;
   path = path;

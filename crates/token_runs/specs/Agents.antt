@@ -1,7 +1,7 @@
 -- The agents in a run of tokens, and the places that they find.
 use Rattle.std.specs.Prelude.{◌≡◌, ℕ, ◌<◌, true, false, List, [], length, Some, slice_get}
 use Rattle.dcop_base.specs.Problem.{Dcop}
-use Rattle.dcop_base.specs.Knowledge.{private_of}
+use Rattle.dcop_base.specs.Knowledge.{acquaintance_of}
 use Rattle.pseudotree.specs.DepthFirst.{dfs}
 use Rattle.pseudotree.specs.Pseudotree.{lower_of}
 use Rattle.pseudotree.specs.Tree.{path_of, children_of}
@@ -9,9 +9,9 @@ use Rattle.pseudotree.specs.declared.agent.Place.{Place}
 use Rattle.protocol_steps.specs.View.{View, OfToken, made_of, started_of, failed_of, place_of}
 use Rattle.protocol_steps.specs.Laws.{IsBeside}
 
--- what holds of the agent of variable i: it was made from what variable i knows, has started and not failed, and its parent is among its neighbours
+-- what holds of the agent of variable i: it was made from what variable i knows without its tables, has started and not failed, and its parent is among its neighbours
 pub record IsAgentOf (p : Dcop) (i : ℕ) (v : View) : Type 0 where
-  pub made : made_of v ≡ OfToken (private_of p i)
+  pub made : made_of v ≡ OfToken (acquaintance_of p i)
   pub started : started_of v ≡ true
   pub not_failed : failed_of v ≡ false
   pub beside : IsBeside v

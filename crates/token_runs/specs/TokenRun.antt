@@ -1,20 +1,14 @@
 -- Runs of token agents, and the messages that were delivered in them.
-use Rattle.std.specs.Prelude.{◌≡◌, ℕ, Bool, true, false, List, map, length, Some}
-use Rattle.std.specs.List.{count_by, range_with_len}
+use Rattle.std.specs.Prelude.{◌≡◌, ℕ, Bool, true, false, List, Some}
+use Rattle.std.specs.List.{count_by}
 use Rattle.dcop_base.specs.Problem.{Dcop}
-use Rattle.dcop_base.specs.Knowledge.{private_of}
 use Rattle.protocol_steps.specs.declared.message.Message.{Message}
 use Rattle.protocol_steps.specs.declared.message.Message.TheVariants.{Token, Done}
 use Rattle.protocol_steps.specs.declared.event.Event.{Event}
-use Rattle.protocol_steps.specs.Token.{new_token}
-use Rattle.protocol_steps.specs.View.{View, TokenKind}
+use Rattle.protocol_steps.specs.TreeAgents.{token_agents}
 use Rattle.protocol_steps.specs.Network.{Network, start_state}
 use Rattle.protocol_steps.specs.Delivered.{delivered}
 use Rattle.protocol_steps.specs.Run.{run}
-
--- the token agents of all variables of a problem, as they are made
-abbrev pub token_agents : Dcop → List View
-token_agents p = map (λ i. TokenKind (new_token (private_of p i))) (range_with_len 0 (length p.sizes))
 
 -- a run of the token agents of a problem, which ends in this network
 abbrev pub IsTokenRun : Dcop → List Event → Network → Type 0

@@ -15,10 +15,8 @@ mod fault;
 mod law;
 mod payload;
 mod reader;
-#[cfg(test)]
-mod tests;
 
 pub use fault::FrameFault;
 pub use law::{hands_on, reads_whole, splits_once, takes_on};
-pub use payload::{MAX_PAYLOAD, frame};
+pub use payload::{MAX_PAYLOAD, frame, payloads_agree};
 pub use reader::FrameReader;

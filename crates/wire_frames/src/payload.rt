@@ -9,6 +9,11 @@ use std::alloc::Global;
 /// The most bytes of a payload, 2^24.
 pub const MAX_PAYLOAD: u32 = 16_777_216;
 
+/// The limit of the code is that of the definitions.
+pub fn payloads_agree()
+    ensures { MAX_PAYLOAD ≡ payload_limit }
+{}
+
 /// The frame of a payload of at most [`MAX_PAYLOAD`] bytes: its length as a `u32`, the highest byte
 /// first, and its bytes.
 ///

@@ -4,10 +4,14 @@ use crate::case::{Answer, Case, Output};
 use crate::escape::written;
 use crate::input::{case_at, input_of};
 use anyhow::{Result, bail};
-use dcop_edge::{MemorySink, MemorySource};
+use dcop_edge::{MemorySink, MemorySource, OpenGate};
 use solve_top::solve;
-use std::alloc::Global;
+use std::net::Net;
+use std::random::RandomSource;
 use std::rt::Files;
+use std::sync::Wait;
+use std::thread::Threads;
+use std::time::Clock;
 
 /// How often cases were run, and how many of these runs differ.
 #[derive(Clone, Copy, Default)]
@@ -34,11 +38,9 @@ struct Found {
 }
 
 /// Runs a case, and prints each of its answers that differs.
-pub fn run_case<R: Files + Print + AllocGlobal>(
-    rt: &R,
-    name: &str,
-    tally: &mut Tally,
-) -> Result<()> {
+pub fn run_case<
+    R: Threads + Wait + Clock + RandomSource + Net + Files + Print + AllocGlobal + Sync,
+>(rt: &R, name: &str, tally: &mut Tally) -> Result<()> {
     let path = format!(in rt.alloc(); "cases/{name}.case")?;
     let case = case_at(rt, path.as_str())?;
     let input = input_of(rt, &case)?;
@@ -48,7 +50,7 @@ pub fn run_case<R: Files + Print + AllocGlobal>(
             let Some(prefix) = input.get(..length) else {
                 bail!("the input has only {} bytes", input.len());
             };
-            let found = found_on(rt.alloc(), &case, prefix)?;
+            let found = found_on(rt, &case, prefix)?;
             tally.count_run();
             if !is_as_expected(answer, &found) {
                 tally.count_different();
@@ -61,11 +63,16 @@ pub fn run_case<R: Files + Print + AllocGlobal>(
 }
 
 /// What the program answers to the words of a case on this input.
-fn found_on(alloc: Global, case: &Case, input: &[u8]) -> Result<Found> {
+fn found_on<R: Threads + Wait + Clock + RandomSource + Net + AllocGlobal + Sync>(
+    rt: &R,
+    case: &Case,
+    input: &[u8],
+) -> Result<Found> {
+    let alloc = rt.alloc();
     let input = input.to_vec(alloc)?;
     let mut source = MemorySource::new(input, case.failing_reads.clone()?);
     let mut sink = MemorySink::new(alloc, case.failing_writes.clone()?);
-    let status = solve(alloc, &case.words, &mut source, &mut sink);
+    let status = solve(rt, alloc, &case.words, &mut source, &mut sink, &OpenGate);
     Ok(Found {
         status: status.code(),
         output: sink.bytes().to_vec(alloc)?,

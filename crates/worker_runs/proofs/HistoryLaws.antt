@@ -14,7 +14,7 @@ use Rattle.protocol_steps.specs.View.{View, ended_of}
 use Rattle.protocol_steps.specs.Network.{Desk, Network, start_state, takes_at}
 use Rattle.protocol_steps.specs.Effect.{deliveries}
 use Rattle.protocol_steps.specs.Run.{journal}
-use Rattle.protocol_steps.specs.Rounds.{most_events, least_taken, IsRound, AreRounds}
+use Rattle.protocol_steps.specs.Rounds.{most_events, link_share, IsRound, AreRounds}
 use Rattle.protocol_steps.specs.Stamps.{Gain, Deed, Account, do_one}
 use Rattle.protocol_steps.specs.Deeds.{takes_of, event_of, AreDeeds, posted_to, gained_from}
 use Rattle.protocol_steps.specs.StampLaw.{IsPrefix, TakenIsPrefix, desk_of, Shows}
@@ -229,7 +229,7 @@ module _ (budget : ℕ) (made : List View) (middle after : List CellState) (h : 
 
   -- what a cell knew to wait was all, up to 64, and its sprint took it
   serves : (i j : ℕ) → i < n → j < n → ended_of (now i).view ≡ false
-      → min least_taken (length (posted_to i (now j).posted) - length (gained_from j (now i).gains)) ≤ length (gained_from j (gains_in (new i)))
+      → min link_share (length (posted_to i (now j).posted) - length (gained_from j (now i).gains)) ≤ length (gained_from j (gains_in (new i)))
   serves i j in_i in_j live =
       let p = pair i in_i in
       let q = pair j in_j in

@@ -12,7 +12,7 @@ use Rattle.protocol_steps.specs.View.{ended_of}
 use Rattle.protocol_steps.specs.Network.{Desk, Network, messages_to, taken_from, sent_at, takes_at, waiting}
 use Rattle.protocol_steps.specs.Effect.{pending_at, pending}
 use Rattle.protocol_steps.specs.Run.{run, journal}
-use Rattle.protocol_steps.specs.Rounds.{most_events, least_taken, taken_in, IsRound}
+use Rattle.protocol_steps.specs.Rounds.{most_events, link_share, taken_in, IsRound}
 use Rattle.protocol_steps.specs.Stamps.{Deed, Account, do_one}
 use Rattle.protocol_steps.specs.Deeds.{takes_of, event_of, AreDeeds, deeds_of, after_all, posted_to, gained_from}
 use Rattle.protocol_steps.specs.StampLaw.{TakenIsPrefix, ByStampFrom, Shows, EndsAt}
@@ -103,7 +103,7 @@ none_waits n net now shows i j le =
 pub round_of : (n : ℕ) (net : Network) (now : ℕ → Account) (new : ℕ → List Deed) → Shows n net now → TakenIsPrefix now → (p : Piece n net now new)
     → ((i : ℕ) → length (new i) ≤ most_events)
     → ((i j : ℕ) → i < n → j < n → ended_of (now i).view ≡ false
-    → min least_taken (length (posted_to i (now j).posted) - length (gained_from j (now i).gains)) ≤ length (gained_from j (gains_in (new i))))
+    → min link_share (length (posted_to i (now j).posted) - length (gained_from j (now i).gains)) ≤ length (gained_from j (gains_in (new i))))
     → IsRound net (map event_of p.deeds) p.end
 round_of n net now new shows before p short serves = record {
   leads = p.leads;

@@ -3,7 +3,7 @@ use Rattle.std.specs.Prelude.{◌≡◌, ℕ, ◌<◌, ◌≤◌, List, [], ◌�
 use Rattle.std.specs.List.{sum_by}
 use Rattle.protocol_steps.specs.declared.message.Message.{Message}
 use Rattle.protocol_steps.specs.declared.event.Entry.{Entry}
-use Rattle.protocol_steps.specs.Rounds.{most_events, least_taken}
+use Rattle.protocol_steps.specs.Rounds.{most_events, link_share}
 use Rattle.protocol_steps.specs.View.{View}
 use Rattle.worker_runs.specs.Cells.{CellState, lane, known_from, IsWired, EachAre}
 use Rattle.worker_runs.specs.Visits.{IsStarted, IsQuiet}
@@ -13,7 +13,7 @@ use Rattle.worker_runs.specs.Sprints.{IsSprint}
 pub record IsSettled (i j : ℕ) (to from : CellState) : Type 0 where
   pub waiting : List (ℕ × Message)
   pub whole : lane j to.taken ++ waiting ≡ lane i from.sent
-  pub known : min least_taken (length waiting) ≤ known_from j to.known
+  pub known : min link_share (length waiting) ≤ known_from j to.known
 
 -- every link is settled
 abbrev pub AreSettled : List CellState → Type 0

@@ -7,15 +7,12 @@ use Rattle.protocol_steps.specs.Step.{start_of, step_of}
 use Rattle.protocol_steps.specs.Run.{ascends_from, has_nothing}
 use Rattle.protocol_steps.specs.Stamps.{Gain, post, letters_of}
 use Rattle.protocol_steps.specs.Deeds.{takes_of, greatest_of, posted_to, gained_from}
+use Rattle.protocol_steps.specs.Rounds.{link_share}
 use Rattle.worker_runs.specs.Cells.{CellState, peers, lane, grown, known_from}
 
--- the most messages that a visit takes of one link
-abbrev pub most_found : ℕ
-most_found = 64
-
--- of one link no more is taken than that
+-- of one link no more is taken than the share of a link
 abbrev pub IsFew : Gain → Type 0
-IsFew g = length g.envelopes ≤ most_found
+IsFew g = length g.envelopes ≤ link_share
 
 -- what is taken comes from one of these peers
 abbrev pub IsFrom : List ℕ → Gain → Type 0
@@ -62,7 +59,7 @@ pub record IsVisit (before : CellState) (count : ℕ) (after : CellState) : Type
   pub gains : List Gain
   pub counted : count ≡ sum_by (λ g. length g.envelopes) gains
   pub each : All IsFew gains
-  pub few : count ≤ most_found * length before.taken
+  pub few : count ≤ link_share * length before.taken
   pub served : (j : ℕ) → known_from j before.known ≤ length (gained_from j gains)
   pub idle : count ≡ 0 → IsQuiet before after
   pub event : 0 < count → IsEvent before gains after

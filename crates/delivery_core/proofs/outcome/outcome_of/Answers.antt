@@ -1,7 +1,6 @@
-use Rattle.std.proofs.Common.{◌≡◌, List, map, ap, ◌∙◌}
-use Rattle.std.specs.List.{list_all}
+use Rattle.std.proofs.Common.{◌≡◌, map, ap, ◌∙◌}
 use Rattle.protocol_steps.specs.View.{View, value_of, table_of, place_of}
-use Rattle.delivery_core.specs.State.{SeatView, CoreView, views_of}
+use Rattle.delivery_core.specs.State.{SeatView, CoreView}
 use Rattle.delivery_core.proofs.ListLaws.{map-map}
 use Rattle.delivery_core.proofs.outcome.outcome_of.Goals as goal
 

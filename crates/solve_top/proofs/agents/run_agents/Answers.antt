@@ -1,10 +1,21 @@
-use Rattle.std.proofs.lemmas.Result.{IfOk-weaker}
-use Rattle.delivery_core.specs.Agents.{agents_of}
-use Rattle.delivery_core.specs.PlayedOut.{IsPlayedOut}
-use Rattle.solve_methods.specs.Run.{HaveRun}
+use Rattle.agent_seats.proofs.CellLaws.{seats_ready}
+use Rattle.solve_top.proofs.CrewLaws.{have_run_if}
 use Rattle.solve_top.proofs.agents.run_agents.Goals as goal
 
+pub run-requires-clause-joined : goal.run-requires-clause-joined
+run-requires-clause-joined g c κs within =
+    (seats_ready _ c.args.problem.now c.args.start.now c.in_ok-seats.seats.items c.in_ok-cells.cells.items c.problem_is_whole.ensures c.in_ok-seats.ensures c.in_ok-cells.ensures.size (λ k s x lt. c.in_ok-cells.ensures.each k s x lt)).joined
+
+pub run-requires-clause-sound : goal.run-requires-clause-sound
+run-requires-clause-sound g c κs within =
+    (seats_ready _ c.args.problem.now c.args.start.now c.in_ok-seats.seats.items c.in_ok-cells.cells.items c.problem_is_whole.ensures c.in_ok-seats.ensures c.in_ok-cells.ensures.size (λ k s x lt. c.in_ok-cells.ensures.each k s x lt)).sound
+
+pub run-requires-clause-fresh : goal.run-requires-clause-fresh
+run-requires-clause-fresh g c κs within =
+    (seats_ready _ c.args.problem.now c.args.start.now c.in_ok-seats.seats.items c.in_ok-cells.cells.items c.problem_is_whole.ensures c.in_ok-seats.ensures c.in_ok-cells.ensures.size (λ k s x lt. c.in_ok-cells.ensures.each k s x lt)).fresh
+
 pub returns : goal.returns
-returns c =
-    IfOk-weaker c.play_out.result (IsPlayedOut c.args.budget (agents_of c.args.problem.now c.args.start)) (HaveRun c.args.budget (agents_of c.args.problem.now c.args.start))
-    (λ outcome is. record { rounds = is.rounds; end = is.end; how = is.how; are_rounds = is.are_rounds; stopped = is.stopped; told = is.told }) c.play_out.ensures
+returns g c =
+    have_run_if _ c.args.budget _ c.in_ok-cells.cells.items c.run.new.cells.items c.as_slice.result.now c.in_ok-end.end c.outcome_of.result c.cells_tell_outcomes.ensures
+    (seats_ready _ c.args.problem.now c.args.start.now c.in_ok-seats.seats.items c.in_ok-cells.cells.items c.problem_is_whole.ensures c.in_ok-seats.ensures c.in_ok-cells.ensures.size (λ k s x lt. c.in_ok-cells.ensures.each k s x lt)).views
+    c.in_ok-end.ensures.run c.as_slice.ensures.value c.outcome_of.ensures

@@ -1,6 +1,6 @@
 use Rattle.std.proofs.Common.{refl, sym}
 use Rattle.solve_top.specs.Input.{Broken, TooLong}
-use Rattle.solve_top.proofs.AnswerLaws.{Answered-task, Answered-text}
+use Rattle.solve_top.proofs.AnswerLaws.{Answered-task, Answered-text, Answered-unread}
 use Rattle.solve_top.proofs.answering.answer_of.Goals as goal
 
 pub returns-in-Ok-read_all-clause-answered : goal.returns-in-Ok-read_all-clause-answered
@@ -18,3 +18,8 @@ pub returns-in-Err-TooLong-clause-answered : goal.returns-in-Err-TooLong-clause-
 returns-in-Err-TooLong-clause-answered g c =
     rw c.fault_answer.ensures (Answered-task _ c.in-Ok.command c.in-Some.task _ _ TooLong _
     (sym c.in-Ok.ensures.answer) (sym c.in-Some.ensures.same) (rw c.in-Err-TooLong.field-0-is at c.in-Err-TooLong.ensures) refl tt)
+
+pub returns-in_default-clause-answered : goal.returns-in_default-clause-answered
+returns-in_default-clause-answered g c =
+    Answered-unread _ c.in-Ok.command _ _ c.unread_answer.result (sym c.in-Ok.ensures.answer) (sym c.in_default.ensures.same) refl
+    c.unread_answer.ensures.belongs c.unread_answer.ensures.right

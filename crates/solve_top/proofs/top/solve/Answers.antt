@@ -1,4 +1,4 @@
-use Rattle.solve_top.proofs.ShowLaws.{solved-so, read-so, write-so, source-so, complete-so}
+use Rattle.solve_top.proofs.ShowLaws.{solved-so, read-so, write-so, source-so, complete-so, drill-so}
 use Rattle.solve_top.proofs.top.solve.Goals as goal
 
 pub returns-clause-answered : goal.returns-clause-answered
@@ -20,3 +20,6 @@ returns-clause-source_failed g c = λ more.
 pub returns-clause-complete : goal.returns-clause-complete
 returns-clause-complete g c = λ text told accepts steady quiet.
     complete-so _ _ _ c.in-Ok.answer c.in-Ok.ensures.answered _ _ _ _ _ c.show.ensures.shows text told accepts steady quiet
+
+pub returns-clause-drilled : goal.returns-clause-drilled
+returns-clause-drilled g c = λ asks quiet. drill-so _ _ _ c.in-Ok.answer c.in-Ok.ensures.answered _ _ _ _ _ c.show.ensures.shows asks quiet

@@ -14,4 +14,4 @@ pub returns-else-is_err-clause-cell : goal.returns-else-is_err-clause-cell
 returns-else-is_err-clause-cell g c =
     let t = c.try_begin-outcome.ensures in
     sound_on _ _ _ _ _ _ c.requires.cell t.begun t.origin t.me (tails_peers _ _ t.tails) (ap (λ h. peers (lanes_taken h.items)) t.heads)
-    (λ _. history_begins _ _ (ok_of c.try_begin-outcome.result t.ok c.if-is_err.ensures.value))
+    (λ _. history_begins _ _ (c.requires.cell.fresh c.requires.fresh).started (ok_of c.try_begin-outcome.result t.ok c.if-is_err.ensures.value))

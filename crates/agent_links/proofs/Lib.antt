@@ -1,0 +1,5 @@
+mod ListLaws
+mod PairLaws
+mod LinkLaws
+mod OutcomeLaws
+pub mod ReadyLaws

@@ -1,0 +1,3 @@
+pub mod Beside
+pub mod Links
+pub mod Ready

@@ -1,0 +1,28 @@
+//! One of each.
+
+ghost use Rattle.std.specs.Prelude.{◌≡◌, ◌<◌, ℕ, Ok, length, slice_index_or, IfOk};
+
+use dcop_base::NoMemory;
+use std::alloc::Global;
+
+/// What a call makes of each of some items, in their order.
+///
+/// # Errors
+///
+/// [`NoMemory`] where memory was wanted and not had.
+pub fn make_each<S: Drop, T: Drop, F: Fn(S) -> Result<T, NoMemory>>(
+    alloc: Global,
+    items: Vec<S>,
+    make: &F,
+) -> Result<Vec<T>, NoMemory>
+    requires { F.IsAlwaysCallable make.now }
+    ensures size { IfOk result (λ made. length made.items ≡ length items.items) }
+    ensures each { IfOk result (λ made. (k : ℕ) (s : S) (t : T) → k < length items.items
+        → F.post make.now (slice_index_or items.items k s) (Ok (slice_index_or made.items k t))) }
+{
+    let mut made = Vec::with_capacity(alloc, items.len())?;
+    for item in items {
+        made.push(make(item)?)?;
+    }
+    Ok(made)
+}

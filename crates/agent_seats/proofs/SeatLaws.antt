@@ -1,0 +1,142 @@
+-- Agents as they are made, and the ends of their links.
+use Rattle.std.proofs.Common.{◌≡◌, ℕ, zero, suc, ◌<◌, ◌≤◌, ◌&&◌, ◌||◌, not, Bool, false, ◌⊎◌, inl, inr, List, [], ◌∷◌, ◌++◌, map, length, slice_get, slice_index_or, Some, refl, sym, ap, ◌∙◌, arith}
+use Rattle.std.specs.List.{range_with_len}
+use Rattle.std.proofs.lemmas.Bool.{eq-eqb}
+use Rattle.std.proofs.lemmas.Option.{none-some, same_Some}
+use Rattle.std.proofs.lemmas.List.{get_or-map}
+use Rattle.std.proofs.lemmas.List.FromFn.{length-map-range_with_len, get_or-map-range_with_len}
+use Rattle.std.specs.declared.vec.Vec.{Vec}
+use Rattle.std.specs.declared.alloc.Global.{Global}
+use Rattle.dcop_base.specs.Limits.{variable_limit}
+use Rattle.dcop_base.specs.Problem.{Dcop}
+use Rattle.dcop_base.specs.Whole.{IsProblem}
+use Rattle.dcop_base.specs.Graph.{neighbours, are_neighbours, share_table, are_joined}
+use Rattle.dcop_base.proofs.JointLaws.{are_neighbours-swap}
+use Rattle.dcop_base.specs.Knowledge.{private_of as known_by}
+use Rattle.protocol_steps.specs.Knowledge.{IsKnowledge, PrivatesAreKnowledge, AcquaintancesAreKnowledge}
+use Rattle.dcop_base.specs.declared.knowledge.Private.{Private}
+use Rattle.protocol_steps.specs.View.{View, private_of, started_of}
+use Rattle.delivery_core.specs.declared.start.Start.{Start}
+use Rattle.delivery_core.specs.declared.start.Start.TheVariants.{Token, Dpop, Adopt}
+use Rattle.delivery_core.specs.Agents.{agents_of}
+use Rattle.delivery_core.specs.Starts.{agent_of, knowledge_for}
+use Rattle.agent_cells.specs.Links.{Tail, Head}
+use Rattle.agent_links.specs.Beside.{neighbours_in, near, AreBeside}
+use Rattle.agent_links.specs.Links.{rows_in}
+use Rattle.agent_seats.specs.declared.seat.Seat.{Seat}
+use Rattle.agent_seats.specs.Kinds.{view_of}
+use Rattle.agent_seats.specs.Seats.{all_neighbours, IsSeat}
+
+fresh_agent : (p : Dcop) (start : Start) (i : ℕ) → started_of (agent_of p start i) ≡ false
+fresh_agent p Token i = refl
+fresh_agent p (Dpop tree) i = refl
+fresh_agent p (Adopt tree error) i = refl
+
+-- the agents of a start, one by one
+pub agents_made : (p : Dcop) (start : Start) → agents_of p start ≡ map (agent_of p start) (range_with_len 0 (length p.sizes))
+agents_made p Token = refl
+agents_made p (Dpop tree) = refl
+agents_made p (Adopt tree error) = refl
+
+-- what agents are made from fits together, with tables or without
+pub knowledge_fits : PrivatesAreKnowledge → AcquaintancesAreKnowledge → (p : Dcop) (start : Start) (i : ℕ) → IsProblem p → i < length p.sizes → IsKnowledge (knowledge_for p start i)
+knowledge_fits privates acquaintances p Token i whole inside = acquaintances p i whole inside
+knowledge_fits privates acquaintances p (Dpop tree) i whole inside = privates p i whole inside
+knowledge_fits privates acquaintances p (Adopt tree error) i whole inside = privates p i whole inside
+
+knows_me : (p : Dcop) (start : Start) (i : ℕ) → (knowledge_for p start i).me ≡ i
+knows_me p Token i = refl
+knows_me p (Dpop tree) i = refl
+knows_me p (Adopt tree error) i = refl
+
+pub knows_neighbours : (p : Dcop) (start : Start) (i : ℕ) → (knowledge_for p start i).neighbours ≡ neighbours p i
+knows_neighbours p Token i = refl
+knows_neighbours p (Dpop tree) i = refl
+knows_neighbours p (Adopt tree error) i = refl
+
+-- the number of an agent, by what it knows
+pub own_me : (p : Dcop) (start : Start) (i : ℕ) (own : Private) → own ≡ knowledge_for p start i → own.me ≡ i
+own_me p start i own e = ap (λ (o : Private). o.me) e ∙ knows_me p start i
+
+pub known_own : (p : Dcop) (start : Start) (i : ℕ) (own : Private) → own ≡ knowledge_for p start i → own ≡ knowledge_for p start own.me
+known_own p start i own e = e ∙ ap (knowledge_for p start) (sym (own_me p start i own e))
+
+agent_private : (p : Dcop) (start : Start) (i : ℕ) → private_of (agent_of p start i) ≡ knowledge_for p start i
+agent_private p Token i = refl
+agent_private p (Dpop tree) i = refl
+agent_private p (Adopt tree error) i = refl
+
+pub fresh_view : (p : Dcop) (start : Start) (i : ℕ) (v : View) → v ≡ agent_of p start i → started_of v ≡ false
+fresh_view p start i v e = ap started_of e ∙ fresh_agent p start i
+
+pub private_view : (p : Dcop) (start : Start) (i : ℕ) (v : View) (own : Private) → v ≡ agent_of p start i → own ≡ knowledge_for p start i → private_of v ≡ own
+private_view p start i v own e known = ap private_of e ∙ agent_private p start i ∙ sym known
+
+-- the neighbours of all variables, by what their agents know
+pub known_lists : (p : Dcop) (known : List Private) → known ≡ map (known_by p) (range_with_len 0 (length p.sizes)) → neighbours_in known ≡ all_neighbours p
+known_lists p known e = ap (λ (xs : List Private). neighbours_in xs) e ∙ read (range_with_len 0 (length p.sizes))
+  where
+    read : (xs : List ℕ) → neighbours_in (map (known_by p) xs) ≡ map (neighbours p) xs
+    read [] = refl
+    read (x ∷ xs) = ap (λ (ls : List (List ℕ)). neighbours p x ∷ ls) (read xs)
+
+not_itself : (p : Dcop) (i : ℕ) → are_neighbours p i i ≡ false
+not_itself p i = ap (λ (b : Bool). not b && (share_table p.tables i i || are_joined p.joints i i)) (eq-eqb i i refl)
+
+-- the neighbours in a problem are beside each other
+pub known_beside : (p : Dcop) (known : List Private) → known ≡ map (known_by p) (range_with_len 0 (length p.sizes)) → AreBeside (neighbours_in known)
+known_beside p known e =
+    let n : ℕ = length p.sizes in
+    let lists : neighbours_in known ≡ all_neighbours p = known_lists p known e in
+    let size : length (neighbours_in known) ≡ n = ap (λ (ls : List (List ℕ)). length ls) lists ∙ length-map-range_with_len (neighbours p) 0 n in
+    record {
+      edge = are_neighbours p;
+      both = are_neighbours-swap p;
+      apart = not_itself p;
+      are = lists ∙ ap (λ (m : ℕ). map (near (are_neighbours p) m) (range_with_len 0 m)) (sym size);
+    }
+
+pub known_few : (p : Dcop) (known : List Private) → IsProblem p → known ≡ map (known_by p) (range_with_len 0 (length p.sizes)) → length known ≤ variable_limit
+known_few p known whole e =
+    let size : length known ≡ length p.sizes = ap (λ (xs : List Private). length xs) e ∙ length-map-range_with_len (known_by p) 0 (length p.sizes) in
+    let few : length p.sizes ≤ variable_limit = whole.few in
+    omega (arith, size, few)
+
+pub lists_size : (p : Dcop) → length (all_neighbours p) ≡ length p.sizes
+lists_size p = length-map-range_with_len (neighbours p) 0 (length p.sizes)
+
+pub list_at : (p : Dcop) (i : ℕ) → i < length p.sizes → slice_index_or (all_neighbours p) i [] ≡ neighbours p i
+list_at p i lt = get_or-map-range_with_len (neighbours p) 0 (length p.sizes) i i [] lt (omega arith)
+
+-- a row that is taken out of rows
+pub row_is : {T : Type 0} (all rows : List (Vec T Global)) (k : ℕ) (row : Vec T Global) → k < length all → ((d : Vec T Global) → row ≡ slice_index_or rows k d) → ((d : Vec T Global) → slice_index_or rows k d ≡ slice_index_or all k d)
+    → row.items ≡ slice_index_or (rows_in all) k []
+row_is {T} all rows k row lt out still = ap (λ (r : Vec T Global). r.items) (out row ∙ still row) ∙ sym (get_or-map (λ (r : Vec T Global). r.items) all k row [] lt)
+
+last_at : {A : Type 0} (xs : List A) (x s : A) (i : ℕ) → slice_get (xs ++ x ∷ []) i ≡ Some s → (slice_get xs i ≡ Some s) ⊎ ((length xs ≡ i) × (x ≡ s))
+last_at [] x s zero e = inr (refl, same_Some x s e)
+last_at [] x s (suc i) e = absurd (none-some s e)
+last_at (y ∷ xs) x s zero e = inl e
+last_at (y ∷ xs) x s (suc i) e = elim (last_at xs x s i e) [
+  | inl old ↦ inl old
+  | inr new ↦ inr (ap suc new.0, new.1)
+]
+
+pub seats_more : (p : Dcop) (start : Start) (all : List (List Tail)) (rows : List (List Head)) (seats new : List Seat) (x : Seat) (own : Private) (me : ℕ) (ts : List Tail) (hs : List Head)
+    → new ≡ seats ++ x ∷ [] → length seats ≡ me → own ≡ knowledge_for p start me → ts ≡ slice_index_or all me [] → hs ≡ slice_index_or rows me []
+    → IsSeat (agent_of p start own.me) own.me ts hs x
+    → ((i : ℕ) (s : Seat) → slice_get seats i ≡ Some s → IsSeat (agent_of p start i) i (slice_index_or all i []) (slice_index_or rows i []) s)
+    → (i : ℕ) (s : Seat) → slice_get new i ≡ Some s → IsSeat (agent_of p start i) i (slice_index_or all i []) (slice_index_or rows i []) s
+seats_more p start all rows seats new x own me ts hs pushed size known t h q each i s e =
+    elim (last_at seats x s i (ap (λ (xs : List Seat). slice_get xs i) (sym pushed) ∙ e)) [
+      | inl old ↦ each i s old
+      | inr last ↦
+          let at : me ≡ i = sym size ∙ last.0 in
+          let now : own.me ≡ i = own_me p start me own known ∙ at in
+          record {
+            view_is = ap (λ (y : Seat). view_of y.agent) (sym last.1) ∙ q.view_is ∙ ap (agent_of p start) now;
+            me_is = ap (λ (y : Seat). y.me) (sym last.1) ∙ q.me_is ∙ now;
+            tails_are = ap (λ (y : Seat). y.tails.items) (sym last.1) ∙ q.tails_are ∙ t ∙ ap (λ (k : ℕ). slice_index_or all k []) at;
+            heads_are = ap (λ (y : Seat). y.heads.items) (sym last.1) ∙ q.heads_are ∙ h ∙ ap (λ (k : ℕ). slice_index_or rows k []) at;
+          }
+    ]

@@ -1,0 +1,14 @@
+//! The agents of a problem, each with the ends of its links.
+//!
+//! [`seats_of`] makes them for a [`Start`](delivery_core::Start), which says of which kind they are
+//! and over which tree. An agent is here a plain value: who runs agents boxes each one, and puts it
+//! into a cell with its ends.
+#![tactic(auto)]
+
+mod agent;
+mod seat;
+mod seats;
+
+pub use agent::Agent;
+pub use seat::Seat;
+pub use seats::seats_of;

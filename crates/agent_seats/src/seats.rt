@@ -1,0 +1,174 @@
+//! The agents of a problem, each with the ends of its links.
+
+ghost use Rattle.std.specs.Prelude.{◌≡◌, ◌<◌, [], length, map, IfOk, slice_index_or};
+ghost use Rattle.std.specs.List.{All, range_with_len};
+ghost use Rattle.dcop_base.specs.Knowledge.{private_of as known_by};
+ghost use Rattle.dcop_base.specs.Whole.{IsProblem};
+ghost use Rattle.protocol_steps.specs.Placing.{IsPlaceFor};
+ghost use Rattle.protocol_steps.specs.TreeAgents.{place_at};
+ghost use Rattle.worker_runs.specs.Cells.{peers};
+ghost use Rattle.agent_cells.specs.Links.{lanes_sent, lanes_taken};
+ghost use Rattle.agent_links.specs.Links.{rows_in, AreLinks};
+ghost use Rattle.delivery_core.specs.Agents.{IsTreeFor, IsStartFor};
+ghost use Rattle.delivery_core.specs.Starts.{agent_of, knowledge_for};
+ghost use Rattle.agent_seats.specs.Kinds.{view_of};
+ghost use Rattle.agent_seats.specs.Seats.{all_neighbours, IsSeat, AreSeats};
+
+use crate::agent::Agent;
+use crate::seat::Seat;
+use adopt_agent::AdoptAgent;
+use agent_cells::{HeadList, TailList};
+use agent_links::{Links, link_all};
+use dcop_base::{NoMemory, Private, Problem, VarId, acquaintance, private, problem_is_whole};
+use delivery_core::Start;
+use dfs_agent::TokenAgent;
+use dpop_agent::DpopAgent;
+use protocol_steps::{acquaintance_is_knowledge, places_fit, private_is_knowledge};
+use pseudotree::{Place, Tree, place};
+use std::alloc::Global;
+use std::mem;
+
+/// The agents of a start, with links to their neighbours.
+pub fn seats_of(alloc: Global, problem: &Problem, start: &Start) -> Result<Vec<Seat>, NoMemory>
+    requires start { IsStartFor problem.now start.now }
+    ensures { IfOk result (λ seats. AreSeats problem.now start.now seats.items) }
+{
+    problem_is_whole(problem);
+    let known = known_in(alloc, problem)?;
+    let links = link_all(alloc, known.as_slice())?;
+    seat_all(alloc, problem, start, links)
+}
+
+/// What each agent knows of a problem.
+fn known_in(alloc: Global, problem: &Problem) -> Result<Vec<Private>, NoMemory>
+    ensures { IfOk result (λ known. known.items ≡ map (known_by problem.now) (range_with_len 0 (length problem.now.sizes))) }
+{
+    let mut known = Vec::new(alloc);
+    for me in 0..problem.sizes.as_slice().len() {
+        known.push(private(alloc, problem, VarId(me as u32))?)?;
+    }
+    Ok(known)
+}
+
+/// What the agent of a variable is made from. Token agents look at no cost, so they get no tables.
+fn known_for(
+    alloc: Global,
+    problem: &Problem,
+    start: &Start,
+    me: VarId,
+) -> Result<Private, NoMemory>
+    requires { me < length problem.now.sizes }
+    ensures { IfOk result (λ own. own ≡ knowledge_for problem.now start.now me) }
+{
+    match start {
+        Start::Token => acquaintance(alloc, problem, me),
+        Start::Dpop(_) | Start::Adopt(..) => private(alloc, problem, me),
+    }
+}
+
+/// The agents of a start, each with the ends of its links.
+fn seat_all(
+    alloc: Global,
+    problem: &Problem,
+    start: &Start,
+    links: Links,
+) -> Result<Vec<Seat>, NoMemory>
+    requires whole { IsProblem problem.now }
+    requires start { IsStartFor problem.now start.now }
+    requires linked { AreLinks (all_neighbours problem.now) (rows_in links.tails.items) (rows_in links.heads.items) }
+    ensures { IfOk result (λ seats. AreSeats problem.now start.now seats.items) }
+{
+    let Links {
+        mut tails,
+        mut heads,
+    } = links;
+    let mut seats = Vec::new(alloc);
+    for me in 0..problem.sizes.as_slice().len() {
+        let own = known_for(alloc, problem, start, VarId(me as u32))?;
+        let own_tails = take_row(alloc, &mut tails, me);
+        let own_heads = take_row(alloc, &mut heads, me);
+        seats.push(seat_for(alloc, problem, start, own, own_tails, own_heads)?)?;
+    }
+    Ok(seats)
+}
+
+/// One of some lists, which leaves an empty one in its place.
+fn take_row<T: Drop>(alloc: Global, rows: &mut Vec<Vec<T>>, place: usize) -> Vec<T>
+    requires { place < length rows.old.items }
+    ensures row { (d : _) → result ≡ slice_index_or rows.old.items place d }
+    ensures rest { (k : _) (d : _) → place < k → slice_index_or rows.new.items k d ≡ slice_index_or rows.old.items k d }
+    ensures size { length rows.new.items ≡ length rows.old.items }
+{
+    mem::replace(&mut rows[place], Vec::new(alloc))
+}
+
+/// The agent of a variable, with the ends of its links.
+fn seat_for(
+    alloc: Global,
+    problem: &Problem,
+    start: &Start,
+    own: Private,
+    tails: TailList,
+    heads: HeadList,
+) -> Result<Seat, NoMemory>
+    requires whole { IsProblem problem.now }
+    requires start { IsStartFor problem.now start.now }
+    requires inside { own.me < length problem.now.sizes }
+    requires known { own ≡ knowledge_for problem.now start.now own.me }
+    requires tail_peers { peers (lanes_sent tails.items) ≡ own.neighbours }
+    requires head_peers { peers (lanes_taken heads.items) ≡ own.neighbours }
+    requires unsent { All (λ l. l.messages ≡ []) (lanes_sent tails.items) }
+    requires untaken { All (λ l. l.messages ≡ []) (lanes_taken heads.items) }
+    ensures { IfOk result (IsSeat (agent_of problem.now start.now own.me) own.me tails.items heads.items) }
+{
+    private_is_knowledge();
+    acquaintance_is_knowledge();
+    let me = own.me;
+    let agent = make_agent(alloc, problem, start, own)?;
+    Ok(Seat {
+        agent,
+        me,
+        tails,
+        heads,
+    })
+}
+
+/// The agent of a variable, which knows this.
+fn make_agent(
+    alloc: Global,
+    problem: &Problem,
+    start: &Start,
+    own: Private,
+) -> Result<Agent, NoMemory>
+    requires whole { IsProblem problem.now }
+    requires start { IsStartFor problem.now start.now }
+    requires inside { own.me < length problem.now.sizes }
+    requires known { own ≡ knowledge_for problem.now start.now own.me }
+    ensures { IfOk result (λ agent. view_of agent ≡ agent_of problem.now start.now own.me) }
+{
+    private_is_knowledge();
+    acquaintance_is_knowledge();
+    match start {
+        Start::Token => Ok(Agent::Token(TokenAgent::new(alloc, own)?)),
+        Start::Dpop(tree) => {
+            let place = place_in(alloc, problem, tree, own.me)?;
+            Ok(Agent::Dpop(DpopAgent::new(alloc, own, place)?))
+        }
+        Start::Adopt(tree, error) => {
+            let place = place_in(alloc, problem, tree, own.me)?;
+            Ok(Agent::Adopt(AdoptAgent::new(alloc, own, place, *error)?))
+        }
+    }
+}
+
+/// The place of a variable in a tree on which the agents run.
+fn place_in(alloc: Global, problem: &Problem, tree: &Tree, me: VarId) -> Result<Place, NoMemory>
+    requires whole { IsProblem problem.now }
+    requires tree { IsTreeFor problem.now tree.now }
+    requires inside { me < length problem.now.sizes }
+    ensures placed { IfOk result (λ place. place ≡ place_at problem.now tree.now.paths me) }
+    ensures fits { IfOk result (IsPlaceFor (known_by problem.now me)) }
+{
+    places_fit();
+    place(alloc, tree, problem, me)
+}

@@ -1,0 +1,10 @@
+mod ListLaws
+mod CellLaws
+mod JoinLaws
+mod SettleLaws
+mod PlayLaws
+mod PartLaws
+mod BrokenLaws
+mod BreakLaws
+mod RoundLaws
+mod RunLaws

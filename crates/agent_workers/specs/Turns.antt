@@ -1,0 +1,71 @@
+-- Turns, and sprints of turns.
+use Rattle.std.specs.Prelude.{◌≡◌, ℕ, ◌+◌, ◌*◌, ◌<◌, ◌≤◌, true, false, List, length, Some, None, slice_get}
+use Rattle.std.specs.declared.dyn_box.DynBox.{DynBox}
+use Rattle.std.specs.declared.alloc.Global.{Global}
+use Rattle.dcop_base.specs.Limits.{variable_limit}
+use Rattle.protocol_steps.specs.View.{View, ended_of}
+use Rattle.protocol_steps.specs.Rounds.{most_events, link_share}
+use Rattle.worker_runs.specs.Visits.{IsVisit}
+use Rattle.worker_runs.specs.Sprints.{IsSprint}
+use Rattle.worker_runs.specs.CellRounds.{total}
+use Rattle.agent_cells.specs.declared.cell.Cell.{Cell}
+use Rattle.agent_cells.specs.declared.fault.VisitFault.{VisitFault}
+use Rattle.agent_cells.specs.State.{state_of, fault_in}
+use Rattle.agent_workers.specs.Joined.{states_of, EachBecomes, HasBegun, IsSameCell}
+
+-- the most messages that one visit of a cell takes, and that a round takes for one cell
+abbrev pub visit_limit : ℕ
+visit_limit = link_share * variable_limit
+
+abbrev pub sprint_limit : ℕ
+sprint_limit = most_events * visit_limit
+
+module _ {X : Type 0} {F : X → Type 0} where
+  -- a cell that may be visited until it has ended, with at most 1,000 peers
+  pub record IsReady (meaning : DynBox X Global F → View) (c : Cell X F) : Type 0 where
+    pub begun : HasBegun meaning c
+    pub few : length (state_of meaning c).taken ≤ variable_limit
+
+  -- it is the same agent's cell, with the same links, and may be visited again
+  pub record StaysReady (meaning : DynBox X Global F → View) (before after : Cell X F) : Type 0 where
+    pub same : IsSameCell before after
+    pub ready : IsReady meaning after
+
+  -- the turn of one cell, which took so many messages: it was visited, if it had not ended
+  pub record HasTurned (meaning : DynBox X Global F → View) (count : ℕ) (before after : Cell X F) : Type 0 where
+    pub rests : ended_of (state_of meaning before).view ≡ true → (after ≡ before) × (count ≡ 0)
+    pub visit : ended_of (state_of meaning before).view ≡ false → IsVisit (state_of meaning before) count (state_of meaning after) × (fault_in after ≡ None)
+
+  -- a cell was visited some times, at most so many
+  pub record HasSprinted (meaning : DynBox X Global F → View) (visits : ℕ) (before after : Cell X F) : Type 0 where
+    pub sprint : IsSprint visits (state_of meaning before) (state_of meaning after)
+    pub fault : fault_in before ≡ None → fault_in after ≡ None
+
+  -- a cell stands failed by this fault
+  pub record SomeFailed (fault : VisitFault) (cells : List (Cell X F)) : Type 0 where
+    pub place : ℕ
+    pub cell : Cell X F
+    pub at : slice_get cells place ≡ Some cell
+    pub is : fault_in cell ≡ Some fault
+
+  -- each of the first cells had its turn, so many of them, and they took so many messages; any other cell stands where it stood
+  pub record AreTurning (meaning : DynBox X Global F → View) (done count : ℕ) (before after : List (Cell X F)) : Type 0 where
+    pub ready : EachBecomes (StaysReady meaning) before after
+    pub turned : (i : ℕ) (a b : Cell X F) → slice_get before i ≡ Some a → slice_get after i ≡ Some b → i < done → (n : ℕ) × HasTurned meaning n a b
+    pub rest : (i : ℕ) (a b : Cell X F) → slice_get before i ≡ Some a → slice_get after i ≡ Some b → done ≤ i → b ≡ a
+    pub counted : total (states_of meaning after) ≡ total (states_of meaning before) + count
+    pub most : count ≤ done * visit_limit
+
+  -- each cell had so many turns, and they took so many messages
+  pub record AreSprinting (meaning : DynBox X Global F → View) (turns count : ℕ) (before after : List (Cell X F)) : Type 0 where
+    pub ready : EachBecomes (StaysReady meaning) before after
+    pub none : turns ≡ 0 → after ≡ before
+    pub some : 0 < turns → EachBecomes (HasSprinted meaning turns) before after
+    pub counted : total (states_of meaning after) ≡ total (states_of meaning before) + count
+    pub most : count ≤ turns * (length before * visit_limit)
+
+  -- each cell had at most 32 turns, and they took so many messages
+  pub record HavePlayed (meaning : DynBox X Global F → View) (count : ℕ) (before after : List (Cell X F)) : Type 0 where
+    pub sprints : EachBecomes (HasSprinted meaning most_events) before after
+    pub counted : total (states_of meaning after) ≡ total (states_of meaning before) + count
+    pub most : count ≤ length before * sprint_limit

@@ -1,0 +1,93 @@
+//! Parts of a list, beside each other.
+
+ghost use Rattle.std.specs.Prelude.{◌≡◌, ◌≤◌, ◌<◌, ◌+◌, ◌*◌, ◌++◌, length, IfOk};
+ghost use Rattle.std.specs.Thread.{IsSync, IsSend};
+ghost use Rattle.dcop_base.specs.Limits.{count_limit};
+ghost use Rattle.agent_workers.specs.Turns.{sprint_limit};
+ghost use Rattle.agent_workers.specs.Parts.{both_of, AcceptsParts, IsCall, TakesFew, IsPlayedByParts};
+
+use agent_cells::VisitFault;
+use std::marker::{Send, Sync};
+use std::thread::{Threads, join_mut};
+
+/// Plays the parts of a list, of this size but the last, beside each other. Of these parts the first
+/// `busy` may have something to do; those after them are played in one thread.
+#[cycle(parts)]
+pub(crate) fn play_parts<
+    R: Threads + Sync,
+    T: Send,
+    F: Fn(&mut [T]) -> Result<u64, VisitFault> + Sync,
+>(rt: &R, play: &F, size: usize, busy: usize, all: &mut [T]) -> Result<u64, VisitFault>
+    requires size { 0 < size }
+    requires accepts { AcceptsParts F.Fn play.now all.old }
+    requires few { TakesFew F.Fn play.now }
+    requires within { length all.old * sprint_limit ≤ count_limit }
+    ensures parts { IsPlayedByParts F.Fn play.now all.old result all.new }
+    ensures few { IfOk result (λ n. n ≤ length all.old * sprint_limit) }
+{
+    if all.len() <= size {
+        return play_one(play, all);
+    }
+    let (part, others) = all.split_at_mut(size);
+    if busy > 0 {
+        return play_beside(rt, play, size, busy - 1, part, others);
+    }
+    let first = play_one(play, part);
+    let rest = play_parts(rt, play, size, 0, others);
+    both(first, rest)
+}
+
+/// Plays a part, and beside it the parts after it, of which the first `busy` may have something to do.
+#[cycle(parts)]
+fn play_beside<R: Threads + Sync, T: Send, F: Fn(&mut [T]) -> Result<u64, VisitFault> + Sync>(
+    rt: &R,
+    play: &F,
+    size: usize,
+    busy: usize,
+    part: &mut [T],
+    others: &mut [T],
+) -> Result<u64, VisitFault>
+    requires size { 0 < size }
+    requires some { 0 < length part.old }
+    requires accepts { AcceptsParts F.Fn play.now (part.old ++ others.old) }
+    requires few { TakesFew F.Fn play.now }
+    requires within { (length part.old + length others.old) * sprint_limit ≤ count_limit }
+    ensures parts { IsPlayedByParts F.Fn play.now (part.old ++ others.old) result (part.new ++ others.new) }
+    ensures few { IfOk result (λ n. n ≤ (length part.old + length others.old) * sprint_limit) }
+{
+    let mut first = || -> Result<u64, VisitFault>
+        requires { (p : _) → p.now ≡ part.now → F.pre play.now p }
+        ensures { IsCall F.Fn play.entry.now part.entry.now result part.exit.now }
+    { play_one(play, part) };
+    let mut rest = || -> Result<u64, VisitFault>
+        requires { IsSync R.row × IsSync F.row × IsSend T.row × (0 < size) × AcceptsParts F.Fn play.now others.now × TakesFew F.Fn play.now × (length others.now * sprint_limit ≤ count_limit) }
+        ensures parts { IsPlayedByParts F.Fn play.entry.now others.entry.now result others.exit.now }
+        ensures few { IfOk result (λ n. n ≤ length others.entry.now * sprint_limit) }
+    { play_parts(rt, play, size, busy, others) };
+    let (first, rest) = join_mut(rt, &mut first, &mut rest);
+    both(first, rest)
+}
+
+/// Plays one part.
+fn play_one<T: Send, F: Fn(&mut [T]) -> Result<u64, VisitFault> + Sync>(
+    play: &F,
+    part: &mut [T],
+) -> Result<u64, VisitFault>
+    requires { (p : _) → p.now ≡ part.old → F.pre play.now p }
+    ensures { IsCall F.Fn play.now part.old result part.new }
+{
+    play(part)
+}
+
+/// What two parts came to: the messages that they took together, or a fault of one of them, and
+/// want of memory before the end of the stamps.
+fn both(first: Result<u64, VisitFault>, rest: Result<u64, VisitFault>) -> Result<u64, VisitFault>
+    requires fits { IfOk first (λ m. IfOk rest (λ n. m + n ≤ count_limit)) }
+    ensures { result ≡ both_of first rest }
+{
+    match (first, rest) {
+        (Ok(first), Ok(rest)) => Ok(first + rest),
+        (Err(VisitFault::StampEnd), Err(fault)) => Err(fault),
+        (Err(fault), _) | (Ok(_), Err(fault)) => Err(fault),
+    }
+}

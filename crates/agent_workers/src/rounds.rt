@@ -1,0 +1,80 @@
+//! A round of cells.
+
+ghost use Rattle.std.specs.Prelude.{◌≡◌, ◌≤◌, ◌<◌, ◌+◌, ◌*◌, length, IfOk, OnOk, IfErr, None};
+ghost use Rattle.worker_runs.specs.CellRounds.{total};
+ghost use Rattle.worker_runs.specs.NodeRounds.{home, IsPartRound};
+ghost use Rattle.worker_runs.specs.StampCounts.{IsMoved};
+ghost use Rattle.agent_cells.specs.declared.fault.VisitFault.TheVariants.{StampEnd as stamp_end};
+ghost use Rattle.agent_cells.specs.State.{fault_in};
+ghost use Rattle.agent_workers.specs.Joined.{states_of, EachIs, EachBecomes, HasBegun, IsSameCell, IsJoined};
+ghost use Rattle.agent_workers.specs.Turns.{sprint_limit, SomeFailed};
+ghost use Rattle.agent_workers.specs.Broken.{AreBrokenOff};
+
+use crate::play::play_cells;
+use crate::settle::settle_all;
+use agent_cells::{Cell, VisitFault};
+use dcop_edge::Gate;
+use std::thread::Threads;
+
+/// Cells in the order of their agents' numbers.
+pub type CellsList = Vec<Cell>;
+
+/// One round: settles every link inside a node, of so many nodes, and then plays the cells in parts
+/// beside each other, at most as many as there are workers, of equal length but the last. A part is
+/// played in turns, in each of which every cell of the part that has not ended is visited once, in
+/// order; it stops after 32 turns, or after a turn that took nothing. Parts behind the last one for
+/// which something may wait are played one after another, in one thread. Answers how many messages
+/// were taken. It takes memory.
+///
+/// After a fault the cells are as their visits left them. [`VisitFault::StampEnd`] comes only where
+/// a cell stands failed by it.
+pub fn round<R: Threads + Sync, G: Gate>(
+    rt: &R,
+    cells: &mut CellsList,
+    nodes: u32,
+    workers: u32,
+    gate: &G,
+) -> Result<u64, VisitFault>
+    requires workers { 0 < workers }
+    requires joined { IsJoined (λ b. meaning (b.vtable, b.value)) nodes cells.old.items }
+    requires begun { EachIs (λ c. HasBegun (λ b. meaning (b.vtable, b.value)) c) cells.old.items }
+    ensures joined { IsJoined (λ b. meaning (b.vtable, b.value)) nodes cells.new.items }
+    ensures begun { EachIs (λ c. HasBegun (λ b. meaning (b.vtable, b.value)) c) cells.new.items }
+    ensures same { EachBecomes (λ a b. IsSameCell a b) cells.old.items cells.new.items }
+    ensures round { OnOk result (IsPartRound (home nodes (length cells.old.items))
+        (states_of (λ b. meaning (b.vtable, b.value)) cells.old.items) (states_of (λ b. meaning (b.vtable, b.value)) cells.new.items)) }
+    ensures counted { IfOk result (λ n. total (states_of (λ b. meaning (b.vtable, b.value)) cells.new.items) ≡ total (states_of (λ b. meaning (b.vtable, b.value)) cells.old.items) + n) }
+    ensures most { IfOk result (λ n. n ≤ length cells.old.items * sprint_limit) }
+    ensures fine { OnOk result (EachBecomes (λ a b. fault_in a ≡ None → fault_in b ≡ None) cells.old.items cells.new.items) }
+    ensures err { IfErr result (λ f. SomeFailed f cells.new.items) }
+{
+    play_round(rt, cells.as_mut_slice(), nodes, workers, gate)
+}
+
+/// [`round`], on a slice.
+pub(crate) fn play_round<R: Threads + Sync, G: Gate>(
+    rt: &R,
+    cells: &mut [Cell],
+    nodes: u32,
+    workers: u32,
+    gate: &G,
+) -> Result<u64, VisitFault>
+    requires workers { 0 < workers }
+    requires joined { IsJoined (λ b. meaning (b.vtable, b.value)) nodes cells.old }
+    requires begun { EachIs (λ c. HasBegun (λ b. meaning (b.vtable, b.value)) c) cells.old }
+    ensures joined { IsJoined (λ b. meaning (b.vtable, b.value)) nodes cells.new }
+    ensures begun { EachIs (λ c. HasBegun (λ b. meaning (b.vtable, b.value)) c) cells.new }
+    ensures same { EachBecomes (λ a b. IsSameCell a b) cells.old cells.new }
+    ensures round { OnOk result (IsPartRound (home nodes (length cells.old))
+        (states_of (λ b. meaning (b.vtable, b.value)) cells.old) (states_of (λ b. meaning (b.vtable, b.value)) cells.new)) }
+    ensures counted { IfOk result (λ n. total (states_of (λ b. meaning (b.vtable, b.value)) cells.new) ≡ total (states_of (λ b. meaning (b.vtable, b.value)) cells.old) + n) }
+    ensures most { IfOk result (λ n. n ≤ length cells.old * sprint_limit) }
+    ensures fine { OnOk result (EachBecomes (λ a b. fault_in a ≡ None → fault_in b ≡ None) cells.old cells.new) }
+    ensures err { IfErr result (λ f. SomeFailed f cells.new) }
+    ensures end { IfErr result (λ f. f ≡ stamp_end → EachIs (λ c. fault_in c ≡ None) cells.old
+        → AreBrokenOff (λ b. meaning (b.vtable, b.value)) IsMoved sprint_limit (states_of (λ b. meaning (b.vtable, b.value)) cells.old) cells.new) }
+{
+    let size = cells.len().div_ceil(workers as usize).max(1);
+    let busy = settle_all(cells, nodes, size);
+    play_cells(rt, gate, size, busy, cells)
+}

@@ -1,0 +1,12 @@
+//! Calls that the program does not make, and sources and sinks that fail, with ample memory: codes, frames, numbered
+//! names.
+#![tactic(auto)]
+
+#[cfg(test)]
+mod codes;
+#[cfg(test)]
+mod edges;
+#[cfg(test)]
+mod frames;
+#[cfg(test)]
+mod texts;

@@ -1,0 +1,5 @@
+mod StreamLaws
+mod DrawnLaws
+mod WholeLaws
+mod TiedLaws
+mod MadeLaws

@@ -1,0 +1,6 @@
+pub mod SortedLaws
+pub mod TakenLaws
+pub mod EventLineLaws
+pub mod StampStepLaws
+pub mod LogStampLaws
+pub mod LogRows

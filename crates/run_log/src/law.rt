@@ -1,0 +1,9 @@
+//! The law on the stamps of merged journals.
+
+ghost use Rattle.run_log.specs.Laws.{MergedStampsAreRight};
+
+/// The merged journals of a run of cells are a log of that run, which ends as the cells tell, and its
+/// stamps are right.
+pub fn merged_stamps_are_right()
+    ensures { MergedStampsAreRight }
+{}

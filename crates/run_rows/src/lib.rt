@@ -1,0 +1,7 @@
+//! Calls that the program does not make, with ample memory: a run that is replayed, a table and a problem that are sliced.
+#![tactic(auto)]
+
+#[cfg(test)]
+mod runs;
+#[cfg(test)]
+mod tables;

@@ -1,0 +1,142 @@
+//! A run of ADOPT that is replayed.
+
+ghost use Rattle.std.specs.Prelude.{◌≡◌, ℕ, ◌<◌, true, length, Some, IfOk, OnOk};
+ghost use Rattle.dcop_base.specs.Graph.{are_neighbours};
+ghost use Rattle.pseudotree.specs.Fault.{parent_at};
+ghost use Rattle.pseudotree.specs.Tree.{parent_of};
+ghost use Rattle.pseudotree.specs.Pseudotree.{IsPseudotreeOf, IsLinked};
+ghost use Rattle.delivery_core.specs.Agents.{IsTreeFor};
+
+use dcop_base::{Problem, Sequence, Table, Val, VarId, private};
+use delivery_core::{Start, replay};
+use protocol_steps::{Event, Message, Take};
+use pseudotree::{Tree, check_tree};
+use std::alloc::Global;
+use std::process::Abort;
+use std::test::Fail;
+
+// The triangle of 0, 1 and 2 with the tail 3 at 1, where two variables that are both 1 cost nothing.
+fn paw(alloc: Global) -> Result<Problem, Fail> {
+    let mut tables = Vec::new(alloc);
+    for (one, other) in [(0, 1), (0, 2), (1, 2), (1, 3)] {
+        let scope = Sequence::from_vec(vec![in alloc; VarId(one), VarId(other)]?);
+        let sizes = Sequence::from_vec(vec![in alloc; 2, 2]?);
+        let cells = Sequence::from_vec(vec![in alloc; 1, 2, 2, 0]?);
+        tables.push(Table::new(scope, sizes, cells)?)?;
+    }
+    let sizes = Sequence::from_vec(vec![in alloc; 2, 2, 2, 2]?);
+    Ok(Problem::new(alloc, sizes, Sequence::from_vec(tables))?)
+}
+
+// Whether a variable is the root or a neighbour of its parent.
+fn is_tied(alloc: Global, problem: &Problem, tree: &Tree, var: VarId) -> Result<bool, Fail>
+    requires tree { IsPseudotreeOf problem.now tree.now }
+    requires within { var < length problem.now.sizes }
+    ensures { IfOk result (λ tied. tied ≡ true
+        → (u : ℕ) → parent_of tree.now.paths var ≡ Some u → are_neighbours problem.now var u ≡ true) }
+{
+    let own = private(alloc, problem, var)?;
+    match tree.parent(var) {
+        None => Ok(true),
+        Some(parent) => Ok(own.neighbours.as_slice().contains(&parent)),
+    }
+}
+
+// These parents, where a number that is no variable stands for none.
+fn parents_of(alloc: Global, above: &[u32]) -> Result<Vec<Option<VarId>>, Fail>
+    ensures sized { IfOk result (λ parents. length parents.items ≡ length above.now) }
+    ensures known { IfOk result (λ parents.
+        (v u : ℕ) → parent_at parents.items v ≡ Some u → u < length above.now) }
+{
+    let mut parents = Vec::new(alloc);
+    for var in above {
+        let is_root = *var as usize >= above.len();
+        parents.push(if is_root { None } else { Some(VarId(*var)) })?;
+    }
+    Ok(parents)
+}
+
+// Sees that each variable but the root is a neighbour of its parent.
+fn see_links(rt: &impl Abort, alloc: Global, problem: &Problem, tree: &Tree) -> Result<(), Fail>
+    requires { IsPseudotreeOf problem.now tree.now }
+    ensures { OnOk result (IsLinked problem.now tree.now.paths) }
+{
+    for index in 0..problem.sizes.as_slice().len() {
+        assert!(rt; is_tied(alloc, problem, tree, VarId(index as u32))?);
+    }
+    Ok(())
+}
+
+// The tree of these parents, in which each variable but the root is a neighbour of its parent.
+fn tree_of(rt: &impl Abort, alloc: Global, problem: &Problem, above: &[u32]) -> Result<Tree, Fail>
+    ensures { IfOk result (IsTreeFor problem.now) }
+{
+    let parents = parents_of(alloc, above)?;
+    assert!(rt; problem.sizes.as_slice().len() == above.len());
+    let tree = check_tree(alloc, problem, parents.as_slice())?;
+    see_links(rt, alloc, problem, &tree)?;
+    Ok(tree)
+}
+
+// One event with these takes.
+fn event(alloc: Global, agent: u32, takes: &[Take]) -> Result<Event, Fail> {
+    Ok(Event {
+        agent: VarId(agent),
+        takes: Sequence::from_vec(takes.to_vec(alloc)?),
+    })
+}
+
+// So many messages of a sender.
+fn take(from: u32, count: u32) -> Take {
+    Take {
+        from: VarId(from),
+        count,
+    }
+}
+
+// Sees the COST that 2 has sent to 1 in the paw after so many messages of each of these senders.
+fn see_cost(
+    rt: &impl Abort,
+    alloc: Global,
+    takes: &[Take],
+    pairs: &[(VarId, Val)],
+    bounds: (u64, Option<u64>),
+) -> Result<(), Fail> {
+    let mut events = Vec::new(alloc);
+    for one in takes {
+        events.push(event(alloc, 2, &[*one])?)?;
+    }
+    let paw = paw(alloc)?;
+    let tree = tree_of(rt, alloc, &paw, &[4, 0, 1, 1])?;
+    let state = replay(
+        alloc,
+        &paw,
+        Start::Adopt(tree, 0),
+        &Sequence::from_vec(events),
+    )?;
+    assert!(rt; paw.sizes.as_slice().len() == 4);
+    assert!(rt;
+        match state.last_sent(VarId(2), VarId(1)) {
+            Some(
+                Message::Cost {
+                    context,
+                    lower,
+                    upper
+                }
+            ) => { context.pairs() == pairs && (*lower, *upper) == bounds }
+            _ => false,
+        }
+    );
+    Ok(())
+}
+
+#[test]
+fn a_cost_in_the_paw_has_an_upper_bound_once_all_is_known(rt: HostRuntime) -> Result<(), Fail> {
+    let alloc = rt.alloc();
+    let zero = |var| (VarId(var), Val(0));
+    see_cost(&rt, alloc, &[], &[], (0, None))?;
+    see_cost(&rt, alloc, &[take(1, 2)], &[zero(1)], (1, None))?;
+    let takes = [take(1, 2), take(0, 1)];
+    see_cost(&rt, alloc, &takes, &[zero(0), zero(1)], (2, Some(2)))?;
+    Ok(())
+}

@@ -1,0 +1,42 @@
+//! The calls that take memory, where there is enough.
+
+ghost use Rattle.std.specs.Prelude.{◌≡◌, [], ◌∷◌, IfOk};
+
+use cost_table::{fix, slice};
+use dcop_base::{CellList, Problem, SizeList, Table, TableList, Val, ValList, VarId, VarList};
+use std::alloc::Global;
+use std::test::Fail;
+
+// The table of one variable with two values, of which the second costs 3.
+fn single(alloc: Global) -> Result<Table, Fail>
+    ensures scope { IfOk result (λ table. table.scope ≡ 0 ∷ []) }
+    ensures sizes { IfOk result (λ table. table.sizes ≡ 2 ∷ []) }
+{
+    let scope = VarList::from_vec(vec![in alloc; VarId(0)]?);
+    let sizes = SizeList::from_vec(vec![in alloc; 2]?);
+    let cells = CellList::from_vec(vec![in alloc; 1, 3]?);
+    Ok(Table::new(scope, sizes, cells)?)
+}
+
+#[test]
+fn fixes_a_variable(rt: HostRuntime) -> Result<(), Fail> {
+    let rest = fix(rt.alloc(), &single(rt.alloc())?, VarId(0), Val(1))?;
+    assert_eq!(rt; rest.cells.as_slice(), [3].as_slice());
+    Ok(())
+}
+
+// The slice of the problem of that table at the second value.
+fn slice_of_single(alloc: Global) -> Result<Problem, Fail> {
+    let tables = TableList::from_vec(vec![in alloc; single(alloc)?]?);
+    let problem = Problem::new(alloc, SizeList::from_vec(vec![in alloc; 2]?), tables)?;
+    let cut = VarList::from_vec(vec![in alloc; VarId(0)]?);
+    let values = ValList::from_vec(vec![in alloc; Val(1)]?);
+    Ok(slice(alloc, &problem, &cut, &values)?)
+}
+
+#[test]
+fn slices_a_problem(rt: HostRuntime) -> Result<(), Fail> {
+    let slice = slice_of_single(rt.alloc())?;
+    assert_eq!(rt; slice.sizes.as_slice(), [1].as_slice());
+    Ok(())
+}

@@ -1,0 +1,40 @@
+-- What the method auto gives on a file.
+use Rattle.std.specs.Prelude.{◌≡◌, ℕ, false, Option, Some, None, is_some}
+use Rattle.dcop_base.specs.Problem.{Dcop}
+use Rattle.dcop_base.specs.Whole.{IsProblem}
+use Rattle.pseudotree.specs.declared.width.Wide.{Wide}
+use Rattle.problem_text.specs.File.{TextFile}
+use Rattle.problem_text.specs.Declarations.{Declared}
+use Rattle.problem_text.specs.Steps.{declared_by}
+use Rattle.problem_solved.specs.Goal.{problem_solved}
+use Rattle.solve_report.specs.declared.answer.Answer.{Answer}
+use Rattle.solve_methods.specs.Adopt.{IsAdoptAnswer}
+use Rattle.solve_methods.specs.Dpop.{HaveAgreed, IsDpopSolved, wide_in}
+use Rattle.solve_methods.specs.Reached.{HaveReached}
+use Rattle.solve_methods.specs.declared.auto.Settled.{Settled}
+use Rattle.solve_methods.specs.declared.auto.Settled.TheVariants.{ByDpop, ByAdopt}
+
+-- the answer of auto on a file in whose tree this is too wide for DPOP, or nothing: that of DPOP where it fits, and else that of ADOPT
+abbrev pub IsAutoBy : TextFile → ℕ → ℕ → Option Wide → Answer → Type 0
+IsAutoBy file error budget None answer = IsDpopSolved file false answer
+IsAutoBy file error budget (Some wide) answer = IsAdoptAnswer file error budget answer
+
+-- the answer of auto on a file: by what is too wide in the depth-first tree of the problem solved
+abbrev pub IsAutoAnswer : TextFile → ℕ → ℕ → Answer → Type 0
+IsAutoAnswer file error budget answer = IsAutoBy file error budget (wide_in (problem_solved file)) answer
+
+-- the answer of auto on a text that declares this: that on its file, whose joints follow from the tables
+pub record AnswersAuto (d : Declared) (error budget : ℕ) (answer : Answer) : Type 0 where
+  pub file : TextFile
+  pub whole : IsProblem file.problem
+  pub declared : declared_by file ≡ d
+  pub is : IsAutoAnswer file error budget answer
+
+-- something is too wide for DPOP in the depth-first tree of a problem
+abbrev pub IsWide : Dcop → Type 0
+IsWide p = (wide : Wide) × (wide_in p ≡ Some wide)
+
+-- what the agents of a problem come to: what they choose by DPOP where it fits, and else what they reach by ADOPT
+abbrev pub GivesSettled : Dcop → ℕ → ℕ → Settled → Type 0
+GivesSettled p error budget (ByDpop chosen) = (wide_in p ≡ None) × (is_some chosen.certificate ≡ false) × HaveAgreed p chosen
+GivesSettled p error budget (ByAdopt reached) = IsWide p × HaveReached p error budget reached

@@ -1,0 +1,43 @@
+//! The answer of the method auto.
+
+ghost use Rattle.problem_text.specs.Steps.{declared_by};
+ghost use Rattle.problem_solved.specs.Goal.{problem_solved};
+ghost use Rattle.solve_report.specs.AnswerText.{HasText};
+ghost use Rattle.solve_methods.specs.Auto.{AnswersAuto, GivesSettled};
+ghost use Rattle.solve_methods.specs.Goal.{TellsRight};
+
+use crate::adopt::{Asked, Reached, adopt_report};
+use crate::dpop::{Chosen, dpop_report};
+use dcop_base::problem_is_whole;
+use problem_text::ProblemFile;
+use solve_report::Answer;
+
+/// What the agents of a problem come to: by DPOP where its tables fit, and by ADOPT otherwise.
+#[derive(Debug, Drop)]
+pub enum Settled {
+    /// The values that DPOP agents chose.
+    ByDpop(Chosen),
+    /// What ADOPT agents reached, where the tables of DPOP would be too wide.
+    ByAdopt(Reached),
+}
+
+/// The answer of auto on a file: the report of what the agents of the problem solved came to. Where
+/// they chose by DPOP its error is 0, and else the one that is asked for.
+pub fn auto_answer(file: ProblemFile, asked: Asked, settled: Settled) -> Answer
+    requires { GivesSettled (problem_solved file) asked.error asked.budget settled }
+    ensures belongs { AnswersAuto (declared_by file) asked.error asked.budget result }
+    ensures right { TellsRight result }
+    ensures told { HasText result }
+{
+    problem_is_whole(&file.problem);
+    match settled {
+        Settled::ByDpop(chosen) => Answer::Report {
+            report: dpop_report(&file, chosen),
+            file,
+        },
+        Settled::ByAdopt(reached) => Answer::Report {
+            report: adopt_report(&file, asked, reached),
+            file,
+        },
+    }
+}

@@ -1,0 +1,33 @@
+-- The command `drill`: which problem it makes, and what is asked on it.
+use Rattle.std.specs.Prelude.{ℕ, false, Option, Some, None}
+use Rattle.instance_make.specs.Limits.{CanMake}
+use Rattle.instance_make.specs.Generator.{made_problem}
+use Rattle.problem_text.specs.File.{TextFile}
+use Rattle.problem_text.specs.Numbered.{numbered_file}
+use Rattle.solve_words.specs.declared.command.Command.{Command}
+use Rattle.solve_words.specs.declared.command.Command.TheVariants as commands
+use Rattle.solve_words.specs.declared.command.Format.TheVariants.{Dcop as Own}
+use Rattle.solve_top.specs.Served.{task_of, IsTaskInRange}
+use Rattle.solve_top.specs.declared.drilling.Drill.{Drill}
+use Rattle.solve_top.specs.declared.task.Task.{Task}
+use Rattle.solve_top.specs.declared.task.Task.TheVariants.{File}
+
+-- the file that is made for a drill
+abbrev pub made_for : Drill → TextFile
+made_for drill = numbered_file (made_problem drill.seed drill.vars drill.size drill.degree drill.top)
+
+-- a drill by these numbers, where this is asked on the file that is made
+abbrev pub drill_by : ℕ → ℕ → ℕ → ℕ → ℕ → Option Task → Option Drill
+drill_by seed vars size degree top (Some (File task)) =
+    Some (record { seed = seed; vars = vars; size = size; degree = degree; top = top; task = task })
+drill_by seed vars size degree top _ = None
+
+-- what a command asks to be made and solved, where `solve` with the same options is served without a certificate
+abbrev pub drill_of : Command → Option Drill
+drill_of (commands.Drill method workers error budget nodes seed vars size degree top cells) =
+    drill_by seed vars size degree top (task_of (commands.Solve method workers error budget nodes false Own cells))
+drill_of _ = None
+
+-- a drill for which a problem can be made, and whose task is in its range
+abbrev pub IsDrillInRange : Drill → Type 0
+IsDrillInRange drill = CanMake drill.vars drill.size drill.degree drill.top × IsTaskInRange (File drill.task)

@@ -1,0 +1,127 @@
+//! Answers for which nothing is read: drills, and commands that are not served yet.
+
+ghost use Rattle.std.specs.Prelude.{◌≡◌, IfOk, IfSome};
+ghost use Rattle.solve_report.specs.AnswerText.{HasText};
+ghost use Rattle.solve_methods.specs.Goal.{TellsRight};
+ghost use Rattle.solve_words.specs.Ranges.{IsInRange};
+ghost use Rattle.solve_top.specs.Answering.{IsDrillAnswer, IsUnreadAnswer};
+ghost use Rattle.solve_top.specs.Drilling.{drill_of, IsDrillInRange};
+
+use crate::answering::file_answer;
+use crate::crew::Crew;
+use crate::task::{FileTask, Task};
+use dcop_base::NoMemory;
+use dcop_edge::Gate;
+use instance_make::make_problem;
+use solve_methods::drill_answer;
+use solve_report::Answer;
+use solve_words::{Command, Format};
+use std::alloc::Global;
+use std::thread::Threads;
+
+/// A problem that is to be made from a number, and what is asked on it.
+#[derive(Clone, Copy, Debug, PartialEq, Eq)]
+pub struct Drill {
+    /// The number.
+    pub seed: u64,
+    /// How many variables the problem has.
+    pub vars: u32,
+    /// How many values each variable has.
+    pub size: u16,
+    /// How many tables a variable has with earlier ones at most.
+    pub degree: u32,
+    /// The greatest cost that a cell may have.
+    pub top: u64,
+    /// How the problem is solved.
+    pub task: FileTask,
+}
+
+impl Drill {
+    /// What a command asks to be made and solved; `None` exactly where it asks for no drill, or
+    /// where `solve` with the same options is not served yet.
+    pub fn of(command: &Command) -> Option<Drill>
+        requires { IsInRange command.now }
+        ensures same { result ≡ drill_of command.now }
+        ensures range { IfSome result IsDrillInRange }
+    {
+        let Command::Drill {
+            method,
+            workers,
+            error,
+            budget,
+            nodes,
+            seed,
+            vars,
+            size,
+            degree,
+            top,
+            cells,
+        } = *command
+        else {
+            return None;
+        };
+        let solve = Command::Solve {
+            method,
+            workers,
+            error,
+            budget,
+            nodes,
+            certificate: false,
+            format: Format::Dcop,
+            cells,
+        };
+        match Task::of(&solve) {
+            Some(Task::File(task)) => Some(Drill {
+                seed,
+                vars,
+                size,
+                degree,
+                top,
+                task,
+            }),
+            _ => None,
+        }
+    }
+}
+
+/// The answer to a command that reads nothing: a drill's, or that it is not served yet.
+pub(crate) fn unread_answer<R: Threads + Sync, G: Gate>(
+    crew: &Crew<R, G>,
+    alloc: Global,
+    command: &Command,
+) -> Result<Answer, NoMemory>
+    requires { IsInRange command.now }
+    ensures belongs { IfOk result (IsUnreadAnswer (drill_of command.now)) }
+    ensures right { IfOk result TellsRight }
+    ensures told { IfOk result HasText }
+{
+    match Drill::of(command) {
+        Some(drill) => made_answer(crew, alloc, drill),
+        None => Ok(Answer::NotYet),
+    }
+}
+
+/// The answer to a drill: the summary of what `solve` reports of the problem that is made, or its
+/// refusal.
+fn made_answer<R: Threads + Sync, G: Gate>(
+    crew: &Crew<R, G>,
+    alloc: Global,
+    drill: Drill,
+) -> Result<Answer, NoMemory>
+    requires { IsDrillInRange drill }
+    ensures belongs { IfOk result (IsDrillAnswer drill) }
+    ensures right { IfOk result TellsRight }
+    ensures told { IfOk result HasText }
+{
+    let Drill {
+        seed,
+        vars,
+        size,
+        degree,
+        top,
+        task,
+    } = drill;
+    let file = make_problem(alloc, seed, vars, size, degree, top)?;
+    let solved = file_answer(crew, alloc, task, file)?;
+    Ok(drill_answer(seed, solved))
+}

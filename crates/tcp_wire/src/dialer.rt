@@ -1,0 +1,129 @@
+//! Pairs of wires as connections on this machine.
+
+ghost use Rattle.std.specs.Prelude.{◌≡◌, ◌≤◌};
+ghost use Rattle.dcop_edge.specs.Faults.{Rose};
+
+use crate::wire::TcpWire;
+use futures::Future;
+use futures::future::join;
+use std::alloc::{AllocGlobal, Global};
+use std::io;
+use std::net::{Net, SocketAddr};
+use std::random::RandomSource;
+use std::sync::Wait;
+use std::thread::Threads;
+use std::time::Clock;
+use tokio::net::{TcpListener, TcpStream};
+use tokio::runtime::LocalRuntime;
+use wire_edge::{DialFault, Dialer};
+
+/// Opens each pair of wires as one connection on 127.0.0.1. Its first call of `pair` or `drive` makes
+/// the event loop of `tokio`. Every refusal is counted as a fault, want of memory included. It does
+/// not promise that its wires are joined.
+#[derive(Drop)]
+pub struct TcpDialer {
+    runtime: Option<LocalRuntime>,
+    faults: u64,
+}
+
+impl TcpDialer {
+    /// A dialer that has opened nothing yet. It takes no memory.
+    pub fn new() -> Self
+        ensures { result.faults ≡ 0 }
+    {
+        TcpDialer {
+            runtime: None,
+            faults: 0,
+        }
+    }
+
+    // Counts one more fault.
+    fn fault(&mut self)
+        ensures rose { (self.old.faults ≤ self.new.faults) × Rose self.old.faults self.new.faults }
+    {
+        self.faults = self.faults.saturating_add(1);
+    }
+}
+
+impl Default for TcpDialer {
+    fn default() -> Self {
+        Self::new()
+    }
+}
+
+// The event loop that was kept, or a new one.
+fn runtime_of<R>(rt: &R, kept: Option<LocalRuntime>) -> io::Result<LocalRuntime>
+where
+    R: Clock + Net + RandomSource + AllocGlobal,
+{
+    match kept {
+        Some(runtime) => Ok(runtime),
+        None => LocalRuntime::new(rt),
+    }
+}
+
+// The two ends of a new connection.
+fn connect<R>(rt: &R, runtime: &mut LocalRuntime) -> io::Result<(TcpStream, TcpStream)>
+where
+    R: Wait + Clock + RandomSource + Net + AllocGlobal,
+{
+    let here = SocketAddr::from(([127, 0, 0, 1], 0));
+    let mut listener = TcpListener::bind(rt, here, runtime.handle().reactor())?;
+    let addr = listener.local_addr()?;
+    let dialed = TcpStream::connect(rt, addr, runtime.handle().reactor());
+    let (first, accepted) = runtime.block_on(rt, join(dialed, listener.accept()))?;
+    let first = first?;
+    let (second, _addr) = accepted?;
+    first.set_nodelay(true)?;
+    second.set_nodelay(true)?;
+    Ok((first, second))
+}
+
+impl Dialer for TcpDialer {
+    type W = TcpWire;
+
+    ghost faults = { λ d. d.faults };
+
+    ghost is_honest = { λ _. ⊥ };
+
+    fn pair<R>(&mut self, rt: &R, _alloc: Global) -> Result<(TcpWire, TcpWire), DialFault>
+    where
+        R: Threads + Wait + Clock + RandomSource + Net + AllocGlobal + Sync,
+    {
+        let Ok(mut runtime) = runtime_of(rt, self.runtime.take()) else {
+            self.fault();
+            return Err(DialFault::Failed);
+        };
+        let opened = connect(rt, &mut runtime);
+        self.runtime = Some(runtime);
+        let Ok((first, second)) = opened else {
+            self.fault();
+            return Err(DialFault::Failed);
+        };
+        Ok((TcpWire::new(first), TcpWire::new(second)))
+    }
+
+    fn drive<R, F>(&mut self, rt: &R, _alloc: Global, future: F) -> Result<F::Output, DialFault>
+    where
+        R: Threads + Wait + Clock + RandomSource + Net + AllocGlobal + Sync,
+        F: Future,
+    {
+        let Ok(mut runtime) = runtime_of(rt, self.runtime.take()) else {
+            self.fault();
+            return Err(DialFault::Failed);
+        };
+        let driven = runtime.block_on(rt, future);
+        self.runtime = Some(runtime);
+        let Ok(output) = driven else {
+            self.fault();
+            return Err(DialFault::Failed);
+        };
+        Ok(output)
+    }
+
+    fn charge(&mut self, wire: &TcpWire) {
+        if wire.faults > 0 {
+            self.fault();
+        }
+    }
+}

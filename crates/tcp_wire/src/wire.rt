@@ -1,0 +1,86 @@
+//! One end of a connection.
+
+ghost use Rattle.std.specs.Prelude.{◌≡◌, ◌≤◌};
+ghost use Rattle.dcop_edge.specs.Faults.{Rose};
+
+use dcop_edge::Failed;
+use futures::task::{Context, Poll};
+use tokio::io::{AsyncRead, AsyncWrite};
+use tokio::net::TcpStream;
+use wire_edge::Wire;
+
+/// One end of a connection. An error of the socket, and the end of the stream, are faults. It tells
+/// nothing of what it has sent and received, and is not told to be joined to another.
+#[derive(Drop)]
+pub struct TcpWire {
+    stream: TcpStream,
+    pub(crate) write_waits: u64,
+    pub(crate) read_waits: u64,
+    pub(crate) faults: u64,
+}
+
+impl TcpWire {
+    /// A wire over this connection.
+    pub(crate) fn new(stream: TcpStream) -> Self
+        ensures { (result.write_waits ≡ 0) × (result.read_waits ≡ 0) × (result.faults ≡ 0) }
+    {
+        TcpWire {
+            stream,
+            write_waits: 0,
+            read_waits: 0,
+            faults: 0,
+        }
+    }
+
+    // Counts one more fault.
+    fn fault(&mut self) -> Failed
+        ensures rose { (self.old.faults ≤ self.new.faults) × Rose self.old.faults self.new.faults }
+        ensures same { (self.new.write_waits ≡ self.old.write_waits) × (self.new.read_waits ≡ self.old.read_waits) }
+    {
+        self.faults = self.faults.saturating_add(1);
+        Failed
+    }
+}
+
+impl Wire for TcpWire {
+    ghost use Rattle.tcp_wire.specs.Tcp.{tcp_told};
+
+    ghost told = { tcp_told };
+
+    ghost is_joined = { λ _ _. ⊥ };
+
+    fn poll_write(&mut self, cx: &mut Context<'_>, bytes: &[u8]) -> Poll<Result<usize, Failed>> {
+        match self.stream.poll_write(cx, bytes) {
+            Poll::Ready(Ok(count)) => {
+                if count == 0 && !bytes.is_empty() {
+                    return Poll::Ready(Err(self.fault()));
+                }
+                Poll::Ready(Ok(count))
+            }
+            Poll::Ready(Err(_refused)) => Poll::Ready(Err(self.fault())),
+            Poll::Pending => {
+                self.write_waits = self.write_waits.saturating_add(1);
+                Poll::Pending
+            }
+        }
+    }
+
+    fn poll_read(&mut self, cx: &mut Context<'_>, into: &mut [u8]) -> Poll<Result<usize, Failed>> {
+        let room = into.len();
+        match self.stream.poll_read(cx, into) {
+            Poll::Ready(Ok(count)) => {
+                if count == 0 && room > 0 {
+                    return Poll::Ready(Err(self.fault()));
+                }
+                Poll::Ready(Ok(count))
+            }
+            Poll::Ready(Err(_refused)) => Poll::Ready(Err(self.fault())),
+            Poll::Pending => {
+                self.read_waits = self.read_waits.saturating_add(1);
+                Poll::Pending
+            }
+        }
+    }
+
+    fn beside(&mut self, _other: &mut Self) {}
+}

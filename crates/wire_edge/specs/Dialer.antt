@@ -1,0 +1,30 @@
+-- What a dialer's calls do to its count of faults, and what the wires of a new pair tell.
+use Rattle.std.specs.Prelude.{◌≡◌, ◌≤◌, ℕ, List, [], Option, Some, None, Result, Ok, Err}
+use Rattle.dcop_edge.specs.Faults.{Rose}
+use Rattle.wire_edge.specs.Wire.{Told}
+use Rattle.wire_edge.specs.declared.dialer.DialFault.{DialFault}
+use Rattle.wire_edge.specs.declared.dialer.DialFault.TheVariants.{Failed, NoMemory}
+
+-- a call failed only where the count rose, and left the count as it was where it did not fail
+abbrev pub HasDialCause : {T : Type 0} → ℕ → ℕ → Result T DialFault → Type 0
+HasDialCause old new (Ok value) = new ≡ old
+HasDialCause old new (Err Failed) = (old ≤ new) × Rose old new
+HasDialCause old new (Err NoMemory) = new ≡ old
+
+-- nothing, where it is told
+abbrev pub IsNothing : Option (List ℕ) → Type 0
+IsNothing None = Unit {0}
+IsNothing (Some text) = text ≡ []
+
+-- the end of a new stream: all counts are 0, and where it is told nothing is sent or received yet
+pub record IsNew (t : Told) : Type 0 where
+  pub sent : IsNothing t.sent
+  pub received : IsNothing t.received
+  pub write_waits : t.write_waits ≡ 0
+  pub read_waits : t.read_waits ≡ 0
+  pub faults : t.faults ≡ 0
+
+-- it tells that nothing is sent or received yet
+pub record TellsNothing (t : Told) : Type 0 where
+  pub sent : t.sent ≡ Some []
+  pub received : t.received ≡ Some []

@@ -1,0 +1,5 @@
+pub mod Wire
+pub mod Dialer
+pub mod Ring
+pub mod Steady
+pub mod Memory

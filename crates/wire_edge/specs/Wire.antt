@@ -1,0 +1,75 @@
+-- What a wire tells, and what each of its calls does to that.
+use Rattle.std.specs.Prelude.{◌≡◌, ◌<◌, ◌≤◌, ℕ, List, ◌++◌, length, take, Option, Some, None, Result, Ok, Err}
+use mathlib.Core.List.{IsPrefix}
+use Rattle.futures.specs.declared.task.Poll.{Poll}
+use Rattle.futures.specs.declared.task.Poll.TheVariants.{Ready, Pending}
+use Rattle.dcop_edge.specs.Faults.{Rose}
+use Rattle.dcop_edge.specs.declared.fault.Failed.{Failed}
+
+-- the bytes sent and received so far, where the wire tells them, and how often a write waited, a read waited, and a call failed
+pub record Told : Type 0 where
+  pub sent : Option (List ℕ)
+  pub received : Option (List ℕ)
+  pub write_waits : ℕ
+  pub read_waits : ℕ
+  pub faults : ℕ
+
+-- more bytes behind those that are told
+abbrev pub told_more : Option (List ℕ) → List ℕ → Option (List ℕ)
+told_more None more = None
+told_more (Some text) more = Some (text ++ more)
+
+-- a write took the first `count` bytes, and at least one where there are any
+pub record Wrote (a : Told) (bytes : List ℕ) (count : ℕ) (b : Told) : Type 0 where
+  pub within : count ≤ length bytes
+  pub some : 0 < length bytes → 0 < count
+  pub is : b ≡ record a { sent = told_more a.sent (take count bytes) }
+
+-- a read gave `count` bytes, which stand in front in the buffer, and at least one where it has room for any
+pub record Gave (a : Told) (buffer filled : List ℕ) (count : ℕ) (b : Told) : Type 0 where
+  pub within : count ≤ length buffer
+  pub some : 0 < length buffer → 0 < count
+  pub is : b ≡ record a { received = told_more a.received (take count filled) }
+
+-- a call failed: the count of faults rose, and nothing else changed
+pub record Broke (a b : Told) : Type 0 where
+  pub grew : a.faults ≤ b.faults
+  pub rose : Rose a.faults b.faults
+  pub is : b ≡ record a { faults = b.faults }
+
+-- a write waits: the count of the waits of writes rose, and nothing else changed
+pub record WaitsToWrite (a b : Told) : Type 0 where
+  pub grew : a.write_waits ≤ b.write_waits
+  pub rose : Rose a.write_waits b.write_waits
+  pub is : b ≡ record a { write_waits = b.write_waits }
+
+-- a read waits
+pub record WaitsToRead (a b : Told) : Type 0 where
+  pub grew : a.read_waits ≤ b.read_waits
+  pub rose : Rose a.read_waits b.read_waits
+  pub is : b ≡ record a { read_waits = b.read_waits }
+
+-- what a poll for writing did, by its answer
+abbrev pub AfterWrite : Told → List ℕ → Poll (Result ℕ Failed) → Told → Type 0
+AfterWrite a bytes (Ready (Ok count)) b = Wrote a bytes count b
+AfterWrite a bytes (Ready (Err failed)) b = Broke a b
+AfterWrite a bytes Pending b = WaitsToWrite a b
+
+-- what a poll for reading did, by its answer
+abbrev pub AfterRead : Told → List ℕ → List ℕ → Poll (Result ℕ Failed) → Told → Type 0
+AfterRead a buffer filled (Ready (Ok count)) b = Gave a buffer filled count b
+AfterRead a buffer filled (Ready (Err failed)) b = Broke a b
+AfterRead a buffer filled Pending b = WaitsToRead a b
+
+-- what the one end has sent is told, and what the other has received, which is a prefix of it
+pub record Reaches (from to : Told) : Type 0 where
+  pub sent : List ℕ
+  pub received : List ℕ
+  pub is_sent : from.sent ≡ Some sent
+  pub is_received : to.received ≡ Some received
+  pub front : IsPrefix received sent
+
+-- each of two ends has received a prefix of what the other has sent
+pub record Reach (a b : Told) : Type 0 where
+  pub there : Reaches a b
+  pub back : Reaches b a

@@ -1,0 +1,99 @@
+//! Where pairs of wires come from.
+
+ghost use Rattle.std.specs.Prelude.{◌≡◌, ◌≤◌, ◌<◌, ℕ, IfOk};
+ghost use Rattle.dcop_edge.specs.Faults.{Rose};
+ghost use Rattle.wire_edge.specs.Dialer.{HasDialCause, IsNew, TellsNothing};
+
+use crate::wire::Wire;
+use dcop_base::NoMemory;
+use futures::Future;
+use std::alloc::{AllocError, AllocFailed, AllocGlobal, Global};
+use std::net::Net;
+use std::random::RandomSource;
+use std::sync::Wait;
+use std::thread::Threads;
+use std::time::Clock;
+
+/// Why a dialer refuses.
+#[derive(Clone, Copy, Debug, PartialEq, Eq)]
+pub enum DialFault {
+    /// The dialer failed: its count of faults rose in the call that answers this.
+    Failed,
+    /// Memory was wanted and not had.
+    NoMemory,
+}
+
+impl From<NoMemory> for DialFault {
+    ghost use Rattle.wire_edge.specs.declared.dialer.DialFault.TheVariants.{NoMemory as no_memory};
+
+    ghost from_gives = { λ _ e. e ≡ no_memory };
+
+    fn from(_refused: NoMemory) -> Self {
+        DialFault::NoMemory
+    }
+}
+
+impl From<AllocError> for DialFault {
+    ghost use Rattle.wire_edge.specs.declared.dialer.DialFault.TheVariants.{NoMemory as no_memory};
+
+    ghost from_gives = { λ _ e. e ≡ no_memory };
+
+    fn from(_refused: AllocError) -> Self {
+        DialFault::NoMemory
+    }
+}
+
+impl<T: Drop> From<AllocFailed<T>> for DialFault {
+    ghost use Rattle.wire_edge.specs.declared.dialer.DialFault.TheVariants.{NoMemory as no_memory};
+
+    ghost from_gives = { λ _ e. e ≡ no_memory };
+
+    fn from(_refused: AllocFailed<T>) -> Self {
+        DialFault::NoMemory
+    }
+}
+
+/// Makes pairs of wires, and drives a future over them to its end.
+///
+/// A dialer is honest where it promises that the two wires of each pair that it gives are joined.
+/// Every call keeps whether it is.
+pub trait Dialer {
+    /// The wires that it gives.
+    type W: Wire;
+
+    /// How many of its calls failed, and how often it was charged for a wire that had failed.
+    ghost faults: { Self → ℕ };
+
+    /// The two wires of each pair that it gives are joined.
+    ghost is_honest: { Self → Type 0 };
+
+    /// The two ends of one new stream. Their counts are 0, and nothing is sent or received yet. It
+    /// may wait.
+    fn pair<R>(&mut self, rt: &R, alloc: Global) -> Result<(Self::W, Self::W), DialFault>
+    where
+        R: Threads + Wait + Clock + RandomSource + Net + AllocGlobal + Sync,
+        ensures cause { HasDialCause (faults self.old) (faults self.new) result }
+        ensures new { IfOk result (λ r. IsNew (Self.W.told r.0) × IsNew (Self.W.told r.1)) }
+        ensures joined { is_honest self.old → IfOk result (λ r. Self.W.is_joined r.0 r.1) }
+        ensures told { is_honest self.old → IfOk result
+            (λ r. TellsNothing (Self.W.told r.0) × TellsNothing (Self.W.told r.1)) }
+        ensures honest { is_honest self.old → is_honest self.new };
+
+    /// Polls `future` until it is ready, and answers what it gives. The future may be polled at the
+    /// call; after a fault it is gone. It may wait.
+    fn drive<R, F>(&mut self, rt: &R, alloc: Global, future: F) -> Result<F::Output, DialFault>
+    where
+        R: Threads + Wait + Clock + RandomSource + Net + AllocGlobal + Sync,
+        F: Future,
+        requires { F.can_poll future }
+        ensures cause { HasDialCause (faults self.old) (faults self.new) result }
+        ensures gives { IfOk result (F.gives future) }
+        ensures honest { is_honest self.old → is_honest self.new };
+
+    /// Counts one more fault exactly where a call of this wire has failed.
+    fn charge(&mut self, wire: &Self::W)
+        ensures none { (Self.W.told wire.now).faults ≡ 0 → faults self.new ≡ faults self.old }
+        ensures some { 0 < (Self.W.told wire.now).faults
+            → (faults self.old ≤ faults self.new) × Rose (faults self.old) (faults self.new) }
+        ensures honest { is_honest self.old → is_honest self.new };
+}

@@ -1,0 +1,211 @@
+//! Wires in memory that fail at chosen polls and change chosen bytes.
+
+ghost use Rattle.std.specs.Prelude.{◌≡◌, true, [], ◌∷◌, IfOk, is_err};
+ghost use Rattle.futures.specs.Poll.{OnPending};
+ghost use Rattle.futures.specs.Task.{IsArmed, Keeps};
+ghost use Rattle.dcop_edge.specs.Memory.{no_calls, fails_next, after_call};
+ghost use Rattle.wire_edge.specs.Wire.{AfterWrite, AfterRead, Reach};
+ghost use Rattle.wire_edge.specs.Dialer.{HasDialCause, IsNew, TellsNothing};
+
+use crate::alter::{Alter, PollFail, altered, alters_of, polls_of};
+use crate::dialer::{DialFault, Dialer};
+use crate::fault::FailingCalls;
+use crate::steady::{SteadyWire, drive_here};
+use crate::wire::Wire;
+use dcop_base::NoMemory;
+use dcop_edge::Failed;
+use futures::Future;
+use futures::task::{Context, Poll};
+use std::alloc::{AllocGlobal, Global};
+use std::net::Net;
+use std::random::RandomSource;
+use std::sync::Wait;
+use std::thread::Threads;
+use std::time::Clock;
+
+/// One end of a stream in memory that fails at chosen polls and changes chosen bytes. Where it
+/// changes any, it sends one byte a poll and tells nothing of what it has sent.
+#[derive(Drop)]
+pub struct MemoryWire {
+    pub(crate) wire: SteadyWire,
+    pub(crate) calls: FailingCalls,
+    pub(crate) alters: Vec<Alter>,
+    // how many bytes it has sent where it changes any
+    pub(crate) written: u64,
+}
+
+impl MemoryWire {
+    ghost use Rattle.wire_edge.specs.Steady.{steady_told};
+    ghost use Rattle.wire_edge.specs.Memory.{altered};
+
+    // Sends the first byte, or what goes out in its place.
+    fn write_one(&mut self, cx: &mut Context<'_>, byte: u8) -> Poll<Result<usize, Failed>>
+        ensures one { AfterWrite (steady_told self.old.wire) (altered self.old.alters.items self.old.written byte ∷ []) result (steady_told self.new.wire) }
+        ensures same { (self.new.alters ≡ self.old.alters) × (self.new.calls ≡ self.old.calls) }
+        ensures registered { OnPending result (IsArmed cx.new) }
+        ensures kept { Keeps cx.old cx.new }
+    {
+        let sent = [altered(&self.alters, self.written, byte)];
+        let polled = self.wire.poll_write(cx, &sent);
+        if let Poll::Ready(Ok(count)) = &polled {
+            self.written = self.written.saturating_add(*count as u64);
+        }
+        polled
+    }
+}
+
+impl Wire for MemoryWire {
+    ghost use Rattle.wire_edge.specs.Memory.{memory_told, CarryAll, FailsWhere};
+
+    ghost told = { memory_told };
+
+    ghost is_joined = { CarryAll };
+
+    fn poll_write(&mut self, cx: &mut Context<'_>, bytes: &[u8]) -> Poll<Result<usize, Failed>>
+        ensures written { AfterWrite (memory_told self.old) bytes.now result (memory_told self.new) }
+        ensures joined { (w : MemoryWire) → CarryAll self.old w → CarryAll self.new w }
+        ensures joins { (w : MemoryWire) → CarryAll w self.old → CarryAll w self.new }
+        ensures registered { OnPending result (IsArmed cx.new) }
+        ensures kept { Keeps cx.old cx.new }
+        ensures counted { self.new.calls ≡ after_call self.old.calls }
+        ensures fails { FailsWhere (fails_next self.old.calls) result }
+    {
+        if self.calls.come().is_err() {
+            return Poll::Ready(Err(Failed));
+        }
+        if self.alters.is_empty() {
+            return self.wire.poll_write(cx, bytes);
+        }
+        match bytes.first() {
+            Some(byte) => self.write_one(cx, *byte),
+            None => Poll::Ready(Ok(0)),
+        }
+    }
+
+    fn poll_read(&mut self, cx: &mut Context<'_>, into: &mut [u8]) -> Poll<Result<usize, Failed>>
+        ensures given { AfterRead (memory_told self.old) into.old into.new result (memory_told self.new) }
+        ensures joined { (w : MemoryWire) → CarryAll self.old w → CarryAll self.new w }
+        ensures joins { (w : MemoryWire) → CarryAll w self.old → CarryAll w self.new }
+        ensures registered { OnPending result (IsArmed cx.new) }
+        ensures kept { Keeps cx.old cx.new }
+        ensures counted { self.new.calls ≡ after_call self.old.calls }
+        ensures fails { FailsWhere (fails_next self.old.calls) result }
+    {
+        if self.calls.come().is_err() {
+            return Poll::Ready(Err(Failed));
+        }
+        self.wire.poll_read(cx, into)
+    }
+
+    fn beside(&mut self, other: &mut Self) {
+        self.wire.beside(&mut other.wire);
+    }
+}
+
+/// Makes pairs of [`MemoryWire`]. It is honest where it changes no byte.
+#[derive(Drop)]
+pub struct MemoryDialer {
+    calls: FailingCalls,
+    polls: Vec<PollFail>,
+    alters: Vec<Alter>,
+    made: u64,
+}
+
+impl MemoryDialer {
+    ghost use Rattle.wire_edge.specs.Steady.{steady_told, AreJoined};
+    ghost use Rattle.wire_edge.specs.Memory.{polls_of, alters_of, IsPair};
+
+    /// A dialer of which the calls of `pair` with the numbers in `fails`, counted from 0, fail, and
+    /// whose wires fail at the polls in `polls` and change the bytes in `alters`. It takes no memory.
+    pub fn new(fails: Vec<u64>, polls: Vec<PollFail>, alters: Vec<Alter>) -> Self
+        ensures calls { result.calls ≡ no_calls fails.items }
+        ensures polls { result.polls ≡ polls }
+        ensures alters { result.alters ≡ alters }
+    {
+        MemoryDialer {
+            calls: FailingCalls::new(fails),
+            polls,
+            alters,
+            made: 0,
+        }
+    }
+
+    // One end of a stream, with what is to go wrong at it.
+    fn end(&self, alloc: Global, wire: SteadyWire, is_first: bool) -> Result<MemoryWire, NoMemory>
+        ensures wire { IfOk result (λ w. w.wire ≡ wire) }
+        ensures calls { IfOk result
+            (λ w. w.calls ≡ no_calls (polls_of self.now.made is_first self.now.polls.items)) }
+        ensures alters { IfOk result
+            (λ w. w.alters.items ≡ alters_of self.now.made is_first self.now.alters.items) }
+    {
+        let polls = polls_of(alloc, &self.polls, self.made, is_first)?;
+        Ok(MemoryWire {
+            wire,
+            calls: FailingCalls::new(polls),
+            alters: alters_of(alloc, &self.alters, self.made, is_first)?,
+            written: 0,
+        })
+    }
+
+    // The ends of the next pair, or the failure of this call.
+    fn make(&mut self, alloc: Global) -> Result<(MemoryWire, MemoryWire), DialFault>
+        ensures cause { HasDialCause self.old.calls.faults self.new.calls.faults result }
+        ensures counted { self.new.calls ≡ after_call self.old.calls }
+        ensures fails { fails_next self.old.calls ≡ true → is_err result ≡ true }
+        ensures same { (self.new.polls ≡ self.old.polls) × (self.new.alters ≡ self.old.alters) }
+        ensures made { IfOk result (λ r. IsPair self.old.made self.old.polls.items self.old.alters.items r.0 r.1) }
+        ensures joined { IfOk result (λ r. AreJoined r.0.wire r.1.wire) }
+        ensures first { IfOk result (λ r. IsNew (steady_told r.0.wire) × TellsNothing (steady_told r.0.wire)) }
+        ensures second { IfOk result (λ r. IsNew (steady_told r.1.wire) × TellsNothing (steady_told r.1.wire)) }
+    {
+        if self.calls.come().is_err() {
+            return Err(DialFault::Failed);
+        }
+        let (first, second) = SteadyWire::pair(alloc, self.made)?;
+        let pair = (
+            self.end(alloc, first, true)?,
+            self.end(alloc, second, false)?,
+        );
+        self.made = self.made.saturating_add(1);
+        Ok(pair)
+    }
+}
+
+impl Dialer for MemoryDialer {
+    ghost use Rattle.wire_edge.specs.Memory.{memory_told, CarryAll, IsPair};
+
+    type W = MemoryWire;
+
+    ghost faults = { λ d. d.calls.faults };
+
+    ghost is_honest = { λ d. d.alters.items ≡ [] };
+
+    fn pair<R>(&mut self, _rt: &R, alloc: Global) -> Result<(MemoryWire, MemoryWire), DialFault>
+    where
+        R: Threads + Wait + Clock + RandomSource + Net + AllocGlobal + Sync,
+        ensures cause { HasDialCause self.old.calls.faults self.new.calls.faults result }
+        ensures new { IfOk result (λ r. IsNew (memory_told r.0) × IsNew (memory_told r.1)) }
+        ensures joined { self.old.alters.items ≡ [] → IfOk result (λ r. CarryAll r.0 r.1) }
+        ensures told { self.old.alters.items ≡ [] → IfOk result
+            (λ r. TellsNothing (memory_told r.0) × TellsNothing (memory_told r.1)) }
+        ensures honest { self.old.alters.items ≡ [] → self.new.alters.items ≡ [] }
+        ensures made { IfOk result (λ r. IsPair self.old.made self.old.polls.items self.old.alters.items r.0 r.1) }
+        ensures fails { fails_next self.old.calls ≡ true → is_err result ≡ true }
+    {
+        self.make(alloc)
+    }
+
+    fn drive<R, F>(&mut self, rt: &R, _alloc: Global, future: F) -> Result<F::Output, DialFault>
+    where
+        R: Threads + Wait + Clock + RandomSource + Net + AllocGlobal + Sync,
+        F: Future,
+    {
+        drive_here(rt, future)
+    }
+
+    fn charge(&mut self, wire: &MemoryWire) {
+        if wire.calls.faults() > 0 {
+            self.calls.charge();
+        }
+    }
+}

@@ -1,0 +1,197 @@
+//! Wires in memory that never fail.
+
+ghost use Rattle.std.specs.Prelude.{◌≡◌, ◌≤◌, ⊤, [], IfOk};
+ghost use Rattle.futures.specs.Poll.{OnPending};
+ghost use Rattle.futures.specs.Task.{IsArmed, Keeps};
+ghost use Rattle.dcop_edge.specs.Faults.{Rose};
+ghost use Rattle.wire_edge.specs.Wire.{AfterWrite, AfterRead, Reach};
+ghost use Rattle.wire_edge.specs.Dialer.{HasDialCause, IsNew, TellsNothing};
+ghost use Rattle.wire_edge.specs.Ring.{free_in};
+
+use crate::dialer::{DialFault, Dialer};
+use crate::ring::{RING_BYTES, Ring};
+use crate::wire::Wire;
+use dcop_base::NoMemory;
+use dcop_edge::Failed;
+use futures::Future;
+use futures::executor::block_on;
+use futures::task::{Context, Poll};
+use std::alloc::{AllocGlobal, Global};
+use std::net::Net;
+use std::random::RandomSource;
+use std::sync::Wait;
+use std::thread::Threads;
+use std::time::Clock;
+
+/// One end of a stream in memory. It never fails, and tells all that it has sent and received.
+///
+/// Each direction holds 4,096 bytes. An end sends into a ring of its own and receives from a ring of
+/// its own; [`Wire::beside`] moves what the one end sent into the ring from which the other receives.
+#[derive(Drop)]
+pub struct SteadyWire {
+    pub(crate) outgoing: Ring,
+    pub(crate) incoming: Ring,
+    // how many more bytes this end may send until both ends are looked at again
+    pub(crate) room: usize,
+    pub(crate) pair: u64,
+    pub(crate) is_first: bool,
+    pub(crate) write_waits: u64,
+    pub(crate) read_waits: u64,
+    ghost free: { room ≤ free_in outgoing },
+}
+
+impl SteadyWire {
+    ghost use Rattle.wire_edge.specs.Ring.{put_into, taken_from, ring_bytes};
+    ghost use Rattle.wire_edge.specs.Steady.{steady_told, AreJoined, sent_by, received_by, known_room, known_bytes};
+
+    /// The first or the second end of the pair with this number. It takes memory.
+    fn new(alloc: Global, pair: u64, is_first: bool) -> Result<SteadyWire, NoMemory>
+        ensures pair { IfOk result (λ w. (w.pair ≡ pair) × (w.is_first ≡ is_first)) }
+        ensures empty { IfOk result (λ w. (sent_by w ≡ []) × (received_by w ≡ []) × (known_bytes w ≡ [])) }
+        ensures poured { IfOk result (λ w. (taken_from w.outgoing ≡ []) × (put_into w.incoming ≡ [])) }
+        ensures room { IfOk result (λ w. known_room w ≡ ring_bytes) }
+        ensures counts { IfOk result (λ w. (w.write_waits ≡ 0) × (w.read_waits ≡ 0)) }
+    {
+        Ok(SteadyWire {
+            outgoing: Ring::new(alloc)?,
+            incoming: Ring::new(alloc)?,
+            room: RING_BYTES,
+            pair,
+            is_first,
+            write_waits: 0,
+            read_waits: 0,
+        })
+    }
+
+    /// The two ends of the stream with this number. It takes memory.
+    pub(crate) fn pair(alloc: Global, pair: u64) -> Result<(SteadyWire, SteadyWire), NoMemory>
+        ensures joined { IfOk result (λ r. AreJoined r.0 r.1) }
+        ensures first { IfOk result (λ r. IsNew (steady_told r.0) × TellsNothing (steady_told r.0)) }
+        ensures second { IfOk result (λ r. IsNew (steady_told r.1) × TellsNothing (steady_told r.1)) }
+    {
+        Ok((
+            SteadyWire::new(alloc, pair, true)?,
+            SteadyWire::new(alloc, pair, false)?,
+        ))
+    }
+}
+
+impl Wire for SteadyWire {
+    ghost use Rattle.wire_edge.specs.Steady.{steady_told, AreJoined, KnowAll, known_room, known_bytes};
+
+    ghost told = { steady_told };
+
+    ghost is_joined = { AreJoined };
+
+    fn poll_write(&mut self, cx: &mut Context<'_>, bytes: &[u8]) -> Poll<Result<usize, Failed>>
+        ensures written { AfterWrite (steady_told self.old) bytes.now result (steady_told self.new) }
+        ensures joined { (w : SteadyWire) → AreJoined self.old w → AreJoined self.new w }
+        ensures joins { (w : SteadyWire) → AreJoined w self.old → AreJoined w self.new }
+        ensures registered { OnPending result (IsArmed cx.new) }
+        ensures kept { Keeps cx.old cx.new }
+        ensures full { OnPending result (known_room self.old ≡ 0) }
+    {
+        let count = bytes.len().min(self.room);
+        if count == 0 && !bytes.is_empty() {
+            self.write_waits = self.write_waits.saturating_add(1);
+            return cx.yield_now();
+        }
+        self.room -= count;
+        self.outgoing.put(&bytes[..count]);
+        Poll::Ready(Ok(count))
+    }
+
+    fn poll_read(&mut self, cx: &mut Context<'_>, into: &mut [u8]) -> Poll<Result<usize, Failed>>
+        ensures given { AfterRead (steady_told self.old) into.old into.new result (steady_told self.new) }
+        ensures joined { (w : SteadyWire) → AreJoined self.old w → AreJoined self.new w }
+        ensures joins { (w : SteadyWire) → AreJoined w self.old → AreJoined w self.new }
+        ensures registered { OnPending result (IsArmed cx.new) }
+        ensures kept { Keeps cx.old cx.new }
+        ensures empty { OnPending result (known_bytes self.old ≡ []) }
+    {
+        let count = self.incoming.take(into);
+        if count == 0 && !into.is_empty() {
+            self.read_waits = self.read_waits.saturating_add(1);
+            return cx.yield_now();
+        }
+        Poll::Ready(Ok(count))
+    }
+
+    fn beside(&mut self, other: &mut Self)
+        ensures told { (steady_told self.new ≡ steady_told self.old)
+            × (steady_told other.new ≡ steady_told other.old) }
+        ensures joined { AreJoined self.old other.old → AreJoined self.new other.new }
+        ensures reach { AreJoined self.old other.old
+            → Reach (steady_told self.new) (steady_told other.new) }
+        ensures known { AreJoined self.old other.old → KnowAll self.new other.new }
+    {
+        if self.pair != other.pair || self.is_first == other.is_first {
+            return;
+        }
+        self.room = self.outgoing.pour(&mut other.incoming);
+        other.room = other.outgoing.pour(&mut self.incoming);
+    }
+}
+
+/// Makes pairs of [`SteadyWire`]. It never fails and is honest.
+#[derive(Debug, Drop)]
+pub struct SteadyDialer {
+    made: u64,
+}
+
+impl SteadyDialer {
+    /// A dialer that has made no pair. It takes no memory.
+    pub fn new() -> Self {
+        SteadyDialer { made: 0 }
+    }
+}
+
+impl Default for SteadyDialer {
+    fn default() -> Self {
+        Self::new()
+    }
+}
+
+impl Dialer for SteadyDialer {
+    ghost use Rattle.wire_edge.specs.Steady.{steady_told, AreJoined};
+
+    type W = SteadyWire;
+
+    ghost faults = { λ _. 0 };
+
+    ghost is_honest = { λ _. ⊤ };
+
+    fn pair<R>(&mut self, _rt: &R, alloc: Global) -> Result<(SteadyWire, SteadyWire), DialFault>
+    where
+        R: Threads + Wait + Clock + RandomSource + Net + AllocGlobal + Sync,
+    {
+        let pair = SteadyWire::pair(alloc, self.made)?;
+        self.made = self.made.saturating_add(1);
+        Ok(pair)
+    }
+
+    fn drive<R, F>(&mut self, rt: &R, _alloc: Global, future: F) -> Result<F::Output, DialFault>
+    where
+        R: Threads + Wait + Clock + RandomSource + Net + AllocGlobal + Sync,
+        F: Future,
+    {
+        drive_here(rt, future)
+    }
+
+    fn charge(&mut self, _wire: &SteadyWire) {}
+}
+
+/// Polls the future on this thread until it is ready. A refusal of the executor is want of memory.
+pub(crate) fn drive_here<R, F>(rt: &R, future: F) -> Result<F::Output, DialFault>
+where
+    R: Wait + RandomSource + AllocGlobal,
+    F: Future,
+    requires { F.can_poll future }
+    ensures gives { IfOk result (F.gives future) }
+    ensures cause { HasDialCause 0 0 result }
+{
+    match block_on(rt, future) {
+        Ok(output) => Ok(output),
+        Err(_refused) => Err(DialFault::NoMemory),
+    }
+}

@@ -1,0 +1,67 @@
+-- Both ends of a pump: what moved since some start, and what a pass over them did.
+use Rattle.std.specs.Prelude.{◌≡◌, ◌<◌, ◌≤◌, ◌⊎◌, ℕ, List, length, take, Option, vec_len}
+use Rattle.dcop_edge.specs.Faults.{Rose}
+use Rattle.wire_edge.specs.Wire.{Told, told_more}
+use Rattle.wire_pump.specs.Lane.{Fails}
+use Rattle.wire_pump.specs.declared.ends.Lane.{Lane}
+use Rattle.wire_pump.specs.declared.ends.Ends.{Ends}
+
+-- what the end that sends had sent, and the end that receives had received, when a lane was new
+pub record Before : Type 0 where
+  pub sent : Option (List ℕ)
+  pub received : Option (List ℕ)
+
+-- since then just the bytes of the lane that went out were sent, and just those that came in were received
+pub record HasMoved (before : Before) (from to : Told) (lane : Lane) : Type 0 where
+  pub sent : from.sent ≡ told_more before.sent (take lane.went lane.bytes.items)
+  pub received : to.received ≡ told_more before.received (take lane.came lane.buffer.items)
+
+-- all went out, and as many came in
+pub record IsDone (lane : Lane) : Type 0 where
+  pub sent : lane.went ≡ vec_len lane.bytes
+  pub received : lane.came ≡ vec_len lane.buffer
+
+-- an end's counts, later: its faults are as they were, its waits did not fall
+pub record CountsLater (a b : Told) : Type 0 where
+  pub write_waits : a.write_waits ≤ b.write_waits
+  pub read_waits : a.read_waits ≤ b.read_waits
+  pub faults : b.faults ≡ a.faults
+
+module _ {W : Type 0} (told : W → Told) where
+  -- the same pump later: what had moved since any start has moved still, and more with it
+  pub record IsLater (a b : Ends W) : Type 0 where
+    pub there : (before : Before) → HasMoved before (told a.first) (told a.second) a.there → HasMoved before (told b.first) (told b.second) b.there
+    pub back : (before : Before) → HasMoved before (told a.second) (told a.first) a.back → HasMoved before (told b.second) (told b.first) b.back
+    pub there_bytes : b.there.bytes.items ≡ a.there.bytes.items
+    pub back_bytes : b.back.bytes.items ≡ a.back.bytes.items
+    pub first : CountsLater (told a.first) (told b.first)
+    pub second : CountsLater (told a.second) (told b.second)
+
+  -- since then the waits rose of writes at each end that has bytes still to send, and of reads at each end that has some still to receive
+  pub record Waits (a b : Ends W) : Type 0 where
+    pub first_writes : b.there.went < vec_len b.there.bytes → Rose (told a.first).write_waits (told b.first).write_waits
+    pub second_writes : b.back.went < vec_len b.back.bytes → Rose (told a.second).write_waits (told b.second).write_waits
+    pub second_reads : b.there.came < vec_len b.there.bytes → Rose (told a.second).read_waits (told b.second).read_waits
+    pub first_reads : b.back.came < vec_len b.back.bytes → Rose (told a.first).read_waits (told b.first).read_waits
+
+  -- since then one of the two failed
+  pub record FailsAt (a b : Ends W) : Type 0 where
+    pub first : (told a.first).faults ≤ (told b.first).faults
+    pub second : (told a.second).faults ≤ (told b.second).faults
+    pub rose : Rose (told a.first).faults (told b.first).faults ⊎ Rose (told a.second).faults (told b.second).faults
+
+-- both lanes are done
+pub record HasEnded {W : Type 0} (e : Ends W) : Type 0 where
+  pub there : IsDone e.there
+  pub back : IsDone e.back
+
+-- something is still to go out or to come in
+abbrev pub IsOpen : {W : Type 0} → Ends W → Type 0
+IsOpen e = (e.there.went < vec_len e.there.bytes) ⊎ ((e.back.went < vec_len e.back.bytes) ⊎ ((e.there.came < vec_len e.there.bytes) ⊎ (e.back.came < vec_len e.back.bytes)))
+
+-- where something is, this holds
+pub record IsOpenOnly {W : Type 0} (e : Ends W) (P : Type 0) : Type 0 where
+  pub there_went : e.there.went < vec_len e.there.bytes → P
+  pub back_went : e.back.went < vec_len e.back.bytes → P
+  pub there_came : e.there.came < vec_len e.there.bytes → P
+  pub back_came : e.back.came < vec_len e.back.bytes → P

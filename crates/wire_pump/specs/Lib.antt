@@ -1,0 +1,4 @@
+pub mod Lane
+pub mod Ends
+pub mod Pump
+pub mod Turn

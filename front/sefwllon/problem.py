@@ -1,0 +1,184 @@
+"""Problems: variables with finite domains, and cost tables over them, as the text of `dcop` has them."""
+
+from __future__ import annotations
+
+import re
+from dataclasses import dataclass, field
+from itertools import product
+from math import prod
+
+MOST_VARIABLES = 1_000
+MOST_VALUES = 1_024
+MOST_SCOPE = 4
+MOST_COST = 2**50
+MOST_CELLS = 2**22
+MOST_SUM = 2**62
+MOST_BYTES = 2**28
+MOST_NAME = 32
+
+_NAME = re.compile(r"[A-Za-z_][A-Za-z0-9_.-]{0,31}\Z")
+_NUMBER = re.compile(r"[0-9]{1,19}\Z")
+
+
+class Trouble(Exception):
+    """Something that the user is told in a sentence."""
+
+
+@dataclass(frozen=True)
+class Variable:
+    """A variable: its name, how many values it has, and their names, where they have any."""
+
+    name: str
+    size: int
+    values: tuple[str, ...] | None = None
+
+    def value_name(self, value: int) -> str:
+        return self.values[value] if self.values else str(value)
+
+    def value_of(self, word: str) -> int | None:
+        if self.values:
+            return self.values.index(word) if word in self.values else None
+        return int(word) if _NUMBER.match(word) and int(word) < self.size else None
+
+
+@dataclass(frozen=True)
+class Table:
+    """Costs over one to four variables, the last variable's value moving fastest."""
+
+    scope: tuple[int, ...]
+    costs: tuple[int, ...]
+
+
+@dataclass
+class Problem:
+    """A problem, and the comments that stand before it."""
+
+    goal: str
+    variables: list[Variable]
+    tables: list[Table]
+    comments: list[str] = field(default_factory=list)
+
+    def index_of(self, name: str) -> int | None:
+        return next((i for i, v in enumerate(self.variables) if v.name == name), None)
+
+    def cell(self, table: Table, assignment: list[int]) -> int:
+        """The cost of a table at an assignment."""
+        place = 0
+        for variable in table.scope:
+            place = place * self.variables[variable].size + assignment[variable]
+        return table.costs[place]
+
+    def cost(self, assignment: list[int]) -> int:
+        """The sum of all tables at an assignment."""
+        return sum(self.cell(table, assignment) for table in self.tables)
+
+    def neighbours(self) -> list[set[int]]:
+        """For each variable those that it shares a table with."""
+        near: list[set[int]] = [set() for _ in self.variables]
+        for table in self.tables:
+            for a, b in product(table.scope, repeat=2):
+                if a != b:
+                    near[a].add(b)
+        return near
+
+    def text(self) -> str:
+        """The problem as text, which `dcop` reads."""
+        lines = [f"# {line}".rstrip() for line in self.comments]
+        lines.append("dcop 2")
+        if self.goal == "max":
+            lines.append("goal max")
+        for variable in self.variables:
+            domain = f": {' '.join(variable.values)}" if variable.values else str(variable.size)
+            lines.append(f"var {variable.name} {domain}")
+        for table in self.tables:
+            scope = " ".join(self.variables[v].name for v in table.scope)
+            lines.append(f"table {scope} : {' '.join(map(str, table.costs))}")
+        lines.append("end")
+        return "\n".join(lines) + "\n"
+
+    def check_limits(self) -> None:
+        """Raises `Trouble` where the problem is larger than `dcop` takes."""
+        if not self.variables:
+            raise Trouble("the problem has no variable")
+        if len(self.variables) > MOST_VARIABLES:
+            raise Trouble(f"the problem has {len(self.variables)} variables; dcop takes {MOST_VARIABLES}")
+        for variable in self.variables:
+            if not 1 <= variable.size <= MOST_VALUES:
+                raise Trouble(f"{variable.name} has {variable.size} values; dcop takes 1 to {MOST_VALUES}")
+        for table in self.tables:
+            if not 1 <= len(table.scope) <= MOST_SCOPE:
+                names = ", ".join(self.variables[v].name for v in table.scope)
+                raise Trouble(
+                    f"a constraint names {len(table.scope)} variables ({names}); dcop takes up to {MOST_SCOPE}"
+                )
+            if max(table.costs) > MOST_COST:
+                raise Trouble(f"a cost is {max(table.costs)}; dcop takes costs up to 2^50 = {MOST_COST}")
+        cells = sum(len(table.costs) for table in self.tables)
+        if cells > MOST_CELLS:
+            raise Trouble(f"the tables have {cells} costs together; dcop takes {MOST_CELLS}")
+        if sum(max(table.costs) for table in self.tables) > MOST_SUM:
+            raise Trouble("the greatest costs of all tables sum to more than 2^62, which is the most that dcop takes")
+
+
+class TextFault(Trouble):
+    """What is wrong with a problem's text, by line."""
+
+    def __init__(self, line: int, why: str):
+        super().__init__(f"line {line}: {why}")
+        self.line = line
+        self.why = why
+
+
+def is_name(word: str) -> bool:
+    return bool(_NAME.match(word))
+
+
+def is_number(word: str) -> bool:
+    return bool(_NUMBER.match(word))
+
+
+def lines_of(text: str) -> list[tuple[int, list[str], str]]:
+    """The lines that have words, each with its number, its words, and itself; up to the line `end`."""
+    found = []
+    for number, line in enumerate(text.split("\n"), 1):
+        bare = line[:-1] if line.endswith("\r") else line
+        words = [word for word in re.split(r"[ \t]+", bare.split("#", 1)[0]) if word]
+        if words:
+            found.append((number, words, line))
+            if words[0] == "end":
+                break
+    return found
+
+
+def parse(text: str) -> Problem:
+    """Reads a problem's text. `dcop` itself decides what is one; this reader is for drawing and telling."""
+    lines = lines_of(text)
+    if not lines or lines[0][1] not in (["dcop", "1"], ["dcop", "2"]):
+        raise TextFault(lines[0][0] if lines else 1, "the first line is neither `dcop 1` nor `dcop 2`")
+    problem = Problem("min", [], [])
+    places: dict[str, int] = {}
+    for number, words, _ in lines[1:]:
+        match words:
+            case ["goal", ("min" | "max") as goal]:
+                problem.goal = goal
+            case ["var", name, ":", *values] if values:
+                places[name] = len(problem.variables)
+                problem.variables.append(Variable(name, len(values), tuple(values)))
+            case ["var", name, size] if is_number(size):
+                places[name] = len(problem.variables)
+                problem.variables.append(Variable(name, int(size)))
+            case ["table", *rest] if ":" in rest:
+                at = rest.index(":")
+                try:
+                    scope = tuple(places[name] for name in rest[:at])
+                    costs = tuple(int(word) for word in rest[at + 1 :])
+                except (KeyError, ValueError) as fault:
+                    raise TextFault(number, f"a name or a cost is wrong: {fault}") from None
+                if len(costs) != prod(problem.variables[v].size for v in scope):
+                    raise TextFault(number, f"the table has {len(costs)} costs")
+                problem.tables.append(Table(scope, costs))
+            case ["end"]:
+                return problem
+            case _:
+                raise TextFault(number, "the line is none of `goal`, `var`, `table`, `end`")
+    raise TextFault(text.count("\n") + 1, "the line `end` is missing")

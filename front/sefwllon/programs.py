@@ -1,0 +1,81 @@
+"""Where the proved programs are, and how they are run."""
+
+from __future__ import annotations
+
+import os
+import shutil
+import subprocess
+import time
+from dataclasses import dataclass
+from pathlib import Path
+
+from .problem import Trouble
+
+_CRATES = Path(__file__).resolve().parents[2] / "crates"
+
+
+@dataclass(frozen=True)
+class Answer:
+    """What a program printed, and its exit status; None where its time was over."""
+
+    text: str
+    status: int | None
+
+    @property
+    def unserved(self) -> bool:
+        """Whether the words are right and not served by this program."""
+        return self.status == 2 and self.text.startswith("refused words at 1 kind 10")
+
+
+class Programs:
+    """The programs `dcop` and `dcop_order`."""
+
+    def __init__(self, dcop: str | None = None, order: str | None = None):
+        self.dcop = dcop or found("SEFWLLON_DCOP", "dcop", "solve_cli")
+        self.order = order or found("SEFWLLON_ORDER", "dcop_order", "order_cli")
+
+    def run(self, words: list[str], text: str, until: float | None = None) -> Answer:
+        """Runs `dcop` on a text, at most until this moment of `time.monotonic`."""
+        if self.dcop is None:
+            raise Trouble(
+                "the program dcop is not built: run `cd crates/solve_cli && rt run -- tree < ../../examples/pair.dcop`, "
+                "or name it by SEFWLLON_DCOP"
+            )
+        return run([self.dcop, *words], text, until)
+
+    def reorder(self, text: str, tries: int, until: float | None = None) -> Answer | None:
+        """Runs `dcop_order`, where it is built."""
+        return run([self.order, "--tries", str(tries)], text, until) if self.order else None
+
+
+def found(variable: str, name: str, crate: str) -> str | None:
+    """A program by an environment variable, on the path, or in the clone that this file lies in."""
+    if variable in os.environ:
+        return os.environ[variable]
+    on_path = shutil.which(name)
+    if on_path:
+        return on_path
+    built = _CRATES / crate / "out" / crate
+    return str(built) if built.is_file() else None
+
+
+def run(command: list[str], text: str, until: float | None) -> Answer:
+    """Runs a program to its end, or until its time is over."""
+    left = None if until is None else until - time.monotonic()
+    if left is not None and left <= 0:
+        return Answer("", None)
+    try:
+        process = subprocess.Popen(command, stdin=subprocess.PIPE, stdout=subprocess.PIPE, stderr=subprocess.DEVNULL)
+    except OSError as fault:
+        raise Trouble(f"{command[0]} can't be run: {fault.strerror}") from None
+    try:
+        told, _ = process.communicate(text.encode(), timeout=left)
+    except subprocess.TimeoutExpired:
+        process.kill()
+        process.communicate()
+        return Answer("", None)
+    except BaseException:
+        process.kill()
+        process.wait()
+        raise
+    return Answer(told.decode("utf-8", "replace"), process.returncode)

@@ -1,0 +1,140 @@
+"""pyDCOP's YAML files: variables, domains, constraints by formulas and by tables."""
+
+from __future__ import annotations
+
+import re
+from fractions import Fraction
+from itertools import product
+
+from .evaluator import Formula, exact
+from .problem import MOST_SCOPE, Trouble
+from .translate import Constraint, Source
+
+_RANGE = re.compile(r"\s*(-?\d+)\s*\.\.\s*(-?\d+)\s*\Z")
+
+
+def read(text: str, title: str) -> Source:
+    """Reads a pyDCOP file. What agents, distribution and routes say is passed over."""
+    try:
+        import yaml
+    except ImportError:
+        raise Trouble(
+            "pyDCOP files are YAML, and Python's `yaml` is missing: install python3-yaml (Debian) or PyYAML (pip)"
+        ) from None
+    try:
+        data = yaml.safe_load(text)
+    except yaml.YAMLError as fault:
+        raise Trouble(f"{title} is no YAML: {fault}") from None
+    if not isinstance(data, dict) or "variables" not in data:
+        raise Trouble(f"{title} has no `variables`, so it is no pyDCOP file")
+    return Reader(data, title).source()
+
+
+class Reader:
+    """One file that is being read."""
+
+    def __init__(self, data: dict, title: str):
+        self.data = data
+        self.title = title
+        self.goal = str(data.get("objective", "min"))
+        if self.goal not in ("min", "max"):
+            raise Trouble(f"{title}: the objective is {self.goal}, and neither min nor max")
+        self.domains = {str(name): values_of(spec) for name, spec in (data.get("domains") or {}).items()}
+        self.outside = {
+            str(name): spec.get("initial_value") for name, spec in (data.get("external_variables") or {}).items()
+        }
+        self.names: list[str] = []
+        self.values: list[list[object]] = []
+        self.constraints: list[Constraint] = []
+
+    def source(self) -> Source:
+        for name, spec in self.data["variables"].items():
+            domain = str(spec.get("domain"))
+            if domain not in self.domains:
+                raise Trouble(f"{self.title}: the domain {domain} of {name} is not among the domains")
+            self.names.append(str(name))
+            self.values.append(self.domains[domain])
+        for name, spec in self.data["variables"].items():
+            if "cost_function" in spec:
+                self.by_formula(f"cost of {name}", str(spec["cost_function"]))
+        for name, spec in (self.data.get("constraints") or {}).items():
+            self.constraint(str(name), spec)
+        return Source(self.goal, self.names, self.values, self.constraints, self.title)
+
+    def price(self, number: object, name: str) -> Fraction | None:
+        """A cost; None for one without bound, which forbids."""
+        cost = exact(number, name)
+        if cost is None and (float(str(number)) > 0) == (self.goal == "max"):
+            raise Trouble(f"{name}: a cost without bound is only taken where it forbids")
+        return cost
+
+    def constraint(self, name: str, spec: dict) -> None:
+        kind = str(spec.get("type", "intention"))
+        if kind in ("intention", "intentional"):
+            if "source" in spec:
+                raise Trouble(f"{name}: its formula stands in the file {spec['source']}, which is not run")
+            if "function" not in spec:
+                raise Trouble(f"{name} has no function")
+            self.by_formula(name, str(spec["function"]))
+        elif kind in ("extensional", "extension"):
+            self.by_table(name, spec)
+        else:
+            raise Trouble(f"{name}: constraints of the type {kind} are not known")
+
+    def by_formula(self, name: str, text: str) -> None:
+        formula = Formula(text, name)
+        given = {n: self.outside[n] for n in formula.names() if n in self.outside}
+        scope = self.scope(name, [n for n in formula.names() if n not in self.outside])
+        costs = []
+        for choice in product(*(self.values[v] for v in scope)):
+            names = given | {self.names[v]: value for v, value in zip(scope, choice)}
+            costs.append(self.price(formula.value(names), name))
+        self.add(name, scope, costs)
+
+    def by_table(self, name: str, spec: dict) -> None:
+        named = spec.get("variables", [])
+        scope = self.scope(name, [str(n) for n in ([named] if isinstance(named, str) else named)])
+        default = self.price(spec["default"], name) if "default" in spec else Fraction(0)
+        costs = {choice: default for choice in product(*(range(len(self.values[v])) for v in scope))}
+        for cost, choices in (spec.get("values") or {}).items():
+            for choice in str(choices).split("|"):
+                costs[self.choice(name, scope, choice.split())] = self.price(cost, name)
+        self.add(name, scope, list(costs.values()))
+
+    def choice(self, name: str, scope: tuple[int, ...], words: list[str]) -> tuple[int, ...]:
+        if len(words) != len(scope):
+            raise Trouble(f"{name}: `{' '.join(words)}` names {len(words)} values for {len(scope)} variables")
+        places = []
+        for variable, word in zip(scope, words):
+            told = [str(value) for value in self.values[variable]]
+            if word.strip("'\"") not in told:
+                raise Trouble(f"{name}: {word} is no value of {self.names[variable]}")
+            places.append(told.index(word.strip("'\"")))
+        return tuple(places)
+
+    def scope(self, name: str, names: list[str]) -> tuple[int, ...]:
+        unknown = [n for n in names if n not in self.names]
+        if unknown:
+            raise Trouble(f"{name} names {unknown[0]}, which is no variable")
+        if len(names) > MOST_SCOPE:
+            raise Trouble(f"{name} names {len(names)} variables; dcop takes tables of up to {MOST_SCOPE}")
+        return tuple(self.names.index(n) for n in names)
+
+    def add(self, name: str, scope: tuple[int, ...], costs: list[Fraction | None]) -> None:
+        if scope:
+            self.constraints.append(Constraint(name, scope, costs))
+        elif costs and costs[0]:
+            raise Trouble(f"{name} names no variable and costs {costs[0]}")
+
+
+def values_of(spec: object) -> list[object]:
+    """The values of a domain: a list, or a range as `0 .. 9`."""
+    values = spec.get("values") if isinstance(spec, dict) else spec
+    if isinstance(values, str):
+        values = [values]
+    if isinstance(values, list) and len(values) == 1 and isinstance(values[0], str) and _RANGE.match(values[0]):
+        low, high = map(int, _RANGE.match(values[0]).groups())  # type: ignore[union-attr]
+        return list(range(low, high + 1))
+    if not isinstance(values, list) or not values:
+        raise Trouble(f"a domain has no values: {spec!r}")
+    return values

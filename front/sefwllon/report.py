@@ -1,0 +1,77 @@
+"""Reports, trees and logs, as `dcop` prints them."""
+
+from __future__ import annotations
+
+from dataclasses import dataclass, field
+
+from .problem import Problem, Trouble
+
+
+@dataclass
+class Report:
+    """A report of `solve`."""
+
+    status: str
+    method: str
+    error: int
+    deliveries: int
+    cost: int
+    lower: int
+    upper: int
+    values: list[int]
+    certificate: str | None = None
+
+    @property
+    def exact(self) -> bool:
+        return self.lower == self.upper == self.cost
+
+
+@dataclass
+class Node:
+    """A line of a tree: a variable, its parent, its separator."""
+
+    name: str
+    parent: str | None
+    separator: list[str] = field(default_factory=list)
+
+
+def read_report(text: str, problem: Problem) -> Report:
+    """Reads a report of this problem."""
+    numbers: dict[str, str] = {}
+    values: list[int] = []
+    certificate = None
+    for line in text.splitlines():
+        words = line.split()
+        if not words:
+            continue
+        if words[0] == "value" and len(words) == 3:
+            variable = problem.variables[len(values)] if len(values) < len(problem.variables) else None
+            value = variable.value_of(words[2]) if variable and variable.name == words[1] else None
+            if value is None:
+                raise Trouble(f"the report says `{line}`, which fits no variable of the problem")
+            values.append(value)
+        elif words[0] == "certificate" and len(words) >= 2:
+            certificate = words[1]
+        elif len(words) == 2:
+            numbers.setdefault(words[0], words[1])
+    try:
+        count = {name: int(numbers[name]) for name in ("error", "deliveries", "cost", "lower", "upper")}
+        status, method = numbers["status"], numbers["method"]
+    except (KeyError, ValueError):
+        raise Trouble("that is no report of `dcop solve`") from None
+    if len(values) != len(problem.variables):
+        raise Trouble(f"the report has {len(values)} values for {len(problem.variables)} variables")
+    return Report(status, method, values=values, certificate=certificate, **count)
+
+
+def read_tree(text: str) -> list[Node]:
+    """Reads the answer of `dcop tree`."""
+    nodes = []
+    for line in text.splitlines():
+        words = line.split()
+        if words[:1] == ["node"]:
+            parent = None if words[3] == "-" else words[3]
+            nodes.append(Node(words[1], parent, words[5:]))
+    if not nodes:
+        raise Trouble("that is no answer of `dcop tree`")
+    return nodes

@@ -1,0 +1,191 @@
+"""Which way a problem is solved: DPOP as given, DPOP in a better order, cut, ADOPT in growing budgets."""
+
+from __future__ import annotations
+
+import time
+from collections.abc import Callable
+from dataclasses import dataclass, field
+
+from .problem import Problem, Trouble, parse
+from .programs import Answer, Programs
+from .report import Report, read_report
+
+BUDGETS = (1_000, 10_000, 100_000, 1_000_000, 10_000_000)
+ORDERS = 1_000
+
+
+@dataclass
+class Best:
+    """The best that is known: an assignment, bounds, and what was checked."""
+
+    values: list[int] | None = None
+    cost: int | None = None
+    lower: int | None = None
+    upper: int | None = None
+    method: str = ""
+    deliveries: int = 0
+    error: int = 0
+    solved: bool = False
+    checked: int | None = None
+    """The best bound that a report showed which `dcop check` accepted: a lower one, or an upper one for a greatest sum."""
+    stopped: str | None = None
+    report: str | None = None
+    text: str | None = None
+
+    def take(self, report: Report, goal: str) -> None:
+        """Takes what a report says: bounds only narrow, an assignment only gets better."""
+        self.method, self.deliveries = report.method, report.deliveries
+        self.lower = report.lower if self.lower is None else max(self.lower, report.lower)
+        self.upper = report.upper if self.upper is None else min(self.upper, report.upper)
+        better = self.cost is None or (report.cost < self.cost if goal == "min" else report.cost > self.cost)
+        if better or report.status == "solved":
+            self.values, self.cost = report.values, report.cost
+        if self.cost is not None and goal == "min":
+            self.upper = min(self.upper, self.cost)
+        elif self.cost is not None:
+            self.lower = max(self.lower, self.cost)
+        self.solved = report.status == "solved"
+
+    def check(self, report: Report, goal: str) -> None:
+        """Takes the bound of a report that was checked."""
+        if goal == "min":
+            self.checked = report.lower if self.checked is None else max(self.checked, report.lower)
+        else:
+            self.checked = report.upper if self.checked is None else min(self.checked, report.upper)
+
+    def gap(self, goal: str) -> int | None:
+        """By how much the assignment may miss the best sum."""
+        bound = self.lower if goal == "min" else self.upper
+        return None if self.cost is None or bound is None else abs(self.cost - bound)
+
+    @property
+    def checked_gap(self) -> int | None:
+        """By how much it may miss the best sum, by what was checked."""
+        return None if self.cost is None or self.checked is None else abs(self.cost - self.checked)
+
+
+@dataclass
+class Solver:
+    """One problem that is being solved."""
+
+    programs: Programs
+    problem: Problem
+    error: int = 0
+    workers: int = 1
+    method: str = "auto"
+    until: float | None = None
+    tell: Callable[[str, Best], None] = lambda what, best: None
+    best: Best = field(default_factory=Best)
+
+    def solve(self) -> Best:
+        """Solves it, or keeps the best that is known when the time is over or the user stops it."""
+        try:
+            self.by_ways()
+        except KeyboardInterrupt:
+            self.best.stopped = "interrupted"
+        return self.best
+
+    def by_ways(self) -> None:
+        text = self.problem.text()
+        ways: dict[str, Callable[[str], bool]] = {
+            "plain": self.by_plain,
+            "dpop": self.by_dpop,
+            "order": self.by_order,
+            "cut": self.by_cut,
+            "adopt": self.by_adopt,
+        }
+        chosen = ("dpop", "order", "cut", "adopt") if self.method == "auto" else (self.method,)
+        for way in chosen:
+            self.tell(way, self.best)
+            if ways[way](text) or self.best.stopped:
+                return
+
+    def run(self, words: list[str], text: str) -> Answer:
+        answer = self.programs.run(words, text, self.until)
+        if answer.status is None:
+            self.best.stopped = "the time is over"
+        return answer
+
+    def by_plain(self, text: str) -> bool:
+        return self.taken(self.run(["solve", "--method", "plain"], text), text, self.problem)
+
+    def by_dpop(self, text: str) -> bool:
+        words = ["solve", "--method", "dpop", "--certificate", "yes", *self.worker_words()]
+        return self.taken(self.run(words, text), text, self.problem)
+
+    def by_order(self, text: str) -> bool:
+        ordered = self.programs.reorder(text, ORDERS, self.until)
+        if ordered is None or ordered.status != 0:
+            return False
+        other = parse(ordered.text)
+        words = ["solve", "--method", "dpop", "--certificate", "yes", *self.worker_words()]
+        return self.taken(self.run(words, ordered.text), ordered.text, other)
+
+    def by_cut(self, text: str) -> bool:
+        answer = self.run(["solve", "--method", "cut", "--certificate", "yes", *self.worker_words()], text)
+        return self.taken(answer, text, self.problem)
+
+    def by_adopt(self, text: str) -> bool:
+        certificate = ["--certificate", "yes"]
+        for budget in BUDGETS:
+            words = ["solve", "--method", "adopt", "--error", str(self.error), "--budget", str(budget)]
+            answer = self.run([*words, *self.worker_words(), *certificate], text)
+            if answer.unserved:
+                certificate = []
+                answer = self.run([*words, *self.worker_words()], text)
+            if not self.taken(answer, text, self.problem):
+                return False
+            self.tell(f"adopt, {budget} messages", self.best)
+            if self.best.solved or self.best.stopped:
+                return True
+        return True
+
+    def worker_words(self) -> list[str]:
+        return ["--workers", str(self.workers)] if self.workers > 1 else []
+
+    def taken(self, answer: Answer, text: str, problem: Problem) -> bool:
+        """Takes an answer, where it is a report. A refusal for size leaves the problem to the next way."""
+        if answer.status is None or answer.status in (4, 11) or answer.unserved:
+            if self.method != "auto" and answer.status is not None:
+                raise Refused(answer)
+            return False
+        if answer.status not in (0, 1):
+            raise Refused(answer)
+        report = read_report(answer.text, problem)
+        if problem.cost(report.values) != report.cost:
+            raise Trouble("dcop printed a cost that its values do not have: don't trust this program")
+        if report.certificate is not None and self.checked(text, answer.text, report):
+            self.best.check(report, problem.goal)
+        self.best.take(in_order(report, problem, self.problem), self.problem.goal)
+        self.best.error = report.error
+        self.best.report, self.best.text = answer.text, text
+        return True
+
+    def checked(self, text: str, report_text: str, report: Report) -> bool:
+        """Whether `dcop check` says yes to this report, with this cost."""
+        answer = self.run(["check"], text + report_text)
+        if answer.status is None:
+            return False
+        told = dict(line.split(maxsplit=1) for line in answer.text.splitlines() if " " in line)
+        if answer.status == 0 and told.get("status") == "yes" and told.get("cost") == str(report.cost):
+            return True
+        raise Trouble("dcop check does not accept the report that dcop printed: don't trust this program\n" + answer.text)
+
+
+def in_order(report: Report, problem: Problem, wanted: Problem) -> Report:
+    """The report with its values in the order of another text of the same problem."""
+    by_name = {v.name: value for v, value in zip(problem.variables, report.values)}
+    report.values = [by_name[v.name] for v in wanted.variables]
+    return report
+
+
+class Refused(Exception):
+    """An answer of `dcop` that is a refusal."""
+
+    def __init__(self, answer: Answer):
+        super().__init__(answer.text)
+        self.answer = answer
+
+
+def deadline(seconds: float | None) -> float | None:
+    return None if seconds is None else time.monotonic() + seconds

@@ -1,0 +1,235 @@
+"""Problems made from what other tools and people write, and the way back to their own names and costs."""
+
+from __future__ import annotations
+
+import re
+from dataclasses import dataclass, field
+from fractions import Fraction
+from itertools import product
+from math import lcm, prod
+
+from .problem import MOST_CELLS, MOST_NAME, MOST_SCOPE, Problem, Table, Trouble, Variable, is_name
+
+FORBIDDEN = None
+"""The cost of a combination of values that must not be chosen."""
+
+_ROUNDED = 10**6
+
+
+@dataclass
+class Constraint:
+    """A constraint over some variables: a cost for each choice of their values, or FORBIDDEN."""
+
+    name: str
+    scope: tuple[int, ...]
+    costs: list[Fraction | None]
+
+
+@dataclass
+class Source:
+    """A problem as its user wrote it: names and values of any kind, costs of any size and sign."""
+
+    goal: str
+    names: list[str]
+    values: list[list[object]]
+    constraints: list[Constraint]
+    title: str = "a problem"
+
+
+@dataclass
+class Translation:
+    """A problem for `dcop`, and how its names, values and sums are told in the user's own."""
+
+    problem: Problem
+    names: list[str]
+    values: list[list[object]]
+    scale: int = 1
+    shift: Fraction = Fraction(0)
+    rounded: bool = False
+    hard: dict[int, frozenset[int]] = field(default_factory=dict)
+    hard_names: dict[int, str] = field(default_factory=dict)
+    hard_cost: int = 0
+
+    def own_cost(self, total: int, assignment: list[int] | None = None) -> Fraction:
+        """What a sum of the problem is in the user's costs, where no hard constraint is broken."""
+        del assignment
+        if self.problem.goal == "max":
+            total -= self.hard_cost * len(self.hard)
+        return Fraction(total, self.scale) + self.shift
+
+    def broken(self, assignment: list[int]) -> list[str]:
+        """The hard constraints that an assignment breaks, by name."""
+        names = []
+        for at, cells in self.hard.items():
+            table = self.problem.tables[at]
+            place = 0
+            for variable in table.scope:
+                place = place * self.problem.variables[variable].size + assignment[variable]
+            if place in cells:
+                names.append(self.hard_names[at])
+        return names
+
+    def told(self, assignment: list[int]) -> dict[str, object]:
+        """The assignment by the user's own names and values."""
+        return {name: values[value] for name, values, value in zip(self.names, self.values, assignment)}
+
+
+def plain(problem: Problem) -> Translation:
+    """A problem that was written for `dcop`: names and sums are its own."""
+    values: list[list[object]] = [[v.value_name(i) for i in range(v.size)] for v in problem.variables]
+    return Translation(problem, [v.name for v in problem.variables], values)
+
+
+def translate(source: Source) -> Translation:
+    """Makes a problem for `dcop`: forbidden values are left out of the domains where one variable alone tells them,
+    costs are scaled to whole numbers and each table is shifted so that its least cost is 0, and what is still
+    forbidden gets one cost that is above all others together."""
+    source = without_forbidden_values(source)
+    check_shape(source)
+    scale, rounded = scale_of(source)
+    names = distinct_names(source.names)
+    variables = [
+        Variable(name, len(values), value_names(values)) for name, values in zip(names, source.values)
+    ]
+    whole, shift = whole_costs(source, scale)
+    greatest = sum(max((c for c in costs if c is not None), default=0) for costs in whole)
+    forbids = {at for at, costs in enumerate(whole) if None in costs}
+    hard_cost = greatest + 1 if forbids else 0
+    tables = []
+    for at, (constraint, costs) in enumerate(zip(source.constraints, whole)):
+        tables.append(Table(constraint.scope, settled(costs, at in forbids, hard_cost, source.goal)))
+    problem = Problem(source.goal, variables, tables)
+    result = Translation(
+        problem,
+        source.names,
+        source.values,
+        scale,
+        shift,
+        rounded,
+        {at: frozenset(i for i, c in enumerate(whole[at]) if c is None) for at in sorted(forbids)},
+        {at: source.constraints[at].name for at in forbids},
+        hard_cost,
+    )
+    problem.comments = comments_of(source, result)
+    problem.check_limits()
+    return result
+
+
+def settled(costs: list[int | None], forbids: bool, hard_cost: int, goal: str) -> tuple[int, ...]:
+    if not forbids:
+        return tuple(c for c in costs if c is not None)
+    if goal == "min":
+        return tuple(hard_cost if c is None else c for c in costs)
+    return tuple(0 if c is None else c + hard_cost for c in costs)
+
+
+def check_shape(source: Source) -> None:
+    for constraint in source.constraints:
+        if len(constraint.scope) > MOST_SCOPE:
+            raise Trouble(
+                f"the constraint {constraint.name} names {len(constraint.scope)} variables; "
+                f"dcop takes tables of up to {MOST_SCOPE}"
+            )
+    cells = sum(prod(len(source.values[v]) for v in c.scope) for c in source.constraints)
+    if cells > MOST_CELLS:
+        raise Trouble(f"the constraints have {cells} combinations of values together; dcop takes {MOST_CELLS}")
+
+
+def without_forbidden_values(source: Source) -> Source:
+    """The same problem without the values that a constraint of one variable forbids."""
+    kept = [list(range(len(values))) for values in source.values]
+    for constraint in source.constraints:
+        if len(constraint.scope) == 1:
+            (variable,) = constraint.scope
+            kept[variable] = [v for v in kept[variable] if constraint.costs[v] is not FORBIDDEN]
+            if not kept[variable]:
+                raise Trouble(f"every value of {source.names[variable]} is forbidden, the last by {constraint.name}")
+    constraints = []
+    for constraint in source.constraints:
+        sizes = [len(source.values[v]) for v in constraint.scope]
+        costs = []
+        for choice in product(*(kept[v] for v in constraint.scope)):
+            place = 0
+            for value, size in zip(choice, sizes):
+                place = place * size + value
+            costs.append(constraint.costs[place])
+        constraints.append(Constraint(constraint.name, constraint.scope, costs))
+    values = [[values[v] for v in keep] for values, keep in zip(source.values, kept)]
+    return Source(source.goal, source.names, values, constraints, source.title)
+
+
+def scale_of(source: Source) -> tuple[int, bool]:
+    """By what the costs are multiplied to be whole numbers, and whether they are rounded then."""
+    scale = 1
+    for constraint in source.constraints:
+        for cost in constraint.costs:
+            if cost is not None:
+                scale = lcm(scale, cost.denominator)
+                if scale > 10**9:
+                    return _ROUNDED, True
+    return scale, False
+
+
+def whole_costs(source: Source, scale: int) -> tuple[list[list[int | None]], Fraction]:
+    """The costs of each constraint as whole numbers from 0 up, and what they were shifted by, unscaled."""
+    whole = []
+    shift = Fraction(0)
+    for constraint in source.constraints:
+        scaled = [None if c is None else round(c * scale) for c in constraint.costs]
+        least = min((c for c in scaled if c is not None), default=0)
+        shift += Fraction(least, scale)
+        whole.append([None if c is None else c - least for c in scaled])
+    return whole, shift
+
+
+def mangled(word: str) -> str:
+    """A name that `dcop` takes, near to the word."""
+    name = re.sub(r"[^A-Za-z0-9_.-]", "_", word)
+    if not name or not (name[0].isascii() and (name[0].isalpha() or name[0] == "_")):
+        name = "v" + name
+    return name[:MOST_NAME]
+
+
+def distinct_names(words: list[str]) -> list[str]:
+    """Names that `dcop` takes, one for each word, all different."""
+    taken: set[str] = set()
+    names = []
+    for word in words:
+        name = word if is_name(word) else mangled(word)
+        count = 1
+        while name in taken:
+            count += 1
+            suffix = f"_{count}"
+            name = mangled(word)[: MOST_NAME - len(suffix)] + suffix
+        taken.add(name)
+        names.append(name)
+    return names
+
+
+def value_names(values: list[object]) -> tuple[str, ...] | None:
+    """Names of values, or none where the values are just 0, 1, 2 and so on."""
+    if values == list(range(len(values))):
+        return None
+    return tuple(distinct_names([str(v) for v in values]))
+
+
+def comments_of(source: Source, result: Translation) -> list[str]:
+    """Lines that say where the problem is from, and the way back."""
+    lines = [f"made from {source.title}"]
+    problem = result.problem
+    for own, variable in zip(source.names, problem.variables):
+        if own != variable.name:
+            lines.append(f"variable {variable.name} is {own!r}")
+    for variable, values in zip(problem.variables, source.values):
+        for i, value in enumerate(values):
+            if variable.values and variable.values[i] != str(value):
+                lines.append(f"value {variable.values[i]} of {variable.name} is {value!r}")
+    hard = f" - {result.hard_cost * len(result.hard)}" if result.hard and source.goal == "max" else ""
+    if result.scale != 1 or result.shift or hard:
+        lines.append(f"own cost = (sum{hard}) / {result.scale} + {result.shift}")
+    if result.rounded:
+        lines.append(f"costs are rounded to the next 1/{result.scale}")
+    if result.hard:
+        what = "costs" if source.goal == "min" else "misses"
+        lines.append(f"what is forbidden {what} {result.hard_cost}, more than all else together")
+    return [line.replace("\n", " ") for line in lines]

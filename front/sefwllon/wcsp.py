@@ -1,0 +1,115 @@
+"""WCSP files, as toulbar2 reads them, both ways; and UAI files."""
+
+from __future__ import annotations
+
+import math
+from fractions import Fraction
+from itertools import product
+from math import prod
+
+from .problem import Problem, Trouble
+from .translate import Constraint, Source
+
+
+class Words:
+    """The words of a text, handed out one by one."""
+
+    def __init__(self, text: str, what: str):
+        self.words = [(number, word) for number, line in enumerate(text.split("\n"), 1) for word in line.split()]
+        self.at = 0
+        self.what = what
+
+    def next(self) -> str:
+        if self.at == len(self.words):
+            raise Trouble(f"the {self.what} file ends too early")
+        self.at += 1
+        return self.words[self.at - 1][1]
+
+    def number(self) -> int:
+        word = self.next()
+        try:
+            return int(word)
+        except ValueError:
+            raise Trouble(f"line {self.words[self.at - 1][0]}: {word} is no whole number") from None
+
+    def real(self) -> float:
+        word = self.next()
+        try:
+            return float(word)
+        except ValueError:
+            raise Trouble(f"line {self.words[self.at - 1][0]}: {word} is no number") from None
+
+
+def read_wcsp(text: str, title: str) -> Source:
+    """Reads a WCSP: cost functions by tuples, with a top cost that forbids."""
+    words = Words(text, "WCSP")
+    words.next()
+    count, _, functions, top = (words.number() for _ in range(4))
+    sizes = [words.number() for _ in range(count)]
+    constraints = []
+    constant = 0
+    for number in range(1, functions + 1):
+        arity = words.number()
+        scope = tuple(words.number() for _ in range(arity))
+        default = words.number()
+        if any(not 0 <= v < count for v in scope):
+            raise Trouble(f"function {number} names a variable that is not there")
+        cells = [default] * prod(sizes[v] for v in scope)
+        for _ in range(words.number()):
+            place = 0
+            for variable in scope:
+                value = words.number()
+                if not 0 <= value < sizes[variable]:
+                    raise Trouble(f"function {number} names value {value} of variable {variable}")
+                place = place * sizes[variable] + value
+            cells[place] = words.number()
+        if not scope:
+            constant += cells[0]
+            continue
+        costs = [None if c >= top else Fraction(c) for c in cells]
+        constraints.append(Constraint(f"function {number}", scope, costs))
+    if constant >= top:
+        raise Trouble("a function without variables costs the top already, so every assignment is forbidden")
+    if constant and count:
+        constraints.append(Constraint("constant", (0,), [Fraction(constant)] * sizes[0]))
+    return Source("min", [f"v{i}" for i in range(count)], [list(range(s)) for s in sizes], constraints, title)
+
+
+def write_wcsp(problem: Problem, name: str = "problem") -> str:
+    """A problem as a WCSP. A greatest sum is sought there as a least one of what each table falls short."""
+    tables = []
+    for table in problem.tables:
+        greatest = max(table.costs)
+        tables.append([greatest - c if problem.goal == "max" else c for c in table.costs])
+    top = 1 + sum(max(costs) for costs in tables)
+    sizes = [v.size for v in problem.variables]
+    lines = [f"{name} {len(sizes)} {max(sizes)} {len(tables)} {top}", " ".join(map(str, sizes))]
+    for table, costs in zip(problem.tables, tables):
+        choices = list(product(*(range(sizes[v]) for v in table.scope)))
+        told = [(choice, cost) for choice, cost in zip(choices, costs) if cost]
+        lines.append(" ".join(map(str, (len(table.scope), *table.scope, 0, len(told)))))
+        lines += [" ".join(map(str, (*choice, cost))) for choice, cost in told]
+    return "\n".join(lines) + "\n"
+
+
+def read_uai(text: str, title: str) -> Source:
+    """Reads a UAI network: the most probable values, by the sums of minus the logarithms of all factors."""
+    words = Words(text, "UAI")
+    kind = words.next()
+    if kind not in ("MARKOV", "BAYES"):
+        raise Trouble(f"the file begins with {kind}, and neither MARKOV nor BAYES")
+    sizes = [words.number() for _ in range(words.number())]
+    scopes = [tuple(words.number() for _ in range(words.number())) for _ in range(words.number())]
+    constraints = []
+    for number, scope in enumerate(scopes, 1):
+        if words.number() != prod(sizes[v] for v in scope):
+            raise Trouble(f"factor {number} has not as many entries as its variables have choices")
+        costs: list[Fraction | None] = []
+        for _ in range(prod(sizes[v] for v in scope)):
+            factor = words.real()
+            if factor < 0:
+                raise Trouble(f"factor {number} has a negative entry")
+            costs.append(Fraction(round(-math.log(factor) * 10**6), 10**6) if factor > 0 else None)
+        if scope:
+            constraints.append(Constraint(f"factor {number}", scope, costs))
+    return Source("min", [f"v{i}" for i in range(len(sizes))], [list(range(s)) for s in sizes], constraints, title)

@@ -1,0 +1,75 @@
+#!/usr/bin/env python3
+"""A stand-in for `dcop` that tries all assignments. FAKE tells how it misbehaves, by words:
+wide: dpop is too wide; lies: it prints a cost that is one too low; forges: its check says no; slow: it takes for ever;
+spends: adopt is spent below a budget of 100000, with an assignment that is worse each time."""
+
+import itertools
+import os
+import sys
+import time
+from pathlib import Path
+
+sys.path.insert(0, str(Path(__file__).resolve().parents[1]))
+
+from sefwllon.problem import parse  # noqa: E402
+from sefwllon.report import read_report  # noqa: E402
+
+FAKE = os.environ.get("FAKE", "").split()
+
+
+def main() -> int:
+    words = sys.argv[1:]
+    text = sys.stdin.read()
+    if words[0] == "check":
+        return check(text)
+    if words[0] == "upgrade":
+        print(parse(text).text(), end="")
+        return 0
+    options = dict(zip(words[1::2], words[2::2]))
+    method = options.get("--method", "plain")
+    if "slow" in FAKE:
+        time.sleep(60)
+    if method == "dpop" and "wide" in FAKE:
+        print("refused wide agent a cells 2097152 limit 1048576")
+        return 4
+    if method == "cut" or (method == "adopt" and "--certificate" in options):
+        print("refused words at 1 kind 10")
+        return 2
+    return solve(text, method, int(options.get("--budget", "1000000")))
+
+
+def solve(text: str, method: str, budget: int) -> int:
+    problem = parse(text)
+    ranked = sorted(
+        itertools.product(*(range(v.size) for v in problem.variables)),
+        key=lambda a: problem.cost(list(a)) * (1 if problem.goal == "min" else -1),
+    )
+    best = problem.cost(list(ranked[0]))
+    spent = method == "adopt" and "spends" in FAKE and budget < 100_000
+    values = list(ranked[min(len(ranked) - 1, budget // 1000)] if spent else ranked[0])
+    cost = problem.cost(values) - (1 if "lies" in FAKE else 0)
+    print(f"status {'spent' if spent else 'solved'}\nmethod {method}")
+    if problem.goal == "max":
+        print("goal max")
+    print(f"error 0\ndeliveries {budget if spent else 2}\ncost {cost}")
+    print(f"lower {0 if spent else cost}\nupper {cost}" if problem.goal == "min" else f"lower {cost}\nupper {cost}")
+    for variable, value in zip(problem.variables, values):
+        print(f"value {variable.name} {variable.value_name(value)}")
+    if method == "dpop":
+        print(f"certificate tables\nutil a - : : {best}")
+    print("end")
+    return 1 if spent else 0
+
+
+def check(text: str) -> int:
+    problem_text, report_text = text.split("\nend\n", 1)
+    problem = parse(problem_text + "\nend\n")
+    report = read_report(report_text, problem)
+    if "forges" in FAKE or problem.cost(report.values) != report.cost:
+        print("status no\ndiffers cost left 1 right 2\nend")
+        return 10
+    print(f"status yes\ncost {report.cost}\nerror 0\nend")
+    return 0
+
+
+raise SystemExit(main())

@@ -1,0 +1,237 @@
+"""Tests of the front. The program is a stand-in that tries all assignments, or the real one by SEFWLLON_DCOP."""
+
+from __future__ import annotations
+
+import io
+import itertools
+import json
+import os
+import signal
+import subprocess
+import sys
+import tempfile
+import time
+import unittest
+from contextlib import redirect_stderr, redirect_stdout
+from fractions import Fraction
+from pathlib import Path
+from xml.dom import minidom
+
+HERE = Path(__file__).resolve().parent
+FRONT = HERE.parent
+EXAMPLES = FRONT / "examples"
+PROBLEMS = FRONT.parent / "examples"
+sys.path.insert(0, str(FRONT))
+
+from sefwllon import meetings, pydcop, wcsp  # noqa: E402
+from sefwllon.cli import main, seconds  # noqa: E402
+from sefwllon.evaluator import Formula  # noqa: E402
+from sefwllon.explain import explain  # noqa: E402
+from sefwllon.problem import Trouble, parse  # noqa: E402
+from sefwllon.translate import Constraint, Source, translate  # noqa: E402
+
+FAKE = str(HERE / "fake_dcop.py")
+REAL = os.environ.get("SEFWLLON_DCOP")
+
+
+class Case(unittest.TestCase):
+    """A test that runs the command with the stand-in."""
+
+    def front(self, *words: str, fake: str = "", program: str = FAKE) -> tuple[int, str, str]:
+        kept = dict(os.environ)
+        os.environ.update(SEFWLLON_DCOP=program, FAKE=fake)
+        out, err = io.StringIO(), io.StringIO()
+        try:
+            with redirect_stdout(out), redirect_stderr(err):
+                status = main(list(words))
+        finally:
+            os.environ.clear()
+            os.environ.update(kept)
+        return status, out.getvalue(), err.getvalue()
+
+    def file(self, name: str, text: str) -> str:
+        folder = tempfile.TemporaryDirectory()
+        self.addCleanup(folder.cleanup)
+        path = Path(folder.name) / name
+        path.write_text(text)
+        return str(path)
+
+
+class Solving(Case):
+    def test_a_certified_answer_is_verified(self):
+        status, told, _ = self.front("solve", str(PROBLEMS / "pair.dcop"))
+        self.assertEqual((status, told.splitlines()[0]), (0, "cost 2, and none is better (verified)"))
+
+    def test_a_program_that_lies_is_not_believed(self):
+        for fake in ("lies", "forges"):
+            status, told, why = self.front("solve", str(PROBLEMS / "pair.dcop"), fake=fake)
+            self.assertEqual((status, told), (3, ""))
+            self.assertIn("don't trust this program", why)
+
+    def test_adopt_keeps_the_best_of_growing_budgets(self):
+        status, told, _ = self.front("solve", "--json", str(PROBLEMS / "pair.dcop"), fake="wide spends")
+        answer = json.loads(told)
+        self.assertEqual((status, answer["cost"], answer["solved"], answer["verified"]), (0, 2, True, False))
+
+    def test_the_time_is_kept(self):
+        began = time.monotonic()
+        status, told, _ = self.front("solve", "--time", "300ms", str(PROBLEMS / "pair.dcop"), fake="slow")
+        self.assertEqual((status, told), (1, "nothing found: the time is over\n"))
+        self.assertLess(time.monotonic() - began, 5)
+
+    def test_an_interrupt_ends_with_the_best_so_far(self):
+        environment = dict(os.environ, SEFWLLON_DCOP=FAKE, FAKE="slow", PYTHONPATH=str(FRONT))
+        process = subprocess.Popen(
+            [sys.executable, "-m", "sefwllon", "solve", str(PROBLEMS / "pair.dcop")],
+            env=environment, stdout=subprocess.PIPE, stderr=subprocess.PIPE, text=True,
+        )  # fmt: skip
+        time.sleep(1)
+        process.send_signal(signal.SIGINT)
+        told, _ = process.communicate(timeout=10)
+        self.assertEqual((process.returncode, told), (1, "nothing found: interrupted\n"))
+
+    def test_pydcop_costs_are_told_in_its_own(self):
+        status, told, _ = self.front("solve", "--json", str(EXAMPLES / "colouring.yaml"))
+        answer = json.loads(told)
+        self.assertEqual((status, answer["cost"]), (0, -0.1))
+        self.assertEqual(answer["values"], {"v1": "R", "v2": "G", "v3": "R"})
+
+    def test_a_wcsp_is_solved(self):
+        status, told, _ = self.front("solve", "--json", str(EXAMPLES / "knapsack.wcsp"))
+        self.assertEqual((status, json.loads(told)["cost"]), (0, 8))
+
+    @unittest.skipUnless(REAL, "no built program")
+    def test_the_real_program(self):
+        for name, cost in (("timetable", 1), ("sensors", 20), ("campus", 3), ("crowded", 0)):
+            status, told, _ = self.front("solve", "--json", str(PROBLEMS / f"{name}.dcop"), program=REAL)
+            self.assertEqual((name, status, json.loads(told)["cost"]), (name, 0, cost))
+        status, told, _ = self.front("solve", str(EXAMPLES / "colouring.yaml"), program=REAL)
+        self.assertEqual((status, told.splitlines()[0]), (0, "cost -0.1, and none is better (verified)"))
+        status, told, _ = self.front("meetings", str(EXAMPLES / "meetings.csv"), program=REAL)
+        self.assertEqual((status, told.splitlines()[0]), (0, "cost 0, and none is better (verified)"))
+
+
+class Translating(Case):
+    def test_every_assignment_costs_what_it_did(self):
+        source = Source(
+            "max",
+            ["a b", "a,b"],
+            [["x", "y z"], [1.5, 2, True]],
+            [
+                Constraint("one", (0,), [Fraction(1, 4), Fraction(-1, 2)]),
+                Constraint("two", (0, 1), [Fraction(c) for c in (3, -1, 2, 0, 5, 1)]),
+            ],
+        )
+        told = translate(source)
+        for a, b in itertools.product(range(2), range(3)):
+            own = source.constraints[0].costs[a] + source.constraints[1].costs[3 * a + b]
+            self.assertEqual(told.own_cost(told.problem.cost([a, b])), own)
+        self.assertEqual(parse(told.problem.text()).tables, told.problem.tables)
+
+    def test_what_is_forbidden_costs_more_than_all_else(self):
+        for goal in ("min", "max"):
+            cells = [Fraction(9), None, None, Fraction(4)]
+            source = Source(goal, ["a", "b"], [[0, 1], [0, 1]], [Constraint("c", (0, 1), cells)])
+            told = translate(source)
+            kept = [told.problem.cost([i, i]) for i in range(2)]
+            lost = [told.problem.cost([i, 1 - i]) for i in range(2)]
+            self.assertTrue(max(kept) < min(lost) if goal == "min" else min(kept) > max(lost))
+            self.assertEqual([told.own_cost(cost) for cost in kept], [9, 4])
+            self.assertEqual(told.broken([0, 1]), ["c"])
+            self.assertEqual(told.broken([1, 1]), [])
+
+    def test_forbidden_values_are_left_out(self):
+        source = Source("min", ["a"], [["x", "y"]], [Constraint("c", (0,), [None, Fraction(1)])])
+        self.assertEqual(translate(source).values, [["y"]])
+        source.constraints[0].costs[1] = None
+        with self.assertRaisesRegex(Trouble, "every value of a is forbidden"):
+            translate(source)
+
+    def test_formulas_know_no_python(self):
+        self.assertEqual(Formula("1 if a == b else 0", "f").value({"a": 1, "b": 2}), 0)
+        self.assertEqual(Formula("if a > 1:\n  return abs(a - b)\nreturn 0", "f").value({"a": 3, "b": 5}), 2)
+        for bad in ("__import__('os').system('true')", "a.real", "9 ** 999999", "[0 for x in a]", "'a' * 10 ** 9"):
+            with self.assertRaises(Trouble, msg=bad):
+                Formula(bad, "f").value({"a": 1})
+
+    def test_a_wcsp_comes_back(self):
+        problem = parse((PROBLEMS / "pair.dcop").read_text())
+        back = translate(wcsp.read_wcsp(wcsp.write_wcsp(problem), "pair"))
+        for choice in itertools.product(range(2), repeat=2):
+            self.assertEqual(back.own_cost(back.problem.cost(list(choice))), problem.cost(list(choice)))
+
+    def test_pydcop_faults_are_told(self):
+        head = "domains: {d: {values: [1, 2]}}\nvariables: {x: {domain: d}}\n"
+        for text, why in (
+            ("x: [", "no YAML"),
+            ("domains: {}", "no `variables`"),
+            (head + "objective: best", "neither min nor max"),
+            (head + "constraints: {c: {type: intention, function: x + z}}", "names z"),
+            (head + "constraints: {c: {type: extensional, variables: x, values: {1: 5}}}", "5 is no value of x"),
+            (head + "constraints: {c: {type: intention, function: .inf * -1 if x else 0}}", "can't be read"),
+        ):
+            with self.assertRaisesRegex(Trouble, why):
+                pydcop.read(text, "file")
+
+    def test_uai_factors_become_costs(self):
+        source = wcsp.read_uai("MARKOV 1 2 1 1 0 2 0.5 1.0", "file")
+        self.assertEqual(source.constraints[0].costs[1], 0)
+
+
+class Meetings(Case):
+    def test_a_timetable_keeps_the_rules(self):
+        with tempfile.TemporaryDirectory() as folder:
+            calendar = Path(folder) / "week.ics"
+            status, told, _ = self.front("meetings", str(EXAMPLES / "meetings.csv"), "--ics", str(calendar))
+            text = calendar.read_bytes().decode()
+        self.assertEqual((status, told.splitlines()[0]), (0, "cost 0, and none is better (verified)"))
+        self.assertIn("Mon 9", told)
+        self.assertEqual(text.count("BEGIN:VEVENT\r\n"), 4)
+
+    def test_faults_are_told_by_line(self):
+        for text, why in (
+            ("slot,a\nslot,a\n", "line 2: the slot a stands twice"),
+            ("slot,a,tomorrow\n", "line 1: tomorrow is no time"),
+            ("room,a\n", "line 1: a line begins with"),
+            ("slot,a\nmeeting,m,Ann\nabsent,Bo,a\n", "Bo is absent"),
+        ):
+            with self.assertRaisesRegex(Trouble, why):
+                meetings.read(text)
+
+
+class Telling(Case):
+    def test_refusals_are_explained(self):
+        for text, answer, why in (
+            ("dcop 1\nvar a,b 2\n", "refused text line 2 kind 2", "comma"),
+            ("dcop 1\nvar 1a 2\n", "refused text line 2 kind 2", "begins with `1`"),
+            ("dcop 2\nvar a 2\ntable a: 1 2\n", "refused text line 3 kind 2", "both sides of the colon"),
+            ("dcop 1\nvar a 2\ntable a : -1 2\n", "refused text line 3 kind 3", "negative"),
+            ("dcop 1\nvar a 2\ntable a : 0.5 2\n", "refused text line 3 kind 3", "multiply"),
+            ("\ufeffdcop 1\n", "refused text line 1 kind 1", "byte order mark"),
+            ("dcop 1\nvar a 2\n", "refused text line 3 kind 6", "`end` is missing"),
+            ("dcop 1\nvar a 2\ntable a : 1\n", "refused text line 3 kind 7 problem 6", "has 1 and needs 2"),
+            ("dcop 1\nvar a 2\ntable A : 1 1\n", "refused text line 3 kind 4", "capital letters"),
+        ):
+            self.assertIn(why, explain(answer, text))
+        self.assertIn("order of the `var` lines", explain("refused wide agent a cells 2097152 limit 1048576"))
+        self.assertIn("`0`", explain("refused words at 3 kind 7", words=["solve", "--workers", "0"]))
+
+    def test_pictures_are_svg(self):
+        status, told, _ = self.front("draw", "graph", str(PROBLEMS / "tracking.dcop"))
+        self.assertEqual(status, 0)
+        picture = minidom.parseString(told)
+        self.assertEqual(len(picture.getElementsByTagName("circle")), 6)
+
+    def test_an_assignment_costs_what_dcop_says(self):
+        status, told, _ = self.front("cost", str(PROBLEMS / "pair.dcop"), "x=0", "y=1")
+        self.assertEqual((status, told), (0, "cost 3\n"))
+        status, _, why = self.front("cost", str(PROBLEMS / "pair.dcop"), "x=0")
+        self.assertEqual(status, 3)
+        self.assertIn("no value for y", why)
+
+    def test_times_are_read(self):
+        self.assertEqual([seconds(word) for word in ("30s", "500ms", "2m", "7")], [30, 0.5, 120, 7])
+
+
+if __name__ == "__main__":
+    unittest.main()
