@@ -7,7 +7,5 @@
 
 mod draw;
 mod make;
-#[cfg(test)]
-mod tests;
 
 pub use make::make_problem;
