@@ -6,7 +6,8 @@
 # up to 1,000,000; `drill` makes it from the number 0, and a few lines of Python write the same one as
 # text for `solve`. Both solve it by DPOP and must find the same cost. Prints the best of five runs of
 # each whole command, and the ratio of their times: above 1 the drill is faster than reading the text
-# and solving it.
+# and solving it. Then what share of the drill making the problem is: that of a drill by the method plain, which
+# refuses the problem for its many assignments once it is made. At most a tenth is wanted.
 set -eu
 program=${1:?usage: bench/drill.sh PROGRAM}
 folder=$(mktemp -d)
@@ -49,8 +50,11 @@ def costs(answer):
     return [line for line in answer.split("\n") if line.split(" ")[0] in ("status", "cost", "lower", "upper")]
 numbers = ["--vars", str(count), "--size", str(size), "--degree", "1", "--top", str(top)]
 drill, drill_memory, summary = run(["drill", *numbers, "--method", "dpop"], os.devnull)
+made, _, refused = run(["drill", *numbers, "--method", "plain"], os.devnull)
+assert refused.startswith("refused many assignments "), refused[:200]
 solve, solve_memory, report = run(["solve", "--method", "dpop"], f"{folder}/problem")
 assert costs(summary) == costs(report) and summary.startswith("status solved\n"), (summary[:200], report[:200])
 megabytes = os.path.getsize(f"{folder}/problem") / 1e6
 print(f"drill {drill:.4f} s with {drill_memory:.0f} MB, solve {solve:.4f} s with {solve_memory:.0f} MB on {megabytes:.1f} MB of text, ratio {solve / drill:.2f}")
+print(f"making the problem {made:.4f} s, {made / drill:.2f} of the drill (wanted at most 0.10)")
 PY
