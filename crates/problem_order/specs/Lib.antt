@@ -1,0 +1,6 @@
+pub mod Order
+pub mod Reordered
+pub mod Costs
+pub mod Lines
+pub mod Measure
+pub mod Narrowed

@@ -1,0 +1,21 @@
+-- Orders of variables.
+use Rattle.std.specs.Prelude.{◌≡◌, ℕ, ◌<◌, List, length, slice_index}
+use Rattle.std.specs.List.{All}
+
+-- an order of so many variables: each of them stands in it once
+pub record IsOrder (count : ℕ) (order : List ℕ) : Type 0 where
+  pub many : length order ≡ count
+  pub within : All (λ v. v < count) order
+  pub once : (j k : ℕ) → j < count → k < count → slice_index order j ≡ slice_index order k → j ≡ k
+  pub every : (v : ℕ) → v < count → (k : ℕ) × (k < count) × (slice_index order k ≡ v)
+
+-- each number of the first list is the place in the second list at which the number's own place stands
+abbrev pub LeadsBack : List ℕ → List ℕ → Type 0
+LeadsBack one other =
+    (k : ℕ) → k < length one → (slice_index one k < length other) × (slice_index other (slice_index one k) ≡ k)
+
+-- as many places as variables, and each list leads back from the other: the places are those of the variables
+pub record ArePlaces (vars places : List ℕ) : Type 0 where
+  pub many : length places ≡ length vars
+  pub of_vars : LeadsBack vars places
+  pub of_places : LeadsBack places vars

@@ -1,0 +1,17 @@
+//! Laws of files in another order. Each is the contract of a call that does nothing: who needs the
+//! law calls it.
+
+ghost use Rattle.problem_order.specs.Costs.{ReorderedFilesCostTheSame};
+ghost use Rattle.problem_order.specs.Lines.{ReorderedFilesKeepTheirLines};
+
+/// A file and the same file in another order have the same assignments by names, at the same costs.
+/// So the best sum is the same, for goal min and for goal max.
+pub fn reordered_files_cost_the_same()
+    ensures { ReorderedFilesCostTheSame }
+{}
+
+/// The canonical text of a file in another order has the lines of the old one, with the lines of the
+/// variables in that order: it is one function of the file and the order.
+pub fn reordered_files_keep_their_lines()
+    ensures { ReorderedFilesKeepTheirLines }
+{}
