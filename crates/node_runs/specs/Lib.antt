@@ -1,0 +1,5 @@
+pub mod Wires
+pub mod Exchanges
+pub mod NodeRounds
+pub mod NodeRuns
+pub mod NodeStamps
