@@ -1,4 +1,5 @@
 pub mod WireLaws
+pub mod LinkLaws
 pub mod RoundLaws
 pub mod RunLaws
 pub mod StampLaws

@@ -1,5 +1,5 @@
 -- What passed over links between nodes, exchange by exchange.
-use Rattle.std.specs.Prelude.{◌≡◌, ℕ, List, [], ◌++◌, Option, ◌==◌, ◌&&◌, if◌then◌else◌}
+use Rattle.std.specs.Prelude.{◌≡◌, ℕ, List, [], ◌++◌, Option, Some, ◌==◌, ◌&&◌, if◌then◌else◌, slice_get}
 use Rattle.std.specs.List.{All, flat_map}
 use Rattle.std.specs.Option.{option_to_list}
 use Rattle.protocol_steps.specs.declared.message.Message.{Message}
@@ -27,6 +27,10 @@ HasHeld w = All IsSame w.passages
 -- and on each link
 abbrev pub HaveHeld : List Wire → Type 0
 HaveHeld ws = All HasHeld ws
+
+-- no two links lead from the same agent to the same
+abbrev pub AreApart : List Wire → Type 0
+AreApart ws = (k l : ℕ) (v w : Wire) → slice_get ws k ≡ Some v → slice_get ws l ≡ Some w → v.receiver ≡ w.receiver → v.sender ≡ w.sender → k ≡ l
 
 -- a link after one exchange more: it has one passage more, or none, where there was nothing to pass
 pub record HasPassed (before after : Wire) : Type 0 where

@@ -1,5 +1,6 @@
 //! The laws on cells in nodes.
 
+ghost use Rattle.node_runs.specs.Links.{LinksAreExchanged};
 ghost use Rattle.node_runs.specs.NodeRuns.{NodesMakeARun, NodesAreOne, PlayedNodesMakeRuns};
 ghost use Rattle.node_runs.specs.NodeStamps.{NodeStampsAreFew};
 
@@ -21,6 +22,12 @@ pub fn nodes_are_one()
 /// agents have ended, where the budget is spent, and where a round took nothing.
 pub fn played_nodes_make_runs()
     ensures { PlayedNodesMakeRuns }
+{}
+
+/// Where each link between nodes is exchanged, and agents with no link between them said nothing to
+/// each other, the exchange is whole.
+pub fn links_are_exchanged()
+    ensures { LinksAreExchanged }
 {}
 
 /// No stamp comes to its end where each exchange took just what it sent: no stamp of a cell, nor of

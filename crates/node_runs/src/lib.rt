@@ -13,4 +13,7 @@
 
 mod law;
 
-pub use law::{node_stamps_are_few, nodes_are_one, nodes_make_a_run, played_nodes_make_runs};
+pub use law::{
+    links_are_exchanged, node_stamps_are_few, nodes_are_one, nodes_make_a_run,
+    played_nodes_make_runs,
+};
