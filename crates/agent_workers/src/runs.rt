@@ -21,9 +21,17 @@ use dcop_edge::Gate;
 use protocol_steps::RunEnd;
 use std::thread::Threads;
 
-/// Starts the agents of all cells in order, and plays the cells in rounds of so many workers, with
-/// one node, until the run has ended under this budget of deliveries. It takes memory; after
-/// [`NoMemory`] the cells are as their visits left them.
+/// For how many messages of the last round it is worth starting a thread.
+const FEW_MESSAGES: u64 = 4;
+
+/// How many messages an agent takes in a round at most, on the whole, where the agents have work of
+/// their own to do rather than each other to answer.
+const MANY_MESSAGES: u64 = 4;
+
+/// Starts the agents of all cells in order, and plays the cells in rounds of at most so many workers,
+/// with one node, until the run has ended under this budget of deliveries. All workers share the first
+/// round, and each that follows a round with neither few nor many messages; one plays the others. It
+/// takes memory; after [`NoMemory`] the cells are as their visits left them.
 ///
 /// The budget is looked at after the start and after each round, and not within a round. The run
 /// has ended, with so many deliveries, where every agent has ended; where one has not and the
@@ -106,8 +114,10 @@ fn play_out<R: Threads + Sync, G: Gate>(
     if all_ended(cells) {
         return Ok(RunEnd::AllEnded { deliveries });
     }
+    let mut sharing = workers;
     for _ in 0..budget {
-        let taken = play_round(rt, cells, 1, workers, gate)?;
+        let taken = play_round(rt, cells, 1, sharing, gate)?;
+        sharing = sharing_after(taken, cells.len() as u64, workers);
         deliveries += taken;
         if all_ended(cells) {
             return Ok(RunEnd::AllEnded { deliveries });
@@ -120,6 +130,23 @@ fn play_out<R: Threads + Sync, G: Gate>(
         }
     }
     Ok(RunEnd::Spent { deliveries })
+}
+
+/// How many workers share the round after one in which so many agents took so many messages. It is
+/// all of them, but for one alone where the messages were so few that starting threads would cost more
+/// than it saves, or so many that agents who answer each other at once send more than they save.
+fn sharing_after(taken: u64, agents: u64, workers: u32) -> u32
+    requires { 0 < workers }
+    ensures some { 0 < result }
+    ensures most { result ≤ workers }
+{
+    let few = u64::from(workers) * FEW_MESSAGES;
+    let many = agents.saturating_mul(MANY_MESSAGES);
+    if few <= taken && taken <= many {
+        workers
+    } else {
+        1
+    }
 }
 
 /// Whether every agent has ended.

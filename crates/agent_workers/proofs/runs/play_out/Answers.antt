@@ -9,6 +9,7 @@ use Rattle.agent_workers.proofs.runs.play_out.Goals as goal
 
 pub loop-init : goal.loop-init
 loop-init g c = let none = c.requires.none in record {
+  shared = c.requires.workers;
   joined = c.requires.joined;
   begun = c.requires.begun;
   fine = c.requires.fine;
@@ -55,6 +56,7 @@ returns-then-taken-eq0-clause-played g c = let i = c.loop.invariant in let was =
 
 pub loop-preserved : goal.loop-preserved
 loop-preserved g c = let i = c.loop.invariant in let was = i.deliveries in let more = c.in_ok-taken.ensures.counted in let some = c.if-taken-eq0.false in let less = c.if-deliveries-budget.false in let grown = i.progress in record {
+  shared = c.sharing_after-sharing.ensures.some;
   joined = c.play_round.ensures.joined;
   begun = c.play_round.ensures.begun;
   fine = fine_still (λ b. (goal.Machine-dyn g (b.vtable, b.value)).meaning b.value) c.loop.cells c.play_round.new.cells c.in_ok-taken.ensures.fine i.fine;

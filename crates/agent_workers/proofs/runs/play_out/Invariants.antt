@@ -8,6 +8,7 @@ use Rattle.agent_workers.proofs.runs.play_out.Given as goal
 
 abbrev pub invariant-loop : goal.invariant-loop
 invariant-loop g l = record {
+  shared : 0 < l.sharing;
   joined : IsJoined (λ b. (goal.Machine-dyn g (b.vtable, b.value)).meaning b.value) 1 l.cells;
   begun : EachIs (λ c. HasBegun (λ b. (goal.Machine-dyn g (b.vtable, b.value)).meaning b.value) c) l.cells;
   fine : EachIs (λ c. fault_in c ≡ None) l.cells;
