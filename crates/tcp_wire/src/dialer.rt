@@ -1,7 +1,9 @@
 //! Pairs of wires as connections on this machine.
 
-ghost use Rattle.std.specs.Prelude.{◌≡◌, ◌≤◌};
+ghost use Rattle.std.specs.Prelude.{◌≡◌, ◌≤◌, ◌↔◌, IfOk, IfErr};
 ghost use Rattle.dcop_edge.specs.Faults.{Rose};
+ghost use Rattle.wire_edge.specs.Dialer.{HasDialCause, IsNew, TellsNothing};
+ghost use Rattle.wire_edge.specs.declared.dialer.DialFault.TheVariants.{Failed as failed};
 
 use crate::wire::TcpWire;
 use futures::Future;
@@ -80,15 +82,24 @@ where
 }
 
 impl Dialer for TcpDialer {
+    ghost use Rattle.tcp_wire.specs.Tcp.{tcp_told, tcp_joined, tcp_honest};
+
     type W = TcpWire;
 
     ghost faults = { λ d. d.faults };
 
-    ghost is_honest = { λ _. ⊥ };
+    ghost is_honest = { tcp_honest };
 
     fn pair<R>(&mut self, rt: &R, _alloc: Global) -> Result<(TcpWire, TcpWire), DialFault>
     where
         R: Threads + Wait + Clock + RandomSource + Net + AllocGlobal + Sync,
+        ensures cause { HasDialCause self.old.faults self.new.faults result }
+        ensures new { IfOk result (λ r. IsNew (tcp_told r.0) × IsNew (tcp_told r.1)) }
+        ensures joined { tcp_honest self.old → IfOk result (λ r. tcp_joined r.0 r.1) }
+        ensures told { tcp_honest self.old → IfOk result
+            (λ r. TellsNothing (tcp_told r.0) × TellsNothing (tcp_told r.1)) }
+        ensures honest { tcp_honest self.old ↔ tcp_honest self.new }
+        ensures each { IfErr result (λ fault. fault ≡ failed) }
     {
         let Ok(mut runtime) = runtime_of(rt, self.runtime.take()) else {
             self.fault();
@@ -107,6 +118,11 @@ impl Dialer for TcpDialer {
     where
         R: Threads + Wait + Clock + RandomSource + Net + AllocGlobal + Sync,
         F: Future,
+        requires { F.can_poll future }
+        ensures cause { HasDialCause self.old.faults self.new.faults result }
+        ensures gives { IfOk result (F.gives future) }
+        ensures honest { tcp_honest self.old ↔ tcp_honest self.new }
+        ensures each { IfErr result (λ fault. fault ≡ failed) }
     {
         let Ok(mut runtime) = runtime_of(rt, self.runtime.take()) else {
             self.fault();

@@ -43,11 +43,11 @@ impl TcpWire {
 }
 
 impl Wire for TcpWire {
-    ghost use Rattle.tcp_wire.specs.Tcp.{tcp_told};
+    ghost use Rattle.tcp_wire.specs.Tcp.{tcp_told, tcp_joined};
 
     ghost told = { tcp_told };
 
-    ghost is_joined = { λ _ _. ⊥ };
+    ghost is_joined = { tcp_joined };
 
     fn poll_write(&mut self, cx: &mut Context<'_>, bytes: &[u8]) -> Poll<Result<usize, Failed>> {
         match self.stream.poll_write(cx, bytes) {

@@ -1,11 +1,14 @@
 -- Wires in memory that fail at chosen polls and change chosen bytes.
-use Rattle.std.specs.Prelude.{◌≡◌, ℕ, Bool, true, false, not, cond, List, [], ◌∷◌, map, filter, Option, Some, None, Result, is_err, ◌==◌, ◌&&◌}
+use Rattle.std.specs.Prelude.{◌≡◌, ◌+◌, ◌⊎◌, ℕ, take, ◌++◌, Bool, true, false, not, cond, List, [], ◌∷◌, map, filter, Option, Some, None, Result, Ok, Err, is_err, ◌==◌, ◌&&◌}
 use Rattle.futures.specs.declared.task.Poll.{Poll}
 use Rattle.futures.specs.declared.task.Poll.TheVariants.{Ready, Pending}
+use Rattle.dcop_base.specs.Limits.{count_limit}
+use Rattle.dcop_edge.specs.Faults.{one_more}
 use Rattle.dcop_edge.specs.Memory.{no_calls}
 use Rattle.dcop_edge.specs.declared.fault.Failed.{Failed}
 use Rattle.wire_edge.specs.Wire.{Told}
 use Rattle.wire_edge.specs.Steady.{AreJoined, sent_by, received_by}
+use Rattle.wire_edge.specs.declared.dialer.DialFault.{DialFault}
 use Rattle.wire_edge.specs.declared.alter.Alter.{Alter}
 use Rattle.wire_edge.specs.declared.alter.PollFail.{PollFail}
 use Rattle.wire_edge.specs.declared.memory.MemoryWire.{MemoryWire}
@@ -53,8 +56,37 @@ pub record IsPair (pair : ℕ) (polls : List PollFail) (alters : List Alter) (a 
   pub second_calls : b.calls ≡ no_calls (polls_of pair false polls)
   pub first_alters : a.alters.items ≡ alters_of pair true alters
   pub second_alters : b.alters.items ≡ alters_of pair false alters
+  pub first_written : a.written ≡ 0
+  pub second_written : b.written ≡ 0
+
+-- a pair that was made is counted, and a call that failed is not
+abbrev pub CountsPair : {T : Type 0} → ℕ → Result T DialFault → ℕ → Type 0
+CountsPair old (Ok pair) new = new ≡ one_more old
+CountsPair old (Err fault) new = new ≡ old
 
 -- a poll failed exactly where it was to
 abbrev pub FailsWhere : Bool → Poll (Result ℕ Failed) → Type 0
 FailsWhere fails (Ready result) = is_err result ≡ fails
 FailsWhere fails Pending = fails ≡ false
+
+-- the bytes that go out from a place on in place of these
+abbrev pub all_altered : List Alter → ℕ → List ℕ → List ℕ
+all_altered alters place [] = []
+all_altered alters place (byte ∷ bytes) = altered alters place byte ∷ all_altered alters (place + 1) bytes
+
+-- a count went up by so many, or stands at its last value
+abbrev pub HasCounted : ℕ → ℕ → ℕ → Type 0
+HasCounted old count new = (new ≡ old + count) ⊎ (new ≡ count_limit)
+
+-- a wire counts the bytes that it has sent
+abbrev pub CountsSent : MemoryWire → Poll (Result ℕ Failed) → MemoryWire → Type 0
+CountsSent a (Ready (Ok count)) b = HasCounted a.written count b.written
+CountsSent a (Ready (Err failed)) b = b.written ≡ a.written
+CountsSent a Pending b = b.written ≡ a.written
+
+-- what a poll for writing sent: the bytes that it took, or what goes out in their place; a wire that changes any counts them
+abbrev pub SendsAltered : MemoryWire → List ℕ → Poll (Result ℕ Failed) → MemoryWire → Type 0
+SendsAltered a bytes (Ready (Ok count)) b =
+    (sent_by b.wire ≡ sent_by a.wire ++ all_altered a.alters.items a.written (take count bytes)) × ((a.alters.items ≡ []) ⊎ HasCounted a.written count b.written)
+SendsAltered a bytes (Ready (Err failed)) b = (sent_by b.wire ≡ sent_by a.wire) × (b.written ≡ a.written)
+SendsAltered a bytes Pending b = (sent_by b.wire ≡ sent_by a.wire) × (b.written ≡ a.written)

@@ -1,6 +1,6 @@
 //! Where pairs of wires come from.
 
-ghost use Rattle.std.specs.Prelude.{◌≡◌, ◌≤◌, ◌<◌, ℕ, IfOk};
+ghost use Rattle.std.specs.Prelude.{◌≡◌, ◌≤◌, ◌<◌, ◌↔◌, ℕ, IfOk};
 ghost use Rattle.dcop_edge.specs.Faults.{Rose};
 ghost use Rattle.wire_edge.specs.Dialer.{HasDialCause, IsNew, TellsNothing};
 
@@ -77,7 +77,7 @@ pub trait Dialer {
         ensures joined { is_honest self.old → IfOk result (λ r. Self.W.is_joined r.0 r.1) }
         ensures told { is_honest self.old → IfOk result
             (λ r. TellsNothing (Self.W.told r.0) × TellsNothing (Self.W.told r.1)) }
-        ensures honest { is_honest self.old → is_honest self.new };
+        ensures honest { is_honest self.old ↔ is_honest self.new };
 
     /// Polls `future` until it is ready, and answers what it gives. The future may be polled at the
     /// call; after a fault it is gone. It may wait.
@@ -88,12 +88,12 @@ pub trait Dialer {
         requires { F.can_poll future }
         ensures cause { HasDialCause (faults self.old) (faults self.new) result }
         ensures gives { IfOk result (F.gives future) }
-        ensures honest { is_honest self.old → is_honest self.new };
+        ensures honest { is_honest self.old ↔ is_honest self.new };
 
     /// Counts one more fault exactly where a call of this wire has failed.
     fn charge(&mut self, wire: &Self::W)
         ensures none { (Self.W.told wire.now).faults ≡ 0 → faults self.new ≡ faults self.old }
         ensures some { 0 < (Self.W.told wire.now).faults
             → (faults self.old ≤ faults self.new) × Rose (faults self.old) (faults self.new) }
-        ensures honest { is_honest self.old → is_honest self.new };
+        ensures honest { is_honest self.old ↔ is_honest self.new };
 }

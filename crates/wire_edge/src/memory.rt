@@ -1,11 +1,13 @@
 //! Wires in memory that fail at chosen polls and change chosen bytes.
 
-ghost use Rattle.std.specs.Prelude.{◌≡◌, true, [], ◌∷◌, IfOk, is_err};
+ghost use Rattle.std.specs.Prelude.{◌≡◌, ◌≤◌, ◌<◌, true, [], ◌∷◌, ◌↔◌, IfOk, IfErr, is_err};
 ghost use Rattle.futures.specs.Poll.{OnPending};
 ghost use Rattle.futures.specs.Task.{IsArmed, Keeps};
+ghost use Rattle.dcop_edge.specs.Faults.{Rose};
 ghost use Rattle.dcop_edge.specs.Memory.{no_calls, fails_next, after_call};
 ghost use Rattle.wire_edge.specs.Wire.{AfterWrite, AfterRead, Reach};
 ghost use Rattle.wire_edge.specs.Dialer.{HasDialCause, IsNew, TellsNothing};
+ghost use Rattle.wire_edge.specs.declared.dialer.DialFault.TheVariants.{NoMemory as no_memory};
 
 use crate::alter::{Alter, PollFail, altered, alters_of, polls_of};
 use crate::dialer::{DialFault, Dialer};
@@ -35,15 +37,19 @@ pub struct MemoryWire {
 }
 
 impl MemoryWire {
-    ghost use Rattle.wire_edge.specs.Steady.{steady_told};
-    ghost use Rattle.wire_edge.specs.Memory.{altered};
+    ghost use Rattle.wire_edge.specs.Steady.{steady_told, AreJoined, known_room};
+    ghost use Rattle.wire_edge.specs.Memory.{altered, CountsSent};
 
     // Sends the first byte, or what goes out in its place.
     fn write_one(&mut self, cx: &mut Context<'_>, byte: u8) -> Poll<Result<usize, Failed>>
         ensures one { AfterWrite (steady_told self.old.wire) (altered self.old.alters.items self.old.written byte ∷ []) result (steady_told self.new.wire) }
         ensures same { (self.new.alters ≡ self.old.alters) × (self.new.calls ≡ self.old.calls) }
+        ensures counted { CountsSent self.old result self.new }
+        ensures joined { (w : SteadyWire) → AreJoined self.old.wire w → AreJoined self.new.wire w }
+        ensures joins { (w : SteadyWire) → AreJoined w self.old.wire → AreJoined w self.new.wire }
         ensures registered { OnPending result (IsArmed cx.new) }
         ensures kept { Keeps cx.old cx.new }
+        ensures full { OnPending result (known_room self.old.wire ≡ 0) }
     {
         let sent = [altered(&self.alters, self.written, byte)];
         let polled = self.wire.poll_write(cx, &sent);
@@ -55,7 +61,8 @@ impl MemoryWire {
 }
 
 impl Wire for MemoryWire {
-    ghost use Rattle.wire_edge.specs.Memory.{memory_told, CarryAll, FailsWhere};
+    ghost use Rattle.wire_edge.specs.Steady.{AreJoined, KnowAll, known_room, known_bytes};
+    ghost use Rattle.wire_edge.specs.Memory.{memory_told, CarryAll, FailsWhere, SendsAltered};
 
     ghost told = { memory_told };
 
@@ -69,6 +76,11 @@ impl Wire for MemoryWire {
         ensures kept { Keeps cx.old cx.new }
         ensures counted { self.new.calls ≡ after_call self.old.calls }
         ensures fails { FailsWhere (fails_next self.old.calls) result }
+        ensures sends { SendsAltered self.old bytes.now result self.new }
+        ensures carried { (w : SteadyWire) → AreJoined self.old.wire w → AreJoined self.new.wire w }
+        ensures carries { (w : SteadyWire) → AreJoined w self.old.wire → AreJoined w self.new.wire }
+        ensures full { OnPending result (known_room self.old.wire ≡ 0) }
+        ensures same { self.new.alters ≡ self.old.alters }
     {
         if self.calls.come().is_err() {
             return Poll::Ready(Err(Failed));
@@ -76,8 +88,8 @@ impl Wire for MemoryWire {
         if self.alters.is_empty() {
             return self.wire.poll_write(cx, bytes);
         }
-        match bytes.first() {
-            Some(byte) => self.write_one(cx, *byte),
+        match bytes.split_first() {
+            Some((byte, _rest)) => self.write_one(cx, *byte),
             None => Poll::Ready(Ok(0)),
         }
     }
@@ -90,6 +102,10 @@ impl Wire for MemoryWire {
         ensures kept { Keeps cx.old cx.new }
         ensures counted { self.new.calls ≡ after_call self.old.calls }
         ensures fails { FailsWhere (fails_next self.old.calls) result }
+        ensures carried { (w : SteadyWire) → AreJoined self.old.wire w → AreJoined self.new.wire w }
+        ensures carries { (w : SteadyWire) → AreJoined w self.old.wire → AreJoined w self.new.wire }
+        ensures empty { OnPending result (known_bytes self.old.wire ≡ []) }
+        ensures same { (self.new.alters ≡ self.old.alters) × (self.new.written ≡ self.old.written) }
     {
         if self.calls.come().is_err() {
             return Poll::Ready(Err(Failed));
@@ -97,7 +113,19 @@ impl Wire for MemoryWire {
         self.wire.poll_read(cx, into)
     }
 
-    fn beside(&mut self, other: &mut Self) {
+    fn beside(&mut self, other: &mut Self)
+        ensures told { (memory_told self.new ≡ memory_told self.old)
+            × (memory_told other.new ≡ memory_told other.old) }
+        ensures joined { CarryAll self.old other.old → CarryAll self.new other.new }
+        ensures reach { CarryAll self.old other.old
+            → Reach (memory_told self.new) (memory_told other.new) }
+        ensures carried { AreJoined self.old.wire other.old.wire → AreJoined self.new.wire other.new.wire }
+        ensures known { AreJoined self.old.wire other.old.wire → KnowAll self.new.wire other.new.wire }
+        ensures same { (self.new.calls ≡ self.old.calls) × (self.new.alters ≡ self.old.alters)
+            × (self.new.written ≡ self.old.written) }
+        ensures other { (other.new.calls ≡ other.old.calls) × (other.new.alters ≡ other.old.alters)
+            × (other.new.written ≡ other.old.written) }
+    {
         self.wire.beside(&mut other.wire);
     }
 }
@@ -113,7 +141,7 @@ pub struct MemoryDialer {
 
 impl MemoryDialer {
     ghost use Rattle.wire_edge.specs.Steady.{steady_told, AreJoined};
-    ghost use Rattle.wire_edge.specs.Memory.{polls_of, alters_of, IsPair};
+    ghost use Rattle.wire_edge.specs.Memory.{polls_of, alters_of, IsPair, CountsPair};
 
     /// A dialer of which the calls of `pair` with the numbers in `fails`, counted from 0, fail, and
     /// whose wires fail at the polls in `polls` and change the bytes in `alters`. It takes no memory.
@@ -121,6 +149,7 @@ impl MemoryDialer {
         ensures calls { result.calls ≡ no_calls fails.items }
         ensures polls { result.polls ≡ polls }
         ensures alters { result.alters ≡ alters }
+        ensures none { result.made ≡ 0 }
     {
         MemoryDialer {
             calls: FailingCalls::new(fails),
@@ -137,6 +166,7 @@ impl MemoryDialer {
             (λ w. w.calls ≡ no_calls (polls_of self.now.made is_first self.now.polls.items)) }
         ensures alters { IfOk result
             (λ w. w.alters.items ≡ alters_of self.now.made is_first self.now.alters.items) }
+        ensures written { IfOk result (λ w. w.written ≡ 0) }
     {
         let polls = polls_of(alloc, &self.polls, self.made, is_first)?;
         Ok(MemoryWire {
@@ -154,6 +184,7 @@ impl MemoryDialer {
         ensures fails { fails_next self.old.calls ≡ true → is_err result ≡ true }
         ensures same { (self.new.polls ≡ self.old.polls) × (self.new.alters ≡ self.old.alters) }
         ensures made { IfOk result (λ r. IsPair self.old.made self.old.polls.items self.old.alters.items r.0 r.1) }
+        ensures numbered { CountsPair self.old.made result self.new.made }
         ensures joined { IfOk result (λ r. AreJoined r.0.wire r.1.wire) }
         ensures first { IfOk result (λ r. IsNew (steady_told r.0.wire) × TellsNothing (steady_told r.0.wire)) }
         ensures second { IfOk result (λ r. IsNew (steady_told r.1.wire) × TellsNothing (steady_told r.1.wire)) }
@@ -172,7 +203,8 @@ impl MemoryDialer {
 }
 
 impl Dialer for MemoryDialer {
-    ghost use Rattle.wire_edge.specs.Memory.{memory_told, CarryAll, IsPair};
+    ghost use Rattle.wire_edge.specs.Steady.{AreJoined};
+    ghost use Rattle.wire_edge.specs.Memory.{memory_told, CarryAll, IsPair, CountsPair};
 
     type W = MemoryWire;
 
@@ -188,9 +220,13 @@ impl Dialer for MemoryDialer {
         ensures joined { self.old.alters.items ≡ [] → IfOk result (λ r. CarryAll r.0 r.1) }
         ensures told { self.old.alters.items ≡ [] → IfOk result
             (λ r. TellsNothing (memory_told r.0) × TellsNothing (memory_told r.1)) }
-        ensures honest { self.old.alters.items ≡ [] → self.new.alters.items ≡ [] }
+        ensures honest { self.old.alters.items ≡ [] ↔ self.new.alters.items ≡ [] }
         ensures made { IfOk result (λ r. IsPair self.old.made self.old.polls.items self.old.alters.items r.0 r.1) }
+        ensures carried { IfOk result (λ r. AreJoined r.0.wire r.1.wire) }
+        ensures numbered { CountsPair self.old.made result self.new.made }
         ensures fails { fails_next self.old.calls ≡ true → is_err result ≡ true }
+        ensures counted { self.new.calls ≡ after_call self.old.calls }
+        ensures same { (self.new.polls ≡ self.old.polls) × (self.new.alters ≡ self.old.alters) }
     {
         self.make(alloc)
     }
@@ -199,11 +235,25 @@ impl Dialer for MemoryDialer {
     where
         R: Threads + Wait + Clock + RandomSource + Net + AllocGlobal + Sync,
         F: Future,
+        requires { F.can_poll future }
+        ensures cause { HasDialCause self.old.calls.faults self.new.calls.faults result }
+        ensures gives { IfOk result (F.gives future) }
+        ensures honest { self.old.alters.items ≡ [] ↔ self.new.alters.items ≡ [] }
+        ensures memory { IfErr result (λ fault. fault ≡ no_memory) }
+        ensures same { self.new ≡ self.old }
     {
         drive_here(rt, future)
     }
 
-    fn charge(&mut self, wire: &MemoryWire) {
+    fn charge(&mut self, wire: &MemoryWire)
+        ensures none { wire.now.calls.faults ≡ 0 → self.new.calls.faults ≡ self.old.calls.faults }
+        ensures some { 0 < wire.now.calls.faults
+            → (self.old.calls.faults ≤ self.new.calls.faults) × Rose self.old.calls.faults self.new.calls.faults }
+        ensures honest { self.old.alters.items ≡ [] ↔ self.new.alters.items ≡ [] }
+        ensures calls { self.new.calls ≡ record self.old.calls { faults = self.new.calls.faults } }
+        ensures same { (self.new.polls ≡ self.old.polls) × (self.new.alters ≡ self.old.alters)
+            × (self.new.made ≡ self.old.made) }
+    {
         if wire.calls.faults() > 0 {
             self.calls.charge();
         }

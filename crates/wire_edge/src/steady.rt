@@ -1,12 +1,13 @@
 //! Wires in memory that never fail.
 
-ghost use Rattle.std.specs.Prelude.{◌≡◌, ◌≤◌, ⊤, [], IfOk};
+ghost use Rattle.std.specs.Prelude.{◌≡◌, ◌≤◌, ⊤, [], IfOk, IfErr};
 ghost use Rattle.futures.specs.Poll.{OnPending};
 ghost use Rattle.futures.specs.Task.{IsArmed, Keeps};
 ghost use Rattle.dcop_edge.specs.Faults.{Rose};
 ghost use Rattle.wire_edge.specs.Wire.{AfterWrite, AfterRead, Reach};
 ghost use Rattle.wire_edge.specs.Dialer.{HasDialCause, IsNew, TellsNothing};
 ghost use Rattle.wire_edge.specs.Ring.{free_in};
+ghost use Rattle.wire_edge.specs.declared.dialer.DialFault.TheVariants.{NoMemory as no_memory};
 
 use crate::dialer::{DialFault, Dialer};
 use crate::ring::{RING_BYTES, Ring};
@@ -189,6 +190,7 @@ where
     requires { F.can_poll future }
     ensures gives { IfOk result (F.gives future) }
     ensures cause { HasDialCause 0 0 result }
+    ensures memory { IfErr result (λ fault. fault ≡ no_memory) }
 {
     match block_on(rt, future) {
         Ok(output) => Ok(output),

@@ -1,8 +1,7 @@
 -- Both ends of a pump: what moved since some start, and what a pass over them did.
-use Rattle.std.specs.Prelude.{◌≡◌, ◌<◌, ◌≤◌, ◌⊎◌, ℕ, List, length, take, Option, vec_len}
+use Rattle.std.specs.Prelude.{◌≡◌, ◌<◌, ◌≤◌, ◌⊎◌, ℕ, List, take, Option, vec_len}
 use Rattle.dcop_edge.specs.Faults.{Rose}
 use Rattle.wire_edge.specs.Wire.{Told, told_more}
-use Rattle.wire_pump.specs.Lane.{Fails}
 use Rattle.wire_pump.specs.declared.ends.Lane.{Lane}
 use Rattle.wire_pump.specs.declared.ends.Ends.{Ends}
 

@@ -1,6 +1,6 @@
 //! A pump from its start to its end, by a dialer.
 
-ghost use Rattle.std.specs.Prelude.{IfOk};
+ghost use Rattle.std.specs.Prelude.{◌↔◌, IfOk};
 ghost use Rattle.wire_edge.specs.Dialer.{HasDialCause};
 ghost use Rattle.wire_pump.specs.Pump.{EndsPump};
 
@@ -31,7 +31,7 @@ where
     D: Dialer,
     ensures cause { HasDialCause (D.faults dialer.old) (D.faults dialer.new) result }
     ensures ends { IfOk result (EndsPump D.W.told D.W.is_joined first second to_second to_first) }
-    ensures honest { D.is_honest dialer.old → D.is_honest dialer.new }
+    ensures honest { D.is_honest dialer.old ↔ D.is_honest dialer.new }
 {
     let pump = Pump::new(alloc, first, second, to_second, to_first)?;
     dialer.drive(rt, alloc, pump)
