@@ -23,4 +23,4 @@ pub use law::merged_stamps_are_right;
 pub use log::{Log, LogEvent};
 pub use merging::merge;
 pub use reader::read_log;
-pub use writer::write_log;
+pub use writer::{write_events, write_log};
