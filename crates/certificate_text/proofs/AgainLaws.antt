@@ -121,20 +121,30 @@ IsReadAgain f method certificate = (over number : ℕ)
     → certificate_read f method (left_of over number (certificate_lines f.names certificate ++ ((codes "end" ∷ []) ∷ []))) ≡ Ok (certificate, record { lines = []; over = over })
 
 -- a certificate's first line, and its tables
-tables-again : (f : TextFile) (method : Method) (utils : List Util) → IsFile f → method ≡ Dpop → FitsTables f.problem.sizes utils → IsReadAgain f method (Tables utils)
-tables-again f method utils file is fit = λ over number.
-    let later = map (util_words f.names) utils ++ ((codes "end" ∷ []) ∷ []) in
+tables-behind : (f : TextFile) (method : Method) (utils : List Util) (over number : ℕ) (later : List (List (List ℕ))) (left : Left) → method ≡ Dpop
+    → tables_read f.names f.problem.sizes over [] (plain_worded (number + 1) later) ≡ Ok (utils, left)
+    → certificate_read f method (left_of over number ((codes "certificate" ∷ codes "tables" ∷ []) ∷ later)) ≡ Ok (Tables utils, left)
+tables-behind f method utils over number later left is tables =
     let first : one_line (certificate_line method) (left_of over number ((codes "certificate" ∷ codes "tables" ∷ []) ∷ later)) ≡ Ok (forms.Tables, left_of over (number + 1) later) = rw is refl in
-    let tables = utils-again f [] utils over (number + 1) file fit.each fit.one (whole-utils f utils file.named fit) in
     rw (first, tables) refl
 
+tables-again : (f : TextFile) (method : Method) (utils : List Util) → IsFile f → method ≡ Dpop → FitsTables f.problem.sizes utils → IsReadAgain f method (Tables utils)
+tables-again f method utils file is fit over number =
+    tables-behind f method utils over number (map (util_words f.names) utils ++ ((codes "end" ∷ []) ∷ [])) (record { lines = []; over = over }) is
+    (utils-again f [] utils over (number + 1) file fit.each fit.one (whole-utils f utils file.named fit))
+
 -- a certificate's first line, and its events
-log-again : (f : TextFile) (method : Method) (log : List LogEvent) → IsFile f → method ≡ Adopt → All (FitsEvent (length f.names)) log → IsReadAgain f method (Log log)
-log-again f method log file is fit = λ over number.
-    let later = map (event_words f.names) log ++ ((codes "end" ∷ []) ∷ []) in
+events-behind : (f : TextFile) (method : Method) (log : List LogEvent) (over number : ℕ) (later : List (List (List ℕ))) (left : Left) → method ≡ Adopt
+    → events_read f.names over [] (plain_worded (number + 1) later) ≡ Ok (log, left)
+    → certificate_read f method (left_of over number ((codes "certificate" ∷ codes "log" ∷ []) ∷ later)) ≡ Ok (Log log, left)
+events-behind f method log over number later left is events =
     let first : one_line (certificate_line method) (left_of over number ((codes "certificate" ∷ codes "log" ∷ []) ∷ later)) ≡ Ok (forms.Log, left_of over (number + 1) later) = rw is refl in
-    let events = events-again f [] log over (number + 1) file fit in
     rw (first, events) refl
+
+log-again : (f : TextFile) (method : Method) (log : List LogEvent) → IsFile f → method ≡ Adopt → All (FitsEvent (length f.names)) log → IsReadAgain f method (Log log)
+log-again f method log file is fit over number =
+    events-behind f method log over number (map (event_words f.names) log ++ ((codes "end" ∷ []) ∷ [])) (record { lines = []; over = over }) is
+    (events-again f [] log over (number + 1) file fit)
 
 -- lines of plain words
 status-plain : (status : Ending) → is_line (codes "status" ∷ ending_word status ∷ []) ≡ true
