@@ -9,4 +9,4 @@ pub returns-clause-again : goal.returns-clause-again
 returns-clause-again c stamps =
     let text : c.from_vec.result ≡ log_text c.args.names.now c.args.log.now = grind (arith, common_steps) in
     ap (log_read c.args.names.now) text
-    ∙ log_again c.args.names.now c.args.log.now c.len-count.ensures.distinct c.requires.words c.requires.named c.in_ok-write_events.ensures.counts stamps
+    ∙ log_again c.args.names.now c.args.log.now c.len-count.ensures.distinct c.requires.words c.requires.named (rw (← c.as_slice.ensures) c.in_ok-write_events.ensures.counts) stamps
