@@ -12,7 +12,7 @@ use Rattle.pseudotree.specs.Tree.{IsRoot}
 use Rattle.pseudotree.specs.Pseudotree.{touches}
 use Rattle.dcop_optimum.specs.Optimum.{IsOptimum}
 use Rattle.dcop_optimum.proofs.OptimumLaws.{optimum_same}
-use Rattle.dcop_optimum.proofs.TurnLaws.{turned_problem, sum_to_top}
+use Rattle.dcop_optimum.proofs.TurnLaws.{sum_to_top}
 use Rattle.dcop_optimum.proofs.CertificateLaws.{certificates_show_optima}
 use Rattle.problem_text.specs.File.{TextFile}
 use Rattle.problem_text.specs.declared.file.Goal.{Goal}

@@ -6,7 +6,6 @@ use Rattle.std.specs.Option.{option_map}
 use Rattle.std.specs.Str.{bytes_eq}
 use Rattle.std.proofs.lemmas.List.Elements.{All-cons}
 use Rattle.std.proofs.lemmas.List.Quantifiers.{position-Some}
-use Rattle.std.proofs.lemmas.Bool.Decides.{nat_tests}
 use Rattle.std.proofs.lemmas.Bool.{or_parts, ltb-true, eqb-true, false≢true}
 use Rattle.dcop_base.specs.Table.{product, has_repeat}
 use Rattle.dcop_base.specs.NumberWord.{number_of}

@@ -204,11 +204,7 @@ fn read_tables(
 }
 
 /// Reads the events of a log, and the line `end`.
-fn read_events(
-    alloc: Global,
-    lines: &mut Lines<'_>,
-    file: &ProblemFile,
-) -> Result<Log, ReportFault>
+fn read_events(alloc: Global, lines: &mut Lines<'_>, file: &ProblemFile) -> Result<Log, ReportFault>
     ensures { IsRead (reading.events_read file.now.names lines.old.over [] lines.old.lines) result lines.new }
 {
     let mut events = Vec::new(alloc);
@@ -223,11 +219,7 @@ fn read_events(
 }
 
 /// The event that a line tells.
-fn event_at(
-    alloc: Global,
-    file: &ProblemFile,
-    text: &[u8],
-) -> Result<LogEvent, LineEnd<ReportKind>>
+fn event_at(alloc: Global, file: &ProblemFile, text: &[u8]) -> Result<LogEvent, LineEnd<ReportKind>>
     ensures { Reads result (event_line file.now.names (words text.now)) }
 {
     event_of_line(alloc, &file.names, text)

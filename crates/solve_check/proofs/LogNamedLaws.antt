@@ -1,5 +1,5 @@
 -- Each variable of which a difference of a report with a log speaks is one of the file's.
-use Rattle.std.proofs.Common.{◌≡◌, ℕ, ◌+◌, ◌≤◌, ◌<◌, Bool, true, false, not, cond, Option, Some, None, List, [], ◌∷◌, length, nat_eq, nat_lt, nat_le, refl, arith}
+use Rattle.std.proofs.Common.{◌≡◌, ℕ, ◌+◌, ◌≤◌, ◌<◌, Bool, true, false, not, cond, Option, Some, None, List, [], ◌∷◌, length, nat_eq, nat_lt, nat_le, arith}
 use Rattle.std.specs.Prelude.{IfSome}
 use Rattle.std.specs.List.{All, slice_get, list_any}
 use Rattle.std.specs.Option.{option_map, option_or}
@@ -13,7 +13,7 @@ use Rattle.protocol_steps.specs.declared.standing.Standing.{Standing}
 use Rattle.protocol_steps.specs.View.{View, ended_of}
 use Rattle.protocol_steps.specs.Network.{Desk, Network, start_state, waiting}
 use Rattle.protocol_steps.specs.Effect.{effect, has_ended, deliveries}
-use Rattle.protocol_steps.specs.Run.{or_else, has_nothing, ascends_from, form_fault, too_many, takes_fault, fault_at, event_fault}
+use Rattle.protocol_steps.specs.Run.{or_else, has_nothing, ascends_from, form_fault, too_many, fault_at, event_fault}
 use Rattle.adopt_ends.specs.EndLaw.{values_of}
 use Rattle.run_log.specs.declared.log.LogEvent.{LogEvent}
 use Rattle.run_log.specs.Logs.{event_of}
