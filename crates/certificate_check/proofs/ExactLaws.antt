@@ -12,7 +12,7 @@ use Rattle.pseudotree.specs.Tree.{IsRoot}
 use Rattle.pseudotree.specs.Pseudotree.{touches}
 use Rattle.dcop_optimum.specs.Optimum.{IsOptimum}
 use Rattle.dcop_optimum.proofs.OptimumLaws.{optimum_same}
-use Rattle.dcop_optimum.proofs.TurnLaws.{turned_problem, sum_to_top}
+use Rattle.dcop_optimum.proofs.TurnLaws.{sum_to_top}
 use Rattle.dcop_optimum.proofs.CertificateLaws.{certificates_show_optima}
 use Rattle.problem_text.specs.File.{TextFile}
 use Rattle.problem_text.specs.declared.file.Goal.{Goal}
@@ -32,7 +32,8 @@ use Rattle.problem_solved.specs.Told.{told, variables, parents_told, scopes_told
 use Rattle.certificate_check.specs.Cells.{root_told, root_cell}
 use Rattle.certificate_check.specs.Differences.{first_of, scope_difference, cells_difference, unless_same, status_difference, bound_difference, number_difference, difference_in}
 use Rattle.problem_solved.specs.Holds.{HoldsTables}
-use Rattle.certificate_check.specs.Verdicts.{IsTreeOf, IsTablesVerdict, IsTablesExact, ShowsBest}
+use Rattle.certificate_check.specs.Verdicts.{IsTreeOf, IsTablesVerdict, IsTablesExact}
+use Rattle.problem_solved.specs.Verdict.{ShowsBest}
 use Rattle.certificate_check.proofs.FirstLaws.{none_at, or_parts, or_none}
 use Rattle.certificate_check.proofs.FitLaws.{told_fits}
 use Rattle.certificate_check.proofs.RootLaws.{root_is, scope_same}

@@ -1,5 +1,5 @@
 -- Where there is no difference the report holds, and its values are the best.
-use Rattle.std.proofs.Common.{◌≡◌, ℕ, zero, suc, ◌+◌, ◌<◌, ◌≤◌, cond, ltb, List, [], ◌∷◌, length, get_or, map, None, Some, refl, sym, ap, subst, ◌∙◌, inl, inr, arith}
+use Rattle.std.proofs.Common.{◌≡◌, ℕ, ◌+◌, ◌<◌, ◌≤◌, cond, ltb, List, [], ◌∷◌, length, get_or, map, None, Some, refl, sym, ap, subst, ◌∙◌, inl, inr, arith}
 use Rattle.std.specs.List.{range_with_len, sum_by}
 use Rattle.std.proofs.lemmas.Bool.{cases_Bool, cond-true, cond-false, ltb-false, le-ltb}
 use Rattle.std.proofs.lemmas.Option.{none-some}
@@ -12,7 +12,6 @@ use Rattle.dcop_base.specs.Values.{cell_with, cost_with, with_own}
 use Rattle.dcop_base.proofs.TableLaws.{cell_place-lt}
 use Rattle.pseudotree.specs.Tree.{children_of}
 use Rattle.pseudotree.specs.Pseudotree.{IsPseudotree, separator_of}
-use Rattle.pseudotree.specs.Place.{sizes_of}
 use Rattle.dcop_optimum.specs.Certificate.{value_by, util_of, tables_on_path, AreLowerCells}
 use Rattle.dcop_optimum.proofs.SumLaws.{sum_same}
 use Rattle.certificate_text.specs.declared.certificate.Util.{Util}

@@ -1,16 +1,14 @@
 -- The values of a cell, as an assignment and as the definition gives them.
-use Rattle.std.proofs.Common.{◌≡◌, ℕ, zero, suc, ◌+◌, ◌*◌, ◌/◌, ◌%◌, ◌<◌, ◌≤◌, Bool, true, false, cond, ◌||◌, eqb, List, [], ◌∷◌, map, length, get_or, set, replicate, refl, sym, ap, ◌∙◌, inl, inr, arith, All, get_or-set_same, get_or-set_other}
-use Rattle.std.proofs.lemmas.Bool.{cases_Bool, cases_eq, cases_lt, cond-true, cond-false, eqb-true, eq-eqb, ne_eqb}
-use Rattle.std.proofs.lemmas.Nat.{div-mul-add, div-add-mod', div_below}
+use Rattle.std.proofs.Common.{◌≡◌, ℕ, zero, suc, ◌+◌, ◌*◌, ◌<◌, ◌≤◌, Bool, true, false, cond, ◌||◌, eqb, List, [], ◌∷◌, map, length, get_or, set, replicate, refl, sym, ap, ◌∙◌, inl, inr, arith, All, get_or-set_same, get_or-set_other}
+use Rattle.std.proofs.lemmas.Bool.{cases_Bool, cases_eq, cond-true, cond-false, eqb-true, eq-eqb, ne_eqb}
 use Rattle.std.proofs.lemmas.List.Elements.{length_all_zip}
-use Rattle.dcop_base.specs.Table.{CostTable, product, AreWithin, has, values_at, cell_place}
-use Rattle.dcop_base.proofs.TableLaws.{cell_place-lt}
+use Rattle.dcop_base.specs.Table.{CostTable, product, AreWithin, has, values_at}
 use Rattle.dcop_optimum.specs.Certificate.{value_by}
 use Rattle.dcop_optimum.proofs.PlaceLaws.{zeros_within}
 use Rattle.certificate_text.specs.declared.certificate.Util.{Util}
 use Rattle.certificate_text.specs.Fits.{FitsUtil}
 use Rattle.problem_solved.specs.Cells.{values_of_cell}
-use Rattle.problem_solved.proofs.CellLaws.{values_of_place, place_of_values}
+use Rattle.problem_solved.proofs.CellLaws.{values_of_place}
 use Rattle.certificate_check.specs.Cells.{values_at_cell, sum_below}
 use Rattle.certificate_check.specs.Odometer.{place_of, IsAtCell, IsNextPlace}
 use Rattle.certificate_check.proofs.CellLaws.{sizes_at, scope_within}

@@ -1,27 +1,22 @@
 -- What comes of checking a report: that it holds, or the first difference.
-use Rattle.std.specs.Prelude.{◌≡◌, ℕ, ◌-◌, ◌⊎◌, List, Option, Some, None, IfSome}
+use Rattle.std.specs.Prelude.{◌≡◌, ℕ, ◌⊎◌, List, Option, Some, None, IfSome}
 use Rattle.dcop_base.specs.Problem.{Dcop}
 use Rattle.pseudotree.specs.Pseudotree.{IsPseudotree}
 use Rattle.pseudotree.specs.Fault.{parents_of}
 use Rattle.problem_text.specs.File.{TextFile}
-use Rattle.problem_text.specs.declared.file.Goal.{Goal}
-use Rattle.problem_text.specs.declared.file.Goal.TheVariants.{Min, Max}
 use Rattle.certificate_text.specs.declared.certificate.Certificate.{Certificate}
-use Rattle.certificate_text.specs.declared.certificate.Certificate.TheVariants.{Tables}
+use Rattle.certificate_text.specs.declared.certificate.Certificate.TheVariants.{Tables, Log}
 use Rattle.certificate_text.specs.declared.certificate.Util.{Util}
 use Rattle.certificate_text.specs.declared.report.Report.{Report}
 use Rattle.certificate_text.specs.declared.verdict.Differs.{Differs}
 use Rattle.certificate_text.specs.declared.verdict.Verdict.{Verdict}
 use Rattle.certificate_text.specs.declared.verdict.Verdict.TheVariants.{Yes, No}
-use Rattle.problem_solved.specs.Goal.{problem_solved, IsBestSum, IsAtMostWorse}
+use Rattle.problem_solved.specs.Goal.{problem_solved}
+use Rattle.problem_solved.specs.Gap.{gap_of}
 use Rattle.problem_solved.specs.Told.{parents_told}
 use Rattle.certificate_check.specs.Differences.{IsTreeDifference, difference_in}
 use Rattle.problem_solved.specs.Holds.{HoldsTables}
-
--- the gap of a report: its cost less its lower bound, or for goal max its upper bound less its cost
-abbrev pub gap_of : Goal → Report → ℕ
-gap_of Min report = report.cost - report.lower
-gap_of Max report = report.upper - report.cost
+use Rattle.log_holds.specs.Verdicts.{IsLogVerdict, IsLogExact}
 
 -- the parents are those of this pseudotree of the problem
 pub record IsTreeOf (p : Dcop) (parents : List (Option ℕ)) (paths : List (List ℕ)) : Type 0 where
@@ -48,6 +43,7 @@ IsTablesVerdict f r utils (No differs) = IsFirstDifference f r utils differs
 -- the same of a certificate
 abbrev pub IsVerdictOn : TextFile → Report → Verdict → Certificate → Type 0
 IsVerdictOn f r verdict (Tables utils) = IsTablesVerdict f r utils verdict
+IsVerdictOn f r verdict (Log log) = IsLogVerdict f r log verdict
 
 -- the same of the report's certificate
 abbrev pub IsVerdict : TextFile → Report → Verdict → Type 0
@@ -61,22 +57,13 @@ IsTablesExact f r utils (No differs) = ¬ HoldsTables f r utils
 -- the same of a certificate
 abbrev pub IsExactOn : TextFile → Report → Verdict → Certificate → Type 0
 IsExactOn f r verdict (Tables utils) = IsTablesExact f r utils verdict
+IsExactOn f r verdict (Log log) = IsLogExact f r log verdict
 
 -- the same of the report's certificate
 abbrev pub IsExact : TextFile → Report → Verdict → Type 0
 IsExact f r verdict = IfSome r.certificate (IsExactOn f r verdict)
 
--- after a yes the cost is at most the error worse than the best sum of the file
-abbrev pub ShowsBest : TextFile → Verdict → Type 0
-ShowsBest f (Yes cost error) = (best : ℕ) → IsBestSum f.goal f.problem best → IsAtMostWorse f.goal error cost best
-ShowsBest f (No differs) = Unit {0}
-
 -- no, by the first reason why the parents form no pseudotree
 abbrev pub IsTreeVerdict : Dcop → List (Option ℕ) → Verdict → Type 0
 IsTreeVerdict p parents (Yes cost error) = ⊥
 IsTreeVerdict p parents (No differs) = IsTreeDifference p parents differs
-
--- yes with the cost and the gap where there is no difference, no with it otherwise
-abbrev pub verdict_by : TextFile → Report → Option Differs → Verdict
-verdict_by f r None = Yes r.cost (gap_of f.goal r)
-verdict_by f r (Some differs) = No differs

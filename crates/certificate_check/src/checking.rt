@@ -4,8 +4,10 @@ ghost use Rattle.std.specs.Prelude.{◌≡◌, IfOk, IsSome, Some};
 ghost use Rattle.dcop_base.specs.Problem.{IsAssignment};
 ghost use Rattle.certificate_text.specs.Fits.{Fits, FitsTables};
 ghost use Rattle.problem_solved.specs.Goal.{solved};
+ghost use Rattle.problem_solved.specs.Gap.{gap_of};
 ghost use Rattle.certificate_check.specs.Verdicts.{IsVerdict, IsTablesVerdict, IsExact};
-ghost use Rattle.certificate_check.specs.Verdicts.{IsTablesExact, ShowsBest, gap_of, verdict_by};
+ghost use Rattle.certificate_check.specs.Verdicts.{IsTablesExact};
+ghost use Rattle.problem_solved.specs.Verdict.{ShowsBest, verdict_by};
 
 use crate::behind::difference_in;
 use crate::told::parents_of;
@@ -40,6 +42,8 @@ pub fn check(alloc: Global, file: &ProblemFile, report: &Report) -> Result<Verdi
 {
     match &report.certificate {
         Some(Certificate::Tables(utils)) => check_tables(alloc, file, report, utils.as_slice()),
+        // Some(Certificate::Log(log)) => check_log(alloc, file, report, log),
+        Some(Certificate::Log(_)) => Err(NoMemory),
         None => unreachable!(),
     }
 }

@@ -22,7 +22,9 @@ use Rattle.certificate_text.specs.declared.report.Method.{Method}
 use Rattle.certificate_text.specs.declared.report.Method.TheVariants.{Plain, Dpop, Adopt, Cut}
 use Rattle.certificate_text.specs.CertificateText.{parent_word, util_words}
 use Rattle.certificate_text.specs.ReportText.{ending_word, method_word, value_words}
-use Rattle.certificate_text.specs.Told.{amount_of, amounts_of}
+use Rattle.dcop_base.specs.Limits.{amount_limit}
+use Rattle.run_log.specs.EventLine.{number_within}
+use Rattle.certificate_text.specs.Told.{amounts_of}
 use Rattle.certificate_text.specs.HeadLines.{status_line, method_line, number_line}
 use Rattle.certificate_text.specs.ValueLine.{value_line}
 use Rattle.certificate_text.specs.UtilLine.{has_util, known_among, parent_told, util_line}
@@ -43,7 +45,7 @@ method-again Adopt = refl
 method-again Cut = refl
 
 -- a number of at most amount_limit is read as that number
-pub amount-decimal : (n : ℕ) → n ≤ 4611686018427387904 → amount_of (decimal n) ≡ Some n
+pub amount-decimal : (n : ℕ) → n ≤ 4611686018427387904 → number_within amount_limit (decimal n) ≡ Some n
 amount-decimal n h = rw (number-decimal n (omega (arith, h)), le-ltb 4611686018427387904 n h) refl
 
 pub amounts-decimals : (ns : List ℕ) → All (λ n. n ≤ 4611686018427387904) ns → amounts_of (map decimal ns) ≡ Some ns

@@ -3,8 +3,10 @@ use Rattle.std.specs.Prelude.{ℕ, List, [], ◌∷◌, ◌++◌, map, codes, Op
 use Rattle.std.specs.List.{slice_index_or}
 use Rattle.std.specs.Fmt.{decimal}
 use Rattle.certificate_text.specs.declared.certificate.Certificate.{Certificate}
-use Rattle.certificate_text.specs.declared.certificate.Certificate.TheVariants.{Tables}
+use Rattle.certificate_text.specs.declared.certificate.Certificate.TheVariants.{Tables, Log}
 use Rattle.certificate_text.specs.declared.certificate.Util.{Util}
+use Rattle.run_log.specs.declared.log.LogEvent.{LogEvent}
+use Rattle.run_log.specs.LogText.{event_words}
 
 -- the word of a parent: its name, `-` for none
 abbrev pub parent_word : List (List ℕ) → Option ℕ → List ℕ
@@ -22,9 +24,14 @@ util_words names u =
 abbrev pub table_lines : List (List ℕ) → List Util → List (List (List ℕ))
 table_lines names utils = (codes "certificate" ∷ codes "tables" ∷ []) ∷ map (util_words names) utils
 
+-- the lines of a certificate of a log
+abbrev pub log_lines : List (List ℕ) → List LogEvent → List (List (List ℕ))
+log_lines names log = (codes "certificate" ∷ codes "log" ∷ []) ∷ map (event_words names) log
+
 -- the lines of a certificate
 abbrev pub certificate_lines : List (List ℕ) → Certificate → List (List (List ℕ))
 certificate_lines names (Tables utils) = table_lines names utils
+certificate_lines names (Log log) = log_lines names log
 
 -- the lines of the certificate, where there is one
 abbrev pub evidence_lines : List (List ℕ) → Option Certificate → List (List (List ℕ))

@@ -5,12 +5,13 @@ use Rattle.dcop_base.specs.Table.{product, has_repeat}
 use Rattle.dcop_base.specs.Limits.{amount_limit}
 use Rattle.problem_text.specs.File.{TextFile}
 use Rattle.certificate_text.specs.declared.certificate.Certificate.{Certificate}
-use Rattle.certificate_text.specs.declared.certificate.Certificate.TheVariants.{Tables}
+use Rattle.certificate_text.specs.declared.certificate.Certificate.TheVariants.{Tables, Log}
 use Rattle.certificate_text.specs.declared.certificate.Util.{Util}
 use Rattle.certificate_text.specs.declared.report.Method.{Method}
-use Rattle.certificate_text.specs.declared.report.Method.TheVariants.{Dpop}
+use Rattle.certificate_text.specs.declared.report.Method.TheVariants.{Dpop, Adopt}
 use Rattle.certificate_text.specs.declared.report.Report.{Report}
 use Rattle.certificate_text.specs.Named.{IsNamedUtil}
+use Rattle.run_log.specs.LogText.{FitsEvent}
 
 -- a UTIL table over variables of these sizes: distinct scope variables, and as many cells as the product of their sizes
 pub record FitsUtil (sizes : List ℕ) (util : Util) : Type 0 where
@@ -27,6 +28,7 @@ pub record FitsTables (sizes : List ℕ) (utils : List Util) : Type 0 where
 -- a certificate that fits the method and variables of these sizes
 abbrev pub FitsCertificate : List ℕ → Method → Certificate → Type 0
 FitsCertificate sizes method (Tables utils) = (method ≡ Dpop) × FitsTables sizes utils
+FitsCertificate sizes method (Log log) = (method ≡ Adopt) × All (FitsEvent (length sizes)) log
 
 -- a report fits a file: one value for each variable, below its size; numbers of at most amount_limit; a certificate that fits; and the file's goal
 pub record Fits (report : Report) (f : TextFile) : Type 0 where

@@ -9,7 +9,9 @@ use Rattle.certificate_text.specs.declared.report.Ending.{Ending}
 use Rattle.certificate_text.specs.declared.report.Ending.TheVariants.{Solved, Spent}
 use Rattle.certificate_text.specs.declared.report.Method.{Method}
 use Rattle.certificate_text.specs.declared.report.Method.TheVariants.{Plain, Dpop, Adopt, Cut}
-use Rattle.certificate_text.specs.Told.{or_fails, word_behind, amount_of}
+use Rattle.dcop_base.specs.Limits.{amount_limit}
+use Rattle.run_log.specs.EventLine.{number_within}
+use Rattle.certificate_text.specs.Told.{or_fails, word_behind}
 
 -- the ending that a word tells
 abbrev pub ending_told : Option (List ℕ) → Result Ending ReportKind
@@ -49,7 +51,7 @@ max_line words = max_told (word_behind (codes "goal") words)
 -- the number that a word tells
 abbrev pub number_told : Option (List ℕ) → Result ℕ ReportKind
 number_told None = Err BadLine
-number_told (Some word) = or_fails BadNumber (amount_of word)
+number_told (Some word) = or_fails BadNumber (number_within amount_limit word)
 
 -- this word and a number
 abbrev pub number_line : List ℕ → List (List ℕ) → Result ℕ ReportKind

@@ -3,9 +3,10 @@ use Rattle.std.specs.Prelude.{◌≡◌, ℕ, ◌<◌, List, length, IfSome}
 use Rattle.std.specs.List.{All, AllZip}
 use Rattle.problem_text.specs.File.{TextFile}
 use Rattle.certificate_text.specs.declared.certificate.Certificate.{Certificate}
-use Rattle.certificate_text.specs.declared.certificate.Certificate.TheVariants.{Tables}
+use Rattle.certificate_text.specs.declared.certificate.Certificate.TheVariants.{Tables, Log}
 use Rattle.certificate_text.specs.declared.certificate.Util.{Util}
 use Rattle.certificate_text.specs.declared.report.Report.{Report}
+use Rattle.run_log.specs.LogText.{IsNamedEvent}
 
 -- a value that has its name, where its variable has value names
 abbrev pub HasWord : List (List ℕ) → ℕ → Type 0
@@ -20,6 +21,7 @@ pub record IsNamedUtil (count : ℕ) (util : Util) : Type 0 where
 -- a certificate all of whose variables are among so many
 abbrev pub IsNamedCertificate : ℕ → Certificate → Type 0
 IsNamedCertificate count (Tables utils) = All (IsNamedUtil count) utils
+IsNamedCertificate count (Log log) = All (IsNamedEvent count) log
 
 -- a report that the names of a file can tell: one value for each name, each with its name where its variable has value names, and no variable without a name
 pub record CanTell (report : Report) (file : TextFile) : Type 0 where

@@ -9,6 +9,8 @@ use Rattle.problem_text.specs.PlainLines.{Plain}
 use Rattle.certificate_text.specs.declared.certificate.Certificate.{Certificate}
 use Rattle.certificate_text.specs.declared.certificate.Certificate.TheVariants as certificates
 use Rattle.certificate_text.specs.declared.certificate.Util.{Util}
+use Rattle.run_log.specs.declared.log.LogEvent.{LogEvent}
+use Rattle.run_log.specs.EventLine.{event_line}
 use Rattle.certificate_text.specs.declared.certificate_line.Form.{Form}
 use Rattle.certificate_text.specs.declared.certificate_line.Form.TheVariants as forms
 use Rattle.certificate_text.specs.declared.head.Head.{Head}
@@ -66,11 +68,23 @@ tables_read names sizes over utils (line ∷ later) =
     else and_then (told_at line.number (util_line names sizes utils line.words) (record { lines = later; over = over })) (λ util left.
     tables_read names sizes over (utils ++ (util ∷ [])) later)
 
+-- lines of events, each behind these and those before it, up to the line `end`
+abbrev pub events_read : List (List ℕ) → ℕ → List LogEvent → List Plain → Result (List LogEvent × Left) Fault
+events_read names over log [] = Err (record { line = over; kind = NoEnd })
+events_read names over log (line ∷ later) =
+    if is_alone (codes "end") line.words
+    then Ok (log, record { lines = later; over = over })
+    else and_then (told_at line.number (event_line names line.words) (record { lines = later; over = over })) (λ event left.
+    events_read names over (log ++ (event ∷ [])) later)
+
 -- the lines of a certificate of this form, and the line `end`
 abbrev pub evidence_read : TextFile → Form → Left → Result (Certificate × Left) Fault
 evidence_read f forms.Tables left =
     and_then (tables_read f.names f.problem.sizes left.over [] left.lines) (λ utils left.
     Ok (certificates.Tables utils, left))
+evidence_read f forms.Log left =
+    and_then (events_read f.names left.over [] left.lines) (λ log left.
+    Ok (certificates.Log log, left))
 
 -- the certificate: its first line, which fits the method, and its further ones, up to the line `end`
 abbrev pub certificate_read : TextFile → Method → Left → Result (Certificate × Left) Fault

@@ -3,7 +3,9 @@ use Rattle.std.specs.Prelude.{ℕ, not, List, [], ◌∷◌, Option, Some, None,
 use Rattle.std.specs.Str.{bytes_eq}
 use Rattle.problem_text.specs.declared.fault.ReportKind.{ReportKind}
 use Rattle.problem_text.specs.declared.fault.ReportKind.TheVariants.{BadLine, BadNumber, UnknownName, BadValue}
-use Rattle.certificate_text.specs.Told.{or_fails, amount_of}
+use Rattle.dcop_base.specs.Limits.{amount_limit}
+use Rattle.run_log.specs.EventLine.{number_within}
+use Rattle.certificate_text.specs.Told.{or_fails}
 
 -- a value that is written as a number, of a variable of this size
 abbrev pub value_below : ℕ → Option ℕ → Result ℕ ReportKind
@@ -12,7 +14,7 @@ value_below size (Some value) = if nat_lt value size then Ok value else Err BadV
 
 -- the value that a word tells, of a variable with these value names and this size: by its name where there are value names, by its number otherwise
 abbrev pub value_told : List (List ℕ) → ℕ → List ℕ → Result ℕ ReportKind
-value_told [] size word = value_below size (amount_of word)
+value_told [] size word = value_below size (number_within amount_limit word)
 value_told (label ∷ labels) size word = or_fails UnknownName (position (bytes_eq word) (label ∷ labels))
 
 -- `value NAME V`, where the variable of that name comes next

@@ -1,12 +1,15 @@
 //! Certificates: what lets a reader check that no better values exist.
 
 use dcop_base::{CellList, Sequence, VarId, VarList};
+use run_log::Log;
 
 /// What a report gives as evidence for its bounds.
 #[derive(Debug, Drop)]
 pub enum Certificate {
     /// The UTIL table of each agent of a run of DPOP, in the order of the report's lines.
     Tables(UtilList),
+    /// What all agents of a run of ADOPT did, in the order of the report's lines.
+    Log(Log),
 }
 
 /// The UTIL table of one agent, which it sends to its parent where it has one.

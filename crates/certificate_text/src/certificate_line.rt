@@ -3,7 +3,7 @@
 ghost use Rattle.std.specs.Prelude.{◌≡◌, if◌then◌else◌};
 ghost use Rattle.problem_text.specs.Lines.{words};
 ghost use Rattle.problem_text.specs.declared.fault.ReportKind.TheVariants.{BadLine, NotYet};
-ghost use Rattle.certificate_text.specs.Told.{Reads};
+ghost use Rattle.run_log.specs.LogReading.{Reads};
 ghost use Rattle.certificate_text.specs.CertificateLine as lines;
 
 use crate::head_line::is_only;
@@ -15,6 +15,8 @@ use problem_text::{LineEnd, ReportKind, is_word, next_word};
 pub enum Form {
     /// UTIL tables.
     Tables,
+    /// Events.
+    Log,
 }
 
 /// The form of the certificate whose first line this is, in a report with this method.
@@ -45,7 +47,12 @@ fn fitting(text: &[u8], method: Method) -> Result<Form, LineEnd<ReportKind>>
             }
             Err(LineEnd::Fault(ReportKind::BadLine))
         }
-        Method::Adopt => Err(LineEnd::Fault(unread(is_only(text, b"log")))),
+        Method::Adopt => {
+            if is_only(text, b"log") {
+                return Ok(Form::Log);
+            }
+            Err(LineEnd::Fault(ReportKind::BadLine))
+        }
         Method::Cut => Err(LineEnd::Fault(unread(begins_with(text, b"cut")))),
     }
 }

@@ -10,7 +10,8 @@ ghost use Rattle.problem_text.specs.Lines.{words};
 ghost use Rattle.problem_text.specs.Name.{is_name};
 ghost use Rattle.problem_text.specs.Tables.{is_colon, named_by};
 ghost use Rattle.problem_text.specs.declared.fault.ReportKind.TheVariants.{BadLine, BadNumber};
-ghost use Rattle.certificate_text.specs.Told.{Reads, amounts_of, or_fails};
+ghost use Rattle.run_log.specs.LogReading.{Reads};
+ghost use Rattle.certificate_text.specs.Told.{amounts_of, or_fails};
 ghost use Rattle.certificate_text.specs.UtilLine as lines;
 ghost use Rattle.certificate_text.specs.UtilWords.{IsLineOf, where_whole};
 

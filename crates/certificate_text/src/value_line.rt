@@ -6,7 +6,9 @@ ghost use Rattle.std.specs.Str.{bytes_eq};
 ghost use Rattle.dcop_base.specs.Limits.{size_limit};
 ghost use Rattle.problem_text.specs.Lines.{words};
 ghost use Rattle.problem_text.specs.Name.{is_name};
-ghost use Rattle.certificate_text.specs.Told.{amount_of as amount_of_word, Reads};
+ghost use Rattle.dcop_base.specs.Limits.{amount_limit};
+ghost use Rattle.run_log.specs.EventLine.{number_within};
+ghost use Rattle.run_log.specs.LogReading.{Reads};
 ghost use Rattle.certificate_text.specs.ValueLine.{value_below, value_told, value_line};
 
 use crate::head_line::amount_of;
@@ -60,7 +62,7 @@ fn value_of_word(word: &[u8], labels: &Labels, size: u16) -> Result<Val, LineEnd
 
 /// The value that a word writes as a number.
 fn numbered(word: &[u8], size: u16) -> Result<Val, LineEnd<ReportKind>>
-    ensures { Reads result (value_below size (amount_of_word word.now)) }
+    ensures { Reads result (value_below size (number_within amount_limit word.now)) }
 {
     let Some(number) = amount_of(word) else {
         return Err(LineEnd::Fault(ReportKind::BadNumber));

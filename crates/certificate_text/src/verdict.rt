@@ -2,6 +2,7 @@
 
 use crate::report::Ending;
 use dcop_base::{Val, VarId};
+use protocol_steps::EventFault;
 
 /// What comes of checking a report with a certificate.
 #[derive(Clone, Copy, Debug, PartialEq, Eq)]
@@ -77,5 +78,23 @@ pub enum Differs {
     /// The status, which is this one, is not the right one.
     Status {
         ending: Ending,
+    },
+    /// This event of a log, counted from 1, is not lawful.
+    Event {
+        at: u64,
+        fault: EventFault,
+    },
+    /// The stamp of this event of a log, counted from 1, is not the right one. Where it is, but the
+    /// event does not follow the one before it by stamp and then agent, `right` is the stamp of
+    /// that one.
+    Stamp {
+        at: u64,
+        left: u64,
+        right: u64,
+    },
+    /// The value of this variable is not the one to which its agent has come. It is the lowest such
+    /// variable.
+    Value {
+        var: VarId,
     },
 }

@@ -5,8 +5,9 @@ ghost use Rattle.std.specs.List.{flat_map, All, AllZip};
 ghost use Rattle.std.specs.Fmt.{decimal};
 ghost use Rattle.std.specs.String.{string_bytes};
 ghost use Rattle.problem_text.specs.Canonical.{line, goal_lines};
-ghost use Rattle.certificate_text.specs.CertificateText.{parent_word, util_words, table_lines, certificate_lines, evidence_lines};
+ghost use Rattle.certificate_text.specs.CertificateText.{parent_word, util_words, table_lines, log_lines, certificate_lines, evidence_lines};
 ghost use Rattle.certificate_text.specs.Named.{HasWord, IsNamedUtil, IsNamedCertificate, CanTell};
+ghost use Rattle.run_log.specs.LogText.{IsNamedEvent};
 ghost use Rattle.certificate_text.specs.Again.{IsReadBack};
 ghost use Rattle.certificate_text.specs.ReportText.{ending_word, method_word, head_lines, bound_lines, value_words, value_lines, report_text};
 
@@ -14,6 +15,7 @@ use crate::certificate::{Certificate, Util};
 use crate::report::{Ending, Method, Report};
 use dcop_base::{Bytes, NoMemory, Val, VarId};
 use problem_text::{Labels, Names, ProblemFile, write_cells, write_goal, write_scope};
+use run_log::{LogEvent, write_events};
 use std::alloc::Global;
 
 /// The text of a report on a file, whose names it prints.
@@ -163,6 +165,7 @@ fn write_certificate(
 {
     match certificate {
         Certificate::Tables(utils) => write_tables(text, names, utils.as_slice()),
+        Certificate::Log(log) => write_log(text, names, log.as_slice()),
     }
 }
 
@@ -173,6 +176,15 @@ fn write_tables(text: &mut String, names: &Names, utils: &[Util]) -> Result<(), 
 {
     text.push_str("certificate tables\n")?;
     write_utils(text, names, utils)
+}
+
+fn write_log(text: &mut String, names: &Names, log: &[LogEvent]) -> Result<(), NoMemory>
+    requires { All (IsNamedEvent (length names.now)) log.now }
+    ensures { OnOk result (string_bytes text.new
+        ≡ string_bytes text.old ++ flat_map line (log_lines names.now log.now)) }
+{
+    text.push_str("certificate log\n")?;
+    write_events(text, names, log)
 }
 
 fn write_utils(text: &mut String, names: &Names, utils: &[Util]) -> Result<(), NoMemory>

@@ -2,4 +2,6 @@ pub mod Goal
 pub mod Solved
 pub mod Told
 pub mod Cells
+pub mod Gap
+pub mod Verdict
 pub mod Holds

@@ -18,9 +18,9 @@ mod merging;
 mod reader;
 mod writer;
 
-pub use event_line::event_of_line;
+pub use event_line::{event_of_line, number_within};
 pub use law::merged_stamps_are_right;
 pub use log::{Log, LogEvent};
 pub use merging::merge;
 pub use reader::read_log;
-pub use writer::write_log;
+pub use writer::{write_events, write_log};

@@ -32,10 +32,21 @@ pub fn write_log(alloc: Global, log: &Log, names: &Names) -> Result<Bytes, NoMem
     // What `len` says of the names, that they are distinct, lets each be found again.
     let _count = names.len();
     let mut text = String::new(alloc);
-    for event in log.as_slice() {
-        write_event(&mut text, names, event)?;
-    }
+    write_events(&mut text, names, log.as_slice())?;
     Ok(Bytes::from_vec(text.into_bytes()))
+}
+
+/// Writes a line `event AGENT STAMP` for each event, followed by a pair `SENDER COUNT` for each of
+/// its takes. Each agent and sender must have a name.
+pub fn write_events(text: &mut String, names: &Names, log: &[LogEvent]) -> Result<(), NoMemory>
+    requires { All (IsNamedEvent (length names.now)) log.now }
+    ensures text { OnOk result (string_bytes text.new ≡ string_bytes text.old ++ log_text names.now log.now) }
+    ensures counts { OnOk result (All (λ e. All (λ t. t.count ≤ take_limit) e.takes) log.now) }
+{
+    for event in log {
+        write_event(text, names, event)?;
+    }
+    Ok(())
 }
 
 fn write_event(text: &mut String, names: &Names, event: &LogEvent) -> Result<(), NoMemory>

@@ -1,1 +1,3 @@
+mod ToldNamedLaws
+mod LogNamedLaws
 mod NamedLaws

@@ -7,7 +7,8 @@ use Rattle.problem_text.specs.Steps.{declared_by}
 use Rattle.certificate_text.specs.declared.report.Report.{Report}
 use Rattle.certificate_text.specs.ReportLines.{Fault}
 use Rattle.certificate_text.specs.ReportReading.{report_read}
-use Rattle.certificate_check.specs.Verdicts.{IsVerdict, IsExact, ShowsBest}
+use Rattle.problem_solved.specs.Verdict.{ShowsBest}
+use Rattle.certificate_check.specs.Verdicts.{IsVerdict, IsExact}
 use Rattle.solve_report.specs.declared.answer.Answer.{Answer}
 use Rattle.solve_report.specs.declared.answer.Answer.TheVariants as answers
 use Rattle.problem_text.specs.Kinds.{number_of_report}

@@ -4,7 +4,8 @@ ghost use Rattle.std.specs.Prelude.{◌≡◌, ◌+◌, ◌≤◌, length, IfOk}
 ghost use Rattle.dcop_base.specs.Limits.{input_limit};
 ghost use Rattle.problem_text.specs.Steps.{declared_by};
 ghost use Rattle.certificate_text.specs.Again.{HasFit};
-ghost use Rattle.certificate_check.specs.Verdicts.{IsVerdict, IsExact, ShowsBest};
+ghost use Rattle.problem_solved.specs.Verdict.{ShowsBest};
+ghost use Rattle.certificate_check.specs.Verdicts.{IsVerdict, IsExact};
 ghost use Rattle.solve_report.specs.AnswerText.{HasText};
 ghost use Rattle.solve_report.specs.Verdict.{IsNamedVerdict};
 ghost use Rattle.solve_check.specs.Checking.{AnswersCheck};

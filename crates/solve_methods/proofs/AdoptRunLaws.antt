@@ -1,51 +1,32 @@
 -- What ADOPT agents have reached that have run under a budget.
-use Rattle.std.proofs.Common.{◌≡◌, ℕ, ◌+◌, ◌<◌, ◌≤◌, List, map, length, get_or, Option, Some, None, sym, ap, subst, ◌∙◌, arith}
-use Rattle.std.specs.List.{flat_map, slice_get}
+use Rattle.std.proofs.Common.{◌≡◌, ℕ, ◌+◌, ◌≤◌, List, map, sym, ap, subst, ◌∙◌, arith}
+use Rattle.std.specs.List.{flat_map}
 use Rattle.std.specs.Option.{option_map}
-use Rattle.std.proofs.lemmas.List.{length-map}
-use Rattle.std.proofs.lemmas.Option.{slice_get-map, get_or_from_slice_get, same_Some}
+use Rattle.std.proofs.lemmas.Option.{same_Some}
 use Rattle.dcop_base.specs.Problem.{Dcop, IsAssignment, cost}
 use Rattle.dcop_base.specs.Whole.{IsProblem}
 use Rattle.pseudotree.specs.DepthFirst.{dfs}
 use Rattle.pseudotree.specs.Pseudotree.{IsPseudotree, IsLinked}
-use Rattle.dcop_optimum.specs.Enclosing.{IsAtMost}
-use Rattle.dcop_optimum.proofs.JoinLaws.{within_from}
 use Rattle.protocol_steps.specs.declared.event.Event.{Event}
 use Rattle.protocol_steps.specs.declared.outcome.Outcome.{Outcome}
 use Rattle.protocol_steps.specs.declared.standing.Standing.{Standing}
 use Rattle.protocol_steps.specs.Adopt.{AdoptView}
 use Rattle.protocol_steps.specs.AdoptBounds.{lower_bound, upper_bound}
-use Rattle.protocol_steps.specs.View.{View, AdoptKind, value_of, standing_of}
+use Rattle.protocol_steps.specs.View.{AdoptKind, value_of, standing_of}
 use Rattle.protocol_steps.specs.Network.{start_state}
 use Rattle.protocol_steps.specs.Rounds.{RoundsAreARun}
 use Rattle.protocol_steps.specs.TreeAgents.{adopt_agents}
 use Rattle.adopt_runs.specs.AdoptRun.{IsAdoptRun}
-use Rattle.adopt_runs.specs.Agents.{AreAgents}
 use Rattle.adopt_runs.specs.PendingLaw.{AdoptPending}
 use Rattle.adopt_runs.specs.RunLaws.{HoldsOfAdopt, AdoptBoundsEnclose}
 use Rattle.adopt_ends.specs.EndLaw.{AdoptEnds}
-use Rattle.solve_methods.specs.Adopt.{least_known, least_shown, ending_of}
+use Rattle.log_holds.specs.Ends.{least_known, least_shown, ending_of}
+use Rattle.log_holds.proofs.EndLaws.{agents-assigned, least-above}
 use Rattle.solve_methods.specs.Reached.{HaveReached}
 use Rattle.protocol_steps.specs.Outcomes.{HaveRun}
 use Rattle.solve_methods.specs.declared.adopt.Reached.{Reached}
 use Rattle.solve_methods.proofs.EndLaws.{run-spent}
-use Rattle.solve_methods.proofs.RootLaws.{root-zero}
-
--- the values of agents are an assignment
-agents-assigned : (p : Dcop) (error : ℕ) (views : List View) → length views ≡ length p.sizes → AreAgents p (dfs p) error views → IsAssignment p (map value_of views)
-agents-assigned p error views size agents =
-    within_from p.sizes (map value_of views) (length-map views value_of ∙ size)
-    (λ k lt.
-    let one = agents k lt in
-    let at : slice_get (map value_of views) k ≡ Some (one.0).value = slice_get-map value_of views k ∙ ap (option_map value_of) one.1 in
-    let same : get_or (map value_of views) k 0 ≡ (one.0).value = get_or_from_slice_get (map value_of views) k (one.0).value 0 at in
-    let below = one.2.value_below in
-    omega (arith, same, below))
-
--- the lesser of a sum and a bound is at least what both are
-least-above : (least sum : ℕ) (bound : Option ℕ) → least ≤ sum → IsAtMost least bound → least ≤ least_known sum bound
-least-above least sum None below at_most = below
-least-above least sum (Some bound) below at_most = omega (arith, below, at_most)
+use Rattle.log_holds.proofs.RootLaws.{root-zero}
 
 -- agents that have run on the depth-first tree
 module _ (p : Dcop) (whole : IsProblem p) (is_tree : IsPseudotree p (dfs p)) (linked : IsLinked p (dfs p)) (rounds : RoundsAreARun) (bounds : AdoptBoundsEnclose) (pending : AdoptPending) (ends : AdoptEnds)

@@ -8,7 +8,6 @@ mod AgreedLaws
 mod BestLaws
 mod ChosenLaws
 mod TreeLaws
-mod RootLaws
 mod AdoptRunLaws
 mod AdoptRightLaws
 mod OnceLaws

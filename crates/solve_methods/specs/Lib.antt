@@ -4,6 +4,7 @@ pub mod Certified
 pub mod Dpop
 pub mod Agreed
 pub mod Adopt
+pub mod Logged
 pub mod Reached
 pub mod Auto
 pub mod Drill

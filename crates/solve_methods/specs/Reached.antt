@@ -7,7 +7,8 @@ use Rattle.protocol_steps.specs.Effect.{has_ended, deliveries}
 use Rattle.protocol_steps.specs.Adopt.{AdoptView}
 use Rattle.protocol_steps.specs.AdoptBounds.{lower_bound}
 use Rattle.adopt_ends.specs.EndLaw.{values_of}
-use Rattle.solve_methods.specs.Adopt.{IsAdoptPlay, IsRootAgent, ending_of, least_shown}
+use Rattle.log_holds.specs.Ends.{IsRootAgent, ending_of, least_shown}
+use Rattle.solve_methods.specs.Adopt.{IsAdoptPlay}
 use Rattle.solve_methods.specs.declared.adopt.Reached.{Reached}
 
 -- what such a run gave: the ending, the deliveries and the values of its end, and the root's bounds, with the values' cost; the values are an assignment, the bounds enclose the optimum, and where all agents have ended the values cost at most the error more

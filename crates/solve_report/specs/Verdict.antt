@@ -7,7 +7,14 @@ use Rattle.certificate_text.specs.ReportText.{ending_word}
 use Rattle.certificate_text.specs.declared.verdict.Verdict.{Verdict}
 use Rattle.certificate_text.specs.declared.verdict.Verdict.TheVariants.{Yes, No}
 use Rattle.certificate_text.specs.declared.verdict.Differs.{Differs}
-use Rattle.certificate_text.specs.declared.verdict.Differs.TheVariants.{TreeRoots, TreeLoop, TreePair, Scope, Cell, Cost, Root, Lower, Upper, Error, Deliveries, Status}
+use Rattle.certificate_text.specs.declared.verdict.Differs.TheVariants.{TreeRoots, TreeLoop, TreePair, Scope, Cell, Cost, Root, Lower, Upper, Error, Deliveries, Status, Event, Stamp, Value}
+use Rattle.protocol_steps.specs.declared.event.EventFault.{EventFault}
+use Rattle.protocol_steps.specs.declared.event.EventFault.TheVariants.{Nobody, Ended, Nothing, Order, TooMany}
+
+-- what is wrong with an event, where its sender, if one is told, is among so many
+abbrev pub IsNamedFault : ℕ → EventFault → Type 0
+IsNamedFault count (TooMany from asked there) = from < count
+IsNamedFault count _ = ⊤
 
 -- a difference all of whose variables are among so many
 abbrev pub IsNamedDifference : ℕ → Differs → Type 0
@@ -15,6 +22,8 @@ IsNamedDifference count (TreeLoop var) = var < count
 IsNamedDifference count (TreePair one other) = (one < count) × (other < count)
 IsNamedDifference count (Scope var) = var < count
 IsNamedDifference count (Cell var cell value left right) = var < count
+IsNamedDifference count (Event at fault) = IsNamedFault count fault
+IsNamedDifference count (Value var) = var < count
 IsNamedDifference count _ = ⊤
 
 -- a verdict all of whose variables are among so many
@@ -30,6 +39,14 @@ name_in names var = slice_index_or names var []
 abbrev pub left_right : List ℕ → ℕ → ℕ → List (List ℕ)
 left_right word left right = word ∷ codes "left" ∷ decimal left ∷ codes "right" ∷ decimal right ∷ []
 
+-- what is wrong with an event, behind its number
+abbrev pub fault_words : List (List ℕ) → EventFault → List (List ℕ)
+fault_words names Nobody = codes "nobody" ∷ []
+fault_words names Ended = codes "ended" ∷ []
+fault_words names Nothing = codes "nothing" ∷ []
+fault_words names Order = codes "order" ∷ []
+fault_words names (TooMany from asked there) = codes "too-many" ∷ left_right (name_in names from) asked there
+
 -- what differs, behind the word `differs`
 abbrev pub difference_words : List (List ℕ) → Differs → List (List ℕ)
 difference_words names (TreeRoots count) = codes "tree" ∷ codes "roots" ∷ decimal count ∷ []
@@ -44,6 +61,9 @@ difference_words names (Upper left right) = left_right (codes "upper") left righ
 difference_words names (Error left right) = left_right (codes "error") left right
 difference_words names (Deliveries left right) = left_right (codes "deliveries") left right
 difference_words names (Status ending) = codes "status" ∷ ending_word ending ∷ []
+difference_words names (Event at fault) = codes "event" ∷ decimal at ∷ fault_words names fault
+difference_words names (Stamp at left right) = codes "stamp" ∷ left_right (decimal at) left right
+difference_words names (Value var) = codes "value" ∷ name_in names var ∷ []
 
 -- the words of each line of a verdict: yes with the cost and the gap, or no with what differs
 abbrev pub verdict_lines : List (List ℕ) → Verdict → List (List (List ℕ))

@@ -6,13 +6,14 @@ ghost use Rattle.std.specs.Fmt.{decimal};
 ghost use Rattle.std.specs.String.{string_bytes};
 ghost use Rattle.certificate_text.specs.ReportText.{ending_word};
 ghost use Rattle.certificate_text.specs.declared.verdict.Verdict.TheVariants.{Yes, No};
-ghost use Rattle.solve_report.specs.Verdict.{IsNamedDifference, IsNamedVerdict};
-ghost use Rattle.solve_report.specs.Verdict.{name_in, left_right, difference_words, verdict_text};
+ghost use Rattle.solve_report.specs.Verdict.{IsNamedFault, IsNamedDifference, IsNamedVerdict};
+ghost use Rattle.solve_report.specs.Verdict.{name_in, left_right, fault_words, difference_words, verdict_text};
 
 use crate::refusal::bytes_of;
 use certificate_text::{Differs, Ending, Verdict};
 use dcop_base::{Bytes, NoMemory, Val, VarId};
 use problem_text::Names;
+use protocol_steps::EventFault;
 use std::alloc::Global;
 
 /// The text of a verdict: `status yes`, the cost and the gap, or `status no` and the line of what
@@ -92,7 +93,42 @@ fn write_difference(text: &mut String, names: &Names, differs: &Differs) -> Resu
             let word = word_of(*ending);
             Ok(write!(text, " status {word}")?)
         }
+        Differs::Event { at, fault } => {
+            write!(text, " event {at}")?;
+            write_fault(text, names, fault)
+        }
+        Differs::Stamp { at, left, right } => write_stamp(text, *at, *left, *right),
+        Differs::Value { var } => {
+            let name = name_of(names, *var);
+            Ok(write!(text, " value {name}")?)
+        }
     }
+}
+
+/// The words of what is wrong with an event, each behind a space.
+fn write_fault(text: &mut String, names: &Names, fault: &EventFault) -> Result<(), NoMemory>
+    requires { IsNamedFault (length names.now) fault.now }
+    ensures { OnOk result (string_bytes text.new
+        ≡ string_bytes text.old ++ flat_map (λ word. 32 ∷ word) (fault_words names.now fault.now)) }
+{
+    match fault {
+        EventFault::Nobody => Ok(text.push_str(" nobody")?),
+        EventFault::Ended => Ok(text.push_str(" ended")?),
+        EventFault::Nothing => Ok(text.push_str(" nothing")?),
+        EventFault::Order => Ok(text.push_str(" order")?),
+        EventFault::TooMany { from, asked, there } => {
+            text.push_str(" too-many")?;
+            write_number(text, name_of(names, *from), *asked, *there)
+        }
+    }
+}
+
+/// The number of an event, and the number on the left and the one on the right.
+fn write_stamp(text: &mut String, at: u64, left: u64, right: u64) -> Result<(), NoMemory>
+    ensures { OnOk result (string_bytes text.new ≡ string_bytes text.old
+        ++ flat_map (λ word. 32 ∷ word) (codes "stamp" ∷ left_right (decimal at) left right)) }
+{
+    Ok(write!(text, " stamp {at} left {left} right {right}")?)
 }
 
 /// The name of a variable.

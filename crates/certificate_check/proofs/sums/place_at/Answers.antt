@@ -1,6 +1,6 @@
-use Rattle.std.proofs.Common.{rules, ◌≡◌, ◌<◌, ℕ, List, length, get_or, All}
+use Rattle.std.proofs.Common.{rules, ℕ, List, get_or}
 use Rattle.std.proofs.lemmas.List.{length-map}
-use Rattle.dcop_base.specs.Table.{AreWithin, product, values_at}
+use Rattle.dcop_base.specs.Table.{values_at}
 use Rattle.certificate_check.proofs.CellLaws.{sizes_at, scope_within}
 use Rattle.certificate_check.proofs.sums.place_at.Goals as goal
 

@@ -2,9 +2,10 @@ use Rattle.std.proofs.Common.{◌≤◌, refl, sym, ap, subst, ◌∙◌}
 use Rattle.dcop_base.specs.Problem.{cost}
 use Rattle.dcop_optimum.specs.Goal.{top_of}
 use Rattle.problem_text.specs.File.{TextFile, IsFile}
-use Rattle.solve_methods.specs.Adopt.{lower_for, upper_for}
+use Rattle.log_holds.specs.Ends.{lower_for, upper_for}
 use Rattle.solve_methods.proofs.TellLaws.{CanTell-assignment}
-use Rattle.solve_methods.proofs.AdoptRightLaws.{upper-top, lower-top, solved-assigned, reached-right}
+use Rattle.log_holds.proofs.GoalLaws.{solved-assigned}
+use Rattle.solve_methods.proofs.AdoptRightLaws.{upper-top, lower-top, reached-right}
 use Rattle.solve_methods.proofs.adopt.adopt_report.Goals as goal
 
 pub lower_for-requires : goal.lower_for-requires

@@ -1,4 +1,4 @@
-use Rattle.std.proofs.Common.{◌≡◌, List, Option, map, sym, ap, subst, ◌∙◌}
+use Rattle.std.proofs.Common.{List, Option, map, sym, ap, subst, ◌∙◌}
 use Rattle.dcop_base.specs.Whole.{IsProblem}
 use Rattle.pseudotree.specs.Pseudotree.{IsLinked}
 use Rattle.pseudotree.specs.declared.agent.Place.{Place}

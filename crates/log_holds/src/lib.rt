@@ -1,0 +1,12 @@
+//! Reports with a log: where they hold, and what they show.
+//!
+//! A report of ADOPT with the log of its run can be checked without trusting who made it: the log is
+//! played as a run of the agents of the problem solved, on its depth-first tree
+//! (`specs/Holds.antt`). `specs/Differences.antt` has what can differ, in the order in which it is told.
+//! The laws are about definitions alone. Each is the contract of a call that
+//! does nothing: who needs the law calls it.
+#![tactic(auto)]
+
+mod law;
+
+pub use law::{differences_are_exact, logs_show, merged_logs_hold};
