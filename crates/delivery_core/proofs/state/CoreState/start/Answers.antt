@@ -8,7 +8,7 @@ use Rattle.delivery_core.specs.Starts.{new_seat, Begun}
 use Rattle.delivery_core.specs.Shown.{Shows}
 use Rattle.delivery_core.proofs.ListLaws.{written_back}
 use Rattle.delivery_core.proofs.StartLaws.{begun_agents, begun_all, none_delivered}
-use Rattle.delivery_core.proofs.replaying.begin.Goals as goal
+use Rattle.delivery_core.proofs.state.CoreState.start.Goals as goal
 
 pub start_all-requires-clause-begun : goal.start_all-requires-clause-begun
 start_all-requires-clause-begun c =
