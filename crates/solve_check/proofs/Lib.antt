@@ -1,1 +1,3 @@
+mod NamedOptionLaws
+mod LogNamedLaws
 mod NamedLaws

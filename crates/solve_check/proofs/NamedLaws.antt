@@ -13,7 +13,7 @@ use Rattle.dcop_optimum.specs.Certificate.{tables_on_path}
 use Rattle.problem_text.specs.File.{TextFile}
 use Rattle.certificate_text.specs.Fits.{FitsTables, FitsCertificate}
 use Rattle.certificate_text.specs.declared.certificate.Certificate.{Certificate}
-use Rattle.certificate_text.specs.declared.certificate.Certificate.TheVariants.{Tables}
+use Rattle.certificate_text.specs.declared.certificate.Certificate.TheVariants.{Tables, Log}
 use Rattle.certificate_text.specs.declared.certificate.Util.{Util}
 use Rattle.certificate_text.specs.declared.report.Report.{Report}
 use Rattle.certificate_text.specs.declared.report.Ending.{Ending}
@@ -29,23 +29,11 @@ use Rattle.certificate_check.specs.Differences.{IsTreeDifference, first_of, scop
 use Rattle.certificate_check.specs.Verdicts.{IsTablesVerdict, IsVerdictOn}
 use Rattle.certificate_check.proofs.FitLaws.{told_fits}
 use Rattle.problem_solved.proofs.SolvedLaws.{solved_sizes}
+use Rattle.problem_solved.specs.Verdict.{verdict_by}
+use Rattle.log_holds.specs.Differences.{log_difference}
 use Rattle.solve_report.specs.Verdict.{IsNamedDifference, IsNamedVerdict}
-
--- what is told, where something is, speaks of variables among so many
-abbrev AreNamed : ℕ → Option Differs → Type 0
-AreNamed n o = IfSome o (IsNamedDifference n)
-
-or-named : (n : ℕ) (a b : Option Differs) → AreNamed n a → AreNamed n b → AreNamed n (option_or a b)
-or-named n None b of_a of_b = of_b
-or-named n (Some x) b of_a of_b = of_a
-
-if-named : (n : ℕ) (t : Bool) (x : Differs) → IsNamedDifference n x → AreNamed n (cond t None (Some x))
-if-named n true x h = tt
-if-named n false x h = h
-
-then-named : (n : ℕ) (t : Bool) (x : Differs) → IsNamedDifference n x → AreNamed n (cond t (Some x) None)
-then-named n true x h = h
-then-named n false x h = tt
+use Rattle.solve_check.proofs.NamedOptionLaws.{AreNamed, or-named, if-named, then-named}
+use Rattle.solve_check.proofs.LogNamedLaws.{log-named}
 
 from-named : (n : ℕ) (test : ℕ → Option Differs) (s k : ℕ) → ((i : ℕ) → i < s + k → AreNamed n (test i)) → AreNamed n (first_of test (range_with_len s k))
 from-named n test s zero each = tt
@@ -96,6 +84,9 @@ tree-named p parents (differences.Upper left right) many is = absurd is
 tree-named p parents (differences.Error left right) many is = absurd is
 tree-named p parents (differences.Deliveries left right) many is = absurd is
 tree-named p parents (differences.Status ending) many is = absurd is
+tree-named p parents (differences.Event at fault) many is = absurd is
+tree-named p parents (differences.Stamp at left right) many is = absurd is
+tree-named p parents (differences.Value var) many is = absurd is
 
 tables-named : (f : TextFile) (r : Report) (utils : List Util) (verdict : Verdict) → FitsTables (problem_solved f).sizes utils → IsTablesVerdict f r utils verdict → IsNamedVerdict (length (problem_solved f).sizes) verdict
 tables-named f r utils (Yes cost error) fits is = tt
@@ -105,11 +96,19 @@ tables-named f r utils (No differs) fits (inl tree) =
 tables-named f r utils (No differs) fits (inr behind) =
     subst (AreNamed (length (problem_solved f).sizes)) behind.2 (behind-named f r utils behind.0 fits)
 
+verdict-by : (n : ℕ) (f : TextFile) (r : Report) (o : Option Differs) → AreNamed n o → IsNamedVerdict n (verdict_by f r o)
+verdict-by n f r None named = tt
+verdict-by n f r (Some differs) named = named
+
 -- a verdict on a report that has a certificate and fits its file
-pub verdict-named : (f : TextFile) (r : Report) (certificate : Option Certificate) (verdict : Verdict) → length f.names ≡ length f.problem.sizes → IsTrue (is_some certificate) → IfSome certificate (FitsCertificate f.problem.sizes r.method) → IfSome certificate (IsVerdictOn f r verdict) → IsNamedVerdict (length f.names) verdict
-verdict-named f r None verdict many some fits is = absurd (false≢true some)
-verdict-named f r (Some (Tables utils)) verdict many some fits is =
+pub verdict-named : (f : TextFile) (r : Report) (certificate : Option Certificate) (verdict : Verdict) → length f.names ≡ length f.problem.sizes → length r.values ≡ length f.problem.sizes → IsTrue (is_some certificate) → IfSome certificate (FitsCertificate f.problem.sizes r.method) → IfSome certificate (IsVerdictOn f r verdict) → IsNamedVerdict (length f.names) verdict
+verdict-named f r None verdict many values some fits is = absurd (false≢true some)
+verdict-named f r (Some (Tables utils)) verdict many values some fits is =
     let sizes = solved_sizes f.goal f.problem in
     let count : length (problem_solved f).sizes ≡ length f.names = ap length sizes ∙ sym many in
     subst (λ (n : ℕ). IsNamedVerdict n verdict) count
     (tables-named f r utils verdict (subst (λ (ss : List ℕ). FitsTables ss utils) (sym sizes) fits.1) is)
+verdict-named f r (Some (Log log)) verdict many values some fits is =
+    subst (λ (v : Verdict). IsNamedVerdict (length f.names) v) (sym is)
+    (verdict-by (length f.names) f r (log_difference f r log)
+    (subst (λ (n : ℕ). AreNamed n (log_difference f r log)) (sym many) (log-named (length f.problem.sizes) f r log (omega (arith, values)) fits.1)))
