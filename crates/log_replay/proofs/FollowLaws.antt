@@ -103,8 +103,10 @@ module _ (p : Dcop) (net : Network) (s : LinkStamps) (v : StampsView) (e : LogEv
     abbrev later : LinkStamps
     later = stamps_after net s e next
 
-    abbrev old new : ℕ → ℕ → ℕ
+    abbrev old : ℕ → ℕ → ℕ
     old i j = length (link net.desks j i)
+
+    abbrev new : ℕ → ℕ → ℕ
     new i j = length (link next.desks j i)
 
     rows_size : length rows ≡ n

@@ -145,15 +145,15 @@ module _ (p : Dcop) (first : Network) (log : List LogEvent) (k : ℕ) (core new 
 
     follow_at : (small : e.stamp ≤ amount_limit) (o : Option WrongStamp) → told o ≡ event_difference (k + 1) (right_stamp was.net s e) prior e
         → (o ≡ None → later ≡ stamps_sent new e.agent e.stamp (stamps_taken e.agent e.takes stamps)) → Stamped p first log (k + 1) after later (Some (moment_of e)) o
-    follow_at small None same then = (
+    follow_at small None same sends = (
       stamps_after was.net s e after,
       Some e,
-      subst (λ (v : StampsView). AreStamps p after (stamps_after was.net s e after) v) (sym (then refl)) (are_after p was.net s stamps e are agents desks fine new now small),
+      subst (λ (v : StampsView). AreStamps p after (stamps_after was.net s e after) v) (sym (sends refl)) (are_after p was.net s stamps e are agents desks fine new now small),
       refl,
       whole ∙ ap (λ (d : Option StampDifference). or_later d behind) (sym same)
           ∙ ap (λ (o : Option Network). stamp_difference (k + 1 + 1) o (stamps_after was.net s e after) (Some e) (drop (k + 1) log)) (happens_next was.net (event_of e) fine),
     )
-    follow_at small (Some wrong) same then = whole ∙ ap (λ (d : Option StampDifference). or_later d behind) (sym same)
+    follow_at small (Some wrong) same sends = whole ∙ ap (λ (d : Option StampDifference). or_later d behind) (sym same)
 
     -- it has happened, and its stamp was looked at
     pub replayed_next : e.stamp ≤ amount_limit → Follows new (k + 1) before e stamps later next → Replayed p first log (k + 1) new later (Some (moment_of e)) next

@@ -75,11 +75,11 @@ module _ (p : Dcop) (made : List View) (core : CoreView) (is : IsCore p (start_s
   pub are_first : AreStamps p net (start_stamps net) (first_stamps p core)
   are_first = record {
     size = rows_size;
-    last = λ i lt. slice_get-get_or (replicate n 0) i 0 (let size = length-replicate n 0 in omega (arith, lt, size)) ∙ ap (λ (k : ℕ). Some k) (get_or-replicate n i 0 0 lt);
+    last = λ i lt. slice_get-get_or (replicate n 0) i 0 (let zero_stamp : ℕ = 0 in let size = length-replicate n zero_stamp in omega (arith, lt, size)) ∙ ap (λ (k : ℕ). Some k) (get_or-replicate n i 0 0 lt);
     receivers = λ j lt. ap receivers (row_is j lt) ∙ row_to j;
     queues = λ i j lt.
         queue_is i j lt ∙ ap (λ (k : ℕ). drop k (replicate (length (link net.desks j i)) 0)) (sym (none_taken i j));
-    many = λ i j. length-replicate (length (link net.desks j i)) 0;
+    many = λ i j. let zero_stamp : ℕ = 0 in length-replicate (length (link net.desks j i)) zero_stamp;
     taken = λ i j lt. taken_sent p net core is i j lt;
     few = λ i. omega arith;
     bounded = λ i j. let a = greatest_replicate (length (link net.desks j i)) 0 in omega (arith, a);

@@ -35,7 +35,7 @@ Follows core number before e old new found =
 -- the stamps of the first k events of a log that are right, where the run has come to this network; or the first one that is wrong
 abbrev pub Stamped : Dcop → Network → List LogEvent → ℕ → Network → StampsView → Option Moment → Option WrongStamp → Type 0
 Stamped p first log k net stamps before None =
-    (s : LinkStamps) (prior : Option LogEvent) × AreStamps p net s stamps × (before ≡ option_map moment_of prior)
+    (s : LinkStamps) × (prior : Option LogEvent) × AreStamps p net s stamps × (before ≡ option_map moment_of prior)
     × (first_wrong first log ≡ stamp_difference (k + 1) (Some net) s prior (drop k log))
 Stamped p first log k net stamps before (Some wrong) = first_wrong first log ≡ Some (difference_of wrong)
 

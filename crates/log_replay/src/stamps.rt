@@ -1,6 +1,7 @@
 //! The stamps of a run as far as it has come.
 
-ghost use Rattle.std.specs.Prelude.{◌≡◌, ◌<◌, ◌≤◌, length, map, IfOk, OnOk, max};
+ghost use Rattle.std.specs.Prelude.{◌≡◌, ◌<◌, ◌≤◌, List, ◌∷◌, length, map, IfOk, OnOk, max};
+ghost use Rattle.protocol_steps.specs.declared.event.Take.{Take as TakeRecord};
 ghost use Rattle.std.specs.List.{All, fold, slice_set, range_with_len};
 ghost use Rattle.dcop_base.specs.Limits.{count_limit};
 ghost use Rattle.log_replay.specs.Queues.{row_at, take_off, greatest_by, stamp_by, stamps_taken, filled, stamps_sent, first_row, first_stamps};
@@ -58,7 +59,7 @@ fn first_rows(alloc: Global, problem: &Problem, core: &CoreState) -> Result<Vec<
 /// Takes off the stamps of a take of this agent, and gives the greatest of them.
 fn take_one(rows: &mut [Row], agent: VarId, next: Take) -> u64
     requires { next.from < length rows.old }
-    ensures greatest { (later : List Take) → max result (greatest_by agent rows.new later) ≡ greatest_by agent rows.old (next ∷ later) }
+    ensures greatest { (later : List TakeRecord) → max result (greatest_by agent rows.new later) ≡ greatest_by agent rows.old (next ∷ later) }
     ensures rest { rows.new ≡ take_off agent rows.old next }
 {
     rows[next.from.0 as usize].take_off(agent, next.count)
