@@ -1,13 +1,12 @@
 -- One event of a log that is replayed.
-use Rattle.std.specs.Prelude.{◌≡◌, ℕ, ◌+◌, List, take, drop, Option, Some, None, Result, Ok, Err, MatchOption}
+use Rattle.std.specs.Prelude.{◌≡◌, ℕ, ◌+◌, List, take, drop, Option, Some, None, Result, Ok, Err}
 use Rattle.std.specs.Option.{option_map}
 use Rattle.dcop_base.specs.Problem.{Dcop}
 use Rattle.protocol_steps.specs.Network.{Network}
-use Rattle.protocol_steps.specs.Effect.{effect}
-use Rattle.protocol_steps.specs.Run.{event_fault, run}
+use Rattle.protocol_steps.specs.Run.{run}
 use Rattle.run_log.specs.declared.log.LogEvent.{LogEvent}
 use Rattle.run_log.specs.Logs.{event_of, events_of}
-use Rattle.run_log.specs.LogStamps.{LinkStamps, right_stamp, stamps_after, stamp_difference}
+use Rattle.run_log.specs.LogStamps.{LinkStamps, stamp_difference}
 use Rattle.delivery_core.specs.State.{CoreView}
 use Rattle.delivery_core.specs.Shown.{IsCore, Advances, Refuses}
 use Rattle.log_replay.specs.declared.fault.LogFault.{LogFault}

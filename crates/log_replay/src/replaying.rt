@@ -30,12 +30,7 @@ fn event_of(alloc: Global, event: &LogEvent) -> Result<Event, NoMemory>
 }
 
 /// Plays the event of this number.
-fn play(
-    alloc: Global,
-    core: &mut CoreState,
-    number: u64,
-    event: &LogEvent,
-) -> Result<(), LogFault>
+fn play(alloc: Global, core: &mut CoreState, number: u64, event: &LogEvent) -> Result<(), LogFault>
     requires { IsSomeCore core.old }
     ensures { Plays core.old number event.now core.new result }
 {

@@ -29,12 +29,7 @@ impl Model for Stamps {
 }
 
 /// What an agent has sent at its start waits with stamp 0.
-fn first_row(
-    alloc: Global,
-    problem: &Problem,
-    core: &CoreState,
-    me: VarId,
-) -> Result<Row, NoMemory>
+fn first_row(alloc: Global, problem: &Problem, core: &CoreState, me: VarId) -> Result<Row, NoMemory>
     requires { me < length problem.now.sizes }
     ensures { IfOk result (λ row. row ≡ first_row problem.now core.now me) }
 {
@@ -79,12 +74,7 @@ fn take_all(rows: &mut [Row], agent: VarId, takes: &[Take]) -> u64
 }
 
 /// Messages of this agent with this stamp wait.
-fn send_from(
-    rows: &mut [Row],
-    core: &CoreState,
-    agent: VarId,
-    stamp: u64,
-) -> Result<(), NoMemory>
+fn send_from(rows: &mut [Row], core: &CoreState, agent: VarId, stamp: u64) -> Result<(), NoMemory>
     requires { agent < length rows.old }
     ensures { OnOk result (rows.new
         ≡ slice_set rows.old agent (map (filled core.now agent stamp) (row_at rows.old agent))) }

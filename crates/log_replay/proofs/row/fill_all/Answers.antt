@@ -1,4 +1,4 @@
-use Rattle.std.proofs.Common.{◌≡◌, ◌<◌, ◌+◌, ◌-◌, ◌++◌, ℕ, suc, List, map, take, drop, length, get_or, replicate, sym, ap, ◌∙◌, arith}
+use Rattle.std.proofs.Common.{◌≡◌, ◌<◌, ◌+◌, ◌-◌, ◌++◌, ℕ, suc, List, map, take, drop, length, get_or, replicate, ap, ◌∙◌, arith}
 use Rattle.std.specs.List.{slice_set}
 use Rattle.delivery_core.specs.State.{count_waiting}
 use Rattle.log_replay.specs.Queues.{QueueView, filled}

@@ -1,4 +1,4 @@
-use Rattle.std.proofs.Common.{List, Option, ℕ, max, take, sym, ap, ◌∙◌}
+use Rattle.std.proofs.Common.{Option, max, take, sym, ap, ◌∙◌}
 use Rattle.std.specs.List.{fold, slice_set}
 use Rattle.log_replay.specs.Queues.{QueueView, stamps_of, without_next}
 use Rattle.log_replay.proofs.QueueLaws.{edited, unedited, found, missed, none_greatest}
