@@ -182,11 +182,7 @@ impl CoreState {
     /// # Errors
     ///
     /// [`NoMemory`] where memory was wanted and not had. The state is then of no more use.
-    pub fn happen(
-        &mut self,
-        alloc: Global,
-        event: &Event,
-    ) -> Result<Option<EventFault>, NoMemory>
+    pub fn happen(&mut self, alloc: Global, event: &Event) -> Result<Option<EventFault>, NoMemory>
         requires { IsSomeCore self.old }
         ensures { IfOk result (λ found. MatchOption found (Advances self.old event.now self.new)
             (λ fault. Refuses self.old event.now fault)) }

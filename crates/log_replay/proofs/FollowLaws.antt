@@ -1,7 +1,7 @@
 -- The stamps after an event are those of the network after it.
-use Rattle.std.proofs.Common.{◌≡◌, ℕ, ◌+◌, ◌-◌, ◌<◌, ◌≤◌, Bool, true, false, max, ◌==◌, nat_le, if◌then◌else◌, List, [], ◌∷◌, ◌++◌, map, length, take, drop, replicate, get_or, Option, Some, None, refl, sym, ap, subst, ◌∙◌, inl, inr, ◌⊎◌, arith}
-use Rattle.std.specs.List.{fold, flat_map, slice_get, slice_set, list_any, All}
-use Rattle.std.proofs.lemmas.Bool.{cases_Bool, cases_eq, eqb-true, eqb-false, eq-eqb, ne_eqb, leb-false, lt-leb, false≢true}
+use Rattle.std.proofs.Common.{◌≡◌, ℕ, ◌+◌, ◌-◌, ◌<◌, ◌≤◌, Bool, true, false, max, ◌==◌, nat_le, if◌then◌else◌, List, ◌++◌, map, length, drop, replicate, get_or, Some, None, refl, sym, ap, subst, ◌∙◌, inl, inr, ◌⊎◌, arith}
+use Rattle.std.specs.List.{fold, slice_get, slice_set, list_any, All}
+use Rattle.std.proofs.lemmas.Bool.{cases_Bool, eqb-true, eqb-false, leb-false, false≢true}
 use Rattle.std.proofs.lemmas.List.{append-nil, length-append, length-set, length-replicate, drop-drop}
 use Rattle.std.proofs.lemmas.List.Folds.{list_any_at}
 use Rattle.std.proofs.lemmas.Option.{slice_get_within, get_or_from_slice_get}
@@ -9,12 +9,11 @@ use Rattle.dcop_base.specs.Limits.{amount_limit, count_limit}
 use Rattle.dcop_base.specs.Problem.{Dcop}
 use Rattle.dcop_base.specs.Graph.{neighbours}
 use Rattle.protocol_steps.specs.declared.event.Take.{Take}
-use Rattle.protocol_steps.specs.declared.event.Event.{Event}
 use Rattle.protocol_steps.specs.View.{ended_of}
 use Rattle.protocol_steps.specs.Network.{Network, taken_from, link}
 use Rattle.protocol_steps.specs.Effect.{effect}
 use Rattle.protocol_steps.specs.Links.{taken_at, taken_in_event}
-use Rattle.protocol_steps.specs.Run.{event_fault, form_fault, too_many, or_else, ascends_from}
+use Rattle.protocol_steps.specs.Run.{event_fault, form_fault, too_many, ascends_from}
 use Rattle.protocol_steps.proofs.RunLaws.{happens_next}
 use Rattle.protocol_steps.proofs.EventLaws.{Happens, happens_from, get_same, get_other}
 use Rattle.protocol_steps.proofs.AccountLaws.{form_parts}
@@ -103,8 +102,10 @@ module _ (p : Dcop) (net : Network) (s : LinkStamps) (v : StampsView) (e : LogEv
     abbrev later : LinkStamps
     later = stamps_after net s e next
 
-    abbrev old new : ℕ → ℕ → ℕ
+    abbrev old : ℕ → ℕ → ℕ
     old i j = length (link net.desks j i)
+
+    abbrev new : ℕ → ℕ → ℕ
     new i j = length (link next.desks j i)
 
     rows_size : length rows ≡ n

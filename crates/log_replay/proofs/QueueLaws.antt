@@ -1,9 +1,8 @@
 -- The queue for a receiver: found, looked up, and changed.
-use Rattle.std.proofs.Common.{◌≡◌, ℕ, zero, suc, ◌+◌, ◌-◌, ◌<◌, Bool, true, false, cond, ◌==◌, if◌then◌else◌, List, [], ◌∷◌, ◌++◌, map, length, drop, replicate, get_or, Option, Some, None, refl, sym, ap, subst, ◌∙◌, inl, inr, arith}
-use Rattle.std.specs.List.{find, position, slice_set, Contains}
+use Rattle.std.proofs.Common.{◌≡◌, ℕ, zero, suc, ◌-◌, ◌<◌, max, take, Bool, true, false, cond, ◌==◌, if◌then◌else◌, List, [], ◌∷◌, ◌++◌, map, length, drop, replicate, get_or, Option, Some, None, refl, sym, ap, subst, ◌∙◌, inl, inr, arith}
+use Rattle.std.specs.List.{position, slice_set, fold, Contains}
 use Rattle.std.proofs.lemmas.Bool.{cond-false, eqb-true, eqb-false, ne_eqb}
-use Rattle.std.proofs.lemmas.List.{append-nil}
-use Rattle.std.proofs.lemmas.List.Folds.{position-Some}
+use Rattle.std.proofs.lemmas.List.Quantifiers.{position-Some}
 use Rattle.dcop_base.proofs.FirstLaws.{Contains-cases, Contains-head, Contains-tail, Contains-none}
 use Rattle.protocol_steps.proofs.EventLaws.{not_then}
 use Rattle.delivery_core.specs.State.{LinkView, CoreView, link_from, count_waiting}
@@ -53,12 +52,12 @@ off_step c i q row es true false t p r s ih = rw (p, r refl) refl
 off_step c i q row es false true t p r s ih = rw (p, s refl refl) refl
 off_step c i q row es false false t p r s ih = rw p ih
 
+none_left : (n : ℕ) → stamps_of (queue_to 0 []) ≡ drop n []
+none_left zero = refl
+none_left (suc n) = refl
+
 pub queue_off : (k i c : ℕ) (row : List QueueView) → stamps_of (queue_to i (edit_queue k (without_next c) row)) ≡ drop (if k == i then c else 0) (stamps_of (queue_to i row))
 queue_off k i c [] = none_left (if k == i then c else 0)
-  where
-    none_left : (n : ℕ) → [] ≡ drop n []
-    none_left zero = refl
-    none_left (suc n) = refl
 queue_off k i c (q ∷ row) =
     off_step c i q row (edit_queue k (without_next c) row) (q.to == k) (q.to == i) (k == i) refl
     (λ here. ap (λ (n : ℕ). n == i) (sym (eqb-true q.to k here)))
@@ -122,3 +121,24 @@ none_step false i n row h ih = rw h ih
 pub new_empty : (i : ℕ) (ns : List ℕ) → stamps_of (queue_to i (map new_queue ns)) ≡ []
 new_empty i [] = refl
 new_empty i (n ∷ ns) = none_step (n == i) i n (map new_queue ns) refl (new_empty i ns)
+
+-- nothing is taken off where there is no queue
+none_taken : (k : ℕ) (ns : List ℕ) → ns ≡ [] → 0 ≡ fold max 0 (take k ns)
+none_taken zero ns h = refl
+none_taken (suc k) [] h = refl
+none_taken (suc k) (n ∷ ns) h = absurd (cc)
+
+pub none_greatest : (k i : ℕ) (row : List QueueView) → queue_to i row ≡ None → 0 ≡ fold max 0 (take k (stamps_of (queue_to i row)))
+none_greatest k i row h = none_taken k (stamps_of (queue_to i row)) (ap stamps_of h)
+
+-- one more queue is filled
+pub filled_more : (s : CoreView) (j stamp : ℕ) (row : List QueueView) (k : ℕ) (q : QueueView) → k < length row
+    → slice_set (map (filled s j stamp) (take k row) ++ drop k row) k (filled s j stamp (get_or row k q)) ≡ map (filled s j stamp) (take (suc k) row) ++ drop (suc k) row
+filled_more s j stamp [] k q lt = absurd (omega (arith, lt))
+filled_more s j stamp (r ∷ row) zero q lt = refl
+filled_more s j stamp (r ∷ row) (suc k) q lt = ap (λ (qs : List QueueView). filled s j stamp r ∷ qs) (filled_more s j stamp row k q (omega (arith, lt)))
+
+pub unfilled_at : (s : CoreView) (j stamp : ℕ) (row : List QueueView) (k : ℕ) (q : QueueView) → k < length row → get_or (map (filled s j stamp) (take k row) ++ drop k row) k q ≡ get_or row k q
+unfilled_at s j stamp [] k q lt = absurd (omega (arith, lt))
+unfilled_at s j stamp (r ∷ row) zero q lt = refl
+unfilled_at s j stamp (r ∷ row) (suc k) q lt = unfilled_at s j stamp row k q (omega (arith, lt))

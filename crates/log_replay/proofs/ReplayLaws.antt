@@ -1,10 +1,10 @@
 -- One more event of a log that is replayed.
-use Rattle.std.proofs.Common.{◌≡◌, ℕ, ◌+◌, ◌<◌, ◌≤◌, Bool, true, false, ◌||◌, ◌&&◌, ◌==◌, nat_lt, if◌then◌else◌, List, [], ◌∷◌, map, length, take, drop, get_or, Option, Some, None, refl, sym, ap, subst, ◌∙◌, arith}
-use Rattle.std.specs.List.{slice_get, All}
-use Rattle.std.specs.Option.{option_map}
-use Rattle.std.proofs.lemmas.Bool.{cond-true, cond-false}
+use Rattle.std.proofs.Common.{◌≡◌, ℕ, ◌+◌, ◌<◌, ◌≤◌, Bool, true, false, ◌==◌, if◌then◌else◌, List, ◌∷◌, length, take, drop, get_or, Option, Some, None, Err, refl, sym, ap, subst, ◌∙◌, arith}
+use Rattle.std.specs.List.{All}
+use Rattle.std.specs.Option.{option_map, is_some}
+use Rattle.std.proofs.lemmas.Bool.{true≢false, false≢true}
 use Rattle.std.proofs.lemmas.List.{length-map, get_or-map, drop_more, drop_all, take_all}
-use Rattle.std.proofs.lemmas.Option.{none-some, same_Some, slice_get-map, slice_get_read, slice_get_within}
+use Rattle.std.proofs.lemmas.Option.{slice_get-map, slice_get_read, slice_get_within}
 use Rattle.dcop_base.specs.Limits.{amount_limit, count_limit}
 use Rattle.dcop_base.specs.Problem.{Dcop}
 use Rattle.protocol_steps.specs.declared.event.Event.{Event}
@@ -26,8 +26,10 @@ use Rattle.log_replay.specs.declared.wrong.Moment.{Moment}
 use Rattle.log_replay.specs.Queues.{StampsView, stamp_by, stamps_taken, stamps_sent, first_stamps}
 use Rattle.log_replay.specs.Following.{AreStamps}
 use Rattle.log_replay.specs.Wrong.{difference_of, moment_of, place_fault, stamp_fault}
-use Rattle.log_replay.specs.Replays.{first_wrong}
-use Rattle.log_replay.specs.Steps.{Follows, Stamped, Replayed}
+use Rattle.log_replay.specs.declared.fault.LogFault.{LogFault}
+use Rattle.log_replay.specs.declared.fault.LogFault.TheVariants.{BadEvent, BadStamp, NoMemory}
+use Rattle.log_replay.specs.Replays.{first_wrong, ReplaysLog}
+use Rattle.log_replay.specs.Steps.{Plays, Follows, Stamped, Replayed}
 use Rattle.log_replay.proofs.FollowLaws.{all_known, agent_there, senders_there, right_is, right_few, are_after}
 use Rattle.log_replay.proofs.StartLaws.{are_first}
 
@@ -50,6 +52,23 @@ stamp_same k right prior e false = refl
 
 stamp_told : (k right : ℕ) (prior : Option LogEvent) (e : LogEvent) → told (stamp_fault k right (option_map moment_of prior) e) ≡ event_difference k right prior e
 stamp_told k right prior e = stamp_same k right prior e (e.stamp == right)
+
+-- a test for no fault
+pub none_is : (o : Option WrongStamp) → is_some o ≡ false → o ≡ None
+none_is None h = refl
+none_is (Some w) h = absurd (true≢false h)
+
+pub some_is : (o : Option WrongStamp) → is_some o ≡ true → (wrong : WrongStamp) × (o ≡ Some wrong)
+some_is None h = absurd (false≢true h)
+some_is (Some w) h = (w, refl)
+
+-- the same under other names
+pub named_so : (p : Dcop) (first : Network) (log : List LogEvent) (k : ℕ) (core : CoreView) (stamps again : StampsView) (before then_before : Option Moment) (found then_found : Option WrongStamp)
+    → again ≡ stamps → then_before ≡ before → then_found ≡ found → Replayed p first log k core stamps before found → Replayed p first log k core again then_before then_found
+named_so p first log k core stamps again before then_before found then_found a b f was =
+    subst (λ (v : StampsView). Replayed p first log k core v then_before then_found) (sym a)
+    (subst (λ (m : Option Moment). Replayed p first log k core stamps m then_found) (sym b)
+    (subst (λ (o : Option WrongStamp). Replayed p first log k core stamps before o) (sym f) was))
 
 -- at the start
 pub replayed_none : (p : Dcop) (made : List View) (log : List LogEvent) (core : CoreView) → IsCore p (start_state made) core → Replayed p (start_state made) log 0 core (first_stamps p core) None None
@@ -83,6 +102,11 @@ module _ (p : Dcop) (first : Network) (log : List LogEvent) (k : ℕ) (core new 
     is = slice_get-map event_of log k ∙ ap (option_map event_of) (slice_get_read log (length log) k e refl lt is);
     unlawful = refused p was.net was.core_is;
   }
+
+  pub play_refused : (fault : LogFault) → Plays {A = Unit {0}} core (k + 1) e new (Err fault) → ReplaysLog first log (Err fault)
+  play_refused (BadEvent at fault) h = (k, h.0, first_refused fault h.1)
+  play_refused (BadStamp wrong) h = absurd h
+  play_refused NoMemory h = tt
 
   -- it has happened, and a stamp was wrong before
   pub replayed_more : (wrong : WrongStamp) → found ≡ Some wrong → Advances core (event_of e) new → Replayed p first log (k + 1) new stamps (Some (moment_of e)) found
@@ -145,15 +169,15 @@ module _ (p : Dcop) (first : Network) (log : List LogEvent) (k : ℕ) (core new 
 
     follow_at : (small : e.stamp ≤ amount_limit) (o : Option WrongStamp) → told o ≡ event_difference (k + 1) (right_stamp was.net s e) prior e
         → (o ≡ None → later ≡ stamps_sent new e.agent e.stamp (stamps_taken e.agent e.takes stamps)) → Stamped p first log (k + 1) after later (Some (moment_of e)) o
-    follow_at small None same then = (
+    follow_at small None same sends = (
       stamps_after was.net s e after,
       Some e,
-      subst (λ (v : StampsView). AreStamps p after (stamps_after was.net s e after) v) (sym (then refl)) (are_after p was.net s stamps e are agents desks fine new now small),
+      subst (λ (v : StampsView). AreStamps p after (stamps_after was.net s e after) v) (sym (sends refl)) (are_after p was.net s stamps e are agents desks fine new now small),
       refl,
       whole ∙ ap (λ (d : Option StampDifference). or_later d behind) (sym same)
           ∙ ap (λ (o : Option Network). stamp_difference (k + 1 + 1) o (stamps_after was.net s e after) (Some e) (drop (k + 1) log)) (happens_next was.net (event_of e) fine),
     )
-    follow_at small (Some wrong) same then = whole ∙ ap (λ (d : Option StampDifference). or_later d behind) (sym same)
+    follow_at small (Some wrong) same sends = whole ∙ ap (λ (d : Option StampDifference). or_later d behind) (sym same)
 
     -- it has happened, and its stamp was looked at
     pub replayed_next : e.stamp ≤ amount_limit → Follows new (k + 1) before e stamps later next → Replayed p first log (k + 1) new later (Some (moment_of e)) next

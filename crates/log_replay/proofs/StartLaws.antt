@@ -1,21 +1,20 @@
 -- The stamps where all agents have started.
-use Rattle.std.proofs.Common.{◌≡◌, ℕ, ◌+◌, ◌-◌, ◌<◌, ◌≤◌, max, List, [], ◌++◌, map, length, take, drop, replicate, get_or, Option, Some, None, refl, sym, ap, subst, ◌∙◌, inl, inr, arith}
-use Rattle.std.specs.List.{fold, range_with_len, slice_get}
+use Rattle.std.proofs.Common.{◌≡◌, ℕ, ◌-◌, ◌<◌, ◌≤◌, List, [], ◌++◌, map, length, drop, replicate, Option, Some, sym, ap, ◌∙◌, inl, inr, arith}
+use Rattle.std.specs.List.{range_with_len}
 use Rattle.std.proofs.lemmas.Bool.{cases_lt}
-use Rattle.std.proofs.lemmas.List.{length-drop, length-replicate, drop-replicate, get_or-replicate, drop_all}
+use Rattle.std.proofs.lemmas.List.{length-replicate, get_or-replicate}
 use Rattle.std.proofs.lemmas.List.FromFn.{length-map-range_with_len, get_or-map-range_with_len}
 use Rattle.std.proofs.lemmas.Option.{slice_get-get_or, slice_get_past}
-use Rattle.dcop_base.specs.Limits.{amount_limit}
 use Rattle.dcop_base.specs.Problem.{Dcop}
 use Rattle.dcop_base.specs.Graph.{neighbours}
 use Rattle.protocol_steps.specs.View.{View}
 use Rattle.protocol_steps.specs.Network.{Desk, Network, start_state, messages_to, sent_at, link}
 use Rattle.protocol_steps.specs.Links.{taken_at}
 use Rattle.protocol_steps.proofs.LinkLaws.{links_grow}
-use Rattle.run_log.specs.LogStamps.{LinkStamps, start_stamps}
+use Rattle.run_log.specs.LogStamps.{start_stamps}
 use Rattle.delivery_core.specs.State.{CoreView, count_waiting}
 use Rattle.delivery_core.specs.Shown.{IsCore}
-use Rattle.log_replay.specs.Queues.{QueueView, queue_to, stamps_of, row_of, row_at, stamps_at, receivers, filled, new_queue, first_row, first_stamps}
+use Rattle.log_replay.specs.Queues.{QueueView, queue_to, stamps_of, row_of, row_at, stamps_at, receivers, new_queue, first_row, first_stamps}
 use Rattle.log_replay.specs.Following.{AreStamps}
 use Rattle.log_replay.proofs.MaxLaws.{greatest_replicate}
 use Rattle.log_replay.proofs.QueueLaws.{queue_filled, fill_receivers, new_receivers, new_empty}
@@ -75,11 +74,11 @@ module _ (p : Dcop) (made : List View) (core : CoreView) (is : IsCore p (start_s
   pub are_first : AreStamps p net (start_stamps net) (first_stamps p core)
   are_first = record {
     size = rows_size;
-    last = λ i lt. slice_get-get_or (replicate n 0) i 0 (let size = length-replicate n 0 in omega (arith, lt, size)) ∙ ap (λ (k : ℕ). Some k) (get_or-replicate n i 0 0 lt);
+    last = λ i lt. slice_get-get_or (replicate n 0) i 0 (let zero_stamp : ℕ = 0 in let size = length-replicate n zero_stamp in omega (arith, lt, size)) ∙ ap (λ (k : ℕ). Some k) (get_or-replicate n i 0 0 lt);
     receivers = λ j lt. ap receivers (row_is j lt) ∙ row_to j;
     queues = λ i j lt.
         queue_is i j lt ∙ ap (λ (k : ℕ). drop k (replicate (length (link net.desks j i)) 0)) (sym (none_taken i j));
-    many = λ i j. length-replicate (length (link net.desks j i)) 0;
+    many = λ i j. let zero_stamp : ℕ = 0 in length-replicate (length (link net.desks j i)) zero_stamp;
     taken = λ i j lt. taken_sent p net core is i j lt;
     few = λ i. omega arith;
     bounded = λ i j. let a = greatest_replicate (length (link net.desks j i)) 0 in omega (arith, a);

@@ -1,13 +1,12 @@
 -- One event of a log that is replayed.
-use Rattle.std.specs.Prelude.{◌≡◌, ℕ, ◌+◌, List, take, drop, Option, Some, None, Result, Ok, Err, MatchOption}
+use Rattle.std.specs.Prelude.{◌≡◌, ℕ, ◌+◌, List, take, drop, Option, Some, None, Result, Ok, Err}
 use Rattle.std.specs.Option.{option_map}
 use Rattle.dcop_base.specs.Problem.{Dcop}
 use Rattle.protocol_steps.specs.Network.{Network}
-use Rattle.protocol_steps.specs.Effect.{effect}
-use Rattle.protocol_steps.specs.Run.{event_fault, run}
+use Rattle.protocol_steps.specs.Run.{run}
 use Rattle.run_log.specs.declared.log.LogEvent.{LogEvent}
 use Rattle.run_log.specs.Logs.{event_of, events_of}
-use Rattle.run_log.specs.LogStamps.{LinkStamps, right_stamp, stamps_after, stamp_difference}
+use Rattle.run_log.specs.LogStamps.{LinkStamps, stamp_difference}
 use Rattle.delivery_core.specs.State.{CoreView}
 use Rattle.delivery_core.specs.Shown.{IsCore, Advances, Refuses}
 use Rattle.log_replay.specs.declared.fault.LogFault.{LogFault}
@@ -35,7 +34,7 @@ Follows core number before e old new found =
 -- the stamps of the first k events of a log that are right, where the run has come to this network; or the first one that is wrong
 abbrev pub Stamped : Dcop → Network → List LogEvent → ℕ → Network → StampsView → Option Moment → Option WrongStamp → Type 0
 Stamped p first log k net stamps before None =
-    (s : LinkStamps) (prior : Option LogEvent) × AreStamps p net s stamps × (before ≡ option_map moment_of prior)
+    (s : LinkStamps) × (prior : Option LogEvent) × AreStamps p net s stamps × (before ≡ option_map moment_of prior)
     × (first_wrong first log ≡ stamp_difference (k + 1) (Some net) s prior (drop k log))
 Stamped p first log k net stamps before (Some wrong) = first_wrong first log ≡ Some (difference_of wrong)
 

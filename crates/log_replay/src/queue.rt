@@ -59,7 +59,8 @@ impl Queue {
     /// Puts a stamp behind the others, until there are so many.
     pub(crate) fn fill(&mut self, count: u64, stamp: u64) -> Result<(), NoMemory>
         ensures { OnOk result (self.new ≡ record self.old {
-            stamps = self.old.stamps ++ replicate (count - length self.old.stamps) stamp }) }
+          stamps = self.old.stamps ++ replicate (count - length self.old.stamps) stamp;
+        }) }
     {
         let missing = count.saturating_sub(self.stamps.len() as u64);
         for _ in 0..missing {

@@ -3,6 +3,7 @@
 ghost use Rattle.std.specs.Prelude.{◌≡◌, ◌<◌, ◌≤◌, length, IfOk};
 ghost use Rattle.std.specs.List.{All};
 ghost use Rattle.dcop_base.specs.Limits.{amount_limit, count_limit};
+ghost use Rattle.run_log.specs.Logs.{event_of};
 ghost use Rattle.delivery_core.specs.Agents.{IsStartFor, network_of};
 ghost use Rattle.delivery_core.specs.Shown.{IsSomeCore};
 ghost use Rattle.log_replay.specs.Queues.{stamp_by};
@@ -29,12 +30,7 @@ fn event_of(alloc: Global, event: &LogEvent) -> Result<Event, NoMemory>
 }
 
 /// Plays the event of this number.
-fn play(
-    alloc: Global,
-    core: &mut CoreState,
-    number: u64,
-    event: &LogEvent,
-) -> Result<(), LogFault>
+fn play(alloc: Global, core: &mut CoreState, number: u64, event: &LogEvent) -> Result<(), LogFault>
     requires { IsSomeCore core.old }
     ensures { Plays core.old number event.now core.new result }
 {

@@ -56,12 +56,7 @@ fn take_from(queues: &mut [Queue], to: VarId, count: u32) -> u64
 
 /// Puts a stamp of this agent behind the others in each queue, until they are as many as its messages
 /// that wait.
-fn fill_all(
-    queues: &mut [Queue],
-    core: &CoreState,
-    from: VarId,
-    stamp: u64,
-) -> Result<(), NoMemory>
+fn fill_all(queues: &mut [Queue], core: &CoreState, from: VarId, stamp: u64) -> Result<(), NoMemory>
     ensures { OnOk result (queues.new ≡ map (filled core.now from stamp) queues.old) }
 {
     for queue in queues.iter_mut() {
@@ -91,12 +86,7 @@ impl Row {
 
     /// Puts a stamp of this agent behind the others for each receiver, until they are as many as its
     /// messages that wait for it.
-    pub(crate) fn fill(
-        &mut self,
-        core: &CoreState,
-        from: VarId,
-        stamp: u64,
-    ) -> Result<(), NoMemory>
+    pub(crate) fn fill(&mut self, core: &CoreState, from: VarId, stamp: u64) -> Result<(), NoMemory>
         ensures { OnOk result (self.new ≡ map (filled core.now from stamp) self.old) }
     {
         fill_all(self.queues.as_mut_slice(), core, from, stamp)

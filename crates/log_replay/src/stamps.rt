@@ -1,6 +1,7 @@
 //! The stamps of a run as far as it has come.
 
-ghost use Rattle.std.specs.Prelude.{◌≡◌, ◌<◌, ◌≤◌, length, map, IfOk, OnOk, max};
+ghost use Rattle.std.specs.Prelude.{◌≡◌, ◌<◌, ◌≤◌, List, ◌∷◌, length, map, IfOk, OnOk, max};
+ghost use Rattle.protocol_steps.specs.declared.event.Take.{Take as TakeRecord};
 ghost use Rattle.std.specs.List.{All, fold, slice_set, range_with_len};
 ghost use Rattle.dcop_base.specs.Limits.{count_limit};
 ghost use Rattle.log_replay.specs.Queues.{row_at, take_off, greatest_by, stamp_by, stamps_taken, filled, stamps_sent, first_row, first_stamps};
@@ -28,12 +29,7 @@ impl Model for Stamps {
 }
 
 /// What an agent has sent at its start waits with stamp 0.
-fn first_row(
-    alloc: Global,
-    problem: &Problem,
-    core: &CoreState,
-    me: VarId,
-) -> Result<Row, NoMemory>
+fn first_row(alloc: Global, problem: &Problem, core: &CoreState, me: VarId) -> Result<Row, NoMemory>
     requires { me < length problem.now.sizes }
     ensures { IfOk result (λ row. row ≡ first_row problem.now core.now me) }
 {
@@ -58,7 +54,7 @@ fn first_rows(alloc: Global, problem: &Problem, core: &CoreState) -> Result<Vec<
 /// Takes off the stamps of a take of this agent, and gives the greatest of them.
 fn take_one(rows: &mut [Row], agent: VarId, next: Take) -> u64
     requires { next.from < length rows.old }
-    ensures greatest { (later : List Take) → max result (greatest_by agent rows.new later) ≡ greatest_by agent rows.old (next ∷ later) }
+    ensures greatest { (later : List TakeRecord) → max result (greatest_by agent rows.new later) ≡ greatest_by agent rows.old (next ∷ later) }
     ensures rest { rows.new ≡ take_off agent rows.old next }
 {
     rows[next.from.0 as usize].take_off(agent, next.count)
@@ -78,12 +74,7 @@ fn take_all(rows: &mut [Row], agent: VarId, takes: &[Take]) -> u64
 }
 
 /// Messages of this agent with this stamp wait.
-fn send_from(
-    rows: &mut [Row],
-    core: &CoreState,
-    agent: VarId,
-    stamp: u64,
-) -> Result<(), NoMemory>
+fn send_from(rows: &mut [Row], core: &CoreState, agent: VarId, stamp: u64) -> Result<(), NoMemory>
     requires { agent < length rows.old }
     ensures { OnOk result (rows.new
         ≡ slice_set rows.old agent (map (filled core.now agent stamp) (row_at rows.old agent))) }

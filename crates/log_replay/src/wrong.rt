@@ -1,6 +1,6 @@
 //! Stamps of a log that are wrong.
 
-ghost use Rattle.std.specs.Prelude.{◌≡◌, ◌||◌, ◌&&◌, ◌==◌, nat_lt};
+ghost use Rattle.std.specs.Prelude.{◌≡◌, ◌||◌, ◌&&◌, ◌==◌, nat_lt, Some};
 ghost use Rattle.log_replay.specs.Wrong.{moment_of, place_fault, stamp_fault};
 
 use crate::fault::WrongStamp;
@@ -33,19 +33,26 @@ impl Moment {
     }
 }
 
-/// What is wrong with the place of the event of this number behind another one.
-fn place_fault(at: u64, before: Option<Moment>, event: &LogEvent) -> Option<WrongStamp>
-    ensures { result ≡ place_fault at before event.now }
+/// What is wrong with the place of the event of this number behind this one.
+fn behind(at: u64, before: Moment, event: &LogEvent) -> Option<WrongStamp>
+    ensures { result ≡ place_fault at (Some before) event.now }
 {
-    let before = before?;
+    let left = event.stamp;
+    let right = before.stamp;
     if before.is_before(event) {
         return None;
     }
-    Some(WrongStamp {
-        at,
-        left: event.stamp,
-        right: before.stamp,
-    })
+    Some(WrongStamp { at, left, right })
+}
+
+/// What is wrong with the place of the event of this number behind the one before it.
+fn place_fault(at: u64, before: Option<Moment>, event: &LogEvent) -> Option<WrongStamp>
+    ensures { result ≡ place_fault at before event.now }
+{
+    match before {
+        Some(before) => behind(at, before, event),
+        None => None,
+    }
 }
 
 /// What is wrong with the event of this number, where this is its right stamp: its stamp, or else its
@@ -58,12 +65,9 @@ pub(crate) fn stamp_fault(
 ) -> Option<WrongStamp>
     ensures { result ≡ stamp_fault at right before event.now }
 {
-    if event.stamp != right {
-        return Some(WrongStamp {
-            at,
-            left: event.stamp,
-            right,
-        });
+    let left = event.stamp;
+    if left != right {
+        return Some(WrongStamp { at, left, right });
     }
     place_fault(at, before, event)
 }

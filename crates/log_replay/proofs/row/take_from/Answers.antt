@@ -1,7 +1,7 @@
-use Rattle.std.proofs.Common.{List, Option, ℕ, max, take, sym, ap, ◌∙◌}
+use Rattle.std.proofs.Common.{Option, max, take, sym, ap, ◌∙◌}
 use Rattle.std.specs.List.{fold, slice_set}
 use Rattle.log_replay.specs.Queues.{QueueView, stamps_of, without_next}
-use Rattle.log_replay.proofs.QueueLaws.{edited, unedited, found, missed}
+use Rattle.log_replay.proofs.QueueLaws.{edited, unedited, found, missed, none_greatest}
 use Rattle.log_replay.proofs.row.take_from.Goals as goal
 
 pub returns-in-Some-clause-greatest : goal.returns-in-Some-clause-greatest
@@ -16,3 +16,6 @@ returns-in-Some-clause-rest c =
 
 pub returns-in-None-clause-rest : goal.returns-in-None-clause-rest
 returns-in-None-clause-rest c = unedited c.args.to (without_next c.args.count) c.args.queues.now (sym c.place_of.ensures ∙ c.in-None.is)
+
+pub returns-in-None-clause-greatest : goal.returns-in-None-clause-greatest
+returns-in-None-clause-greatest c = none_greatest c.args.count c.args.to c.args.queues.now (missed c.args.to c.args.queues.now (sym c.place_of.ensures ∙ c.in-None.is))
