@@ -18,19 +18,22 @@ use Rattle.problem_text.proofs.RoundTripLaws.{is_word, is_line, plain_worded, pl
 use Rattle.problem_text.proofs.DecimalLaws.{decimal-word}
 use Rattle.problem_text.proofs.TableTextLaws.{name-at}
 use Rattle.problem_text.proofs.CanonicalLaws.{name-word, scope-words, cells-words}
+use Rattle.run_log.specs.declared.log.LogEvent.{LogEvent}
+use Rattle.run_log.specs.LogText.{event_words, FitsEvent}
+use Rattle.run_log.proofs.EventLineLaws.{event_again, events_plain}
 use Rattle.certificate_text.specs.declared.certificate.Certificate.{Certificate}
-use Rattle.certificate_text.specs.declared.certificate.Certificate.TheVariants.{Tables}
+use Rattle.certificate_text.specs.declared.certificate.Certificate.TheVariants.{Tables, Log}
 use Rattle.certificate_text.specs.declared.certificate.Util.{Util}
 use Rattle.certificate_text.specs.declared.report.Ending.{Ending}
 use Rattle.certificate_text.specs.declared.report.Ending.TheVariants.{Solved, Spent}
 use Rattle.certificate_text.specs.declared.report.Method.{Method}
 use Rattle.certificate_text.specs.declared.report.Method.TheVariants.{Plain, Dpop, Adopt, Cut}
 use Rattle.certificate_text.specs.declared.report.Report.{Report}
-use Rattle.certificate_text.specs.CertificateText.{parent_word, util_words, table_lines}
+use Rattle.certificate_text.specs.CertificateText.{parent_word, util_words, certificate_lines}
 use Rattle.certificate_text.specs.ReportText.{ending_word, method_word, head_lines, bound_lines, value_words, value_lines, report_lines, report_text}
 use Rattle.certificate_text.specs.UtilLine.{has_util, lacks_util}
 use Rattle.certificate_text.specs.ReportLines.{Fault, Left, one_line}
-use Rattle.certificate_text.specs.ReportReading.{head_read, bounds_read, values_read, tables_read, certificate_read, lines_read, report_read}
+use Rattle.certificate_text.specs.ReportReading.{head_read, bounds_read, values_read, tables_read, events_read, certificate_read, lines_read, report_read}
 use Rattle.certificate_text.specs.declared.certificate_line.Form.TheVariants as forms
 use Rattle.certificate_text.specs.CertificateLine.{certificate_line}
 use Rattle.certificate_text.specs.Fits.{Fits, FitsUtil, FitsTables, FitsCertificate}
@@ -97,13 +100,51 @@ utils-again f done (u ∷ us) over number file each one whole =
     let rest = utils-again f (done ++ (u ∷ [])) us over (number + 1) file (All-tail (FitsUtil f.problem.sizes) u us each) later (ap (λ (us : List Util). lacks_util us (length f.names)) same ∙ whole) in
     rw again (subst (λ (all : List Util). tables_read f.names f.problem.sizes over (done ++ (u ∷ [])) (plain_worded (number + 1) (map (util_words f.names) us ++ ((codes "end" ∷ []) ∷ []))) ≡ Ok (all, record { lines = []; over = over })) same rest)
 
--- the certificate's first line, and its tables
-evidence-again : (f : TextFile) (method : Method) (utils : List Util) (over number : ℕ) (later : List (List (List ℕ))) (left : Left) → method ≡ Dpop
+-- each variable has its table
+whole-utils : (f : TextFile) (utils : List Util) → length f.names ≡ length f.problem.sizes → FitsTables f.problem.sizes utils → lacks_util utils (length f.names) ≡ false
+whole-utils f utils many fits =
+    let all = range-all (λ var. has_util utils var) 0 (length f.names) (λ k lo hi. has-one k utils (fits.one k (omega (arith, many, hi)))) in
+    rw all refl
+
+-- the events, behind others, and the line `end`
+events-again : (f : TextFile) (done log : List LogEvent) (over number : ℕ) → IsFile f → All (FitsEvent (length f.names)) log
+    → events_read f.names over done (plain_worded number (map (event_words f.names) log ++ ((codes "end" ∷ []) ∷ []))) ≡ Ok (done ++ log, record { lines = []; over = over })
+events-again f done [] over number file each = rw (append-nil done) refl
+events-again f done (e ∷ es) over number file each =
+    let again = event_again f.names e file.distinct (All-head (FitsEvent (length f.names)) e es each) in
+    let rest = events-again f (done ++ (e ∷ [])) es over (number + 1) file (All-tail (FitsEvent (length f.names)) e es each) in
+    rw again (subst (λ (all : List LogEvent). events_read f.names over (done ++ (e ∷ [])) (plain_worded (number + 1) (map (event_words f.names) es ++ ((codes "end" ∷ []) ∷ []))) ≡ Ok (all, record { lines = []; over = over })) (append_assoc done (e ∷ []) es) rest)
+
+-- the lines of a certificate, and the line `end`, are read as the certificate
+abbrev IsReadAgain : TextFile → Method → Certificate → Type 0
+IsReadAgain f method certificate = (over number : ℕ)
+    → certificate_read f method (left_of over number (certificate_lines f.names certificate ++ ((codes "end" ∷ []) ∷ []))) ≡ Ok (certificate, record { lines = []; over = over })
+
+-- a certificate's first line, and its tables
+tables-behind : (f : TextFile) (method : Method) (utils : List Util) (over number : ℕ) (later : List (List (List ℕ))) (left : Left) → method ≡ Dpop
     → tables_read f.names f.problem.sizes over [] (plain_worded (number + 1) later) ≡ Ok (utils, left)
     → certificate_read f method (left_of over number ((codes "certificate" ∷ codes "tables" ∷ []) ∷ later)) ≡ Ok (Tables utils, left)
-evidence-again f method utils over number later left is tables =
+tables-behind f method utils over number later left is tables =
     let first : one_line (certificate_line method) (left_of over number ((codes "certificate" ∷ codes "tables" ∷ []) ∷ later)) ≡ Ok (forms.Tables, left_of over (number + 1) later) = rw is refl in
     rw (first, tables) refl
+
+tables-again : (f : TextFile) (method : Method) (utils : List Util) → IsFile f → method ≡ Dpop → FitsTables f.problem.sizes utils → IsReadAgain f method (Tables utils)
+tables-again f method utils file is fit over number =
+    tables-behind f method utils over number (map (util_words f.names) utils ++ ((codes "end" ∷ []) ∷ [])) (record { lines = []; over = over }) is
+    (utils-again f [] utils over (number + 1) file fit.each fit.one (whole-utils f utils file.named fit))
+
+-- a certificate's first line, and its events
+events-behind : (f : TextFile) (method : Method) (log : List LogEvent) (over number : ℕ) (later : List (List (List ℕ))) (left : Left) → method ≡ Adopt
+    → events_read f.names over [] (plain_worded (number + 1) later) ≡ Ok (log, left)
+    → certificate_read f method (left_of over number ((codes "certificate" ∷ codes "log" ∷ []) ∷ later)) ≡ Ok (Log log, left)
+events-behind f method log over number later left is events =
+    let first : one_line (certificate_line method) (left_of over number ((codes "certificate" ∷ codes "log" ∷ []) ∷ later)) ≡ Ok (forms.Log, left_of over (number + 1) later) = rw is refl in
+    rw (first, events) refl
+
+log-again : (f : TextFile) (method : Method) (log : List LogEvent) → IsFile f → method ≡ Adopt → All (FitsEvent (length f.names)) log → IsReadAgain f method (Log log)
+log-again f method log file is fit over number =
+    events-behind f method log over number (map (event_words f.names) log ++ ((codes "end" ∷ []) ∷ [])) (record { lines = []; over = over }) is
+    (events-again f [] log over (number + 1) file fit)
 
 -- lines of plain words
 status-plain : (status : Ending) → is_line (codes "status" ∷ ending_word status ∷ []) ≡ true
@@ -165,48 +206,54 @@ utils-plain names sizes [] named many each = refl
 utils-plain names sizes (u ∷ us) named many each =
     rw (util-plain names sizes u named many (All-head (FitsUtil sizes) u us each), utils-plain names sizes us named many (All-tail (FitsUtil sizes) u us each)) refl
 
--- each variable has its table
-whole-utils : (f : TextFile) (utils : List Util) → length f.names ≡ length f.problem.sizes → FitsTables f.problem.sizes utils → lacks_util utils (length f.names) ≡ false
-whole-utils f utils many fits =
-    let all = range-all (λ var. has_util utils var) 0 (length f.names) (λ k lo hi. has-one k utils (fits.one k (omega (arith, many, hi)))) in
-    rw all refl
+-- a certificate that fits is one of plain words, and it is read again
+record IsAgain (f : TextFile) (method : Method) (certificate : Certificate) : Type 0 where
+  plain : list_all is_line (certificate_lines f.names certificate) ≡ true
+  read : IsReadAgain f method certificate
 
--- the lines of a report with these tables, one part behind the other
-abbrev lines_with : Report → TextFile → List Util → List (List (List ℕ))
-lines_with r f utils = head_lines r ++ (bound_lines r ++ (value_lines f.names f.labels r.values ++ (table_lines f.names utils ++ ((codes "end" ∷ []) ∷ []))))
+certificate-again : (f : TextFile) (method : Method) (certificate : Certificate) → IsFile f → FitsCertificate f.problem.sizes method certificate → IsAgain f method certificate
+certificate-again f method (Tables utils) file fit = record {
+  plain = utils-plain f.names f.problem.sizes utils file.names file.named fit.1.each;
+  read = tables-again f method utils file fit.0 fit.1;
+}
+certificate-again f method (Log log) file fit =
+    let named : All (FitsEvent (length f.names)) log = subst (λ (n : ℕ). All (FitsEvent n) log) (sym file.named) fit.1 in
+    record { plain = events_plain f.names log file.names named; read = log-again f method log file fit.0 named }
 
-lines-with : (r : Report) (f : TextFile) (utils : List Util) → r.certificate ≡ Some (Tables utils) → report_lines r f ≡ lines_with r f utils
-lines-with r f utils certificate =
+-- the lines of a report with this certificate, one part behind the other
+abbrev lines_with : Report → TextFile → Certificate → List (List (List ℕ))
+lines_with r f certificate =
+    head_lines r ++ (bound_lines r ++ (value_lines f.names f.labels r.values ++ (certificate_lines f.names certificate ++ ((codes "end" ∷ []) ∷ []))))
+
+lines-with : (r : Report) (f : TextFile) (certificate : Certificate) → r.certificate ≡ Some certificate → report_lines r f ≡ lines_with r f certificate
+lines-with r f certificate is =
     let head = head_lines r in
     let bounds = bound_lines r in
     let values = value_lines f.names f.labels r.values in
-    let tables = table_lines f.names utils in
+    let evidence = certificate_lines f.names certificate in
     let end : List (List (List ℕ)) = (codes "end" ∷ []) ∷ [] in
-    let same : report_lines r f ≡ (((head ++ bounds) ++ values) ++ tables) ++ end = rw certificate refl in
-    same ∙ append_assoc ((head ++ bounds) ++ values) tables end ∙ append_assoc (head ++ bounds) values (tables ++ end) ∙ append_assoc head bounds (values ++ (tables ++ end))
+    let same : report_lines r f ≡ (((head ++ bounds) ++ values) ++ evidence) ++ end = rw is refl in
+    same ∙ append_assoc ((head ++ bounds) ++ values) evidence end ∙ append_assoc (head ++ bounds) values (evidence ++ end) ∙ append_assoc head bounds (values ++ (evidence ++ end))
 
 -- the sizes of a problem are small
 small-sizes : (f : TextFile) → IsProblem f.problem → All (λ s. s ≤ 1024) f.problem.sizes
 small-sizes f p = λ (k d : ℕ) (h : k < length f.problem.sizes). let s = p.sizes k d h in let b : get_or f.problem.sizes k d ≤ 1024 = s.1 in b
 
-lines-again : (r : Report) (f : TextFile) (utils : List Util) (over : ℕ) → IsFile f → IsProblem f.problem → Fits r f → r.certificate ≡ Some (Tables utils) → r.method ≡ Dpop → FitsTables f.problem.sizes utils
-    → lines_read f (left_of over 1 (lines_with r f utils)) ≡ Ok r
-lines-again r f utils over file p fits certificate method tables =
-    let end : List (List (List ℕ)) = (codes "end" ∷ []) ∷ [] in
-    let rows = table_lines f.names utils ++ end in
+lines-again : (r : Report) (f : TextFile) (certificate : Certificate) (over : ℕ) → IsFile f → IsProblem f.problem → Fits r f → r.certificate ≡ Some certificate → IsReadAgain f r.method certificate
+    → lines_read f (left_of over 1 (lines_with r f certificate)) ≡ Ok r
+lines-again r f certificate over file p fits is again =
+    let rows = certificate_lines f.names certificate ++ ((codes "end" ∷ []) ∷ []) in
     let lines = value_lines f.names f.labels r.values ++ rows in
     let head = head-again r.status r.method r.goal r.error r.deliveries fits.error fits.deliveries over 1 (bound_lines r ++ lines) in
     let bounds = bounds-again r.cost r.lower r.upper fits.cost fits.lower fits.upper over head.0 lines in
     let values = values-again f.names f.labels f.problem.sizes r.values file.named file.labels fits.values (small-sizes f p) over bounds.0 rows in
-    let utils_read = utils-again f [] utils over (values.0 + 1) file tables.each tables.one (whole-utils f utils file.named tables) in
-    let evidence = evidence-again f r.method utils over values.0 (map (util_words f.names) utils ++ end) (record { lines = []; over = over }) method utils_read in
-    rw (← fits.goal, head.1, bounds.1, values.1, evidence, ← certificate) refl
+    rw (← fits.goal, head.1, bounds.1, values.1, again over values.0, ← is) refl
 
-plain-report : (r : Report) (f : TextFile) (utils : List Util) → IsFile f → IsProblem f.problem → Fits r f → FitsTables f.problem.sizes utils → list_all is_line (lines_with r f utils) ≡ true
-plain-report r f utils file p fits tables =
+plain-report : (r : Report) (f : TextFile) (certificate : Certificate) → IsFile f → IsProblem f.problem → Fits r f → list_all is_line (certificate_lines f.names certificate) ≡ true → list_all is_line (lines_with r f certificate) ≡ true
+plain-report r f certificate file p fits plain =
     let end : List (List (List ℕ)) = (codes "end" ∷ []) ∷ [] in
     let values = value_lines f.names f.labels r.values in
-    let rows = table_lines f.names utils in
+    let rows = certificate_lines f.names certificate in
     rw (
       list_all-append is_line (head_lines r) (bound_lines r ++ (values ++ (rows ++ end))),
       list_all-append is_line (bound_lines r) (values ++ (rows ++ end)),
@@ -215,21 +262,21 @@ plain-report r f utils file p fits tables =
       head-plain r.status r.method r.goal r.error r.deliveries fits.error fits.deliveries,
       bounds-plain r.cost r.lower r.upper fits.cost fits.lower fits.upper,
       values-plain f.names f.labels f.problem.sizes r.values file.names file.labels fits.values (small-sizes f p),
-      utils-plain f.names f.problem.sizes utils file.names file.named tables.each,
+      plain,
     ) refl
 
--- a report with a certificate of tables
-pub tables-again : (r : Report) (f : TextFile) (utils : List Util) → IsFile f → IsProblem f.problem → Fits r f → r.certificate ≡ Some (Tables utils) → r.method ≡ Dpop → FitsTables f.problem.sizes utils → report_read (report_text r f) f ≡ Ok r
-tables-again r f utils file p fits certificate method tables =
-    let wss = lines_with r f utils in
-    let text : report_text r f ≡ flat_map line wss = ap (λ (wss : List (List (List ℕ))). flat_map line wss) (lines-with r f utils certificate) in
-    let read : report_read (flat_map line wss) f ≡ Ok r = rw (plain-lines-of-words 1 wss (plain-report r f utils file p fits tables)) (lines-again r f utils _ file p fits certificate method tables) in
+-- a report with a certificate that fits
+certified-again : (r : Report) (f : TextFile) (certificate : Certificate) → r.certificate ≡ Some certificate → IsAgain f r.method certificate → IsFile f → IsProblem f.problem → Fits r f → report_read (report_text r f) f ≡ Ok r
+certified-again r f certificate is again file p fits =
+    let wss = lines_with r f certificate in
+    let text : report_text r f ≡ flat_map line wss = ap (λ (wss : List (List (List ℕ))). flat_map line wss) (lines-with r f certificate is) in
+    let read : report_read (flat_map line wss) f ≡ Ok r = rw (plain-lines-of-words 1 wss (plain-report r f certificate file p fits again.plain)) (lines-again r f certificate _ file p fits is again.read) in
     ap (λ (bytes : List ℕ). report_read bytes f) text ∙ read
 
-certificate-again : (r : Report) (f : TextFile) (certificate : Option Certificate) → r.certificate ≡ certificate → IsTrue (is_some certificate) → IfSome certificate (FitsCertificate f.problem.sizes r.method) → IsFile f → IsProblem f.problem → Fits r f → report_read (report_text r f) f ≡ Ok r
-certificate-again r f None e some fit file p fits = absurd (false≢true some)
-certificate-again r f (Some (Tables utils)) e some fit file p fits = tables-again r f utils file p fits e fit.0 fit.1
+some-again : (r : Report) (f : TextFile) (certificate : Option Certificate) → r.certificate ≡ certificate → IsTrue (is_some certificate) → IfSome certificate (FitsCertificate f.problem.sizes r.method) → IsFile f → IsProblem f.problem → Fits r f → report_read (report_text r f) f ≡ Ok r
+some-again r f None e some fit file p fits = absurd (false≢true some)
+some-again r f (Some certificate) e some fit file p fits = certified-again r f certificate e (certificate-again f r.method certificate file fit) file p fits
 
 -- what is written of a report that has a certificate and fits its file is read as that report
 pub report-again : (r : Report) (f : TextFile) → IsFile f → IsProblem f.problem → IsTrue (is_some r.certificate) → Fits r f → report_read (report_text r f) f ≡ Ok r
-report-again r f file p some fits = certificate-again r f r.certificate refl some fits.certificate file p fits
+report-again r f file p some fits = some-again r f r.certificate refl some fits.certificate file p fits

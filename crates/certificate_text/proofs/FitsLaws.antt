@@ -14,15 +14,18 @@ use Rattle.problem_text.specs.declared.file.Goal.{Goal}
 use Rattle.problem_text.specs.declared.file.Goal.TheVariants.{Min, Max}
 use Rattle.problem_text.specs.File.{TextFile, IsFile, AreLabels}
 use Rattle.problem_text.specs.PlainLines.{Plain}
+use Rattle.run_log.specs.declared.log.LogEvent.{LogEvent}
+use Rattle.run_log.specs.EventLine.{event_line}
+use Rattle.run_log.specs.LogText.{FitsEvent}
+use Rattle.run_log.proofs.EventFitsLaws.{event_fits}
 use Rattle.certificate_text.specs.declared.certificate.Certificate.{Certificate}
-use Rattle.certificate_text.specs.declared.certificate.Certificate.TheVariants.{Tables}
+use Rattle.certificate_text.specs.declared.certificate.Certificate.TheVariants.{Tables, Log}
 use Rattle.certificate_text.specs.declared.certificate.Util.{Util}
 use Rattle.certificate_text.specs.declared.certificate_line.Form.{Form}
 use Rattle.certificate_text.specs.declared.certificate_line.Form.TheVariants as forms
 use Rattle.certificate_text.specs.declared.head.Head.{Head}
 use Rattle.certificate_text.specs.declared.head.Bounds.{Bounds}
 use Rattle.certificate_text.specs.declared.report.Method.{Method}
-use Rattle.certificate_text.specs.declared.report.Method.TheVariants.{Dpop}
 use Rattle.certificate_text.specs.declared.report.Report.{Report}
 use Rattle.certificate_text.specs.Told.{word_behind, is_alone}
 use Rattle.certificate_text.specs.HeadLines.{status_line, method_line, max_told, max_line, number_line}
@@ -30,10 +33,10 @@ use Rattle.certificate_text.specs.ValueLine.{value_line}
 use Rattle.certificate_text.specs.UtilLine.{has_util, lacks_util, util_line}
 use Rattle.certificate_text.specs.CertificateLine.{certificate_line}
 use Rattle.certificate_text.specs.ReportLines.{Fault, Left, whole, told_at, first_of, one_line, and_then}
-use Rattle.certificate_text.specs.ReportReading.{goal_read, head_read, bounds_read, values_read, ended, tables_read, evidence_read, certificate_read, nothing_behind, report_of, report_read}
+use Rattle.certificate_text.specs.ReportReading.{goal_read, head_read, bounds_read, values_read, ended, tables_read, events_read, evidence_read, certificate_read, nothing_behind, report_of, report_read}
 use Rattle.certificate_text.specs.Fits.{FitsUtil, FitsTables, FitsCertificate}
 use Rattle.certificate_text.specs.Again.{ReadsReport, HasFit}
-use Rattle.certificate_text.proofs.LineFitsLaws.{ok-same, other-ok, told-cap, value-fits, certificate-fits, util-fits}
+use Rattle.certificate_text.proofs.LineFitsLaws.{ok-same, other-ok, told-cap, value-fits, method_for, certificate-fits, util-fits}
 
 -- what was read before what comes behind it
 and-inv : {A B : Type 0} (read : Result (A × Left) Fault) (next : A → Left → Result B Fault) (r : B) → and_then read next ≡ Ok r → (x : A) × (left : Left) × (read ≡ Ok (x, left)) × (next x left ≡ Ok r)
@@ -218,12 +221,39 @@ tables-whole f utils file h whole =
 no-tables : (f : TextFile) → AreTables f []
 no-tables f = record { each = λ k d h. absurd (omega (arith, h)); once = λ var. omega arith }
 
-evidence-fits : (f : TextFile) (form : Form) (left : Left) (method : Method) (certificate : Certificate) (next : Left) → IsFile f → method ≡ Dpop
+-- events as their lines tell them
+abbrev AreEvents : TextFile → List LogEvent → Type 0
+AreEvents f log = All (FitsEvent (length f.names)) log
+
+-- a line of an event, or the line `end`
+event-fits : (f : TextFile) (t : Bool) (number over : ℕ) (log : List LogEvent) (ws : List (List ℕ)) (ls : List Plain) (all : List LogEvent) (next : Left) → AreEvents f log
+    → ((e : LogEvent) → AreEvents f (log ++ (e ∷ [])) → events_read f.names over (log ++ (e ∷ [])) ls ≡ Ok (all, next) → AreEvents f all)
+    → cond t (Ok (log, record { lines = ls; over = over })) (and_then (told_at number (event_line f.names ws) (record { lines = ls; over = over })) (λ event left. events_read f.names over (log ++ (event ∷ [])) ls)) ≡ Ok (all, next)
+    → AreEvents f all
+event-fits f true number over log ws ls all next fit later e =
+    subst (AreEvents f) (pair-same log all (record { lines = ls; over = over }) next e) fit
+event-fits f false number over log ws ls all next fit later e =
+    let a = and-inv (told_at number (event_line f.names ws) (record { lines = ls; over = over })) _ (all, next) e in
+    let line = told-inv number (event_line f.names ws) (record { lines = ls; over = over }) a.0 a.1 a.2 in
+    let one = event_fits f.names ws a.0 line in
+    later a.0 (All-append (FitsEvent (length f.names)) log (a.0 ∷ []) fit (All-cons (FitsEvent (length f.names)) a.0 [] one (λ k d h. absurd (omega arith)))) a.3
+
+events-fit : (f : TextFile) (over : ℕ) (log : List LogEvent) (ls : List Plain) (all : List LogEvent) (next : Left) → AreEvents f log → events_read f.names over log ls ≡ Ok (all, next) → AreEvents f all
+events-fit f over log [] all next fit e = absurd (cc e)
+events-fit f over log (l ∷ ls) all next fit e =
+    event-fits f (is_alone (codes "end") l.words) l.number over log l.words ls all next fit (λ e more rest. events-fit f over (log ++ (e ∷ [])) ls all next more rest) e
+
+evidence-fits : (f : TextFile) (form : Form) (left : Left) (method : Method) (certificate : Certificate) (next : Left) → IsFile f → method ≡ method_for form
     → evidence_read f form left ≡ Ok (certificate, next) → FitsCertificate f.problem.sizes method certificate
 evidence-fits f forms.Tables left method certificate next file is e =
     let a = and-inv (tables_read f.names f.problem.sizes left.over [] left.lines) _ (certificate, next) e in
     let fit = tables-fit f left.over [] left.lines a.0 a.1 file (no-tables f) a.2 in
     subst (λ (c : Certificate). FitsCertificate f.problem.sizes method c) (pair-same (Tables a.0) certificate a.1 next a.3) (is, tables-whole f a.0 file fit.0 fit.1)
+evidence-fits f forms.Log left method certificate next file is e =
+    let a = and-inv (events_read f.names left.over [] left.lines) _ (certificate, next) e in
+    let fit = events-fit f left.over [] left.lines a.0 a.1 (λ k d h. absurd (omega (arith, h))) a.2 in
+    let sized : All (FitsEvent (length f.problem.sizes)) a.0 = subst (λ (n : ℕ). All (FitsEvent n) a.0) file.named fit in
+    subst (λ (c : Certificate). FitsCertificate f.problem.sizes method c) (pair-same (Log a.0) certificate a.1 next a.3) (is, sized)
 
 certificate-read-fits : (f : TextFile) (method : Method) (left : Left) (certificate : Certificate) (next : Left) → IsFile f
     → certificate_read f method left ≡ Ok (certificate, next) → FitsCertificate f.problem.sizes method certificate

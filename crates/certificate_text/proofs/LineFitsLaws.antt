@@ -19,8 +19,10 @@ use Rattle.certificate_text.specs.declared.certificate.Util.{Util}
 use Rattle.certificate_text.specs.declared.report.Method.{Method}
 use Rattle.certificate_text.specs.declared.report.Method.TheVariants.{Plain as MethodPlain, Dpop, Adopt, Cut}
 use Rattle.certificate_text.specs.declared.certificate_line.Form.{Form}
+use Rattle.certificate_text.specs.declared.certificate_line.Form.TheVariants as forms
 use Rattle.dcop_base.specs.Limits.{amount_limit}
-use Rattle.run_log.specs.EventLine.{capped_at, number_within}
+use Rattle.run_log.specs.EventLine.{number_within}
+use Rattle.run_log.proofs.EventFitsLaws.{within_limit}
 use Rattle.certificate_text.specs.Told.{or_fails, is_alone, amounts_of}
 use Rattle.certificate_text.specs.HeadLines.{number_told}
 use Rattle.certificate_text.specs.ValueLine.{value_below, value_told, value_line}
@@ -49,17 +51,9 @@ none-ok : {A : Type 0} (t : Bool) (kind other : ReportKind) (x : A) → cond t (
 none-ok true kind other x e = absurd (cc e)
 none-ok false kind other x e = absurd (cc e)
 
-capped-cap : (o : Option ℕ) (n : ℕ) → capped_at amount_limit o ≡ Some n → n ≤ 4611686018427387904
-capped-cap None n e = absurd (cc e)
-capped-cap (Some m) n e = step (nat_lt 4611686018427387904 m) refl e
-  where
-    step : (t : Bool) → nat_lt 4611686018427387904 m ≡ t → cond t None (Some m) ≡ Some n → n ≤ 4611686018427387904
-    step true is e = absurd (cc e)
-    step false is e = let same : m ≡ n = some-same m n e in grind (arith, nat_tests, is, same)
-
 pub told-cap : (o : Option (List ℕ)) (n : ℕ) → number_told o ≡ Ok n → n ≤ 4611686018427387904
 told-cap None n e = absurd (cc e)
-told-cap (Some w) n e = capped-cap (number_of w) n (or_fails-ok BadNumber (number_within amount_limit w) n e)
+told-cap (Some w) n e = within_limit amount_limit n (number_of w) (or_fails-ok BadNumber (number_within amount_limit w) n e)
 
 below-fits : (size : ℕ) (o : Option ℕ) (v : ℕ) → value_below size o ≡ Ok v → v < size
 below-fits size None v e = absurd (cc e)
@@ -88,14 +82,23 @@ value-fits name labels size (a ∷ b ∷ w ∷ []) v fit e =
     let second = one-ok (not (bytes_eq b name)) UnknownName (value_told labels size w) v first.1 in
     value_told-fits labels size w v fit second.1
 
-form_told-fits : (method : Method) (ws : List (List ℕ)) (form : Form) → form_told method ws ≡ Ok form → method ≡ Dpop
+-- the method whose reports have certificates of this form
+abbrev pub method_for : Form → Method
+method_for forms.Tables = Dpop
+method_for forms.Log = Adopt
+
+form_told-fits : (method : Method) (ws : List (List ℕ)) (form : Form) → form_told method ws ≡ Ok form → method ≡ method_for form
 form_told-fits MethodPlain ws form e = absurd (cc e)
-form_told-fits Dpop ws form e = refl
-form_told-fits Adopt ws form e = absurd (false≢true (none-ok _ NotYet BadLine form e))
+form_told-fits Dpop ws form e =
+    let read = other-ok (is_alone (codes "tables") ws) BadLine (Ok forms.Tables) form e in
+    ap method_for (ok-same forms.Tables form read.1)
+form_told-fits Adopt ws form e =
+    let read = other-ok (is_alone (codes "log") ws) BadLine (Ok forms.Log) form e in
+    ap method_for (ok-same forms.Log form read.1)
 form_told-fits Cut ws form e = absurd (false≢true (none-ok _ NotYet BadLine form e))
 
 -- the method of a certificate's first line
-pub certificate-fits : (method : Method) (ws : List (List ℕ)) (form : Form) → certificate_line method ws ≡ Ok form → method ≡ Dpop
+pub certificate-fits : (method : Method) (ws : List (List ℕ)) (form : Form) → certificate_line method ws ≡ Ok form → method ≡ method_for form
 certificate-fits method [] form e = absurd (cc e)
 certificate-fits method (w ∷ ws) form e =
     let first = one-ok (is_alone (codes "end") (w ∷ ws)) NoCertificate (cond (bytes_eq w (codes "certificate")) (form_told method ws) (Err BadLine)) form e in
@@ -120,7 +123,7 @@ amounts-step None None ns e a b = absurd (cc e)
 
 amounts-cap : (ws : List (List ℕ)) (ns : List ℕ) → amounts_of ws ≡ Some ns → All (λ n. n ≤ 4611686018427387904) ns
 amounts-cap [] ns e = subst (λ (ys : List ℕ). All (λ n. n ≤ 4611686018427387904) ys) (some-same [] ns e) (λ k d h. absurd (omega arith))
-amounts-cap (w ∷ ws) ns e = amounts-step (number_within amount_limit w) (amounts_of ws) ns e (λ x is. capped-cap (number_of w) x is) (λ xs is. amounts-cap ws xs is)
+amounts-cap (w ∷ ws) ns e = amounts-step (number_within amount_limit w) (amounts_of ws) ns e (λ x is. within_limit amount_limit x (number_of w) is) (λ xs is. amounts-cap ws xs is)
 
 parent-step : (t : Bool) (o : Option ℕ) (parent : Option ℕ) (n : ℕ) → cond t (Some None) (option_map Some o) ≡ Some parent → ((x : ℕ) → o ≡ Some x → x < n) → IfSome parent (λ p. p < n)
 parent-step true o parent n e h = subst (λ (q : Option ℕ). IfSome q (λ p. p < n)) (some-same None parent e) tt

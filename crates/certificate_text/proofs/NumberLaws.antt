@@ -9,6 +9,8 @@ use Rattle.problem_text.specs.declared.file.Goal.TheVariants.{Min, Max}
 use Rattle.problem_text.specs.declared.fault.ReportKind.{ReportKind}
 use Rattle.problem_text.specs.Lines.{has_some, onto_first, lines}
 use Rattle.problem_text.specs.PlainLines.{Plain, plain_numbered}
+use Rattle.run_log.specs.declared.log.LogEvent.{LogEvent}
+use Rattle.run_log.specs.EventLine.{event_line}
 use Rattle.certificate_text.specs.declared.certificate.Util.{Util}
 use Rattle.certificate_text.specs.declared.certificate_line.Form.{Form}
 use Rattle.certificate_text.specs.declared.certificate_line.Form.TheVariants as forms
@@ -20,7 +22,7 @@ use Rattle.certificate_text.specs.ValueLine.{value_line}
 use Rattle.certificate_text.specs.UtilLine.{util_line}
 use Rattle.certificate_text.specs.CertificateLine.{certificate_line}
 use Rattle.certificate_text.specs.ReportLines.{Fault, Left, whole, told_at, first_of, one_line, and_then}
-use Rattle.certificate_text.specs.ReportReading.{goal_read, head_read, bounds_read, values_read, ended, tables_read, evidence_read, certificate_read, nothing_behind, report_of, lines_read, report_read}
+use Rattle.certificate_text.specs.ReportReading.{goal_read, head_read, bounds_read, values_read, ended, tables_read, events_read, evidence_read, certificate_read, nothing_behind, report_of, lines_read, report_read}
 
 -- each line's number is at most this
 abbrev AreUpTo : ℕ → List Plain → Type 0
@@ -96,9 +98,18 @@ tables-stay top names sizes over utils (l ∷ ls) h up =
     (told-stays top l.number (ended names utils) left up.0 (h, up.1))
     (and-stays top (told_at l.number (util_line names sizes utils l.words) left) _ (told-stays top l.number (util_line names sizes utils l.words) left up.0 (h, up.1)) (λ util later more. tables-stay top names sizes over (utils ++ (util ∷ [])) ls h up.1))
 
+events-stay : (top : ℕ) (names : List (List ℕ)) (over : ℕ) (log : List LogEvent) (ls : List Plain) → over ≤ top → AreUpTo top ls → Stays top (events_read names over log ls)
+events-stay top names over log [] h up = h
+events-stay top names over log (l ∷ ls) h up =
+    let left : Left = record { lines = ls; over = over } in
+    cond-stays top (is_alone (codes "end") l.words) (Ok (log, left)) _ (h, up.1)
+    (and-stays top (told_at l.number (event_line names l.words) left) _ (told-stays top l.number (event_line names l.words) left up.0 (h, up.1)) (λ event later more. events-stay top names over (log ++ (event ∷ [])) ls h up.1))
+
 evidence-stays : (top : ℕ) (f : TextFile) (form : Form) (left : Left) → IsUpTo top left → Stays top (evidence_read f form left)
 evidence-stays top f forms.Tables left up =
     and-stays top (tables_read f.names f.problem.sizes left.over [] left.lines) _ (tables-stay top f.names f.problem.sizes left.over [] left.lines up.0 up.1) (λ utils left up. up)
+evidence-stays top f forms.Log left up =
+    and-stays top (events_read f.names left.over [] left.lines) _ (events-stay top f.names left.over [] left.lines up.0 up.1) (λ log left up. up)
 
 certificate-stays : (top : ℕ) (f : TextFile) (method : Method) (left : Left) → IsUpTo top left → Stays top (certificate_read f method left)
 certificate-stays top f method left up =
@@ -238,9 +249,21 @@ tables-alike names sizes o p utils (x ∷ xs) (y ∷ ys) h =
     (told-alike x.number y.number (ended names utils) a b h.1)
     (and-alike (told_at x.number (util_line names sizes utils y.words) a) (told_at y.number (util_line names sizes utils y.words) b) _ _ (told-alike x.number y.number (util_line names sizes utils y.words) a b h.1) (λ util a b same. tables-alike names sizes o p (utils ++ (util ∷ [])) xs ys h.1)))
 
+events-alike : (names : List (List ℕ)) (o p : ℕ) (log : List LogEvent) (xs ys : List Plain) → SameWords xs ys → Alike (events_read names o log xs) (events_read names p log ys)
+events-alike names o p log [] [] h = tt
+events-alike names o p log [] (y ∷ ys) h = absurd h
+events-alike names o p log (x ∷ xs) [] h = absurd h
+events-alike names o p log (x ∷ xs) (y ∷ ys) h =
+    let a : Left = record { lines = xs; over = o } in
+    let b : Left = record { lines = ys; over = p } in
+    rw h.0 (cond-alike (is_alone (codes "end") y.words) (Ok (log, a)) (Ok (log, b)) _ _ (refl, h.1)
+    (and-alike (told_at x.number (event_line names y.words) a) (told_at y.number (event_line names y.words) b) _ _ (told-alike x.number y.number (event_line names y.words) a b h.1) (λ event a b same. events-alike names o p (log ++ (event ∷ [])) xs ys h.1)))
+
 evidence-alike : (f : TextFile) (form : Form) (a b : Left) → SameWords a.lines b.lines → Alike (evidence_read f form a) (evidence_read f form b)
 evidence-alike f forms.Tables a b h =
     and-alike (tables_read f.names f.problem.sizes a.over [] a.lines) (tables_read f.names f.problem.sizes b.over [] b.lines) _ _ (tables-alike f.names f.problem.sizes a.over b.over [] a.lines b.lines h) (λ utils a b h. (refl, h))
+evidence-alike f forms.Log a b h =
+    and-alike (events_read f.names a.over [] a.lines) (events_read f.names b.over [] b.lines) _ _ (events-alike f.names a.over b.over [] a.lines b.lines h) (λ log a b h. (refl, h))
 
 certificate-alike : (f : TextFile) (method : Method) (a b : Left) → SameWords a.lines b.lines → Alike (certificate_read f method a) (certificate_read f method b)
 certificate-alike f method a b h =

@@ -11,9 +11,7 @@ use Rattle.certificate_text.specs.declared.report.Method.{Method}
 use Rattle.certificate_text.specs.declared.report.Method.TheVariants.{Dpop, Adopt}
 use Rattle.certificate_text.specs.declared.report.Report.{Report}
 use Rattle.certificate_text.specs.Named.{IsNamedUtil}
-use Rattle.run_log.specs.declared.log.LogEvent.{LogEvent}
-use Rattle.run_log.specs.EventLine.{take_limit}
-use Rattle.run_log.specs.LogText.{IsNamedEvent}
+use Rattle.run_log.specs.LogText.{FitsEvent}
 
 -- a UTIL table over variables of these sizes: distinct scope variables, and as many cells as the product of their sizes
 pub record FitsUtil (sizes : List ℕ) (util : Util) : Type 0 where
@@ -26,12 +24,6 @@ pub record FitsUtil (sizes : List ℕ) (util : Util) : Type 0 where
 pub record FitsTables (sizes : List ℕ) (utils : List Util) : Type 0 where
   pub each : All (FitsUtil sizes) utils
   pub one : (var : ℕ) → var < length sizes → count_by (λ u. u.var == var) utils ≡ 1
-
--- an event of so many agents, with a stamp and counts that can be read
-pub record FitsEvent (count : ℕ) (e : LogEvent) : Type 0 where
-  pub named : IsNamedEvent count e
-  pub stamp : e.stamp ≤ amount_limit
-  pub counts : All (λ t. t.count ≤ take_limit) e.takes
 
 -- a certificate that fits the method and variables of these sizes
 abbrev pub FitsCertificate : List ℕ → Method → Certificate → Type 0

@@ -25,4 +25,3 @@ is_alone key _ = false
 abbrev pub amounts_of : List (List ℕ) → Option (List ℕ)
 amounts_of [] = Some []
 amounts_of (word ∷ later) = onto (number_within amount_limit word) (amounts_of later)
-

@@ -9,8 +9,9 @@ ghost use Rattle.certificate_text.specs.Told.{word_behind, is_alone};
 ghost use Rattle.certificate_text.specs.HeadLines.{status_line, method_line, max_line, number_line};
 
 use crate::report::{Ending, Method};
-use dcop_base::{CAP, number_of_word};
+use dcop_base::CAP;
 use problem_text::{Goal, LineEnd, ReportKind, is_word, next_word};
+use run_log::number_within;
 
 /// The word behind `key` in a line of the two; `None` exactly where the line is not of that form.
 fn word_of<'a>(text: &'a [u8], key: &[u8]) -> Option<&'a [u8]>
@@ -39,10 +40,7 @@ pub fn is_only(text: &[u8], key: &[u8]) -> bool
 pub fn amount_of(word: &[u8]) -> Option<u64>
     ensures { result ≡ number_within amount_limit word.now }
 {
-    match number_of_word(word) {
-        None => None,
-        Some(number) => { if number > CAP { None } else { Some(number) } }
-    }
+    number_within(CAP, word)
 }
 
 /// The ending that a line `status` tells.

@@ -5,6 +5,7 @@ ghost use Rattle.std.specs.List.{All, AllZip, slice_index_or};
 ghost use Rattle.dcop_base.specs.Limits.{size_limit, variable_limit};
 ghost use Rattle.problem_text.specs.Lines.{words};
 ghost use Rattle.problem_text.specs.File.{AreLabels};
+ghost use Rattle.run_log.specs.EventLine.{event_line};
 ghost use Rattle.run_log.specs.LogReading.{Reads};
 ghost use Rattle.certificate_text.specs.ValueLine.{value_line};
 ghost use Rattle.certificate_text.specs.UtilLine.{util_line};
@@ -24,7 +25,7 @@ use crate::util_line::{lacks_util, util_of};
 use crate::value_line::value_of;
 use dcop_base::{MAX_SIZE, MAX_VARIABLES, Val, ValList, VarId};
 use problem_text::{Labels, LineEnd, Names, ProblemFile, ReportFault, ReportKind};
-use run_log::{Log, event_of_line};
+use run_log::{Log, LogEvent, event_of_line};
 use std::alloc::Global;
 
 /// Reads the text of a report on a file. The report that it gives has a certificate and fits the
@@ -215,10 +216,21 @@ fn read_events(
         if is_only(line.text, b"end") {
             return Ok(Log::from_vec(events));
         }
-        let event = event_of_line(alloc, &file.names, line.text);
-        events.push(told_by(line.number, event)?)?;
+        let event = told_by(line.number, event_at(alloc, file, line.text))?;
+        events.push(event)?;
     }
     Err(lines.no_end())
+}
+
+/// The event that a line tells.
+fn event_at(
+    alloc: Global,
+    file: &ProblemFile,
+    text: &[u8],
+) -> Result<LogEvent, LineEnd<ReportKind>>
+    ensures { Reads result (event_line file.now.names (words text.now)) }
+{
+    event_of_line(alloc, &file.names, text)
 }
 
 /// The tables behind which the line `end` stands, where there are so many variables.

@@ -24,7 +24,7 @@ use Rattle.problem_text.proofs.RoundTripLaws.{is_word, is_line, plain_worded, pl
 use Rattle.problem_text.proofs.TableTextLaws.{name-at, own-place}
 use Rattle.run_log.specs.declared.log.LogEvent.{LogEvent}
 use Rattle.run_log.specs.EventLine.{take_limit, number_within, are_pairs, take_told, take_before, takes_told, event_line}
-use Rattle.run_log.specs.LogText.{take_words, event_words, log_text, IsNamedEvent}
+use Rattle.run_log.specs.LogText.{take_words, event_words, log_text, IsNamedEvent, FitsEvent}
 use Rattle.run_log.specs.LogReading.{event_before, events_read, log_read, Reads, IsTold}
 
 -- takes before those that are read
@@ -106,13 +106,8 @@ takes_again names (t ∷ ts) apart named few =
       takes_again names ts apart (All-tail (λ u. u.from < length names) t ts named) (All-tail (λ u. u.count ≤ take_limit) t ts few),
     ) refl
 
--- an event whose numbers are in their ranges
-record Fits (names : List (List ℕ)) (e : LogEvent) : Type 0 where
-  named : IsNamedEvent (length names) e
-  stamp : e.stamp ≤ 4611686018427387904
-  counts : All (λ t. t.count ≤ take_limit) e.takes
-
-event_again : (names : List (List ℕ)) (e : LogEvent) → IsDistinct bytes_eq names → Fits names e → event_line names (event_words names e) ≡ Ok e
+-- an event that fits is read again
+pub event_again : (names : List (List ℕ)) (e : LogEvent) → IsDistinct bytes_eq names → FitsEvent (length names) e → event_line names (event_words names e) ≡ Ok e
 event_again names e apart fit =
     rw (
       pairs_again names e.takes,
@@ -131,29 +126,29 @@ takes_plain names (t ∷ ts) words named few =
       takes_plain names ts words (All-tail (λ u. u.from < length names) t ts named) (All-tail (λ u. u.count ≤ take_limit) t ts few),
     ) refl
 
-event_plain : (names : List (List ℕ)) (e : LogEvent) → list_all is_name names ≡ true → Fits names e → is_line (event_words names e) ≡ true
+event_plain : (names : List (List ℕ)) (e : LogEvent) → list_all is_name names ≡ true → FitsEvent (length names) e → is_line (event_words names e) ≡ true
 event_plain names e words fit =
-    let stamp = fit.stamp in
+    let stamp : e.stamp ≤ 4611686018427387904 = fit.stamp in
     rw (
       name-word (get_or names e.agent []) (name-at names e.agent words fit.named.agent),
       decimal-word e.stamp (omega (arith, stamp)),
       takes_plain names e.takes words fit.named.senders fit.counts,
     ) refl
 
-events_plain : (names : List (List ℕ)) (log : List LogEvent) → list_all is_name names ≡ true → All (Fits names) log → list_all is_line (map (event_words names) log) ≡ true
+pub events_plain : (names : List (List ℕ)) (log : List LogEvent) → list_all is_name names ≡ true → All (FitsEvent (length names)) log → list_all is_line (map (event_words names) log) ≡ true
 events_plain names [] words fit = refl
-events_plain names (e ∷ log) words fit = rw (event_plain names e words (All-head (Fits names) e log fit), events_plain names log words (All-tail (Fits names) e log fit)) refl
+events_plain names (e ∷ log) words fit = rw (event_plain names e words (All-head (FitsEvent (length names)) e log fit), events_plain names log words (All-tail (FitsEvent (length names)) e log fit)) refl
 
-events_again : (names : List (List ℕ)) (number : ℕ) (log : List LogEvent) → IsDistinct bytes_eq names → All (Fits names) log → events_read names (plain_worded number (map (event_words names) log)) ≡ Ok log
+events_again : (names : List (List ℕ)) (number : ℕ) (log : List LogEvent) → IsDistinct bytes_eq names → All (FitsEvent (length names)) log → events_read names (plain_worded number (map (event_words names) log)) ≡ Ok log
 events_again names number [] apart fit = refl
 events_again names number (e ∷ log) apart fit =
-    rw (event_again names e apart (All-head (Fits names) e log fit), events_again names (number + 1) log apart (All-tail (Fits names) e log fit)) refl
+    rw (event_again names e apart (All-head (FitsEvent (length names)) e log fit), events_again names (number + 1) log apart (All-tail (FitsEvent (length names)) e log fit)) refl
 
 -- the text of a log is read as that log
 pub log_again : (names : List (List ℕ)) (log : List LogEvent) → IsDistinct bytes_eq names → list_all is_name names ≡ true → All (IsNamedEvent (length names)) log
     → All (λ e. All (λ t. t.count ≤ take_limit) e.takes) log → All (λ e. e.stamp ≤ 4611686018427387904) log → log_read names (log_text names log) ≡ Ok log
 log_again names log apart words named counts stamps =
-    let fit : All (Fits names) log = λ k d lt. record { named = named k d lt; stamp = stamps k d lt; counts = counts k d lt } in
+    let fit : All (FitsEvent (length names)) log = λ k d lt. record { named = named k d lt; stamp = stamps k d lt; counts = counts k d lt } in
     ap (events_read names) (plain-lines-of-words 1 (map (event_words names) log) (events_plain names log words fit)) ∙ events_again names 1 log apart fit
 
 -- an event's line, as it is written piece by piece

@@ -133,7 +133,7 @@ fn take_of(names: &Names, sender: &[u8], count: &[u8]) -> Result<Take, LineEnd<R
 }
 
 /// The number that a word writes; `None` exactly where it is no number or above `most`.
-fn number_within(most: u64, word: &[u8]) -> Option<u64>
+pub fn number_within(most: u64, word: &[u8]) -> Option<u64>
     ensures { result ≡ lines.number_within most word.now }
 {
     match number_of_word(word) {

@@ -18,7 +18,7 @@ mod merging;
 mod reader;
 mod writer;
 
-pub use event_line::event_of_line;
+pub use event_line::{event_of_line, number_within};
 pub use law::merged_stamps_are_right;
 pub use log::{Log, LogEvent};
 pub use merging::merge;

@@ -1,3 +1,3 @@
-mod NamedOptionLaws
+mod ToldNamedLaws
 mod LogNamedLaws
 mod NamedLaws

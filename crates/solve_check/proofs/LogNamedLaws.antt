@@ -1,8 +1,10 @@
--- Each variable of which the first difference of a report with a log speaks is one of the file's.
-use Rattle.std.proofs.Common.{◌≡◌, ℕ, zero, suc, ◌+◌, ◌<◌, ◌≤◌, Bool, true, false, cond, not, nat_lt, nat_le, nat_eq, ◌==◌, List, [], ◌∷◌, length, get_or, Option, Some, None, refl, sym, ap, subst, ◌∙◌, arith}
+-- Each variable of which a difference of a report with a log speaks is one of the file's.
+use Rattle.std.proofs.Common.{◌≡◌, ℕ, ◌+◌, ◌≤◌, ◌<◌, Bool, true, false, not, cond, Option, Some, None, List, [], ◌∷◌, length, nat_eq, nat_lt, nat_le, min, refl, arith}
 use Rattle.std.specs.Prelude.{IfSome}
-use Rattle.std.specs.List.{All, list_any, slice_get}
+use Rattle.std.specs.List.{All, slice_get, list_any}
 use Rattle.std.specs.Option.{option_map, option_or}
+use Rattle.std.proofs.lemmas.List.Elements.{All-head, All-tail}
+use Rattle.dcop_base.specs.Limits.{count_limit}
 use Rattle.dcop_base.specs.Problem.{cost}
 use Rattle.protocol_steps.specs.declared.event.Take.{Take}
 use Rattle.protocol_steps.specs.declared.event.Event.{Event}
@@ -12,13 +14,13 @@ use Rattle.protocol_steps.specs.declared.standing.Standing.{Standing}
 use Rattle.protocol_steps.specs.View.{View, ended_of}
 use Rattle.protocol_steps.specs.Network.{Desk, Network, start_state, waiting}
 use Rattle.protocol_steps.specs.Effect.{effect, has_ended, deliveries}
-use Rattle.protocol_steps.specs.Run.{has_nothing, ascends_from, form_fault, too_many, or_else, fault_at, event_fault}
+use Rattle.protocol_steps.specs.Run.{or_else, has_nothing, ascends_from, form_fault, too_many, takes_fault, fault_at, event_fault}
 use Rattle.adopt_ends.specs.EndLaw.{values_of}
 use Rattle.run_log.specs.declared.log.LogEvent.{LogEvent}
 use Rattle.run_log.specs.Logs.{event_of}
 use Rattle.run_log.specs.LogStamps.{StampDifference, start_stamps, stamp_difference}
+use Rattle.run_log.specs.LogText.{FitsEvent}
 use Rattle.problem_text.specs.File.{TextFile}
-use Rattle.certificate_text.specs.Fits.{FitsEvent}
 use Rattle.certificate_text.specs.declared.report.Report.{Report}
 use Rattle.certificate_text.specs.declared.report.Ending.{Ending}
 use Rattle.certificate_text.specs.declared.report.Ending.TheVariants.{Solved, Spent}
@@ -30,101 +32,95 @@ use Rattle.log_holds.specs.Ends.{least_known, lower_for, upper_for}
 use Rattle.log_holds.specs.Holds.{agents_for}
 use Rattle.log_holds.specs.Differences.{unlawful, fault_in, stamp_in, played, root_standing, status_difference, unless_right, count_difference, value_difference, error_difference, bound_difference, end_difference, log_difference}
 use Rattle.solve_report.specs.Verdict.{IsNamedFault, IsNamedDifference}
-use Rattle.solve_check.proofs.NamedOptionLaws.{AreNamed, or-named, if-named, then-named}
+use Rattle.solve_check.proofs.ToldNamedLaws.{AreNamed, or-named, if-named, then-named}
 
--- what is wrong with an event speaks of its senders
-abbrev FaultNamed : ℕ → Option EventFault → Type 0
-FaultNamed n o = IfSome o (IsNamedFault n)
+-- the fault of an event, where there is one, speaks of a sender among so many
+abbrev IsFaultNamed : ℕ → Option EventFault → Type 0
+IsFaultNamed n o = IfSome o (IsNamedFault n)
 
-cond-fault : (n : ℕ) (b : Bool) (x : EventFault) (o : Option EventFault) → IsNamedFault n x → FaultNamed n o → FaultNamed n (cond b (Some x) o)
-cond-fault n true x o h later = h
-cond-fault n false x o h later = later
+first-fault : (n : ℕ) (t : Bool) (fault : EventFault) (later : Option EventFault) → IsNamedFault n fault → IsFaultNamed n later → IsFaultNamed n (cond t (Some fault) later)
+first-fault n true fault later here behind = here
+first-fault n false fault later here behind = behind
 
-or-fault : (n : ℕ) (a b : Option EventFault) → FaultNamed n a → FaultNamed n b → FaultNamed n (or_else a b)
-or-fault n None b of_a of_b = of_b
-or-fault n (Some f) b of_a of_b = of_a
+else-fault : (n : ℕ) (a b : Option EventFault) → IsFaultNamed n a → IsFaultNamed n b → IsFaultNamed n (or_else a b)
+else-fault n None b of_a of_b = of_b
+else-fault n (Some fault) b of_a of_b = of_a
 
-form-named : (n m : ℕ) (ended : Bool) (ts : List Take) → FaultNamed n (form_fault m ended ts)
-form-named n m ended ts =
-    cond-fault n (list_any (λ (t : Take). nat_le m t.from) ts) Nobody (cond ended (Some Ended) (cond (has_nothing ts) (Some Nothing) (cond (not (ascends_from 0 ts)) (Some Order) None))) tt
-    (cond-fault n ended Ended (cond (has_nothing ts) (Some Nothing) (cond (not (ascends_from 0 ts)) (Some Order) None)) tt
-    (cond-fault n (has_nothing ts) Nothing (cond (not (ascends_from 0 ts)) (Some Order) None) tt
-    (cond-fault n (not (ascends_from 0 ts)) Order None tt tt)))
+many-named : (n : ℕ) (ds : List Desk) (i : ℕ) (ts : List Take) → All (λ t. t.from < n) ts → IsFaultNamed n (too_many ds i ts)
+many-named n ds i [] named = tt
+many-named n ds i (t ∷ ts) named =
+    first-fault n (nat_lt (length (waiting ds i t.from)) t.count) (TooMany t.from t.count (length (waiting ds i t.from))) (too_many ds i ts)
+    (All-head (λ u. u.from < n) t ts named) (many-named n ds i ts (All-tail (λ u. u.from < n) t ts named))
 
-many-named : (n : ℕ) (ds : List Desk) (i : ℕ) (ts : List Take) → All (λ t. t.from < n) ts → FaultNamed n (too_many ds i ts)
-many-named n ds i [] known = tt
-many-named n ds i (t ∷ ts) known =
-    let there : ℕ = length (waiting ds i t.from) in
-    cond-fault n (nat_lt there t.count) (TooMany t.from t.count there) (too_many ds i ts) (known 0 t (omega arith))
-    (many-named n ds i ts (λ k d lt. known (suc k) d (omega (arith, lt))))
+form-named : (n count : ℕ) (ended : Bool) (ts : List Take) → IsFaultNamed n (form_fault count ended ts)
+form-named n count ended ts =
+    first-fault n (list_any (λ t. nat_le count t.from) ts) Nobody _ tt
+    (first-fault n ended Ended _ tt
+    (first-fault n (has_nothing ts) Nothing _ tt
+    (first-fault n (not (ascends_from 0 ts)) Order None tt tt)))
 
-at-named : (n : ℕ) (ds : List Desk) (e : Event) (v : Option View) (x : Option Desk) → All (λ t. t.from < n) e.takes → FaultNamed n (fault_at ds e v x)
-at-named n ds e None x known = tt
-at-named n ds e (Some v) None known = tt
-at-named n ds e (Some v) (Some x) known =
-    or-fault n (form_fault (length ds) (ended_of v) e.takes) (too_many ds e.agent e.takes) (form-named n (length ds) (ended_of v) e.takes) (many-named n ds e.agent e.takes known)
+place-named : (n : ℕ) (ds : List Desk) (e : Event) (view : Option View) (desk : Option Desk) → All (λ t. t.from < n) e.takes → IsFaultNamed n (fault_at ds e view desk)
+place-named n ds e None desk named = tt
+place-named n ds e (Some v) None named = tt
+place-named n ds e (Some v) (Some x) named =
+    else-fault n (form_fault (length ds) (ended_of v) e.takes) (too_many ds e.agent e.takes) (form-named n (length ds) (ended_of v) e.takes) (many-named n ds e.agent e.takes named)
 
-unlawful-named : (n k : ℕ) (o : Option EventFault) → FaultNamed n o → AreNamed n (unlawful k o)
-unlawful-named n k None h = tt
-unlawful-named n k (Some fault) h = h
+unlawful-named : (n k : ℕ) (o : Option EventFault) → IsFaultNamed n o → AreNamed n (unlawful k o)
+unlawful-named n k None named = tt
+unlawful-named n k (Some fault) named = named
 
-fault-named : (n k : ℕ) (net : Network) (log : List LogEvent) → All (FitsEvent n) log → AreNamed n (fault_in k net log)
-fault-named n k net [] known = tt
-fault-named n k net (e ∷ log) known =
+faults-named : (n k : ℕ) (net : Network) (log : List LogEvent) → All (FitsEvent n) log → AreNamed n (fault_in k net log)
+faults-named n k net [] fit = tt
+faults-named n k net (e ∷ log) fit =
+    let here = All-head (FitsEvent n) e log fit in
     or-named n (unlawful k (event_fault net (event_of e))) (fault_in (k + 1) (effect net (event_of e)) log)
-    (unlawful-named n k (event_fault net (event_of e)) (at-named n net.desks (event_of e) (slice_get net.views e.agent) (slice_get net.desks e.agent) (known 0 e (omega arith)).named.senders))
-    (fault-named n (k + 1) (effect net (event_of e)) log (λ i d lt. known (suc i) d (omega (arith, lt))))
+    (unlawful-named n k (event_fault net (event_of e)) (place-named n net.desks (event_of e) (slice_get net.views e.agent) (slice_get net.desks e.agent) here.named.senders))
+    (faults-named n (k + 1) (effect net (event_of e)) log (All-tail (FitsEvent n) e log fit))
 
 stamp-named : (n : ℕ) (o : Option StampDifference) → AreNamed n (option_map (λ (d : StampDifference). differences.Stamp d.event d.left d.right) o)
 stamp-named n None = tt
 stamp-named n (Some d) = tt
 
-ending-named : (n : ℕ) (b : Bool) (s : Ending) → AreNamed n (status_difference b s)
-ending-named n true Solved = tt
-ending-named n true Spent = tt
-ending-named n false Solved = tt
-ending-named n false Spent = tt
-
 right-named : (n : ℕ) (differs : ℕ → ℕ → Differs) (left right : ℕ) → IsNamedDifference n (differs left right) → AreNamed n (unless_right differs left right)
 right-named n differs left right h = if-named n (nat_eq left right) (differs left right) h
 
-values-step : (n : ℕ) (b : Bool) (x : Differs) (o : Option Differs) → IsNamedDifference n x → AreNamed n o → AreNamed n (cond b o (Some x))
-values-step n true x o h later = later
-values-step n false x o h later = h
+status-named : (n : ℕ) (t : Bool) (ending : Ending) → AreNamed n (status_difference t ending)
+status-named n true Solved = tt
+status-named n true Spent = tt
+status-named n false Solved = tt
+status-named n false Spent = tt
+
+later-named : (n : ℕ) (t : Bool) (later : Option Differs) (x : Differs) → IsNamedDifference n x → AreNamed n later → AreNamed n (cond t later (Some x))
+later-named n true later x here behind = behind
+later-named n false later x here behind = here
 
 values-named : (n i : ℕ) (vs ws : List ℕ) → i + length vs ≤ n → AreNamed n (value_difference i vs ws)
 values-named n i [] ws few = tt
 values-named n i (v ∷ vs) [] few = tt
 values-named n i (v ∷ vs) (w ∷ ws) few =
-    values-step n (nat_eq v w) (differences.Value i) (value_difference (i + 1) vs ws) (let lt : i < n = omega (arith, few) in lt) (values-named n (i + 1) vs ws (omega (arith, few)))
+    later-named n (nat_eq v w) (value_difference (i + 1) vs ws) (differences.Value i) (omega (arith, few)) (values-named n (i + 1) vs ws (omega (arith, few)))
 
-error-named : (n : ℕ) (s : Ending) (error gap : ℕ) → AreNamed n (error_difference s error gap)
+error-named : (n : ℕ) (ending : Ending) (error gap : ℕ) → AreNamed n (error_difference ending error gap)
 error-named n Solved error gap = then-named n (nat_lt error gap) (differences.Error error gap) tt
 error-named n Spent error gap = tt
 
 bounds-named : (n : ℕ) (f : TextFile) (top : Standing) (r : Report) → AreNamed n (bound_difference f top r)
 bounds-named n f top r =
     let least : ℕ = least_known (cost (problem_solved f) r.values) top.upper in
-    let errs : Option Differs = error_difference r.status r.error (gap_of f.goal r) in
-    let uppers : Option Differs = unless_right (λ left right. differences.Upper left right) r.upper (upper_for f.goal f.problem top.lower least) in
-    let lowers : Option Differs = unless_right (λ left right. differences.Lower left right) r.lower (lower_for f.goal f.problem top.lower least) in
-    or-named n (unless_right (λ left right. differences.Cost left right) r.cost (cost f.problem r.values)) (option_or lowers (option_or uppers errs))
-    (right-named n (λ left right. differences.Cost left right) r.cost (cost f.problem r.values) tt)
-    (or-named n lowers (option_or uppers errs) (right-named n (λ left right. differences.Lower left right) r.lower (lower_for f.goal f.problem top.lower least) tt)
-    (or-named n uppers errs (right-named n (λ left right. differences.Upper left right) r.upper (upper_for f.goal f.problem top.lower least) tt)
+    or-named n (unless_right (λ left right. differences.Cost left right) r.cost (cost f.problem r.values)) _ (right-named n (λ left right. differences.Cost left right) r.cost (cost f.problem r.values) tt)
+    (or-named n (unless_right (λ left right. differences.Lower left right) r.lower (lower_for f.goal f.problem top.lower least)) _ (right-named n (λ left right. differences.Lower left right) r.lower (lower_for f.goal f.problem top.lower least) tt)
+    (or-named n (unless_right (λ left right. differences.Upper left right) r.upper (upper_for f.goal f.problem top.lower least)) (error_difference r.status r.error (gap_of f.goal r)) (right-named n (λ left right. differences.Upper left right) r.upper (upper_for f.goal f.problem top.lower least) tt)
     (error-named n r.status r.error (gap_of f.goal r))))
 
-end-named : (n : ℕ) (f : TextFile) (end : Network) (r : Report) → length r.values ≤ n → AreNamed n (end_difference f end r)
-end-named n f end r few =
-    let behind : Option Differs = bound_difference f (root_standing end) r in
-    let values : Option Differs = value_difference 0 r.values (values_of end) in
-    let counts : Option Differs = count_difference r.deliveries (deliveries end) in
-    or-named n (status_difference (has_ended end) r.status) (option_or counts (option_or values behind)) (ending-named n (has_ended end) r.status)
-    (or-named n counts (option_or values behind) (if-named n (nat_eq r.deliveries (deliveries end)) _ tt)
-    (or-named n values behind (values-named n 0 r.values (values_of end) (omega (arith, few))) (bounds-named n f (root_standing end) r)))
+end-named : (n : ℕ) (f : TextFile) (end : Network) (r : Report) → length r.values ≡ n → AreNamed n (end_difference f end r)
+end-named n f end r long =
+    or-named n (status_difference (has_ended end) r.status) _ (status-named n (has_ended end) r.status)
+    (or-named n (count_difference r.deliveries (deliveries end)) _ (if-named n (nat_eq r.deliveries (deliveries end)) (differences.Deliveries r.deliveries (min (deliveries end) count_limit)) tt)
+    (or-named n (value_difference 0 r.values (values_of end)) (bound_difference f (root_standing end) r) (values-named n 0 r.values (values_of end) (omega (arith, long))) (bounds-named n f (root_standing end) r)))
 
-pub log-named : (n : ℕ) (f : TextFile) (r : Report) (log : List LogEvent) → length r.values ≤ n → All (FitsEvent n) log → AreNamed n (log_difference f r log)
-log-named n f r log few known =
+-- the first difference of a report with a log whose events and values are those of so many variables
+pub log-named : (n : ℕ) (f : TextFile) (r : Report) (log : List LogEvent) → length r.values ≡ n → All (FitsEvent n) log → AreNamed n (log_difference f r log)
+log-named n f r log long fit =
     let net : Network = start_state (agents_for f r.error) in
-    or-named n (fault_in 1 net log) (option_or (stamp_in net log) (end_difference f (played net log) r)) (fault-named n 1 net log known)
-    (or-named n (stamp_in net log) (end_difference f (played net log) r) (stamp-named n (stamp_difference 1 (Some net) (start_stamps net) None log)) (end-named n f (played net log) r few))
+    or-named n (fault_in 1 net log) (option_or (stamp_in net log) (end_difference f (played net log) r)) (faults-named n 1 net log fit)
+    (or-named n (stamp_in net log) (end_difference f (played net log) r) (stamp-named n (stamp_difference 1 (Some net) (start_stamps net) None log)) (end-named n f (played net log) r long))

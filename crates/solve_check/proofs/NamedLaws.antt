@@ -23,16 +23,16 @@ use Rattle.certificate_text.specs.declared.verdict.Verdict.TheVariants.{Yes, No}
 use Rattle.certificate_text.specs.declared.verdict.Differs.{Differs}
 use Rattle.certificate_text.specs.declared.verdict.Differs.TheVariants as differences
 use Rattle.problem_solved.specs.Goal.{problem_solved}
+use Rattle.problem_solved.specs.Verdict.{verdict_by}
+use Rattle.log_holds.specs.Differences.{log_difference}
 use Rattle.problem_solved.specs.Told.{told, parents_told, variables}
 use Rattle.certificate_check.specs.Cells.{children_told, root_cell}
 use Rattle.certificate_check.specs.Differences.{IsTreeDifference, first_of, scope_difference, value_difference, cell_difference, table_difference, cells_difference, unless_same, status_difference, bound_difference, number_difference, difference_in}
 use Rattle.certificate_check.specs.Verdicts.{IsTablesVerdict, IsVerdictOn}
 use Rattle.certificate_check.proofs.FitLaws.{told_fits}
 use Rattle.problem_solved.proofs.SolvedLaws.{solved_sizes}
-use Rattle.problem_solved.specs.Verdict.{verdict_by}
-use Rattle.log_holds.specs.Differences.{log_difference}
 use Rattle.solve_report.specs.Verdict.{IsNamedDifference, IsNamedVerdict}
-use Rattle.solve_check.proofs.NamedOptionLaws.{AreNamed, or-named, if-named, then-named}
+use Rattle.solve_check.proofs.ToldNamedLaws.{AreNamed, or-named, if-named, then-named}
 use Rattle.solve_check.proofs.LogNamedLaws.{log-named}
 
 from-named : (n : ℕ) (test : ℕ → Option Differs) (s k : ℕ) → ((i : ℕ) → i < s + k → AreNamed n (test i)) → AreNamed n (first_of test (range_with_len s k))
@@ -96,19 +96,21 @@ tables-named f r utils (No differs) fits (inl tree) =
 tables-named f r utils (No differs) fits (inr behind) =
     subst (AreNamed (length (problem_solved f).sizes)) behind.2 (behind-named f r utils behind.0 fits)
 
-verdict-by : (n : ℕ) (f : TextFile) (r : Report) (o : Option Differs) → AreNamed n o → IsNamedVerdict n (verdict_by f r o)
-verdict-by n f r None named = tt
-verdict-by n f r (Some differs) named = named
+-- the verdict by a difference that is named
+by-named : (n : ℕ) (f : TextFile) (r : Report) (o : Option Differs) → AreNamed n o → IsNamedVerdict n (verdict_by f r o)
+by-named n f r None named = tt
+by-named n f r (Some differs) named = named
 
 -- a verdict on a report that has a certificate and fits its file
-pub verdict-named : (f : TextFile) (r : Report) (certificate : Option Certificate) (verdict : Verdict) → length f.names ≡ length f.problem.sizes → length r.values ≡ length f.problem.sizes → IsTrue (is_some certificate) → IfSome certificate (FitsCertificate f.problem.sizes r.method) → IfSome certificate (IsVerdictOn f r verdict) → IsNamedVerdict (length f.names) verdict
-verdict-named f r None verdict many values some fits is = absurd (false≢true some)
-verdict-named f r (Some (Tables utils)) verdict many values some fits is =
+pub verdict-named : (f : TextFile) (r : Report) (certificate : Option Certificate) (verdict : Verdict) → length f.names ≡ length f.problem.sizes → IsTrue (is_some certificate) → length r.values ≡ length f.problem.sizes → IfSome certificate (FitsCertificate f.problem.sizes r.method) → IfSome certificate (IsVerdictOn f r verdict) → IsNamedVerdict (length f.names) verdict
+verdict-named f r None verdict many some long fits is = absurd (false≢true some)
+verdict-named f r (Some (Tables utils)) verdict many some long fits is =
     let sizes = solved_sizes f.goal f.problem in
     let count : length (problem_solved f).sizes ≡ length f.names = ap length sizes ∙ sym many in
     subst (λ (n : ℕ). IsNamedVerdict n verdict) count
     (tables-named f r utils verdict (subst (λ (ss : List ℕ). FitsTables ss utils) (sym sizes) fits.1) is)
-verdict-named f r (Some (Log log)) verdict many values some fits is =
-    subst (λ (v : Verdict). IsNamedVerdict (length f.names) v) (sym is)
-    (verdict-by (length f.names) f r (log_difference f r log)
-    (subst (λ (n : ℕ). AreNamed n (log_difference f r log)) (sym many) (log-named (length f.problem.sizes) f r log (omega (arith, values)) fits.1)))
+verdict-named f r (Some (Log log)) verdict many some long fits is =
+    let n : ℕ = length f.problem.sizes in
+    let differs = log-named n f r log long fits.1 in
+    let told : IsNamedVerdict n verdict = subst (IsNamedVerdict n) (sym is) (by-named n f r (log_difference f r log) differs) in
+    subst (λ (n : ℕ). IsNamedVerdict n verdict) (sym many) told

@@ -9,7 +9,7 @@ use Rattle.pseudotree.specs.DepthFirst.{dfs}
 use Rattle.dpop_runs.specs.Agents.{IsOptimumTable}
 use Rattle.problem_text.specs.File.{TextFile}
 use Rattle.certificate_text.specs.declared.certificate.Certificate.{Certificate}
-use Rattle.certificate_text.specs.declared.certificate.Certificate.TheVariants.{Tables}
+use Rattle.certificate_text.specs.declared.certificate.Certificate.TheVariants.{Tables, Log}
 use Rattle.certificate_text.specs.declared.certificate.Util.{Util}
 use Rattle.certificate_text.specs.declared.report.Report.{Report}
 use Rattle.certificate_text.specs.Fits.{FitsTables}
@@ -29,6 +29,7 @@ AreUtilsOf p utils = AllZip (IsUtilOf p (dfs p)) (preorder_of (dfs p)) utils
 -- a certificate has the tables of all variables of a problem
 abbrev pub HasUtilsOf : Dcop → Certificate → Type 0
 HasUtilsOf p (Tables utils) = AreUtilsOf p utils
+HasUtilsOf p (Log log) = ⊥
 
 -- these tables are those of the problem solved for a file, they fit it, and they show that the report holds
 pub record AreTablesOf (file : TextFile) (report : Report) (utils : List Util) : Type 0 where
@@ -39,6 +40,7 @@ pub record AreTablesOf (file : TextFile) (report : Report) (utils : List Util) :
 -- a report has a certificate of these tables
 abbrev pub IsCertifiedBy : TextFile → Report → Option Certificate → Type 0
 IsCertifiedBy file report (Some (Tables utils)) = AreTablesOf file report utils
+IsCertifiedBy file report (Some (Log log)) = ⊥
 IsCertifiedBy file report None = ⊥
 
 -- a report has such a certificate where one is asked for, and none otherwise

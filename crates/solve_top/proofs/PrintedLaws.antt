@@ -13,7 +13,7 @@ use Rattle.problem_text.specs.Reading.{Parts, Fault, text_read}
 use Rattle.problem_text.specs.declared.file.Goal.{Goal}
 use Rattle.problem_text.specs.declared.file.Goal.TheVariants.{Min, Max}
 use Rattle.certificate_text.specs.declared.certificate.Certificate.{Certificate}
-use Rattle.certificate_text.specs.declared.certificate.Certificate.TheVariants.{Tables}
+use Rattle.certificate_text.specs.declared.certificate.Certificate.TheVariants.{Tables, Log}
 use Rattle.certificate_text.specs.declared.report.Method.TheVariants.{Dpop}
 use Rattle.certificate_text.specs.declared.report.Report.{Report}
 use Rattle.certificate_text.specs.declared.verdict.Verdict.{Verdict}
@@ -63,6 +63,7 @@ certificate_fits : (file : TextFile) (report : Report) (certificate : Option Cer
     → IfSome certificate (FitsCertificate file.problem.sizes report.method)
 certificate_fits file report None method is = absurd is
 certificate_fits file report (Some (Tables utils)) method is = (method, is.fits)
+certificate_fits file report (Some (Log log)) method is = absurd is
 
 printed_fits : (file : TextFile) (report : Report) → IsProblem file.problem → IsDpopReport file true report → Fits report file
 printed_fits file report whole is =
@@ -84,6 +85,7 @@ verdict_yes : (file : TextFile) (report : Report) (certificate : Option Certific
 verdict_yes file report None verdict is exact = absurd is
 verdict_yes file report (Some (Tables utils)) (Yes cost error) is exact = refl
 verdict_yes file report (Some (Tables utils)) (No differs) is exact = absurd (exact is.holds)
+verdict_yes file report (Some (Log log)) verdict is exact = absurd is
 
 certified_some : (file : TextFile) (report : Report) (certificate : Option Certificate) → IsCertifiedBy file report certificate → IsTrue (is_some certificate)
 certified_some file report None is = absurd is

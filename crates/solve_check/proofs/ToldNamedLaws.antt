@@ -1,10 +1,11 @@
--- What is told, where something is, speaks of variables among so many.
+-- Where something is told, that it speaks of variables among so many.
 use Rattle.std.proofs.Common.{ℕ, Bool, true, false, cond, Option, Some, None}
 use Rattle.std.specs.Prelude.{IfSome}
 use Rattle.std.specs.Option.{option_or}
 use Rattle.certificate_text.specs.declared.verdict.Differs.{Differs}
 use Rattle.solve_report.specs.Verdict.{IsNamedDifference}
 
+-- what is told, where something is, speaks of variables among so many
 abbrev pub AreNamed : ℕ → Option Differs → Type 0
 AreNamed n o = IfSome o (IsNamedDifference n)
 
