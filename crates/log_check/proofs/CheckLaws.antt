@@ -1,5 +1,5 @@
 -- What a verdict by the first difference says.
-use Rattle.std.proofs.Common.{◌≡◌, ℕ, ◌<◌, ◌≤◌, List, [], ◌∷◌, length, Option, Some, None, sym, subst, ◌∙◌}
+use Rattle.std.proofs.Common.{◌≡◌, ℕ, ◌<◌, List, [], ◌∷◌, length, Option, Some, None, sym, ◌∙◌}
 use Rattle.std.specs.List.{AllZip}
 use Rattle.std.proofs.lemmas.Option.{none-some}
 use Rattle.dcop_base.specs.Table.{AreWithin}
@@ -9,10 +9,9 @@ use Rattle.problem_text.specs.File.{TextFile}
 use Rattle.certificate_text.specs.declared.report.Report.{Report}
 use Rattle.certificate_text.specs.declared.verdict.Differs.{Differs}
 use Rattle.problem_solved.specs.Verdict.{verdict_by, ShowsBest}
-use Rattle.log_holds.specs.Holds.{HoldsLog}
 use Rattle.log_holds.specs.Differences.{log_difference}
 use Rattle.log_holds.specs.Verdicts.{IsLogExact}
-use Rattle.log_holds.specs.Laws.{IsShown, LogsShow, DifferencesAreExact}
+use Rattle.log_holds.specs.Laws.{LogsShow, DifferencesAreExact}
 use Rattle.log_check.specs.Shows.{ShowsReport}
 
 -- pairs the other way round

@@ -1,11 +1,13 @@
 -- The first difference of a report, by what comes of replaying its log.
-use Rattle.std.proofs.Common.{◌≡◌, ℕ, zero, suc, ◌+◌, List, [], ◌∷◌, take, Option, Some, None, refl, sym, ap, subst, ◌∙◌, arith}
-use Rattle.std.specs.List.{slice_get}
+use Rattle.std.proofs.Common.{◌≡◌, ℕ, zero, suc, ◌+◌, List, [], ◌∷◌, take, Option, Some, None, Ok, Err, sym, ap, subst, ◌∙◌, arith}
 use Rattle.std.specs.Option.{option_map, option_or}
 use Rattle.std.proofs.lemmas.Option.{none-some, same_Some}
+use Rattle.dcop_base.specs.Problem.{Dcop}
+use Rattle.pseudotree.specs.DepthFirst.{dfs}
 use Rattle.protocol_steps.specs.declared.event.Event.{Event}
 use Rattle.protocol_steps.specs.declared.event.EventFault.{EventFault}
-use Rattle.protocol_steps.specs.Network.{Network}
+use Rattle.protocol_steps.specs.TreeAgents.{adopt_agents}
+use Rattle.protocol_steps.specs.Network.{Network, start_state}
 use Rattle.protocol_steps.specs.Effect.{effect}
 use Rattle.protocol_steps.specs.Run.{event_fault, run}
 use Rattle.protocol_steps.proofs.EventLaws.{Happens, begins}
@@ -16,9 +18,19 @@ use Rattle.problem_text.specs.File.{TextFile}
 use Rattle.certificate_text.specs.declared.report.Report.{Report}
 use Rattle.certificate_text.specs.declared.verdict.Differs.{Differs}
 use Rattle.certificate_text.specs.declared.verdict.Differs.TheVariants as differences
+use Rattle.problem_solved.specs.Goal.{problem_solved}
+use Rattle.delivery_core.specs.declared.start.Start.{Start}
+use Rattle.delivery_core.specs.Agents.{agents_of, network_of}
 use Rattle.delivery_core.specs.Faults.{FirstFault}
-use Rattle.log_replay.specs.Replays.{first_wrong}
-use Rattle.log_holds.specs.Differences.{unlawful, fault_in, stamp_in, played, end_difference}
+use Rattle.delivery_core.specs.State.{CoreView}
+use Rattle.delivery_core.specs.NetworkState.{IsStateOf}
+use Rattle.log_replay.specs.declared.fault.LogFault.{LogFault}
+use Rattle.log_replay.specs.declared.fault.LogFault.TheVariants.{BadEvent, BadStamp, NoMemory}
+use Rattle.log_replay.specs.Wrong.{difference_of}
+use Rattle.log_replay.specs.Replays.{first_wrong, ReplaysLog}
+use Rattle.log_check.specs.Shows.{IsToldBy}
+use Rattle.log_holds.specs.Differences.{unlawful, fault_in, stamp_in, played, end_difference, log_difference}
+use Rattle.log_holds.specs.Holds.{agents_for}
 use Rattle.log_holds.proofs.PlayedLaws.{run-lawful}
 
 fine_of : (net next : Network) (e : Event) → Happens net e next → event_fault net e ≡ None
@@ -70,3 +82,20 @@ module _ (f : TextFile) (r : Report) (net : Network) (log : List LogEvent) where
         let told : stamp_in net log ≡ None = ap (λ (o : Option StampDifference). option_map (λ (x : StampDifference). differences.Stamp x.event x.left x.right) o) right in
         sym (lawful ∙ ap (λ (o : Option Differs). option_or o (end_difference f (played net log) r)) told
         ∙ ap (λ (n : Network). end_difference f n r) (run-lawful 1 net end log ran).1)
+
+  -- by what comes of the replay
+  pub fault_is : (fault : LogFault) (told : Option Differs) → IsToldBy fault told → ReplaysLog net log (Err fault) → told ≡ differs
+  fault_is (BadEvent at fault) told is h = is ∙ fault_differs at h.0 fault h.1 h.2
+  fault_is (BadStamp wrong) told is h = is ∙ stamp_differs h.0 h.1 (difference_of wrong) h.2
+  fault_is NoMemory told is h = absurd is
+
+  pub end_is : (s : CoreView) (told : Option Differs) → ((end : Network) → IsStateOf end s → told ≡ end_difference f end r) → ReplaysLog net log (Ok s) → told ≡ differs
+  end_is s told is h = is h.0 h.3 ∙ end_differs h.0 h.1 h.2
+
+  -- in a run of the agents of the problem solved
+  pub log_is : net ≡ start_state (agents_for f r.error) → differs ≡ log_difference f r log
+  log_is same = ap (λ (n : Network). option_or (fault_in 1 n log) (option_or (stamp_in n log) (end_difference f (played n log) r))) same
+
+-- the agents of the start that is replayed
+pub start_is : (f : TextFile) (r : Report) (p : Dcop) (start : Start) → p ≡ problem_solved f → agents_of p start ≡ adopt_agents p (dfs p) r.error → network_of p start ≡ start_state (agents_for f r.error)
+start_is f r p start solved agents = ap start_state (agents ∙ ap (λ (q : Dcop). adopt_agents q (dfs q) r.error) solved)

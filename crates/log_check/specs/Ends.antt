@@ -1,8 +1,7 @@
 -- The difference of a report from the end of a run, as far as a core state tells it.
-use Rattle.std.specs.Prelude.{ℕ, List, map, Option}
+use Rattle.std.specs.Prelude.{map, Option}
 use Rattle.std.specs.Option.{option_or}
 use Rattle.std.specs.List.{list_all}
-use Rattle.protocol_steps.specs.declared.standing.Standing.{Standing}
 use Rattle.protocol_steps.specs.View.{ended_of, value_of}
 use Rattle.problem_text.specs.File.{TextFile}
 use Rattle.certificate_text.specs.declared.report.Report.{Report}

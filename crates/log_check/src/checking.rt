@@ -9,17 +9,18 @@ ghost use Rattle.protocol_steps.specs.TreeAgents.{adopt_agents};
 ghost use Rattle.delivery_core.specs.Agents.{IsStartFor, agents_of};
 ghost use Rattle.run_log.specs.LogText.{FitsEvent};
 ghost use Rattle.certificate_text.specs.Fits.{Fits};
+ghost use Rattle.problem_solved.specs.Goal.{solved};
 ghost use Rattle.problem_solved.specs.Verdict.{ShowsBest};
 ghost use Rattle.log_holds.specs.Differences.{log_difference};
 ghost use Rattle.log_holds.specs.Verdicts.{IsLogVerdict, IsLogExact};
-ghost use Rattle.log_check.specs.Shows.{ShowsReport};
+ghost use Rattle.log_check.specs.Shows.{IsToldBy, ShowsReport};
 
 use crate::end::end_difference;
 use certificate_text::{Differs, Report, Verdict};
 use dcop_base::{NoMemory, Problem, problem_is_whole};
 use delivery_core::{Start, play_out};
 use log_holds::{differences_are_exact, logs_show};
-use log_replay::{LogFault, replay_log};
+use log_replay::{LogFault, WrongStamp, replay_log};
 use problem_solved::{ProblemSolved, verdict_of};
 use problem_text::ProblemFile;
 use run_log::LogEvent;
@@ -72,18 +73,47 @@ fn log_difference(
     ensures { IfOk result (λ differs. differs ≡ log_difference file.now report.now log.now) }
 {
     let solved = ProblemSolved::of(alloc, file)?;
-    let problem = solved.problem();
+    difference_in(alloc, file, solved.problem(), report, log)
+}
+
+/// The same, where this is the problem solved.
+fn difference_in(
+    alloc: Global,
+    file: &ProblemFile,
+    problem: &Problem,
+    report: &Report,
+    log: &[LogEvent],
+) -> Result<Option<Differs>, NoMemory>
+    requires solved { problem.now ≡ solved file.now.goal file.now.problem }
+    requires fits { Fits report.now file.now }
+    requires events { All (FitsEvent (length file.now.problem.sizes)) log.now }
+    ensures { IfOk result (λ differs. differs ≡ log_difference file.now report.now log.now) }
+{
+    problem_is_whole(problem);
     let start = start_for(alloc, problem, report.error)?;
     match replay_log(alloc, problem, &start, log) {
         Ok(core) => Ok(end_difference(file, problem, &core, report)),
-        Err(LogFault::BadEvent { at, fault }) => Ok(Some(Differs::Event { at, fault })),
-        Err(LogFault::BadStamp(wrong)) => Ok(Some(Differs::Stamp {
-            at: wrong.at,
-            left: wrong.left,
-            right: wrong.right,
-        })),
-        Err(LogFault::NoMemory) => Err(NoMemory),
+        Err(fault) => fault_difference(fault),
     }
+}
+
+/// A difference that tells why a log is no run with right stamps.
+fn fault_difference(fault: LogFault) -> Result<Option<Differs>, NoMemory>
+    ensures { IfOk result (IsToldBy fault) }
+{
+    match fault {
+        LogFault::BadEvent { at, fault } => Ok(Some(Differs::Event { at, fault })),
+        LogFault::BadStamp(wrong) => Ok(Some(stamp_difference(wrong))),
+        LogFault::NoMemory => Err(NoMemory),
+    }
+}
+
+/// A difference that tells a stamp that is wrong.
+fn stamp_difference(wrong: WrongStamp) -> Differs
+    ensures { result ≡ Differs.Stamp wrong.at wrong.left wrong.right }
+{
+    let WrongStamp { at, left, right } = wrong;
+    Differs::Stamp { at, left, right }
 }
 
 /// The start of the ADOPT agents of a problem on its depth-first tree, for an error. Its token agents
