@@ -4,18 +4,18 @@ ghost use Rattle.std.specs.Prelude.{◌≡◌, IfOk, IsSome, Some};
 ghost use Rattle.dcop_base.specs.Problem.{IsAssignment};
 ghost use Rattle.certificate_text.specs.Fits.{Fits, FitsTables};
 ghost use Rattle.problem_solved.specs.Goal.{solved};
-ghost use Rattle.problem_solved.specs.Gap.{gap_of};
 ghost use Rattle.certificate_check.specs.Verdicts.{IsVerdict, IsTablesVerdict, IsExact};
 ghost use Rattle.certificate_check.specs.Verdicts.{IsTablesExact};
-ghost use Rattle.problem_solved.specs.Verdict.{ShowsBest, verdict_by};
+ghost use Rattle.problem_solved.specs.Verdict.{ShowsBest};
 
 use crate::behind::difference_in;
 use crate::told::parents_of;
 use crate::tree::tree_verdict;
-use certificate_text::{Certificate, Differs, Report, Util, Verdict};
+use certificate_text::{Certificate, Report, Util, Verdict};
 use dcop_base::{NoMemory, Problem, problem_is_whole};
-use problem_solved::ProblemSolved;
-use problem_text::{Goal, ProblemFile};
+use log_check::check_log;
+use problem_solved::{ProblemSolved, verdict_of};
+use problem_text::ProblemFile;
 use pseudotree::check_tree;
 use std::alloc::Global;
 
@@ -23,12 +23,14 @@ use std::alloc::Global;
 ///
 /// Yes exactly where the certificate holds, with the cost and the gap, which is the cost less the
 /// lower bound, or for goal max the upper bound less the cost. Then the cost is at most the gap
-/// worse than the best sum of the file, whoever made the report. Otherwise the first difference, in
-/// the order of [`Differs`]: the tree, the scopes by variable, the cells by variable, cell and
-/// value, and the numbers.
+/// worse than the best sum of the file, whoever made the report. Otherwise the first difference. For
+/// a certificate of tables they come in this order: the tree, the scopes by variable, the cells by
+/// variable, cell and value, and the numbers; for one of a log: the first event that is not lawful,
+/// the first stamp that is wrong, and what the report tells of the end.
 ///
-/// The time is of the order of what each cell is compared with: for each value of its variable the
-/// own tables and the children's tables, each by the variables of its scope.
+/// For tables the time is of the order of what each cell is compared with: for each value of its
+/// variable the own tables and the children's tables, each by the variables of its scope; for a log
+/// it is that of the agents' activations.
 ///
 /// # Errors
 ///
@@ -42,8 +44,7 @@ pub fn check(alloc: Global, file: &ProblemFile, report: &Report) -> Result<Verdi
 {
     match &report.certificate {
         Some(Certificate::Tables(utils)) => check_tables(alloc, file, report, utils.as_slice()),
-        // Some(Certificate::Log(log)) => check_log(alloc, file, report, log),
-        Some(Certificate::Log(_)) => Err(NoMemory),
+        Some(Certificate::Log(log)) => check_log(alloc, file, report, log.as_slice()),
         None => unreachable!(),
     }
 }
@@ -109,28 +110,5 @@ fn check_in(
             Ok(verdict_of(file, report, differs))
         }
         Err(fault) => tree_verdict(fault),
-    }
-}
-
-/// No with a difference, yes with the cost and the gap where there is none.
-fn verdict_of(file: &ProblemFile, report: &Report, differs: Option<Differs>) -> Verdict
-    ensures { result ≡ verdict_by file.now report.now differs }
-{
-    match differs {
-        Some(differs) => Verdict::No(differs),
-        None => Verdict::Yes {
-            cost: report.cost,
-            error: gap_of(file.goal, report),
-        },
-    }
-}
-
-/// By how much the best sum may be better than the cost, by the bounds of a report.
-fn gap_of(goal: Goal, report: &Report) -> u64
-    ensures { result ≡ gap_of goal report.now }
-{
-    match goal {
-        Goal::Min => report.cost.saturating_sub(report.lower),
-        Goal::Max => report.upper.saturating_sub(report.cost),
     }
 }

@@ -1,14 +1,14 @@
 mod ListLaws
-mod LinkLaws
+pub mod LinkLaws
 mod KindLaws
-mod InboxLaws
+pub mod InboxLaws
 mod DeliverLaws
-mod NearLaws
-mod ShownLaws
+pub mod NearLaws
+pub mod ShownLaws
 mod ActLaws
 mod StartLaws
 mod CountLaws
-mod RunLaws
+pub mod RunLaws
 mod TurnLaws
 mod PlayLaws
 mod DeliveredLaws

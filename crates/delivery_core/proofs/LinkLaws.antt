@@ -13,7 +13,7 @@ use Rattle.delivery_core.specs.State.{LinkView, link_from, waiting_on, waiting_f
 use Rattle.delivery_core.specs.Inboxes.{edit_link}
 
 module _ {X : Type 0} (p : X → Bool) where
-  find_first : (xs : List X) (k : ℕ) (d : X) → k < length xs → p (get_or xs k d) ≡ true → ((i : ℕ) → i < k → p (get_or xs i d) ≡ false) → find p xs ≡ Some (get_or xs k d)
+  pub find_first : (xs : List X) (k : ℕ) (d : X) → k < length xs → p (get_or xs k d) ≡ true → ((i : ℕ) → i < k → p (get_or xs i d) ≡ false) → find p xs ≡ Some (get_or xs k d)
   find_first [] k d inside here before = absurd (omega (arith, inside))
   find_first (x ∷ xs) zero d inside here before = rw here refl
   find_first (x ∷ xs) (suc k) d inside here before =

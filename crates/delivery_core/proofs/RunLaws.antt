@@ -1,15 +1,15 @@
 -- Runs by one more event, and core states as network states.
 use Rattle.std.proofs.Common.{◌≡◌, ℕ, ◌+◌, ◌<◌, List, [], ◌∷◌, ◌++◌, take, length, get_or, Option, Some, None, refl, sym, ap, ◌∙◌}
 use Rattle.std.specs.List.{last_or}
-use Rattle.std.proofs.lemmas.List.{take_more, map-append}
+use Rattle.std.proofs.lemmas.List.{take_more, map-append, length-map}
 use Rattle.dcop_base.specs.Problem.{Dcop}
 use Rattle.protocol_steps.specs.declared.message.Message.{Message}
 use Rattle.protocol_steps.specs.declared.event.Event.{Event}
-use Rattle.protocol_steps.specs.Network.{Network}
+use Rattle.protocol_steps.specs.Network.{Network, waiting}
 use Rattle.protocol_steps.specs.Effect.{effect}
 use Rattle.protocol_steps.specs.Run.{event_fault, run}
 use Rattle.protocol_steps.proofs.RunLaws.{run_push}
-use Rattle.delivery_core.specs.State.{CoreView, message_of, waiting_from, inbox_at}
+use Rattle.delivery_core.specs.State.{CoreView, message_of, waiting_from, inbox_at, count_waiting}
 use Rattle.delivery_core.specs.NetworkState.{IsStateOf, letters_of}
 use Rattle.delivery_core.specs.Shown.{IsCore}
 use Rattle.delivery_core.proofs.ShownLaws.{waits_is, last_append}
@@ -45,3 +45,8 @@ is_state p net s core =
 -- the event that a loop reads
 pub item_is : (read es : List Event) (at : ℕ) (e : Event) → read ≡ es → e ≡ get_or read at e → e ≡ get_or es at e
 item_is read es at e same is = is ∙ ap (λ (xs : List Event). get_or xs at e) same
+
+-- how many letters wait is how many messages wait in the network
+pub counts_waiting : (p : Dcop) (net : Network) (s : CoreView) (i j : ℕ) → IsCore p net s → i < length s.seats → count_waiting s i j ≡ length (waiting net.desks i j)
+counts_waiting p net s i j core lt =
+    ap (λ (ms : List (ℕ × Message)). length ms) (waits_is p net s.seats core.shows i j lt) ∙ length-map (waiting net.desks i j) (λ (m : Message). (j, m))

@@ -7,7 +7,7 @@ use Rattle.protocol_steps.specs.declared.message.Message.{Message}
 use Rattle.protocol_steps.specs.View.{View, private_of, started_of}
 use Rattle.protocol_steps.specs.declared.event.Event.{Event}
 use Rattle.protocol_steps.specs.declared.event.EventFault.{EventFault}
-use Rattle.protocol_steps.specs.Network.{Network, taken_from, takes_at, link}
+use Rattle.protocol_steps.specs.Network.{Network, taken_from, takes_at, link, waiting}
 use Rattle.protocol_steps.specs.Effect.{effect, deliveries}
 use Rattle.protocol_steps.specs.Run.{event_fault, run}
 use Rattle.delivery_core.specs.State.{SeatView, CoreView, waiting_from, last_taken, inbox_at, views_of}
@@ -49,6 +49,10 @@ Advances old e new = (p : Dcop) (net : Network) → IsCore p net old → (event_
 -- an event has this fault
 abbrev pub Refuses : CoreView → Event → EventFault → Type 0
 Refuses s e fault = (p : Dcop) (net : Network) → IsCore p net s → event_fault net e ≡ Some fault
+
+-- so many messages of one agent wait for another one that is there
+abbrev pub CountsWaiting : CoreView → ℕ → ℕ → ℕ → Type 0
+CountsWaiting s to from count = (p : Dcop) (net : Network) → IsCore p net s → to < length s.seats → count ≡ length (waiting net.desks to from)
 
 -- the event of an agent that is there, with these takes, leads from some agents to others
 abbrev pub Moves : List SeatView → Event → List SeatView → Type 0

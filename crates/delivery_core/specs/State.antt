@@ -1,5 +1,5 @@
 -- What a core state holds: each agent's view, what waits for it and what it took last, and a count of deliveries.
-use Rattle.std.specs.Prelude.{ℕ, List, [], map, Option, Some, None, ◌==◌, slice_get}
+use Rattle.std.specs.Prelude.{ℕ, List, [], map, length, Option, Some, None, ◌==◌, slice_get}
 use Rattle.std.specs.List.{find, last_or}
 use Rattle.dcop_base.specs.Table.{CostTable}
 use Rattle.pseudotree.specs.declared.agent.Place.{Place}
@@ -52,6 +52,10 @@ inbox_of (Some x) = x.inbox
 -- what agent i was sent
 abbrev pub inbox_at : List SeatView → ℕ → List LinkView
 inbox_at seats i = inbox_of (slice_get seats i)
+
+-- how many letters of one agent wait for another
+abbrev pub count_waiting : CoreView → ℕ → ℕ → ℕ
+count_waiting s to from = length (waiting_from (inbox_at s.seats to) from)
 
 abbrev pub message_of : Option (ℕ × Message) → Option Message
 message_of None = None

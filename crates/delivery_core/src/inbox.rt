@@ -35,7 +35,7 @@ fn place_of(links: &[Link], from: VarId) -> Option<usize>
 }
 
 /// How many letters of this sender wait.
-fn count_from(links: &[Link], from: VarId) -> usize
+pub(crate) fn count_from(links: &[Link], from: VarId) -> usize
     ensures { result ≡ length (waiting_from links.now from) }
 {
     match place_of(links, from) {

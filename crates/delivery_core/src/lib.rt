@@ -3,7 +3,8 @@
 //! [`replay`] runs a list of events, and refuses the first one that is not lawful; [`play`] makes
 //! the events itself, in rounds, until all agents have ended or a budget of deliveries is spent.
 //! Both end in a [`CoreState`], which is the network state at the end of that run. [`play_out`]
-//! plays the same rounds, and hands on what the agents have come to.
+//! plays the same rounds, and hands on what the agents have come to. Who has more to do at each
+//! event begins with [`CoreState::start`], and plays it by [`CoreState::happen`].
 #![tactic(auto)]
 
 mod agent;

@@ -1,14 +1,12 @@
 //! Replaying a list of events.
 
-ghost use Rattle.std.specs.Prelude.{◌≡◌, ◌≤◌, length, IfOk};
-ghost use Rattle.dcop_base.specs.Limits.{variable_limit};
+ghost use Rattle.std.specs.Prelude.{◌≡◌, length, IfOk};
 ghost use Rattle.delivery_core.specs.Agents.{IsStartFor, network_of};
-ghost use Rattle.delivery_core.specs.Shown.{IsCore};
 ghost use Rattle.delivery_core.specs.Faults.{Replays};
 
-use crate::start::{Start, make, start_all};
+use crate::start::Start;
 use crate::state::CoreState;
-use dcop_base::{MAX_VARIABLES, NoMemory, Problem};
+use dcop_base::{NoMemory, Problem};
 use protocol_steps::{EventFault, EventList};
 use std::alloc::Global;
 
@@ -37,20 +35,6 @@ impl From<NoMemory> for ReplayFault {
     }
 }
 
-/// The state where all agents of a start have started, and nothing is taken.
-pub(crate) fn begin(alloc: Global, problem: &Problem, start: &Start) -> Result<CoreState, NoMemory>
-    requires { IsStartFor problem.now start.now }
-    ensures core { IfOk result (λ state. IsCore problem.now (network_of problem.now start.now) state) }
-    ensures few { IfOk result (λ state. length state.seats ≤ variable_limit) }
-{
-    let mut seats = make(alloc, problem, start)?;
-    start_all(alloc, seats.as_mut_slice())?;
-    Ok(CoreState {
-        seats,
-        delivered: 0,
-    })
-}
-
 /// Runs these events from the start state, and gives the network state at their end. A tree of the
 /// start is a pseudotree of the problem, and linked: each variable but the root is a neighbour of
 /// its parent; an error is at most 2^62.
@@ -70,7 +54,7 @@ pub fn replay(
     ensures end { Replays (network_of problem.now start) events.now result }
     ensures size { IfOk result (λ state. length state.seats ≡ length problem.now.sizes) }
 {
-    let mut state = begin(alloc, problem, &start)?;
+    let mut state = CoreState::start(alloc, problem, &start)?;
     for (at, event) in events.as_slice().iter().enumerate() {
         if let Some(fault) = state.happen(alloc, event)? {
             return Err(ReplayFault::BadEvent {

@@ -1,19 +1,22 @@
 //! The state of a core, and its readers.
 
-ghost use Rattle.std.specs.Prelude.{◌≡◌, ◌<◌, length, slice_index_or, MatchOption, IfOk, OnOk, Some, None};
+ghost use Rattle.std.specs.Prelude.{◌≡◌, ◌<◌, ◌≤◌, length, slice_index_or, MatchOption, IfOk, OnOk, Some, None};
 ghost use Rattle.std.specs.Option.{option_map};
 ghost use Rattle.std.specs.List.{list_all};
+ghost use Rattle.dcop_base.specs.Limits.{variable_limit};
 ghost use Rattle.protocol_steps.specs.View.{ended_of, value_of, standing_of};
-ghost use Rattle.delivery_core.specs.State.{SeatView, view_at, place_in, table_in, last_sent, views_of};
+ghost use Rattle.delivery_core.specs.Agents.{IsStartFor, network_of};
+ghost use Rattle.delivery_core.specs.State.{SeatView, view_at, place_in, table_in, last_sent, count_waiting, views_of};
 ghost use Rattle.delivery_core.specs.SeatEvents.{core_fault};
 ghost use Rattle.delivery_core.specs.SeatTurns.{seat_takes};
-ghost use Rattle.delivery_core.specs.Shown.{IsSomeCore, Advances, Refuses};
+ghost use Rattle.delivery_core.specs.Shown.{IsCore, IsSomeCore, Advances, Refuses, CountsWaiting};
 
 use crate::deliver::{act, count_of};
-use crate::inbox::last_of;
+use crate::inbox::{count_from, last_of};
 use crate::lawful::fault_of;
 use crate::seat::Seat;
-use dcop_base::{NoMemory, Table, Val, VarId};
+use crate::start::{Start, make, start_all};
+use dcop_base::{MAX_VARIABLES, NoMemory, Problem, Table, Val, VarId};
 use protocol_steps::{Event, EventFault, Message, Standing, Take};
 use pseudotree::Place;
 use std::alloc::Global;
@@ -42,6 +45,25 @@ fn have_ended(seats: &[Seat]) -> bool
 }
 
 impl CoreState {
+    /// The state where all agents of a start have started, and nothing is taken. A tree of the start
+    /// is a pseudotree of the problem, and linked; an error is at most 2^62.
+    ///
+    /// # Errors
+    ///
+    /// [`NoMemory`] where memory was wanted and not had.
+    pub fn start(alloc: Global, problem: &Problem, start: &Start) -> Result<CoreState, NoMemory>
+        requires { IsStartFor problem.now start.now }
+        ensures core { IfOk result (λ state. IsCore problem.now (network_of problem.now start.now) state) }
+        ensures few { IfOk result (λ state. length state.seats ≤ variable_limit) }
+    {
+        let mut seats = make(alloc, problem, start)?;
+        start_all(alloc, seats.as_mut_slice())?;
+        Ok(CoreState {
+            seats,
+            delivered: 0,
+        })
+    }
+
     /// The value of an agent; 0 until it takes one.
     pub fn value(&self, me: VarId) -> Val
         requires { me < length self.now.seats }
@@ -90,6 +112,18 @@ impl CoreState {
         match last_of(self.seats[to.0 as usize].links(), from) {
             Some(letter) => Some(&letter.message),
             None => None,
+        }
+    }
+
+    /// How many messages from `from` wait for `to`: they were sent, and `to` has not taken them. 0
+    /// where there is no such agent.
+    pub fn waiting(&self, to: VarId, from: VarId) -> u64
+        ensures count { result ≡ count_waiting self.now to from }
+        ensures network { CountsWaiting self.now to from result }
+    {
+        match self.seats.get(to.0 as usize) {
+            Some(seat) => count_from(seat.links(), from) as u64,
+            None => 0,
         }
     }
 
@@ -142,12 +176,13 @@ impl CoreState {
         Ok(())
     }
 
-    /// One event, or what makes it unlawful; nothing then changes.
-    pub(crate) fn happen(
-        &mut self,
-        alloc: Global,
-        event: &Event,
-    ) -> Result<Option<EventFault>, NoMemory>
+    /// Plays one event: its agent takes, steps and sends. `Some` exactly where it is not lawful, with
+    /// its first fault; nothing then changes.
+    ///
+    /// # Errors
+    ///
+    /// [`NoMemory`] where memory was wanted and not had. The state is then of no more use.
+    pub fn happen(&mut self, alloc: Global, event: &Event) -> Result<Option<EventFault>, NoMemory>
         requires { IsSomeCore self.old }
         ensures { IfOk result (λ found. MatchOption found (Advances self.old event.now self.new)
             (λ fault. Refuses self.old event.now fault)) }

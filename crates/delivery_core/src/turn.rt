@@ -9,7 +9,6 @@ ghost use Rattle.protocol_steps.specs.Outcomes.{HaveRun};
 ghost use Rattle.delivery_core.specs.SeatTurns.{is_over, kept_if, TakesTurn, PlaysRound, PlaysOut};
 
 use crate::outcome::outcome_of;
-use crate::replaying::begin;
 use crate::start::Start;
 use crate::state::CoreState;
 use dcop_base::{MAX_VARIABLES, NoMemory, Problem, Sequence, VarId, problem_is_whole};
@@ -122,7 +121,7 @@ pub fn play(alloc: Global, problem: &Problem, start: Start, budget: u64) -> Resu
     ensures end { IfOk result (λ played. IsPlayed budget (network_of problem.now start) played.events played.state) }
     ensures size { IfOk result (λ played. length played.state.seats ≡ length problem.now.sizes) }
 {
-    let mut state = begin(alloc, problem, &start)?;
+    let mut state = CoreState::start(alloc, problem, &start)?;
     let events = play_rounds(alloc, &mut state, budget, true)?;
     Ok(Played {
         state,
@@ -147,7 +146,7 @@ pub fn play_out(
     ensures { IfOk result (HaveRun budget (agents_of problem.now start)) }
 {
     problem_is_whole(problem);
-    let mut state = begin(alloc, problem, &start)?;
+    let mut state = CoreState::start(alloc, problem, &start)?;
     play_rounds(alloc, &mut state, budget, false)?;
     outcome_of(alloc, state)
 }

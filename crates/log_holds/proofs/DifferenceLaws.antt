@@ -1,10 +1,11 @@
 -- A report with a log holds exactly where it has no difference.
-use Rattle.std.proofs.Common.{◌≡◌, ℕ, ◌+◌, ◌≤◌, Bool, true, false, eqb, ltb, if◌then◌else◌, List, [], ◌∷◌, length, Option, Some, None, refl, sym, ap, subst, ◌∙◌, inl, inr, arith}
+use Rattle.std.proofs.Common.{◌≡◌, ℕ, ◌+◌, ◌≤◌, Bool, true, false, eqb, ltb, min, if◌then◌else◌, List, [], ◌∷◌, length, Option, Some, None, refl, sym, ap, subst, ◌∙◌, inl, inr, arith}
 use Rattle.std.specs.List.{slice_get}
 use Rattle.std.specs.Option.{option_map, option_or}
 use Rattle.std.proofs.lemmas.Bool.{cases_Bool, cond-true, cond-false, eqb-true, eq-eqb, ltb-false, le-ltb}
 use Rattle.std.proofs.lemmas.List.{length-map}
 use Rattle.std.proofs.lemmas.Option.{none-some}
+use Rattle.dcop_base.specs.Limits.{count_limit}
 use Rattle.dcop_base.specs.Problem.{Dcop, cost}
 use Rattle.dcop_base.specs.Whole.{IsProblem}
 use Rattle.pseudotree.specs.DepthFirst.{dfs}
@@ -31,7 +32,7 @@ use Rattle.problem_solved.specs.Gap.{gap_of}
 use Rattle.problem_solved.proofs.SolvedLaws.{solved_problem, solved_sizes}
 use Rattle.log_holds.specs.Ends.{TellsEnd, IsRootAgent, least_known, lower_for, upper_for}
 use Rattle.log_holds.specs.Holds.{agents_for, HoldsLog}
-use Rattle.log_holds.specs.Differences.{fault_in, stamp_in, played, standing_at, root_standing, status_difference, unless_right, value_difference, error_difference, bound_difference, end_difference}
+use Rattle.log_holds.specs.Differences.{fault_in, stamp_in, played, standing_at, root_standing, status_difference, unless_right, count_difference, value_difference, error_difference, bound_difference, end_difference}
 use Rattle.log_holds.specs.Laws.{DifferencesAreExact}
 use Rattle.log_holds.proofs.RootLaws.{root-zero}
 use Rattle.log_holds.proofs.PlayedLaws.{or_none, or_parts, lawful-leads, run-lawful}
@@ -46,6 +47,16 @@ unless_none differs left right none =
 
 none_unless : (differs : ℕ → ℕ → Differs) (left right : ℕ) → left ≡ right → unless_right differs left right ≡ None
 none_unless differs left right same = cond-true (eqb left right) None (Some (differs left right)) (eq-eqb left right same)
+
+count_none : (left right : ℕ) → count_difference left right ≡ None → left ≡ right
+count_none left right none =
+    elim (cases_Bool (eqb left right)) [
+      | inl same ↦ eqb-true left right same
+      | inr other ↦ absurd (none-some (Deliveries left (min right count_limit)) (sym none ∙ cond-false (eqb left right) None (Some (Deliveries left (min right count_limit))) other))
+    ]
+
+none_count : (left right : ℕ) → left ≡ right → count_difference left right ≡ None
+none_count left right same = cond-true (eqb left right) None (Some (Deliveries left (min right count_limit))) (eq-eqb left right same)
 
 stamp-none : (o : Option StampDifference) → option_map (λ (d : StampDifference). Stamp d.event d.left d.right) o ≡ None → o ≡ None
 stamp-none None none = refl
@@ -111,8 +122,8 @@ module _ (f : TextFile) (end : Network) (r : Report) (v : AdoptView) (at : slice
   -- without a difference the report tells the end, and its gap is small where it is solved
   pub end-told : IsRoot (dfs (problem_solved f)) 0 → length r.values ≡ length (values_of end) → end_difference f end r ≡ None → TellsEnd f end r × (r.status ≡ Solved → gap_of f.goal r ≤ r.error)
   end-told root size none =
-      let one = or_parts (status_difference (has_ended end) r.status) (option_or (unless_right (λ left right. Deliveries left right) r.deliveries (deliveries end)) (option_or (value_difference 0 r.values (values_of end)) behind)) none in
-      let two = or_parts (unless_right (λ left right. Deliveries left right) r.deliveries (deliveries end)) (option_or (value_difference 0 r.values (values_of end)) behind) one.1 in
+      let one = or_parts (status_difference (has_ended end) r.status) (option_or (count_difference r.deliveries (deliveries end)) (option_or (value_difference 0 r.values (values_of end)) behind)) none in
+      let two = or_parts (count_difference r.deliveries (deliveries end)) (option_or (value_difference 0 r.values (values_of end)) behind) one.1 in
       let three = or_parts (value_difference 0 r.values (values_of end)) behind two.1 in
       let four = or_parts (unless_right (λ left right. Cost left right) r.cost (cost f.problem r.values)) (option_or (unless_right (λ left right. Lower left right) r.lower (lower_by f r (root_standing end))) (option_or (unless_right (λ left right. Upper left right) r.upper (upper_by f r (root_standing end))) errs)) three.1 in
       let five = or_parts (unless_right (λ left right. Lower left right) r.lower (lower_by f r (root_standing end))) (option_or (unless_right (λ left right. Upper left right) r.upper (upper_by f r (root_standing end))) errs) four.1 in
@@ -121,7 +132,7 @@ module _ (f : TextFile) (end : Network) (r : Report) (v : AdoptView) (at : slice
           top = v;
           is_top = record { root = 0; above_all = root; is = at };
           status = status-same (has_ended end) r.status one.0;
-          delivered = unless_none (λ left right. Deliveries left right) r.deliveries (deliveries end) two.0;
+          delivered = count_none r.deliveries (deliveries end) two.0;
           values = values-same 0 r.values (values_of end) size three.0;
           sum = unless_none (λ left right. Cost left right) r.cost (cost f.problem r.values) four.0;
           lower = unless_none (λ left right. Lower left right) r.lower (lower_by f r (root_standing end)) five.0 ∙ ap (lower_by f r) stands;
@@ -141,8 +152,8 @@ module _ (f : TextFile) (end : Network) (r : Report) (v : AdoptView) (at : slice
       let four : behind ≡ None = or_none (unless_right (λ left right. Cost left right) r.cost (cost f.problem r.values)) (option_or (unless_right (λ left right. Lower left right) r.lower (lower_by f r (root_standing end))) (option_or (unless_right (λ left right. Upper left right) r.upper (upper_by f r (root_standing end))) errs)) (none_unless (λ left right. Cost left right) r.cost (cost f.problem r.values) sum) five in
       let same : value_difference 0 r.values (values_of end) ≡ None = subst (λ (vs : List ℕ). value_difference 0 r.values vs ≡ None) values (values-none 0 r.values) in
       let three = or_none (value_difference 0 r.values (values_of end)) behind same four in
-      let two = or_none (unless_right (λ left right. Deliveries left right) r.deliveries (deliveries end)) (option_or (value_difference 0 r.values (values_of end)) behind) (none_unless (λ left right. Deliveries left right) r.deliveries (deliveries end) delivered) three in
-      or_none (status_difference (has_ended end) r.status) (option_or (unless_right (λ left right. Deliveries left right) r.deliveries (deliveries end)) (option_or (value_difference 0 r.values (values_of end)) behind)) (status-none (has_ended end) r.status status) two
+      let two = or_none (count_difference r.deliveries (deliveries end)) (option_or (value_difference 0 r.values (values_of end)) behind) (none_count r.deliveries (deliveries end) delivered) three in
+      or_none (status_difference (has_ended end) r.status) (option_or (count_difference r.deliveries (deliveries end)) (option_or (value_difference 0 r.values (values_of end)) behind)) (status-none (has_ended end) r.status status) two
 
 module _ (tokens : TokenRuns) (bounds : AdoptBoundsEnclose) (f : TextFile) (r : Report) (log : List LogEvent) (whole : IsProblem f.problem) where
   abbrev goal_problem : Dcop

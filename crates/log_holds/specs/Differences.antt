@@ -1,6 +1,7 @@
 -- The conditions on a report with a log in their order, each with the difference that tells where it fails.
-use Rattle.std.specs.Prelude.{ℕ, ◌+◌, Bool, true, false, List, [], ◌∷◌, Option, Some, None, ◌==◌, nat_lt, if◌then◌else◌, slice_get}
+use Rattle.std.specs.Prelude.{ℕ, ◌+◌, Bool, true, false, List, [], ◌∷◌, Option, Some, None, ◌==◌, nat_lt, if◌then◌else◌, min, slice_get}
 use Rattle.std.specs.Option.{option_map, option_or}
+use Rattle.dcop_base.specs.Limits.{count_limit}
 use Rattle.dcop_base.specs.Problem.{cost}
 use Rattle.protocol_steps.specs.declared.event.EventFault.{EventFault}
 use Rattle.protocol_steps.specs.declared.standing.Standing.{Standing}
@@ -61,6 +62,10 @@ status_difference false Spent = None
 abbrev pub unless_right : (ℕ → ℕ → Differs) → ℕ → ℕ → Option Differs
 unless_right differs left right = if left == right then None else Some (differs left right)
 
+-- the printed deliveries are the right ones, which are told as far as they are counted
+abbrev pub count_difference : ℕ → ℕ → Option Differs
+count_difference left right = if left == right then None else Some (Deliveries left (min right count_limit))
+
 -- the printed values, from that of variable i on, are the right ones
 abbrev pub value_difference : ℕ → List ℕ → List ℕ → Option Differs
 value_difference i (v ∷ vs) (w ∷ ws) = if v == w then value_difference (i + 1) vs ws else Some (Value i)
@@ -85,7 +90,7 @@ bound_difference f top r =
 abbrev pub end_difference : TextFile → Network → Report → Option Differs
 end_difference f end r =
     option_or (status_difference (has_ended end) r.status)
-    (option_or (unless_right (λ left right. Deliveries left right) r.deliveries (deliveries end))
+    (option_or (count_difference r.deliveries (deliveries end))
     (option_or (value_difference 0 r.values (values_of end))
     (bound_difference f (root_standing end) r)))
 

@@ -1,9 +1,10 @@
 -- Each variable of which a difference of a report with a log speaks is one of the file's.
-use Rattle.std.proofs.Common.{◌≡◌, ℕ, ◌+◌, ◌≤◌, ◌<◌, Bool, true, false, not, cond, Option, Some, None, List, [], ◌∷◌, length, nat_eq, nat_lt, nat_le, arith}
+use Rattle.std.proofs.Common.{◌≡◌, ℕ, ◌+◌, ◌≤◌, ◌<◌, Bool, true, false, not, cond, Option, Some, None, List, [], ◌∷◌, length, nat_eq, nat_lt, nat_le, min, refl, arith}
 use Rattle.std.specs.Prelude.{IfSome}
 use Rattle.std.specs.List.{All, slice_get, list_any}
 use Rattle.std.specs.Option.{option_map, option_or}
 use Rattle.std.proofs.lemmas.List.Elements.{All-head, All-tail}
+use Rattle.dcop_base.specs.Limits.{count_limit}
 use Rattle.dcop_base.specs.Problem.{cost}
 use Rattle.protocol_steps.specs.declared.event.Take.{Take}
 use Rattle.protocol_steps.specs.declared.event.Event.{Event}
@@ -13,7 +14,7 @@ use Rattle.protocol_steps.specs.declared.standing.Standing.{Standing}
 use Rattle.protocol_steps.specs.View.{View, ended_of}
 use Rattle.protocol_steps.specs.Network.{Desk, Network, start_state, waiting}
 use Rattle.protocol_steps.specs.Effect.{effect, has_ended, deliveries}
-use Rattle.protocol_steps.specs.Run.{or_else, has_nothing, ascends_from, form_fault, too_many, fault_at, event_fault}
+use Rattle.protocol_steps.specs.Run.{or_else, has_nothing, ascends_from, form_fault, too_many, takes_fault, fault_at, event_fault}
 use Rattle.adopt_ends.specs.EndLaw.{values_of}
 use Rattle.run_log.specs.declared.log.LogEvent.{LogEvent}
 use Rattle.run_log.specs.Logs.{event_of}
@@ -29,7 +30,7 @@ use Rattle.problem_solved.specs.Goal.{problem_solved}
 use Rattle.problem_solved.specs.Gap.{gap_of}
 use Rattle.log_holds.specs.Ends.{least_known, lower_for, upper_for}
 use Rattle.log_holds.specs.Holds.{agents_for}
-use Rattle.log_holds.specs.Differences.{unlawful, fault_in, stamp_in, played, root_standing, status_difference, unless_right, value_difference, error_difference, bound_difference, end_difference, log_difference}
+use Rattle.log_holds.specs.Differences.{unlawful, fault_in, stamp_in, played, root_standing, status_difference, unless_right, count_difference, value_difference, error_difference, bound_difference, end_difference, log_difference}
 use Rattle.solve_report.specs.Verdict.{IsNamedFault, IsNamedDifference}
 use Rattle.solve_check.proofs.ToldNamedLaws.{AreNamed, or-named, if-named, then-named}
 
@@ -114,7 +115,7 @@ bounds-named n f top r =
 end-named : (n : ℕ) (f : TextFile) (end : Network) (r : Report) → length r.values ≡ n → AreNamed n (end_difference f end r)
 end-named n f end r long =
     or-named n (status_difference (has_ended end) r.status) _ (status-named n (has_ended end) r.status)
-    (or-named n (unless_right (λ left right. differences.Deliveries left right) r.deliveries (deliveries end)) _ (right-named n (λ left right. differences.Deliveries left right) r.deliveries (deliveries end) tt)
+    (or-named n (count_difference r.deliveries (deliveries end)) _ (if-named n (nat_eq r.deliveries (deliveries end)) (differences.Deliveries r.deliveries (min (deliveries end) count_limit)) tt)
     (or-named n (value_difference 0 r.values (values_of end)) (bound_difference f (root_standing end) r) (values-named n 0 r.values (values_of end) (omega (arith, long))) (bounds-named n f (root_standing end) r)))
 
 -- the first difference of a report with a log whose events and values are those of so many variables

@@ -25,7 +25,7 @@ use Rattle.log_holds.proofs.EndLaws.{agents-assigned, least-above}
 use Rattle.solve_methods.specs.Reached.{HaveReached}
 use Rattle.protocol_steps.specs.Outcomes.{HaveRun}
 use Rattle.solve_methods.specs.declared.adopt.Reached.{Reached}
-use Rattle.solve_methods.proofs.EndLaws.{run-spent}
+use Rattle.tree_search.proofs.EndLaws.{run-spent}
 use Rattle.log_holds.proofs.RootLaws.{root-zero}
 
 -- agents that have run on the depth-first tree

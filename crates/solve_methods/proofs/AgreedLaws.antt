@@ -20,7 +20,7 @@ use Rattle.dpop_runs.specs.Laws.{DpopRuns, separators_of}
 use Rattle.solve_methods.specs.Agreed.{HaveValues}
 use Rattle.solve_methods.specs.Dpop.{IsFirstOfTree, dpop_deliveries}
 use Rattle.protocol_steps.specs.Outcomes.{HaveRun}
-use Rattle.solve_methods.proofs.EndLaws.{run-ended}
+use Rattle.tree_search.proofs.EndLaws.{run-ended}
 
 -- DPOP agents that have run under the budget of their messages have the first optimum of their tree
 pub run-agreed : (p : Dcop) → IsProblem p → IsPseudotree p (dfs p) → IsLinked p (dfs p) → IsNarrow p (dfs p) → DpopRuns → RoundsAreARun → (outcome : Outcome) → HaveRun (dpop_deliveries p) (dpop_agents p (dfs p)) outcome

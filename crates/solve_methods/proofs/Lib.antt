@@ -1,9 +1,6 @@
 mod RightLaws
 mod TellLaws
 mod RowLaws
-mod ParentLaws
-mod EndLaws
-mod FoundLaws
 mod AgreedLaws
 mod BestLaws
 mod ChosenLaws

@@ -9,4 +9,3 @@ pub mod Reached
 pub mod Auto
 pub mod Drill
 pub mod Tree
-pub mod Found

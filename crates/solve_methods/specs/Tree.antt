@@ -1,5 +1,5 @@
 -- What the command `tree` gives on a file.
-use Rattle.std.specs.Prelude.{◌≡◌, ℕ, ◌-◌, ◌*◌, List, map, length}
+use Rattle.std.specs.Prelude.{◌≡◌, ℕ, List, map}
 use Rattle.dcop_base.specs.Problem.{Dcop}
 use Rattle.dcop_base.specs.Whole.{IsProblem}
 use Rattle.pseudotree.specs.Tree.{parent_of}
@@ -9,6 +9,7 @@ use Rattle.pseudotree.specs.DepthFirst.{dfs}
 use Rattle.problem_text.specs.File.{TextFile}
 use Rattle.problem_text.specs.Declarations.{Declared}
 use Rattle.problem_text.specs.Steps.{declared_by}
+use Rattle.tree_search.specs.Found.{token_deliveries}
 use Rattle.solve_report.specs.declared.tree.NodeRow.{NodeRow}
 use Rattle.solve_report.specs.declared.answer.Answer.{Answer}
 use Rattle.solve_report.specs.declared.answer.Answer.TheVariants as answers
@@ -24,10 +25,6 @@ rows_with separator paths = map (row_with separator paths) (preorder_of paths)
 -- the nodes of a tree of a problem in preorder, each with its parent and its separator from the root down
 abbrev pub rows_of : Dcop → List (List ℕ) → List NodeRow
 rows_of p paths = rows_with (separator_of p paths) paths
-
--- how many messages a search by tokens takes: one TOKEN to each variable but the root, and one DONE from it
-abbrev pub token_deliveries : Dcop → ℕ
-token_deliveries p = 2 * (length p.sizes - 1)
 
 -- the answer of `tree` on a file: the depth-first tree of its problem, and what the search for it takes
 abbrev pub IsTreeAnswer : TextFile → Answer → Type 0

@@ -1,4 +1,4 @@
-//! What each method answers on a file: plain search, the search for a tree, DPOP, ADOPT, and auto,
+//! What each method answers on a file: plain search, the tree, DPOP, ADOPT, and auto,
 //! which is DPOP where its tables fit and ADOPT otherwise; and what `drill` tells of such an answer.
 //!
 //! The plain method is run here. The others are run by agents, and whoever runs those: this crate
@@ -23,4 +23,4 @@ pub use dpop::{Choice, Chosen, choice_deliveries, chosen_by, dpop_answer};
 pub use drill::drill_answer;
 pub use law::adopt_reports_hold;
 pub use plain::plain_answer;
-pub use tree::{Found, node_rows_if, search_deliveries, tree_answer, tree_found};
+pub use tree::{node_rows_if, tree_answer};

@@ -6,7 +6,7 @@ ghost use Rattle.agent_links.specs.Ready.{IsNewCell};
 ghost use Rattle.delivery_core.specs.Agents.{IsStartFor, agents_of};
 ghost use Rattle.problem_text.specs.Steps.{declared_by};
 ghost use Rattle.solve_report.specs.AnswerText.{HasText};
-ghost use Rattle.solve_methods.specs.Found.{IsFound};
+ghost use Rattle.tree_search.specs.Found.{IsFound};
 ghost use Rattle.solve_methods.specs.Goal.{TellsRight};
 ghost use Rattle.protocol_steps.specs.Outcomes.{HaveRun};
 ghost use Rattle.solve_methods.specs.Tree.{AnswersTree};
@@ -22,10 +22,11 @@ use dcop_edge::Gate;
 use delivery_core::Start;
 use problem_text::ProblemFile;
 use protocol_steps::Outcome;
-use solve_methods::{Found, search_deliveries, tree_answer, tree_found};
+use solve_methods::tree_answer;
 use solve_report::Answer;
 use std::alloc::Global;
 use std::thread::Threads;
+use tree_search::{Found, search_deliveries, tree_found};
 use worker_runs::cells_tell_outcomes;
 
 /// What the agents of a problem come to that are run from this start, by workers in rounds until all

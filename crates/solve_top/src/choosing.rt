@@ -6,7 +6,7 @@ ghost use Rattle.problem_text.specs.Steps.{declared_by};
 ghost use Rattle.problem_solved.specs.Goal.{problem_solved};
 ghost use Rattle.solve_report.specs.AnswerText.{HasText};
 ghost use Rattle.solve_methods.specs.Dpop.{AnswersDpop, GivesChosen, HaveAgreed};
-ghost use Rattle.solve_methods.specs.Found.{IsFound};
+ghost use Rattle.tree_search.specs.Found.{IsFound};
 ghost use Rattle.solve_methods.specs.Goal.{TellsRight};
 
 use crate::agents::{find_tree, run_agents};
@@ -18,11 +18,12 @@ use problem_solved::ProblemSolved;
 use problem_text::ProblemFile;
 use pseudotree::widths;
 use solve_methods::{
-    Choice, Chosen, Found, choice_deliveries, chosen_by, dpop_answer, node_rows_if,
+    Choice, Chosen, choice_deliveries, chosen_by, dpop_answer, node_rows_if,
 };
 use solve_report::Answer;
 use std::alloc::Global;
 use std::thread::Threads;
+use tree_search::Found;
 
 /// The answer of DPOP on a file. Where it is to be certified, the report has the tables of all
 /// variables, in preorder, as its certificate.

@@ -6,7 +6,7 @@ ghost use Rattle.problem_text.specs.Steps.{declared_by};
 ghost use Rattle.problem_solved.specs.Goal.{problem_solved};
 ghost use Rattle.solve_report.specs.AnswerText.{HasText};
 ghost use Rattle.solve_methods.specs.Adopt.{AnswersAdopt};
-ghost use Rattle.solve_methods.specs.Found.{IsFound};
+ghost use Rattle.tree_search.specs.Found.{IsFound};
 ghost use Rattle.solve_methods.specs.Goal.{TellsRight};
 ghost use Rattle.solve_methods.specs.Reached.{HaveReached};
 
@@ -17,10 +17,11 @@ use dcop_edge::Gate;
 use delivery_core::Start;
 use problem_solved::ProblemSolved;
 use problem_text::ProblemFile;
-use solve_methods::{Asked, Found, Reached, adopt_answer, reached_by};
+use solve_methods::{Asked, Reached, adopt_answer, reached_by};
 use solve_report::Answer;
 use std::alloc::Global;
 use std::thread::Threads;
+use tree_search::Found;
 
 /// The answer of ADOPT on a file: what the agents of the problem solved reach on its depth-first
 /// tree.

@@ -1,0 +1,4 @@
+mod ValueLaws
+mod EndLaws
+mod DifferLaws
+mod CheckLaws

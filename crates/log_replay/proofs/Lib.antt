@@ -1,0 +1,7 @@
+mod MaxLaws
+mod QueueLaws
+mod RowLaws
+mod SentLaws
+mod FollowLaws
+mod StartLaws
+mod ReplayLaws

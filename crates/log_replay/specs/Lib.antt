@@ -1,0 +1,5 @@
+pub mod Queues
+pub mod Following
+pub mod Wrong
+pub mod Replays
+pub mod Steps

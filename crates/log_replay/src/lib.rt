@@ -1,0 +1,16 @@
+//! Replaying a log: whether its events are a run from a start, with right stamps.
+//!
+//! [`replay_log`] plays the events one after another, and keeps beside the network state the stamps
+//! of the messages that wait. It gives the network state at the end, or the first event that is not
+//! lawful, or else the first stamp that is wrong (`specs/Replays.antt`).
+#![tactic(auto)]
+
+mod fault;
+mod queue;
+mod replaying;
+mod row;
+mod stamps;
+mod wrong;
+
+pub use fault::{LogFault, WrongStamp};
+pub use replaying::replay_log;

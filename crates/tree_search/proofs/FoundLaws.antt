@@ -1,0 +1,55 @@
+-- What token agents have found that have run under the budget of their messages.
+use Rattle.std.proofs.Common.{◌≡◌, ℕ, List, [], ◌∷◌, map, length, Option, Some, refl, sym, ap, ◌∙◌, arith}
+use Rattle.std.specs.List.{flat_map, range_with_len}
+use Rattle.std.specs.Option.{option_map}
+use Rattle.std.proofs.lemmas.List.{length-map}
+use Rattle.std.proofs.lemmas.List.FromFn.{length-map-range_with_len}
+use Rattle.std.proofs.lemmas.Option.{slice_get-map}
+use Rattle.dcop_base.specs.Problem.{Dcop}
+use Rattle.dcop_base.specs.Whole.{IsProblem}
+use Rattle.pseudotree.specs.DepthFirst.{dfs, path_in, search_of}
+use Rattle.pseudotree.specs.Tree.{parent_of}
+use Rattle.pseudotree.specs.Fault.{parents_of}
+use Rattle.pseudotree.specs.declared.agent.Place.{Place}
+use Rattle.protocol_steps.specs.declared.event.Event.{Event}
+use Rattle.protocol_steps.specs.declared.outcome.Outcome.{Outcome}
+use Rattle.protocol_steps.specs.View.{View, place_of}
+use Rattle.protocol_steps.specs.Network.{start_state}
+use Rattle.protocol_steps.specs.Rounds.{RoundsAreARun}
+use Rattle.token_runs.specs.Agents.{place_found}
+use Rattle.token_runs.specs.Laws.{TokenRuns}
+use Rattle.protocol_steps.specs.TreeAgents.{token_agents}
+use Rattle.tree_search.specs.Found.{token_deliveries, HaveFound, places_found, parent_on}
+use Rattle.protocol_steps.specs.Outcomes.{HaveRun}
+use Rattle.tree_search.proofs.EndLaws.{run-ended, same-by}
+
+map-map : {X Y : Type 0} (g : X → Y) (f : ℕ → X) (is : List ℕ) → map g (map f is) ≡ map (λ i. g (f i)) is
+map-map g f [] = refl
+map-map {X} {Y} g f (i ∷ is) = ap (λ (ys : List Y). g (f i) ∷ ys) (map-map g f is)
+
+-- the parents that agents have found are those of the depth-first tree
+pub found-parents : (p : Dcop) (places : List (Option Place)) → places ≡ places_found p → map parent_on places ≡ parents_of (dfs p)
+found-parents p places found =
+    let long : length p.sizes ≡ length (dfs p) = sym (length-map-range_with_len (path_in (search_of p)) 0 (length p.sizes)) in
+    ap (map parent_on) found
+    ∙ map-map parent_on (λ i. Some (place_found p i)) (range_with_len 0 (length p.sizes))
+    ∙ ap (λ (n : ℕ). map (parent_of (dfs p)) (range_with_len 0 n)) long
+
+-- token agents that have run under the budget of their messages have found the depth-first tree
+pub run-found : (p : Dcop) → IsProblem p → TokenRuns → RoundsAreARun → (outcome : Outcome) → HaveRun (token_deliveries p) (token_agents p) outcome → HaveFound p outcome
+run-found p whole law rounds outcome is =
+    let events : List Event = flat_map (λ es. es) is.rounds in
+    let holds = law.runs p whole events is.end (rounds (token_deliveries p) (start_state (token_agents p)) is.end is.rounds is.are_rounds) in
+    let all = holds.whole (run-ended (token_deliveries p) is.end holds.pending is.how is.stopped holds.early) in record {
+      places =
+          is.told.places
+          ∙ same-by (map place_of is.end.views) (λ i. Some (place_found p i)) (length p.sizes) (length-map is.end.views place_of ∙ holds.sized) (λ i lt.
+          let at = all.places i lt in
+          slice_get-map place_of is.end.views i ∙ ap (λ (o : Option View). option_map place_of o) at.1 ∙ ap (λ (o : Option Place). Some o) at.2);
+      deliveries =
+          let told = is.told.deliveries in
+          let tokens = all.all_tokens in
+          let dones = all.all_dones in
+          let sum = holds.nothing_else in
+          omega (arith, told, tokens, dones, sum);
+    }
