@@ -1,0 +1,11 @@
+pub mod WordLaws
+pub mod TupleLaws
+pub mod ScopeLaws
+pub mod EndingLaws
+pub mod ProblemLaws
+pub mod ValueLaws
+pub mod EndLaws
+pub mod RaisingLaws
+pub mod ReadLaws
+pub mod MadeLaws
+pub mod CappedLaws

@@ -1,0 +1,13 @@
+pub mod Words
+pub mod Numbers
+pub mod Cells
+pub mod Functions
+pub mod Networks
+pub mod Problems
+pub mod Texts
+pub mod Values
+pub mod Files
+pub mod Kinds
+pub mod Gives
+pub mod Made
+pub mod Read
