@@ -1,25 +1,40 @@
 -- A report that tells what ADOPT agents of the problem solved have reached is right.
-use Rattle.std.proofs.Common.{◌≡◌, ℕ, ◌≤◌, true, List, Option, Some, None, sym, ap, subst, ◌∙◌, arith}
+use Rattle.std.proofs.Common.{◌≡◌, ℕ, ◌≤◌, Bool, true, List, length, Option, Some, None, IfSome, is_some, refl, sym, ap, subst, ◌∙◌, arith, All}
 use Rattle.dcop_base.specs.Problem.{Dcop, IsAssignment, cost}
 use Rattle.dcop_base.specs.Whole.{IsProblem}
 use Rattle.dcop_optimum.specs.Goal.{top_of}
 use Rattle.dcop_optimum.proofs.OptimumLaws.{some_optimum}
 use Rattle.dcop_optimum.proofs.TurnLaws.{sum_to_top}
 use Rattle.protocol_steps.specs.AdoptBounds.{lower_bound, upper_bound}
+use Rattle.pseudotree.specs.DepthFirst.{dfs}
 use Rattle.protocol_steps.specs.Effect.{has_ended}
-use Rattle.problem_text.specs.File.{TextFile}
+use Rattle.protocol_steps.specs.TreeAgents.{adopt_agents}
+use Rattle.token_runs.specs.Laws.{TokenRuns}
+use Rattle.adopt_runs.specs.RunLaws.{AdoptBoundsEnclose}
+use Rattle.adopt_ends.specs.EndLaw.{AdoptEnds}
+use Rattle.run_log.specs.declared.log.LogEvent.{LogEvent}
+use Rattle.run_log.specs.Laws.{IsStampedRun}
+use Rattle.run_log.specs.LogText.{IsNamedEvent}
+use Rattle.problem_text.specs.File.{TextFile, IsFile}
 use Rattle.problem_text.specs.declared.file.Goal.{Goal}
 use Rattle.problem_text.specs.declared.file.Goal.TheVariants.{Min, Max}
+use Rattle.certificate_text.specs.Named.{IsNamedCertificate, CanTell}
+use Rattle.certificate_text.specs.declared.certificate.Certificate.{Certificate}
 use Rattle.certificate_text.specs.declared.report.Report.{Report}
 use Rattle.certificate_text.specs.declared.report.Method.TheVariants.{Adopt}
 use Rattle.problem_solved.specs.Goal.{solved, problem_solved, IsAtMostWorse}
-use Rattle.problem_solved.proofs.SolvedLaws.{solved_problem}
+use Rattle.problem_solved.proofs.SolvedLaws.{solved_problem, solved_sizes}
+use Rattle.solve_methods.specs.Certified.{IsLogFor, IsLoggedBy, IsLogged, certificate_of_log}
 use Rattle.solve_methods.specs.Goal.{IsRightReport}
-use Rattle.log_holds.specs.Ends.{least_known, least_shown, lower_for, upper_for}
+use Rattle.log_holds.specs.Ends.{least_known, least_shown, lower_for, upper_for, TellsEnd}
+use Rattle.log_holds.specs.Holds.{agents_for}
+use Rattle.log_holds.proofs.HoldsLaws.{small-gap}
 use Rattle.log_holds.proofs.GoalLaws.{solved-assigned, right-bounds, right-near, solved-ended}
 use Rattle.solve_methods.specs.Adopt.{IsAdoptReport}
 use Rattle.solve_methods.specs.Reached.{HaveReached}
 use Rattle.solve_methods.specs.declared.adopt.Reached.{Reached}
+use Rattle.solve_methods.proofs.NamedLaws.{log_named}
+use Rattle.solve_methods.proofs.TellLaws.{CanTell-certified}
 
 -- in the problem solved an assignment costs at most the top sum
 solved-top : (goal : Goal) (p : Dcop) → IsProblem p → (values : List ℕ) → IsAssignment (solved goal p) values → cost (solved goal p) values ≤ top_of p
@@ -30,7 +45,7 @@ least-below : (sum : ℕ) (bound : Option ℕ) → least_known sum bound ≤ sum
 least-below sum None = omega arith
 least-below sum (Some bound) = omega arith
 
-module _ (goal : Goal) (p : Dcop) (whole : IsProblem p) (error budget : ℕ) (r : Reached) (is : HaveReached (solved goal p) error budget r) where
+module _ (goal : Goal) (p : Dcop) (whole : IsProblem p) (error budget : ℕ) (certified : Bool) (r : Reached) (is : HaveReached (solved goal p) error budget certified r) where
   -- so what the agents reached is at most the top sum
   pub upper-top : r.upper ≤ top_of p
   upper-top =
@@ -57,9 +72,9 @@ pub record Tells (file : TextFile) (error : ℕ) (r : Reached) (report : Report)
   pub sum : report.cost ≡ cost file.problem report.values
   pub lower : report.lower ≡ lower_for file.goal file.problem r.lower r.upper
   pub upper : report.upper ≡ upper_for file.goal file.problem r.lower r.upper
-  pub certificate : report.certificate ≡ None
+  pub certificate : report.certificate ≡ certificate_of_log r.log
 
-module _ (file : TextFile) (error budget : ℕ) (r : Reached) (report : Report) (is : HaveReached (problem_solved file) error budget r) (tells : Tells file error r report) (whole : IsProblem file.problem) where
+module _ (file : TextFile) (error budget : ℕ) (certified : Bool) (r : Reached) (report : Report) (is : HaveReached (problem_solved file) error budget certified r) (tells : Tells file error r report) (whole : IsProblem file.problem) where
   told-sum : report.cost ≡ cost file.problem r.values
   told-sum = tells.sum ∙ ap (cost file.problem) tells.values
 
@@ -81,27 +96,61 @@ module _ (file : TextFile) (error budget : ℕ) (r : Reached) (report : Report) 
     exact = λ other. absurd (other tells.method);
   }
 
-  -- it is of the form of a report of ADOPT
-  pub reached-form : IsAdoptReport file error budget report
-  reached-form =
+  -- it tells the end of the run
+  told-end : TellsEnd file is.end report
+  told-end =
       let p = problem_solved file in
       let high : r.upper ≡ least_shown p report.values is.top = is.upper ∙ ap (λ (values : List ℕ). least_shown p values is.top) (sym tells.values) in
       record {
-        end = is.end;
-        play = is.play;
-        told = record {
-          top = is.top;
-          is_top = is.is_top;
-          status = tells.status ∙ is.ending;
-          delivered = tells.deliveries ∙ is.delivered;
-          values = tells.values ∙ is.values;
-          sum = tells.sum;
-          lower = tells.lower ∙ ap (λ (l : ℕ). lower_for file.goal file.problem l r.upper) is.lower ∙ ap (λ (u : ℕ). lower_for file.goal file.problem (lower_bound is.top) u) high;
-          upper = tells.upper ∙ ap (λ (l : ℕ). upper_for file.goal file.problem l r.upper) is.lower ∙ ap (λ (u : ℕ). upper_for file.goal file.problem (lower_bound is.top) u) high;
-        };
-        spent = is.spent;
-        method = tells.method;
-        goal = tells.goal;
-        error_told = tells.error_told;
-        certificate = tells.certificate;
+        top = is.top;
+        is_top = is.is_top;
+        status = tells.status ∙ is.ending;
+        delivered = tells.deliveries ∙ is.delivered;
+        values = tells.values ∙ is.values;
+        sum = tells.sum;
+        lower = tells.lower ∙ ap (λ (l : ℕ). lower_for file.goal file.problem l r.upper) is.lower ∙ ap (λ (u : ℕ). lower_for file.goal file.problem (lower_bound is.top) u) high;
+        upper = tells.upper ∙ ap (λ (l : ℕ). upper_for file.goal file.problem l r.upper) is.lower ∙ ap (λ (u : ℕ). upper_for file.goal file.problem (lower_bound is.top) u) high;
       }
+
+  -- the log of the run shows that it holds
+  log-shows : TokenRuns → AdoptBoundsEnclose → AdoptEnds → (log : List LogEvent) → IsStampedRun (agents_for file error) log is.end → IsLogFor file is.end report log
+  log-shows tokens bounds ends log stamped =
+      let ran : IsStampedRun (agents_for file report.error) log is.end = subst (λ (e : ℕ). IsStampedRun (agents_for file e) log is.end) (sym tells.error_told) stamped in
+      record {
+        run = ran;
+        holds = record {
+          end = is.end;
+          run = ran;
+          told = told-end;
+          near = small-gap tokens bounds file report log is.end whole ran told-end ends;
+        };
+      }
+
+  log-certifies : TokenRuns → AdoptBoundsEnclose → AdoptEnds → (o : Option (List LogEvent)) → report.certificate ≡ certificate_of_log o → IfSome o (λ log. IsStampedRun (agents_for file error) log is.end)
+      → IsLogged (is_some o) file is.end report
+  log-certifies tokens bounds ends None certificate kept = certificate
+  log-certifies tokens bounds ends (Some log) certificate kept = subst (IsLoggedBy file is.end report) (sym certificate) (log-shows tokens bounds ends log kept)
+
+  -- it is of the form of a report of ADOPT
+  pub reached-form : TokenRuns → AdoptBoundsEnclose → AdoptEnds → IsAdoptReport file error budget certified report
+  reached-form tokens bounds ends = record {
+    end = is.end;
+    play = is.play;
+    told = told-end;
+    spent = is.spent;
+    method = tells.method;
+    goal = tells.goal;
+    error_told = tells.error_told;
+    certificate = subst (λ (b : Bool). IsLogged b file is.end report) is.asked (log-certifies tokens bounds ends r.log tells.certificate is.logged);
+  }
+
+  log-worded : IsFile file → (o : Option (List LogEvent)) → IfSome o (λ log. IsStampedRun (agents_for file error) log is.end) → IfSome (certificate_of_log o) (IsNamedCertificate (length file.names))
+  log-worded is_file None kept = tt
+  log-worded is_file (Some log) kept =
+      subst (λ (n : ℕ). All (IsNamedEvent n) log) (ap length (solved_sizes file.goal file.problem) ∙ sym is_file.named) (log_named (problem_solved file) error is.end log kept)
+
+  -- the names of the file can tell it
+  pub reached-told : IsFile file → CanTell report file
+  reached-told is_file =
+      CanTell-certified file report is_file (subst (IsAssignment file.problem) (sym tells.values) (solved-assigned file.goal file.problem r.values is.assignment))
+      (subst (λ (c : Option Certificate). IfSome c (IsNamedCertificate (length file.names))) (sym tells.certificate) (log-worded is_file r.log is.logged))

@@ -1,5 +1,5 @@
 -- What ADOPT agents have reached that have run under a budget.
-use Rattle.std.proofs.Common.{◌≡◌, ℕ, ◌+◌, ◌≤◌, List, map, sym, ap, subst, ◌∙◌, arith}
+use Rattle.std.proofs.Common.{◌≡◌, ℕ, ◌+◌, ◌≤◌, Bool, List, map, IfSome, is_some, sym, ap, subst, ◌∙◌, arith}
 use Rattle.std.specs.List.{flat_map}
 use Rattle.std.specs.Option.{option_map}
 use Rattle.std.proofs.lemmas.Option.{same_Some}
@@ -20,6 +20,7 @@ use Rattle.adopt_runs.specs.AdoptRun.{IsAdoptRun}
 use Rattle.adopt_runs.specs.PendingLaw.{AdoptPending}
 use Rattle.adopt_runs.specs.RunLaws.{HoldsOfAdopt, AdoptBoundsEnclose}
 use Rattle.adopt_ends.specs.EndLaw.{AdoptEnds}
+use Rattle.run_log.specs.Laws.{IsStampedRun}
 use Rattle.log_holds.specs.Ends.{least_known, least_shown, ending_of}
 use Rattle.log_holds.proofs.EndLaws.{agents-assigned, least-above}
 use Rattle.solve_methods.specs.Reached.{HaveReached}
@@ -45,8 +46,8 @@ module _ (p : Dcop) (whole : IsProblem p) (is_tree : IsPseudotree p (dfs p)) (li
 
   -- what they have reached, by their values and by the root's standing
   pub reached : (r : Reached) → r.values ≡ outcome.values → r.ending ≡ ending_of is.end → r.deliveries ≡ outcome.deliveries → r.lower ≡ outcome.top.lower → r.upper ≡ least_known (cost p r.values) outcome.top.upper
-      → HaveReached p error budget r
-  reached r values ending deliveries lower upper =
+      → (certified : Bool) → is_some r.log ≡ certified → IfSome r.log (λ log. IsStampedRun (adopt_agents p (dfs p) error) log is.end) → HaveReached p error budget certified r
+  reached r values ending deliveries lower upper certified asked logged =
       let one = holds.agents 0 (let some = whole.some in omega (arith, some)) in
       let v : AdoptView = one.0 in
       let root = root-zero p whole in
@@ -67,6 +68,8 @@ module _ (p : Dcop) (whole : IsProblem p) (is_tree : IsPseudotree p (dfs p)) (li
         lower = low;
         upper = high;
         assignment = assignment;
+        asked = asked;
+        logged = logged;
         enclosed = λ least optimal.
             let bounds = one.2.at_root root least optimal in
             let below = bounds.0 in

@@ -1,10 +1,12 @@
 -- The certificate of a report of DPOP: it fits the file, holds, and can be told.
-use Rattle.std.proofs.Common.{◌≡◌, ℕ, List, length, Option, Some, None, IfSome, is_some, sym, subst, ◌∙◌, All}
+use Rattle.std.proofs.Common.{◌≡◌, ℕ, List, length, Option, Some, None, IfSome, is_some, refl, sym, subst, ◌∙◌, All}
 use Rattle.std.proofs.lemmas.List.Elements.{All-weaker}
 use Rattle.dcop_base.specs.Problem.{Dcop, IsAssignment, cost}
 use Rattle.dcop_base.specs.Whole.{IsProblem}
 use Rattle.pseudotree.specs.DepthFirst.{dfs, DepthFirstTreesAreLinked}
 use Rattle.problem_text.specs.File.{TextFile, IsFile}
+use Rattle.problem_text.specs.declared.file.Goal.{Goal}
+use Rattle.problem_text.specs.declared.file.Goal.TheVariants.{Min, Max}
 use Rattle.certificate_text.specs.declared.certificate.Certificate.{Certificate}
 use Rattle.certificate_text.specs.declared.certificate.Certificate.TheVariants.{Tables, Log}
 use Rattle.certificate_text.specs.declared.certificate.Util.{Util}
@@ -13,7 +15,7 @@ use Rattle.certificate_text.specs.declared.report.Ending.TheVariants.{Solved}
 use Rattle.certificate_text.specs.declared.report.Method.TheVariants.{Dpop}
 use Rattle.certificate_text.specs.Fits.{FitsUtil, FitsTables}
 use Rattle.certificate_text.specs.Named.{IsNamedUtil, IsNamedCertificate, CanTell}
-use Rattle.problem_solved.specs.Goal.{problem_solved}
+use Rattle.problem_solved.specs.Goal.{solved, problem_solved}
 use Rattle.problem_solved.proofs.SolvedLaws.{solved_problem, solved_sizes}
 use Rattle.solve_methods.specs.Certified.{AreUtilsOf, HasUtilsOf, AreTablesOf, IsCertifiedBy, IsCertified}
 use Rattle.solve_methods.specs.Dpop.{dpop_deliveries, IsFirstOfTree, IsDpopReport, AreBestChosen}

@@ -1,8 +1,8 @@
 -- The tables that the agents of a problem made are those of its variables, by the nodes of its tree in preorder.
-use Rattle.std.proofs.Common.{◌≡◌, ℕ, ◌<◌, List, [], ◌∷◌, length, map, Option, Some, None, IfSome, is_some, refl, sym, ap, subst, ◌∙◌, All}
+use Rattle.std.proofs.Common.{◌≡◌, ℕ, ◌<◌, Bool, true, false, cond, List, [], ◌∷◌, length, map, Option, Some, None, IfSome, is_some, refl, sym, ap, subst, ◌∙◌, arith, All}
 use Rattle.std.specs.List.{AllZip, slice_get}
 use Rattle.std.specs.Option.{option_map}
-use Rattle.std.proofs.lemmas.List.Elements.{All-head, All-tail}
+use Rattle.std.proofs.lemmas.List.Elements.{All-head, All-tail, All-weaker}
 use Rattle.dcop_base.specs.Table.{CostTable}
 use Rattle.dcop_base.specs.Problem.{Dcop}
 use Rattle.pseudotree.specs.DepthFirst.{dfs}
@@ -11,6 +11,7 @@ use Rattle.pseudotree.specs.Place.{sizes_of}
 use Rattle.pseudotree.specs.Pseudotree.{separator_of, IsPseudotree}
 use Rattle.dpop_runs.specs.Agents.{IsOptimumTable}
 use Rattle.certificate_text.specs.declared.certificate.Certificate.{Certificate}
+use Rattle.certificate_text.specs.declared.certificate.Certificate.TheVariants.{Tables}
 use Rattle.solve_report.specs.declared.tree.NodeRow.{NodeRow}
 use Rattle.solve_methods.specs.Agreed.{HaveMade, cells_on, util_with, certificate_with}
 use Rattle.solve_methods.specs.Certified.{IsUtilOf, AreUtilsOf, HasUtilsOf}

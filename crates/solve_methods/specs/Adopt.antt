@@ -1,5 +1,5 @@
 -- What ADOPT gives on a file.
-use Rattle.std.specs.Prelude.{◌≡◌, ℕ, ◌≤◌, false, List, None}
+use Rattle.std.specs.Prelude.{◌≡◌, ℕ, ◌≤◌, Bool, false, List}
 use Rattle.std.specs.List.{flat_map}
 use Rattle.dcop_base.specs.Problem.{Dcop}
 use Rattle.dcop_base.specs.Whole.{IsProblem}
@@ -17,6 +17,7 @@ use Rattle.certificate_text.specs.declared.report.Report.{Report}
 use Rattle.certificate_text.specs.declared.report.Method.TheVariants.{Adopt}
 use Rattle.problem_solved.specs.Goal.{problem_solved}
 use Rattle.log_holds.specs.Ends.{TellsEnd}
+use Rattle.solve_methods.specs.Certified.{IsLogged}
 use Rattle.solve_report.specs.declared.answer.Answer.{Answer}
 use Rattle.solve_report.specs.declared.answer.Answer.TheVariants as answers
 
@@ -26,8 +27,8 @@ pub record IsAdoptPlay (p : Dcop) (error budget : ℕ) (end : Network) : Type 0 
   pub run : IsAdoptRun p (dfs p) error (flat_map (λ es. es) rounds) end
   pub in_rounds : AreRounds budget (start_state (adopt_agents p (dfs p) error)) rounds end
 
--- a report of ADOPT on a file: it tells the end of such a run on the problem solved; where an agent has not ended, the budget is spent
-pub record IsAdoptReport (file : TextFile) (error budget : ℕ) (report : Report) : Type 0 where
+-- a report of ADOPT on a file: it tells the end of such a run on the problem solved; where an agent has not ended, the budget is spent; where a certificate is asked for, it has a log of a run with that end
+pub record IsAdoptReport (file : TextFile) (error budget : ℕ) (certified : Bool) (report : Report) : Type 0 where
   pub end : Network
   pub play : IsAdoptPlay (problem_solved file) error budget end
   pub told : TellsEnd file end report
@@ -35,16 +36,16 @@ pub record IsAdoptReport (file : TextFile) (error budget : ℕ) (report : Report
   pub method : report.method ≡ Adopt
   pub goal : report.goal ≡ file.goal
   pub error_told : report.error ≡ error
-  pub certificate : report.certificate ≡ None
+  pub certificate : IsLogged certified file end report
 
 -- the answer of ADOPT on a file
-abbrev pub IsAdoptAnswer : TextFile → ℕ → ℕ → Answer → Type 0
-IsAdoptAnswer file error budget (answers.Report report same) = (same ≡ file) × IsAdoptReport file error budget report
-IsAdoptAnswer file error budget answer = ⊥
+abbrev pub IsAdoptAnswer : TextFile → ℕ → ℕ → Bool → Answer → Type 0
+IsAdoptAnswer file error budget certified (answers.Report report same) = (same ≡ file) × IsAdoptReport file error budget certified report
+IsAdoptAnswer file error budget certified answer = ⊥
 
 -- the answer of ADOPT on a text that declares this: that on its file, whose joints follow from the tables
-pub record AnswersAdopt (d : Declared) (error budget : ℕ) (answer : Answer) : Type 0 where
+pub record AnswersAdopt (d : Declared) (error budget : ℕ) (certified : Bool) (answer : Answer) : Type 0 where
   pub file : TextFile
   pub whole : IsProblem file.problem
   pub declared : declared_by file ≡ d
-  pub is : IsAdoptAnswer file error budget answer
+  pub is : IsAdoptAnswer file error budget certified answer

@@ -1,5 +1,5 @@
 -- What the method auto gives on a file.
-use Rattle.std.specs.Prelude.{◌≡◌, ℕ, false, Option, Some, None, is_some}
+use Rattle.std.specs.Prelude.{◌≡◌, ℕ, Bool, Option, Some, None, is_some}
 use Rattle.dcop_base.specs.Problem.{Dcop}
 use Rattle.dcop_base.specs.Whole.{IsProblem}
 use Rattle.pseudotree.specs.declared.width.Wide.{Wide}
@@ -15,26 +15,26 @@ use Rattle.solve_methods.specs.declared.auto.Settled.{Settled}
 use Rattle.solve_methods.specs.declared.auto.Settled.TheVariants.{ByDpop, ByAdopt}
 
 -- the answer of auto on a file in whose tree this is too wide for DPOP, or nothing: that of DPOP where it fits, and else that of ADOPT
-abbrev pub IsAutoBy : TextFile → ℕ → ℕ → Option Wide → Answer → Type 0
-IsAutoBy file error budget None answer = IsDpopSolved file false answer
-IsAutoBy file error budget (Some wide) answer = IsAdoptAnswer file error budget answer
+abbrev pub IsAutoBy : TextFile → ℕ → ℕ → Bool → Option Wide → Answer → Type 0
+IsAutoBy file error budget certified None answer = IsDpopSolved file certified answer
+IsAutoBy file error budget certified (Some wide) answer = IsAdoptAnswer file error budget certified answer
 
 -- the answer of auto on a file: by what is too wide in the depth-first tree of the problem solved
-abbrev pub IsAutoAnswer : TextFile → ℕ → ℕ → Answer → Type 0
-IsAutoAnswer file error budget answer = IsAutoBy file error budget (wide_in (problem_solved file)) answer
+abbrev pub IsAutoAnswer : TextFile → ℕ → ℕ → Bool → Answer → Type 0
+IsAutoAnswer file error budget certified answer = IsAutoBy file error budget certified (wide_in (problem_solved file)) answer
 
 -- the answer of auto on a text that declares this: that on its file, whose joints follow from the tables
-pub record AnswersAuto (d : Declared) (error budget : ℕ) (answer : Answer) : Type 0 where
+pub record AnswersAuto (d : Declared) (error budget : ℕ) (certified : Bool) (answer : Answer) : Type 0 where
   pub file : TextFile
   pub whole : IsProblem file.problem
   pub declared : declared_by file ≡ d
-  pub is : IsAutoAnswer file error budget answer
+  pub is : IsAutoAnswer file error budget certified answer
 
 -- something is too wide for DPOP in the depth-first tree of a problem
 abbrev pub IsWide : Dcop → Type 0
 IsWide p = (wide : Wide) × (wide_in p ≡ Some wide)
 
 -- what the agents of a problem come to: what they choose by DPOP where it fits, and else what they reach by ADOPT
-abbrev pub GivesSettled : Dcop → ℕ → ℕ → Settled → Type 0
-GivesSettled p error budget (ByDpop chosen) = (wide_in p ≡ None) × (is_some chosen.certificate ≡ false) × HaveAgreed p chosen
-GivesSettled p error budget (ByAdopt reached) = IsWide p × HaveReached p error budget reached
+abbrev pub GivesSettled : Dcop → ℕ → ℕ → Bool → Settled → Type 0
+GivesSettled p error budget certified (ByDpop chosen) = (wide_in p ≡ None) × (is_some chosen.certificate ≡ certified) × HaveAgreed p chosen
+GivesSettled p error budget certified (ByAdopt reached) = IsWide p × HaveReached p error budget certified reached

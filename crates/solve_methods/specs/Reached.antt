@@ -1,18 +1,21 @@
 -- What the ADOPT agents of a problem have reached.
-use Rattle.std.specs.Prelude.{◌≡◌, ℕ, ◌+◌, ◌≤◌, true, false}
+use Rattle.std.specs.Prelude.{◌≡◌, ℕ, ◌+◌, ◌≤◌, Bool, true, false, IfSome, is_some}
 use Rattle.dcop_base.specs.Problem.{Dcop, IsAssignment, cost}
 use Rattle.dcop_optimum.specs.Optimum.{IsOptimum}
+use Rattle.pseudotree.specs.DepthFirst.{dfs}
 use Rattle.protocol_steps.specs.Network.{Network}
 use Rattle.protocol_steps.specs.Effect.{has_ended, deliveries}
 use Rattle.protocol_steps.specs.Adopt.{AdoptView}
 use Rattle.protocol_steps.specs.AdoptBounds.{lower_bound}
+use Rattle.protocol_steps.specs.TreeAgents.{adopt_agents}
 use Rattle.adopt_ends.specs.EndLaw.{values_of}
+use Rattle.run_log.specs.Laws.{IsStampedRun}
 use Rattle.log_holds.specs.Ends.{IsRootAgent, ending_of, least_shown}
 use Rattle.solve_methods.specs.Adopt.{IsAdoptPlay}
 use Rattle.solve_methods.specs.declared.adopt.Reached.{Reached}
 
--- what such a run gave: the ending, the deliveries and the values of its end, and the root's bounds, with the values' cost; the values are an assignment, the bounds enclose the optimum, and where all agents have ended the values cost at most the error more
-pub record HaveReached (p : Dcop) (error budget : ℕ) (reached : Reached) : Type 0 where
+-- what such a run gave: the ending, the deliveries and the values of its end, and the root's bounds, with the values' cost; the values are an assignment, the bounds enclose the optimum, and where all agents have ended the values cost at most the error more; a log was kept exactly where one is asked for, and it is a run with that end and right stamps
+pub record HaveReached (p : Dcop) (error budget : ℕ) (certified : Bool) (reached : Reached) : Type 0 where
   pub end : Network
   pub play : IsAdoptPlay p error budget end
   pub top : AdoptView
@@ -26,3 +29,5 @@ pub record HaveReached (p : Dcop) (error budget : ℕ) (reached : Reached) : Typ
   pub assignment : IsAssignment p reached.values
   pub enclosed : (least : ℕ) → IsOptimum p least → (reached.lower ≤ least) × (least ≤ reached.upper)
   pub near : has_ended end ≡ true → (least : ℕ) → IsOptimum p least → cost p reached.values ≤ least + error
+  pub asked : is_some reached.log ≡ certified
+  pub logged : IfSome reached.log (λ log. IsStampedRun (adopt_agents p (dfs p) error) log end)

@@ -14,15 +14,17 @@ ghost use Rattle.log_holds.specs.Ends.{least_known, lower_for, upper_for};
 ghost use Rattle.solve_methods.specs.Adopt.{AnswersAdopt, IsAdoptReport};
 ghost use Rattle.solve_methods.specs.Goal.{IsRightReport, TellsRight};
 ghost use Rattle.solve_methods.specs.Reached.{HaveReached};
-ghost use Rattle.protocol_steps.specs.Outcomes.{HaveRun};
+ghost use Rattle.solve_methods.specs.Certified.{certificate_of_log};
+ghost use Rattle.solve_methods.specs.Kept.{HaveLogged};
 
 use adopt_ends::adopt_ends;
 use adopt_runs::{adopt_bounds_enclose, adopt_pending};
-use certificate_text::{Ending, Method, Report};
+use certificate_text::{Certificate, Ending, Method, Report};
 use dcop_base::{Problem, ValList, cost_of, problem_is_whole};
 use dcop_optimum::top_sum;
 use problem_text::{Goal, ProblemFile};
 use protocol_steps::{Outcome, rounds_are_a_run};
+use run_log::Log;
 use solve_report::Answer;
 use token_runs::token_runs;
 
@@ -33,6 +35,17 @@ pub struct Asked {
     pub error: u64,
     /// How many deliveries are enough to stop before they have ended, at most 10,000,000.
     pub budget: u64,
+    /// Whether the log of their run is asked for, as a certificate.
+    pub certified: bool,
+}
+
+/// What agents have come to, and the log of their run where one was kept.
+#[derive(Debug, Drop)]
+pub struct Logged {
+    /// What they have come to.
+    pub outcome: Outcome,
+    /// The merged journals of all agents.
+    pub log: Option<Log>,
 }
 
 /// What ADOPT agents have reached, in the problem solved.
@@ -45,14 +58,16 @@ pub struct Reached {
     lower: u64,
     /// The optimum is not higher.
     upper: u64,
+    /// What all agents did, where that was kept.
+    log: Option<Log>,
 }
 
 /// What the ADOPT agents of a problem have reached on its depth-first tree, whose root is variable
-/// 0: the ending, the deliveries and the values of their run, and the bounds of the root's agent and
-/// of the values' cost.
-pub fn reached_by(problem: &Problem, asked: Asked, outcome: Outcome) -> Reached
-    requires { HaveRun asked.budget (adopt_agents problem.now (dfs problem.now) asked.error) outcome }
-    ensures { HaveReached problem.now asked.error asked.budget result }
+/// 0: the ending, the deliveries and the values of their run, the bounds of the root's agent and of
+/// the values' cost, and the log of the run where one was kept.
+pub fn reached_by(problem: &Problem, asked: Asked, ran: Logged) -> Reached
+    requires { HaveLogged asked.budget (adopt_agents problem.now (dfs problem.now) asked.error) asked.certified ran }
+    ensures { HaveReached problem.now asked.error asked.budget asked.certified result }
 {
     token_runs();
     rounds_are_a_run();
@@ -60,6 +75,7 @@ pub fn reached_by(problem: &Problem, asked: Asked, outcome: Outcome) -> Reached
     adopt_pending();
     adopt_ends();
     problem_is_whole(problem);
+    let Logged { outcome, log } = ran;
     let cost = cost_of(problem, outcome.values.as_slice());
     Reached {
         ending: ending_by(outcome.ended),
@@ -67,14 +83,15 @@ pub fn reached_by(problem: &Problem, asked: Asked, outcome: Outcome) -> Reached
         values: outcome.values,
         lower: outcome.top.lower,
         upper: least_known(cost, outcome.top.upper),
+        log,
     }
 }
 
-/// The answer of ADOPT on a file: the report of what the agents of the problem solved have reached.
-/// It is spent where an agent has not ended.
+/// The answer of ADOPT on a file: the report of what the agents of the problem solved have reached,
+/// with the log of their run where one is asked for. It is spent where an agent has not ended.
 pub fn adopt_answer(file: ProblemFile, asked: Asked, reached: Reached) -> Answer
-    requires { HaveReached (problem_solved file) asked.error asked.budget reached }
-    ensures belongs { AnswersAdopt (declared_by file) asked.error asked.budget result }
+    requires { HaveReached (problem_solved file) asked.error asked.budget asked.certified reached }
+    ensures belongs { AnswersAdopt (declared_by file) asked.error asked.budget asked.certified result }
     ensures right { TellsRight result }
     ensures told { HasText result }
 {
@@ -88,17 +105,21 @@ pub fn adopt_answer(file: ProblemFile, asked: Asked, reached: Reached) -> Answer
 /// The report of what the agents of the problem solved have reached.
 pub(crate) fn adopt_report(file: &ProblemFile, asked: Asked, reached: Reached) -> Report
     requires whole { IsProblem file.now.problem }
-    requires reached { HaveReached (problem_solved file.now) asked.error asked.budget reached }
-    ensures form { IsAdoptReport file.now asked.error asked.budget result }
+    requires reached { HaveReached (problem_solved file.now) asked.error asked.budget asked.certified reached }
+    ensures form { IsAdoptReport file.now asked.error asked.budget asked.certified result }
     ensures right { IsRightReport file.now result }
     ensures told { CanTell result file.now }
 {
+    token_runs();
+    adopt_bounds_enclose();
+    adopt_ends();
     let Reached {
         ending,
         deliveries,
         values,
         lower,
         upper,
+        log,
     } = reached;
     Report {
         status: ending,
@@ -110,7 +131,7 @@ pub(crate) fn adopt_report(file: &ProblemFile, asked: Asked, reached: Reached) -
         lower: lower_for(file.goal, &file.problem, lower, upper),
         upper: upper_for(file.goal, &file.problem, lower, upper),
         values,
-        certificate: None,
+        certificate: certificate_of_log(log),
     }
 }
 
@@ -133,6 +154,16 @@ fn upper_for(goal: Goal, problem: &Problem, lower: u64, upper: u64) -> u64
     match goal {
         Goal::Min => upper,
         Goal::Max => top_sum(problem) - lower,
+    }
+}
+
+/// The certificate of a log, where there is one.
+fn certificate_of_log(log: Option<Log>) -> Option<Certificate>
+    ensures { result ≡ certificate_of_log log }
+{
+    match log {
+        Some(log) => Some(Certificate::Log(log)),
+        None => None,
     }
 }
 

@@ -24,8 +24,8 @@ pub enum Settled {
 /// The answer of auto on a file: the report of what the agents of the problem solved came to. Where
 /// they chose by DPOP its error is 0, and else the one that is asked for.
 pub fn auto_answer(file: ProblemFile, asked: Asked, settled: Settled) -> Answer
-    requires { GivesSettled (problem_solved file) asked.error asked.budget settled }
-    ensures belongs { AnswersAuto (declared_by file) asked.error asked.budget result }
+    requires { GivesSettled (problem_solved file) asked.error asked.budget asked.certified settled }
+    ensures belongs { AnswersAuto (declared_by file) asked.error asked.budget asked.certified result }
     ensures right { TellsRight result }
     ensures told { HasText result }
 {

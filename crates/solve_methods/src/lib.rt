@@ -17,7 +17,7 @@ mod plain;
 mod tables;
 mod tree;
 
-pub use adopt::{Asked, Reached, adopt_answer, reached_by};
+pub use adopt::{Asked, Logged, Reached, adopt_answer, reached_by};
 pub use auto::{Settled, auto_answer};
 pub use dpop::{Choice, Chosen, choice_deliveries, chosen_by, dpop_answer};
 pub use drill::drill_answer;

@@ -174,52 +174,52 @@ fit-none d fit file whole declared =
     fit.fits
 
 -- an answer of ADOPT has the status of a report
-adopt-status : (file : TextFile) (error budget : ℕ) (answer : Answer) → IsAdoptAnswer file error budget answer → (ending : Ending) × (status_of answer ≡ status_of_ending ending)
-adopt-status file error budget (answers.Report report same) is = (report.status, refl)
-adopt-status file error budget (answers.Tree deliveries nodes names) is = absurd is
-adopt-status file error budget (answers.Verdict verdict names) is = absurd is
-adopt-status file error budget (answers.Drill summary) is = absurd is
-adopt-status file error budget (answers.Upgraded same) is = absurd is
-adopt-status file error budget (answers.Words at kind) is = absurd is
-adopt-status file error budget (answers.ProblemText line kind problem) is = absurd is
-adopt-status file error budget (answers.ReportText line kind) is = absurd is
-adopt-status file error budget (answers.Many n) is = absurd is
-adopt-status file error budget (answers.WideAgent var cells names) is = absurd is
-adopt-status file error budget (answers.WideTotal cells) is = absurd is
-adopt-status file error budget answers.Read is = absurd is
-adopt-status file error budget answers.NotYet is = absurd is
+adopt-status : (file : TextFile) (error budget : ℕ) (certified : Bool) (answer : Answer) → IsAdoptAnswer file error budget certified answer → (ending : Ending) × (status_of answer ≡ status_of_ending ending)
+adopt-status file error budget certified (answers.Report report same) is = (report.status, refl)
+adopt-status file error budget certified (answers.Tree deliveries nodes names) is = absurd is
+adopt-status file error budget certified (answers.Verdict verdict names) is = absurd is
+adopt-status file error budget certified (answers.Drill summary) is = absurd is
+adopt-status file error budget certified (answers.Upgraded same) is = absurd is
+adopt-status file error budget certified (answers.Words at kind) is = absurd is
+adopt-status file error budget certified (answers.ProblemText line kind problem) is = absurd is
+adopt-status file error budget certified (answers.ReportText line kind) is = absurd is
+adopt-status file error budget certified (answers.Many n) is = absurd is
+adopt-status file error budget certified (answers.WideAgent var cells names) is = absurd is
+adopt-status file error budget certified (answers.WideTotal cells) is = absurd is
+adopt-status file error budget certified answers.Read is = absurd is
+adopt-status file error budget certified answers.NotYet is = absurd is
 
 -- a report of ADOPT goes well
-ending-well : (error budget : ℕ) (ending : Ending) → GoesWell (status_of_ending ending) (File (tasks.Adopt error budget))
-ending-well error budget endings.Solved = tt
-ending-well error budget endings.Spent = tt
+ending-well : (error budget : ℕ) (certified : Bool) (ending : Ending) → GoesWell (status_of_ending ending) (File (tasks.Adopt error budget certified))
+ending-well error budget certified endings.Solved = tt
+ending-well error budget certified endings.Spent = tt
 
-adopt-well : (file : TextFile) (error budget : ℕ) (answer : Answer) → IsAdoptAnswer file error budget answer → GoesWell (status_of answer) (File (tasks.Adopt error budget))
-adopt-well file error budget answer is =
-    let told = adopt-status file error budget answer is in
-    subst (λ (s : Status). GoesWell s (File (tasks.Adopt error budget))) (sym told.1) (ending-well error budget told.0)
+adopt-well : (file : TextFile) (error budget : ℕ) (certified : Bool) (answer : Answer) → IsAdoptAnswer file error budget certified answer → GoesWell (status_of answer) (File (tasks.Adopt error budget certified))
+adopt-well file error budget certified answer is =
+    let told = adopt-status file error budget certified answer is in
+    subst (λ (s : Status). GoesWell s (File (tasks.Adopt error budget certified))) (sym told.1) (ending-well error budget certified told.0)
 
 -- so does one of auto
-auto-ending : (error budget : ℕ) (ending : Ending) → GoesWell (status_of_ending ending) (File (tasks.Auto error budget))
-auto-ending error budget endings.Solved = tt
-auto-ending error budget endings.Spent = tt
+auto-ending : (error budget : ℕ) (certified : Bool) (ending : Ending) → GoesWell (status_of_ending ending) (File (tasks.Auto error budget certified))
+auto-ending error budget certified endings.Solved = tt
+auto-ending error budget certified endings.Spent = tt
 
-auto-status : (file : TextFile) (error budget : ℕ) (wide : Option Wide) (answer : Answer) → IsAutoBy file error budget wide answer → (ending : Ending) × (status_of answer ≡ status_of_ending ending)
-auto-status file error budget None answer is = (endings.Solved, report-solved file false answer is)
-auto-status file error budget (Some wide) answer is = adopt-status file error budget answer is
+auto-status : (file : TextFile) (error budget : ℕ) (certified : Bool) (wide : Option Wide) (answer : Answer) → IsAutoBy file error budget certified wide answer → (ending : Ending) × (status_of answer ≡ status_of_ending ending)
+auto-status file error budget certified None answer is = (endings.Solved, report-solved file certified answer is)
+auto-status file error budget certified (Some wide) answer is = adopt-status file error budget certified answer is
 
-auto-well : (file : TextFile) (error budget : ℕ) (answer : Answer) → IsAutoAnswer file error budget answer → GoesWell (status_of answer) (File (tasks.Auto error budget))
-auto-well file error budget answer is =
-    let told = auto-status file error budget (wide_in (problem_solved file)) answer is in
-    subst (λ (s : Status). GoesWell s (File (tasks.Auto error budget))) (sym told.1) (auto-ending error budget told.0)
+auto-well : (file : TextFile) (error budget : ℕ) (certified : Bool) (answer : Answer) → IsAutoAnswer file error budget certified answer → GoesWell (status_of answer) (File (tasks.Auto error budget certified))
+auto-well file error budget certified answer is =
+    let told = auto-status file error budget certified (wide_in (problem_solved file)) answer is in
+    subst (λ (s : Status). GoesWell s (File (tasks.Auto error budget certified))) (sym told.1) (auto-ending error budget certified told.0)
 
 -- an answer to what a text declares is no failed reading
 file-sound : (task : FileTask) (d : Declared) → ¬ IsFileAnswer task d answers.Read
 file-sound tasks.Plain d is = is
 file-sound (tasks.Dpop certified) d is = dpop-sound is.file certified (wide_in (solved is.file.goal is.file.problem)) is.is
-file-sound (tasks.Adopt error budget) d is = is.is
-file-sound (tasks.Auto error budget) d is =
-    let told = auto-status is.file error budget (wide_in (problem_solved is.file)) answers.Read is.is in (ending-told told.0).2 (sym told.1)
+file-sound (tasks.Adopt error budget certified) d is = is.is
+file-sound (tasks.Auto error budget certified) d is =
+    let told = auto-status is.file error budget certified (wide_in (problem_solved is.file)) answers.Read is.is in (ending-told told.0).2 (sym told.1)
 file-sound tasks.Tree d is = is.is
 file-sound tasks.Upgrade d is = is
 
@@ -328,8 +328,8 @@ file-well tasks.Plain d answers.Read few is = absurd is
 file-well tasks.Plain d answers.NotYet few is = absurd is
 file-well (tasks.Dpop certified) d answer few is =
     solved-well (status_of answer) (File (tasks.Dpop certified)) (dpop-solved is.file certified answer (fit-none d few is.file is.whole is.declared) is.is)
-file-well (tasks.Adopt error budget) d answer few is = adopt-well is.file error budget answer is.is
-file-well (tasks.Auto error budget) d answer few is = auto-well is.file error budget answer is.is
+file-well (tasks.Adopt error budget certified) d answer few is = adopt-well is.file error budget certified answer is.is
+file-well (tasks.Auto error budget certified) d answer few is = auto-well is.file error budget certified answer is.is
 file-well tasks.Tree d answer few is = solved-well (status_of answer) (File tasks.Tree) (tree-solved is.file answer is.is)
 file-well tasks.Upgrade d (answers.Upgraded file) few is = tt
 file-well tasks.Upgrade d (answers.Drill summary) few is = absurd is

@@ -1,5 +1,5 @@
 -- Of inputs that are read alike DPOP has one answer, and auto has it too where DPOP fits.
-use Rattle.std.proofs.Common.{◌≡◌, ℕ, Bool, false, Option, None, Result, Ok, Err, sym, subst, ◌∙◌}
+use Rattle.std.proofs.Common.{◌≡◌, ℕ, Bool, Option, None, Result, Ok, Err, sym, subst, ◌∙◌}
 use Rattle.dcop_optimum.specs.TreeOptimum.{FirstOptimaOfTreesAreOne}
 use Rattle.pseudotree.specs.DepthFirst.{DepthFirstTreesAreLinked}
 use Rattle.pseudotree.specs.declared.width.Wide.{Wide}
@@ -50,27 +50,27 @@ dpop_answers_one optima trees certified words words' input input' a b asks asks'
     (task-IsAnswer words' asks'.command (File (tasks.Dpop certified)) input' b asks'.asked asks'.served of_b)
 
 -- an answer of auto is one of DPOP where nothing is too wide
-fit-dpop : (d : Declared) (error budget : ℕ) (answer : Answer) → HasFitTree d → AnswersAuto d error budget answer → AnswersDpop d false answer
-fit-dpop d error budget answer fit is =
+fit-dpop : (d : Declared) (error budget : ℕ) (certified : Bool) (answer : Answer) → HasFitTree d → AnswersAuto d error budget certified answer → AnswersDpop d certified answer
+fit-dpop d error budget certified answer fit is =
     let none : wide_in (problem_solved is.file) ≡ None = fit-none d fit is.file is.whole is.declared in record {
       file = is.file;
       whole = is.whole;
       declared = is.declared;
       is =
-          subst (λ (wide : Option Wide). IsAnswerBy is.file false wide answer) (sym none)
-          (subst (λ (wide : Option Wide). IsAutoBy is.file error budget wide answer) none is.is);
+          subst (λ (wide : Option Wide). IsAnswerBy is.file certified wide answer) (sym none)
+          (subst (λ (wide : Option Wide). IsAutoBy is.file error budget certified wide answer) none is.is);
     }
 
-auto_of_input : (error budget : ℕ) (input : Input) (answer : Answer) → HasFitProblem input → IsInputAnswer (File (tasks.Auto error budget)) input answer → IsInputAnswer (File (tasks.Dpop false)) input answer
-auto_of_input error budget Unread answer fit is = absurd fit
-auto_of_input error budget Broken answer fit is = absurd fit
-auto_of_input error budget TooLong answer fit is = absurd fit
-auto_of_input error budget (Whole bytes) answer fit is =
-    subst (λ (read : Result Declared Fault). IsTextAnswer (tasks.Dpop false) read answer) (sym fit.1)
-    (fit-dpop fit.0 error budget answer fit.2 (subst (λ (read : Result Declared Fault). IsTextAnswer (tasks.Auto error budget) read answer) fit.1 is))
+auto_of_input : (error budget : ℕ) (certified : Bool) (input : Input) (answer : Answer) → HasFitProblem input → IsInputAnswer (File (tasks.Auto error budget certified)) input answer → IsInputAnswer (File (tasks.Dpop certified)) input answer
+auto_of_input error budget certified Unread answer fit is = absurd fit
+auto_of_input error budget certified Broken answer fit is = absurd fit
+auto_of_input error budget certified TooLong answer fit is = absurd fit
+auto_of_input error budget certified (Whole bytes) answer fit is =
+    subst (λ (read : Result Declared Fault). IsTextAnswer (tasks.Dpop certified) read answer) (sym fit.1)
+    (fit-dpop fit.0 error budget certified answer fit.2 (subst (λ (read : Result Declared Fault). IsTextAnswer (tasks.Auto error budget certified) read answer) fit.1 is))
 
 pub auto_answers_dpop : AutoAnswersAreThoseOfDpop
-auto_answers_dpop words words' input answer asks asks' fit is =
-    IsAnswer-task words' asks'.command (File (tasks.Dpop false)) input answer asks'.asked asks'.served
-    (auto_of_input asks.error asks.budget input answer fit
-    (task-IsAnswer words asks.command (File (tasks.Auto asks.error asks.budget)) input answer asks.asked asks.served is))
+auto_answers_dpop certified words words' input answer asks asks' fit is =
+    IsAnswer-task words' asks'.command (File (tasks.Dpop certified)) input answer asks'.asked asks'.served
+    (auto_of_input asks.error asks.budget certified input answer fit
+    (task-IsAnswer words asks.command (File (tasks.Auto asks.error asks.budget certified)) input answer asks.asked asks.served is))

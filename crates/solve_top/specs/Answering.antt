@@ -37,8 +37,8 @@ IsFileAnswer tasks.Plain d (answers.Report report file) =
     (product d.sizes ≤ assignment_limit) × (declared_by file ≡ d) × IsPlainReport file report × HasFirstOptimum file report
 IsFileAnswer tasks.Plain d (answers.Many assignments) = IsTooMany (product d.sizes) assignments
 IsFileAnswer (tasks.Dpop certified) d answer = AnswersDpop d certified answer
-IsFileAnswer (tasks.Adopt error budget) d answer = AnswersAdopt d error budget answer
-IsFileAnswer (tasks.Auto error budget) d answer = AnswersAuto d error budget answer
+IsFileAnswer (tasks.Adopt error budget certified) d answer = AnswersAdopt d error budget certified answer
+IsFileAnswer (tasks.Auto error budget certified) d answer = AnswersAuto d error budget certified answer
 IsFileAnswer tasks.Tree d answer = AnswersTree d answer
 IsFileAnswer tasks.Upgrade d (answers.Upgraded file) = declared_by file ≡ record d { version = 2 }
 IsFileAnswer task d answer = ⊥

@@ -1,5 +1,5 @@
 -- The answer of DPOP is one function of what was read, and so is that of auto where DPOP fits.
-use Rattle.std.specs.Prelude.{◌≡◌, ℕ, Bool, false, List, Some, Ok}
+use Rattle.std.specs.Prelude.{◌≡◌, ℕ, Bool, List, Some, Ok}
 use Rattle.problem_text.specs.Declarations.{Declared}
 use Rattle.solve_words.specs.declared.command.Command.{Command}
 use Rattle.solve_words.specs.Command.{answer_to}
@@ -28,20 +28,20 @@ abbrev pub DpopAnswersAreOne : Type 0
 DpopAnswersAreOne = (certified : Bool) (words words' : List (List ℕ)) (input input' : Input) (a b : Answer) → AskForDpop certified words → AskForDpop certified words' → AreReadAlike input input'
     → IsAnswer words input a → IsAnswer words' input' b → a ≡ b
 
--- words that ask for auto
-pub record AskForAuto (words : List (List ℕ)) : Type 0 where
+-- words that ask for auto, with a certificate or without
+pub record AskForAuto (certified : Bool) (words : List (List ℕ)) : Type 0 where
   pub command : Command
   pub error : ℕ
   pub budget : ℕ
   pub asked : answer_to words ≡ Ok command
-  pub served : task_of command ≡ Some (File (tasks.Auto error budget))
+  pub served : task_of command ≡ Some (File (tasks.Auto error budget certified))
 
 -- a text was read that declares a problem in whose tree nothing is too wide for DPOP
 abbrev pub HasFitProblem : Input → Type 0
 HasFitProblem (Whole bytes) = (d : Declared) × (whole_read bytes ≡ Ok d) × HasFitTree d
 HasFitProblem input = ⊥
 
--- an answer of auto on such an input is one of DPOP without a certificate
+-- an answer of auto on such an input is one of DPOP, with a certificate or without alike
 abbrev pub AutoAnswersAreThoseOfDpop : Type 0
-AutoAnswersAreThoseOfDpop = (words words' : List (List ℕ)) (input : Input) (answer : Answer) → AskForAuto words → AskForDpop false words' → HasFitProblem input
+AutoAnswersAreThoseOfDpop = (certified : Bool) (words words' : List (List ℕ)) (input : Input) (answer : Answer) → AskForAuto certified words → AskForDpop certified words' → HasFitProblem input
     → IsAnswer words input answer → IsAnswer words' input answer

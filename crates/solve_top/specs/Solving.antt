@@ -78,8 +78,8 @@ pub record HasFitTree (d : Declared) : Type 0 where
 abbrev pub IsWithinLimits : FileTask → Declared → Type 0
 IsWithinLimits tasks.Plain d = product d.sizes ≤ assignment_limit
 IsWithinLimits (tasks.Dpop certified) d = HasFitTree d
-IsWithinLimits (tasks.Adopt error budget) d = Unit {0}
-IsWithinLimits (tasks.Auto error budget) d = Unit {0}
+IsWithinLimits (tasks.Adopt error budget certified) d = Unit {0}
+IsWithinLimits (tasks.Auto error budget certified) d = Unit {0}
 IsWithinLimits tasks.Tree d = Unit {0}
 IsWithinLimits tasks.Upgrade d = Unit {0}
 
@@ -130,6 +130,6 @@ pub record AsksDrill (words : List (List ℕ)) : Type 0 where
 abbrev pub GoesWell : Status → Task → Type 0
 GoesWell statuses.Solved task = Unit {0}
 GoesWell statuses.NoMemory task = Unit {0}
-GoesWell statuses.Spent (File (tasks.Adopt error budget)) = Unit {0}
-GoesWell statuses.Spent (File (tasks.Auto error budget)) = Unit {0}
+GoesWell statuses.Spent (File (tasks.Adopt error budget certified)) = Unit {0}
+GoesWell statuses.Spent (File (tasks.Auto error budget certified)) = Unit {0}
 GoesWell status task = ⊥

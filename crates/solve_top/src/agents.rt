@@ -8,11 +8,13 @@ ghost use Rattle.problem_text.specs.Steps.{declared_by};
 ghost use Rattle.solve_report.specs.AnswerText.{HasText};
 ghost use Rattle.tree_search.specs.Found.{IsFound};
 ghost use Rattle.solve_methods.specs.Goal.{TellsRight};
+ghost use Rattle.solve_methods.specs.Kept.{HaveLogged};
 ghost use Rattle.protocol_steps.specs.Outcomes.{HaveRun};
 ghost use Rattle.solve_methods.specs.Tree.{AnswersTree};
 ghost use Rattle.agent_seats.specs.Kinds.{view_of};
 
 use crate::crew::Crew;
+use crate::logging::log_if;
 use agent_cells::Cell;
 use agent_links::{make_each, outcome_of};
 use agent_seats::{Agent, Seat, seats_of};
@@ -22,16 +24,16 @@ use dcop_edge::Gate;
 use delivery_core::Start;
 use problem_text::ProblemFile;
 use protocol_steps::Outcome;
-use solve_methods::tree_answer;
+use run_log::merged_stamps_are_right;
+use solve_methods::{Logged, tree_answer};
 use solve_report::Answer;
 use std::alloc::Global;
 use std::thread::Threads;
 use tree_search::{Found, search_deliveries, tree_found};
-use worker_runs::cells_tell_outcomes;
+use worker_runs::{cells_tell_outcomes, journals_merge};
 
 /// What the agents of a problem come to that are run from this start, by workers in rounds until all
-/// have ended or so many messages are delivered. This is the one place where agents are run, and
-/// where they are boxed.
+/// have ended or so many messages are delivered.
 pub(crate) fn run_agents<R: Threads + Sync, G: Gate>(
     crew: &Crew<R, G>,
     alloc: Global,
@@ -43,7 +45,27 @@ pub(crate) fn run_agents<R: Threads + Sync, G: Gate>(
     requires budget { budget ≤ budget_limit }
     ensures { IfOk result (HaveRun budget (agents_of problem.now start.now)) }
 {
+    let ran = run_logged(crew, alloc, problem, start, budget, false)?;
+    Ok(ran.outcome)
+}
+
+/// The same, with the log of the run where it is asked for. This is the one place where agents are
+/// run, and where they are boxed.
+pub(crate) fn run_logged<R: Threads + Sync, G: Gate>(
+    crew: &Crew<R, G>,
+    alloc: Global,
+    problem: &Problem,
+    start: &Start,
+    budget: u64,
+    certified: bool,
+) -> Result<Logged, NoMemory>
+    requires start { IsStartFor problem.now start.now }
+    requires budget { budget ≤ budget_limit }
+    ensures { IfOk result (HaveLogged budget (agents_of problem.now start.now) certified) }
+{
     cells_tell_outcomes();
+    journals_merge();
+    merged_stamps_are_right();
     problem_is_whole(problem);
     let make = |seat: Seat| -> Result<Cell, NoMemory>
         ensures { IfOk result (IsNewCell (λ b. meaning (b.vtable, b.value)) (view_of seat.agent) seat.me seat.tails.items seat.heads.items) }
@@ -78,7 +100,9 @@ pub(crate) fn run_agents<R: Threads + Sync, G: Gate>(
     let seats = seats_of(alloc, problem, start)?;
     let mut cells = make_each(alloc, seats, &make)?;
     let end = run(crew.rt, &mut cells, crew.workers, budget, crew.gate)?;
-    outcome_of(alloc, cells.as_slice(), end)
+    let outcome = outcome_of(alloc, cells.as_slice(), end)?;
+    let log = log_if(alloc, certified, cells.as_slice())?;
+    Ok(Logged { outcome, log })
 }
 
 /// The depth-first tree of a problem, which its token agents find.

@@ -118,8 +118,30 @@ pub(crate) fn file_answer<R: Threads + Sync, G: Gate>(
     match task {
         FileTask::Plain => plain_answer(alloc, file),
         FileTask::Dpop { certified } => by_dpop(crew, alloc, file, certified),
-        FileTask::Adopt { error, budget } => by_adopt(crew, alloc, file, Asked { error, budget }),
-        FileTask::Auto { error, budget } => by_auto(crew, alloc, file, Asked { error, budget }),
+        FileTask::Adopt {
+            error,
+            budget,
+            certified,
+        } => {
+            let asked = Asked {
+                error,
+                budget,
+                certified,
+            };
+            by_adopt(crew, alloc, file, asked)
+        }
+        FileTask::Auto {
+            error,
+            budget,
+            certified,
+        } => {
+            let asked = Asked {
+                error,
+                budget,
+                certified,
+            };
+            by_auto(crew, alloc, file, asked)
+        }
         FileTask::Tree => by_search(crew, alloc, file),
         FileTask::Upgrade => Ok(Answer::Upgraded {
             file: upgraded(file),

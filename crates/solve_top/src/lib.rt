@@ -12,6 +12,7 @@ mod choosing;
 mod crew;
 mod drilling;
 mod law;
+mod logging;
 mod reaching;
 mod reading;
 mod settling;

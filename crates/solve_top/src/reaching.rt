@@ -10,7 +10,7 @@ ghost use Rattle.tree_search.specs.Found.{IsFound};
 ghost use Rattle.solve_methods.specs.Goal.{TellsRight};
 ghost use Rattle.solve_methods.specs.Reached.{HaveReached};
 
-use crate::agents::{find_tree, run_agents};
+use crate::agents::{find_tree, run_logged};
 use crate::crew::Crew;
 use dcop_base::{NoMemory, Problem};
 use dcop_edge::Gate;
@@ -24,7 +24,7 @@ use std::thread::Threads;
 use tree_search::Found;
 
 /// The answer of ADOPT on a file: what the agents of the problem solved reach on its depth-first
-/// tree.
+/// tree. Where it is to be certified, the report has the log of their run as its certificate.
 pub(crate) fn by_adopt<R: Threads + Sync, G: Gate>(
     crew: &Crew<R, G>,
     alloc: Global,
@@ -33,7 +33,7 @@ pub(crate) fn by_adopt<R: Threads + Sync, G: Gate>(
 ) -> Result<Answer, NoMemory>
     requires error { asked.error ≤ amount_limit }
     requires budget { asked.budget ≤ budget_limit }
-    ensures belongs { IfOk result (AnswersAdopt (declared_by file) asked.error asked.budget) }
+    ensures belongs { IfOk result (AnswersAdopt (declared_by file) asked.error asked.budget asked.certified) }
     ensures right { IfOk result TellsRight }
     ensures told { IfOk result HasText }
 {
@@ -50,7 +50,7 @@ fn reach_for<R: Threads + Sync, G: Gate>(
 ) -> Result<Reached, NoMemory>
     requires error { asked.error ≤ amount_limit }
     requires budget { asked.budget ≤ budget_limit }
-    ensures { IfOk result (HaveReached (problem_solved file.now) asked.error asked.budget) }
+    ensures { IfOk result (HaveReached (problem_solved file.now) asked.error asked.budget asked.certified) }
 {
     let solved = ProblemSolved::of(alloc, file)?;
     reach(crew, alloc, solved.problem(), asked)
@@ -65,7 +65,7 @@ fn reach<R: Threads + Sync, G: Gate>(
 ) -> Result<Reached, NoMemory>
     requires error { asked.error ≤ amount_limit }
     requires budget { asked.budget ≤ budget_limit }
-    ensures { IfOk result (HaveReached problem.now asked.error asked.budget) }
+    ensures { IfOk result (HaveReached problem.now asked.error asked.budget asked.certified) }
 {
     let found = find_tree(crew, alloc, problem)?;
     reach_on(crew, alloc, problem, found, asked)
@@ -82,9 +82,9 @@ pub(crate) fn reach_on<R: Threads + Sync, G: Gate>(
     requires found { IsFound problem.now found }
     requires error { asked.error ≤ amount_limit }
     requires budget { asked.budget ≤ budget_limit }
-    ensures { IfOk result (HaveReached problem.now asked.error asked.budget) }
+    ensures { IfOk result (HaveReached problem.now asked.error asked.budget asked.certified) }
 {
     let start = Start::Adopt(found.tree, asked.error);
-    let outcome = run_agents(crew, alloc, problem, &start, asked.budget)?;
-    Ok(reached_by(problem, asked, outcome))
+    let ran = run_logged(crew, alloc, problem, &start, asked.budget, asked.certified)?;
+    Ok(reached_by(problem, asked, ran))
 }

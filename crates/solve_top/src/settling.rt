@@ -31,7 +31,7 @@ pub(crate) fn by_auto<R: Threads + Sync, G: Gate>(
 ) -> Result<Answer, NoMemory>
     requires error { asked.error ≤ amount_limit }
     requires budget { asked.budget ≤ budget_limit }
-    ensures belongs { IfOk result (AnswersAuto (declared_by file) asked.error asked.budget) }
+    ensures belongs { IfOk result (AnswersAuto (declared_by file) asked.error asked.budget asked.certified) }
     ensures right { IfOk result TellsRight }
     ensures told { IfOk result HasText }
 {
@@ -48,7 +48,7 @@ fn settle_for<R: Threads + Sync, G: Gate>(
 ) -> Result<Settled, NoMemory>
     requires error { asked.error ≤ amount_limit }
     requires budget { asked.budget ≤ budget_limit }
-    ensures { IfOk result (GivesSettled (problem_solved file.now) asked.error asked.budget) }
+    ensures { IfOk result (GivesSettled (problem_solved file.now) asked.error asked.budget asked.certified) }
 {
     let solved = ProblemSolved::of(alloc, file)?;
     settle(crew, alloc, solved.problem(), asked)
@@ -64,11 +64,11 @@ fn settle<R: Threads + Sync, G: Gate>(
 ) -> Result<Settled, NoMemory>
     requires error { asked.error ≤ amount_limit }
     requires budget { asked.budget ≤ budget_limit }
-    ensures { IfOk result (GivesSettled problem.now asked.error asked.budget) }
+    ensures { IfOk result (GivesSettled problem.now asked.error asked.budget asked.certified) }
 {
     let found = find_tree(crew, alloc, problem)?;
     match widths(&found.tree, problem) {
-        None => Ok(Settled::ByDpop(choose_on(crew, alloc, problem, found, false)?)),
+        None => Ok(Settled::ByDpop(choose_on(crew, alloc, problem, found, asked.certified)?)),
         Some(_) => Ok(Settled::ByAdopt(reach_on(crew, alloc, problem, found, asked)?)),
     }
 }

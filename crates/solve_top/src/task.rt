@@ -22,10 +22,19 @@ pub enum FileTask {
     Plain,
     /// Solve the problem by DPOP, and certify the answer or not.
     Dpop { certified: bool },
-    /// Solve the problem by ADOPT, for a requested error, with a budget of deliveries.
-    Adopt { error: u64, budget: u64 },
+    /// Solve the problem by ADOPT, for a requested error, with a budget of deliveries, and certify
+    /// the answer by the log of the run or not.
+    Adopt {
+        error: u64,
+        budget: u64,
+        certified: bool,
+    },
     /// Solve the problem by DPOP where its tables fit, and as by ADOPT otherwise.
-    Auto { error: u64, budget: u64 },
+    Auto {
+        error: u64,
+        budget: u64,
+        certified: bool,
+    },
     /// Find the depth-first tree of the problem.
     Tree,
     /// Write the problem again in the newest version of its text.
@@ -59,24 +68,26 @@ impl Task {
                 error,
                 budget,
                 nodes: 1,
-                certificate: false,
+                certificate,
                 format: Format::Dcop,
                 ..
             } => Some(Task::File(FileTask::Adopt {
                 error: *error,
                 budget: *budget,
+                certified: *certificate,
             })),
             Command::Solve {
                 method: Choice::Auto,
                 error,
                 budget,
                 nodes: 1,
-                certificate: false,
+                certificate,
                 format: Format::Dcop,
                 ..
             } => Some(Task::File(FileTask::Auto {
                 error: *error,
                 budget: *budget,
+                certified: *certificate,
             })),
             Command::Tree {
                 format: Format::Dcop,
