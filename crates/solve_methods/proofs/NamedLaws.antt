@@ -40,7 +40,7 @@ senders_known n ts known k d lt =
 event_named : (net next : Network) (e : LogEvent) → Happens net (event_of e) next → IsNamedEvent (length net.desks) e
 event_named net next e happens =
     let form : form_fault (length net.desks) (ended_of happens.view) e.takes ≡ None =
-        first_none (form_fault (length net.desks) (ended_of happens.view) e.takes) (too_many net.desks e.agent e.takes) happens.fine in
+    first_none (form_fault (length net.desks) (ended_of happens.view) e.takes) (too_many net.desks e.agent e.takes) happens.fine in
     record {
       agent = slice_get_within net.desks e.agent happens.desk happens.desks;
       senders = senders_known (length net.desks) e.takes (form_parts (length net.desks) (ended_of happens.view) e.takes form).0;

@@ -1,9 +1,10 @@
 -- What agents come to that cells are run of.
-use Rattle.std.proofs.Common.{◌≡◌, ℕ, ◌≤◌, Bool, List, [], ◌∷◌, map, length, Option, Some, None, Result, Ok, Err, IfOk, IfSome, is_some, sym, ap, subst, ◌∙◌, arith}
+use Rattle.std.proofs.Common.{◌≡◌, ℕ, ◌≤◌, Bool, List, [], ◌∷◌, map, length, Option, Some, None, Result, Ok, Err, IfOk, IfSome, is_some, refl, sym, ap, subst, ◌∙◌, arith}
 use Rattle.std.proofs.lemmas.List.{length-map, length-set}
 use Rattle.std.proofs.lemmas.Option.{same_Some}
 use Rattle.std.specs.declared.dyn_box.DynBox.{DynBox}
 use Rattle.std.specs.declared.alloc.Global.{Global}
+use Rattle.dcop_base.specs.Limits.{variable_limit}
 use Rattle.protocol_steps.specs.declared.run_end.RunEnd.{RunEnd}
 use Rattle.protocol_steps.specs.declared.run_end.RunEnd.TheVariants.{AllEnded, Spent, Still}
 use Rattle.protocol_steps.specs.declared.outcome.Outcome.{Outcome}
@@ -13,6 +14,7 @@ use Rattle.protocol_steps.specs.Network.{Desk, Network, start_state}
 use Rattle.protocol_steps.specs.Run.{run}
 use Rattle.protocol_steps.specs.JournalStamps.{journal_at}
 use Rattle.protocol_steps.specs.declared.event.Event.{Event}
+use Rattle.protocol_steps.specs.declared.event.Entry.{Entry}
 use Rattle.protocol_steps.proofs.EventLaws.{begins}
 use Rattle.protocol_steps.specs.Effect.{deliveries}
 use Rattle.protocol_steps.specs.RunEnds.{IsRunEnd}
@@ -27,6 +29,7 @@ use Rattle.run_log.specs.Laws.{MergedStampsAreRight}
 use Rattle.run_log.specs.Logs.{entries_of}
 use Rattle.solve_methods.specs.Kept.{HaveLogged}
 use Rattle.agent_cells.specs.declared.cell.Cell.{Cell}
+use Rattle.agent_cells.specs.State.{state_of}
 use Rattle.agent_workers.specs.Joined.{states_of}
 use Rattle.agent_workers.specs.Run.{views_of}
 use Rattle.agent_links.specs.Ready.{deliveries_in}
@@ -40,14 +43,14 @@ end_tells budget net (Still n) stops = stops.0
 pub run_tells : (budget : ℕ) (made : List View) (cells : List CellState) (end : RunEnd) → MakesARun budget made cells end → deliveries_in end ≡ total cells
 run_tells budget made cells end run = end_tells budget run.0 end run.2 ∙ run.1.delivered
 
-have_run : (budget : ℕ) (made : List View) (cells : List CellState) (end : RunEnd) (outcome : Outcome) → CellsTellOutcomes → MakesARun budget made cells end → IsCellOutcome cells outcome → HaveRun budget made outcome
-have_run budget made cells end outcome tell run cell = record {
-  rounds = run.1.in_rounds.pieces;
-  end = run.0;
+abbrev have_run : (budget : ℕ) (made : List View) (cells : List CellState) (end : RunEnd) (outcome : Outcome) → CellsTellOutcomes → MakesARun budget made cells end → IsCellOutcome cells outcome → HaveRun budget made outcome
+have_run budget made cells end outcome tell ran cell = record {
+  rounds = ran.1.in_rounds.pieces;
+  end = ran.0;
   how = end;
-  are_rounds = run.1.in_rounds.rounds;
-  stopped = run.2;
-  told = tell budget made cells run.0 outcome run.1 cell;
+  are_rounds = ran.1.in_rounds.rounds;
+  stopped = ran.2;
+  told = tell budget made cells ran.0 outcome ran.1 cell;
 }
 
 -- an agent's desk at the start
@@ -61,30 +64,51 @@ desks_stay net end (e ∷ es) leads =
     let first = begins net end e es leads in
     desks_stay first.next end es first.rest ∙ ap (λ (other : Network). length other.desks) (sym first.first.after) ∙ length-set net.desks e.agent _
 
-module _ (made : List View) (cells : List CellState) (budget : ℕ) (end : RunEnd) (run_of : MakesARun budget made cells end) where
-  -- the stamps of each journal ascend
-  pub run_ascends : (i : ℕ) → AscendsAbove 0 (journal_at (journals_of cells) i)
-  run_ascends = run_of.1.right.ascend
+-- in a run of cells there is a cell for each agent
+run_sized : (budget : ℕ) (made : List View) (cells : List CellState) (end : RunEnd) → JournalsMerge → MakesARun budget made cells end → length cells ≡ length made
+run_sized budget made cells end merges ran =
+    let merged = (merges (journals_of cells) ran.1.right.ascend).some in
+    sym ran.1.sized ∙ desks_stay (start_state made) ran.0 (events_in merged.0) (ran.1.merges merged.0 merged.1) ∙ length-map made desk_of
 
-  -- there is a cell for each agent
-  pub run_sized : JournalsMerge → length cells ≡ length made
-  run_sized merges =
-      let merged = (merges (journals_of cells) run_ascends).some in
-      sym run_of.1.sized ∙ desks_stay (start_state made) run_of.0 (events_in merged.0) (run_of.1.merges merged.0 merged.1) ∙ length-map made desk_of
+module _ {X : Type 0} {F : X → Type 0} (M : DynBox X Global F → View) (budget : ℕ) (before after read : List (Cell X F)) (end : RunEnd) (ran : MakesARun budget (views_of M before) (states_of M after) end) (same : read ≡ after) where
+  -- cells that are read when they have run are as many as before
+  pub read_few : JournalsMerge → length before ≤ variable_limit → length read ≤ variable_limit
+  read_few merges few =
+      let size : length (states_of M after) ≡ length (views_of M before) = run_sized budget (views_of M before) (states_of M after) end merges ran in
+      let old : length (views_of M before) ≡ length before = length-map before (λ c. (state_of M c).view) in
+      let new : length (states_of M after) ≡ length after = length-map after (state_of M) in
+      let now : length read ≡ length after = ap (λ (cs : List (Cell X F)). length cs) same in
+      omega (arith, size, old, new, now, few)
+
+  -- and the stamps of each journal ascend
+  pub read_ascends : (i : ℕ) → AscendsAbove 0 (journal_at (journals_of (states_of M read)) i)
+  read_ascends i = subst (λ (cs : List (Cell X F)). AscendsAbove 0 (journal_at (journals_of (states_of M cs)) i)) (sym same) (ran.1.right.ascend i)
+
+-- journals that are copied from cells are the cells' journals
+copied : {X : Type 0} {F : X → Type 0} (M : DynBox X Global F → View) (cells : List (Cell X F)) → map (λ c. (state_of M c).journal) cells ≡ journals_of (states_of M cells)
+copied M [] = refl
+copied M (c ∷ cs) = ap (λ (js : List (List Entry)). (state_of M c).journal ∷ js) (copied M cs)
+
+module _ {X : Type 0} {F : X → Type 0} (M : DynBox X Global F → View) (cells : List (Cell X F)) (journals : List (List Entry)) (are : journals ≡ map (λ c. (state_of M c).journal) cells) where
+  pub journals_ascend : ((i : ℕ) → AscendsAbove 0 (journal_at (journals_of (states_of M cells)) i)) → (i : ℕ) → AscendsAbove 0 (journal_at journals i)
+  journals_ascend ascend i = subst (λ (js : List (List Entry)). AscendsAbove 0 (journal_at js i)) (sym (are ∙ copied M cells)) (ascend i)
+
+  pub merge_of : (log : List LogEvent) → IsMerge journals (entries_of log) → IsMerge (journals_of (states_of M cells)) (entries_of log)
+  merge_of log merged = subst (λ (js : List (List Entry)). IsMerge js (entries_of log)) (are ∙ copied M cells) merged
 
 -- what agents come to that cells are run of, and the merged journals of the cells, where they are merged, as the log of that run
 have_logged : (budget : ℕ) (made : List View) (cells : List CellState) (end : RunEnd) (outcome : Outcome) (certified : Bool) (log : Option (List LogEvent)) → CellsTellOutcomes → MergedStampsAreRight
     → MakesARun budget made cells end → IsCellOutcome cells outcome → is_some log ≡ certified → IfSome log (λ events. IsMerge (journals_of cells) (entries_of events))
     → HaveLogged budget made certified (record { outcome = outcome; log = log })
-have_logged budget made cells end outcome certified None tell stamps run cell asked merged = record {
-  run = have_run budget made cells end outcome tell run cell;
+have_logged budget made cells end outcome certified None tell stamps ran cell asked merged = record {
+  run = have_run budget made cells end outcome tell ran cell;
   asked = asked;
   kept = tt;
 }
-have_logged budget made cells end outcome certified (Some log) tell stamps run cell asked merged = record {
-  run = have_run budget made cells end outcome tell run cell;
+have_logged budget made cells end outcome certified (Some log) tell stamps ran cell asked merged = record {
+  run = have_run budget made cells end outcome tell ran cell;
   asked = asked;
-  kept = stamps budget made cells run.0 log run.1 merged;
+  kept = stamps budget made cells ran.0 log ran.1 merged;
 }
 
 -- the same of what is read from cells that have run
@@ -92,7 +116,7 @@ pub have_logged_of : {X : Type 0} {F : X → Type 0} (M : DynBox X Global F → 
     → CellsTellOutcomes → MergedStampsAreRight → views_of M before ≡ made → MakesARun budget (views_of M before) (states_of M after) end → read ≡ after → read' ≡ after
     → IsCellOutcome (states_of M read) outcome → is_some log ≡ certified → IfSome log (λ events. IsMerge (journals_of (states_of M read')) (entries_of events))
     → HaveLogged budget made certified (record { outcome = outcome; log = log })
-have_logged_of {X} {F} M budget made before after read read' end outcome certified log tell stamps are run same same' cell asked merged =
-    have_logged budget made (states_of M after) end outcome certified log tell stamps (subst (λ (vs : List View). MakesARun budget vs (states_of M after) end) are run)
+have_logged_of {X} {F} M budget made before after read read' end outcome certified log tell stamps are ran same same' cell asked merged =
+    have_logged budget made (states_of M after) end outcome certified log tell stamps (subst (λ (vs : List View). MakesARun budget vs (states_of M after) end) are ran)
     (subst (λ (cs : List (Cell X F)). IsCellOutcome (states_of M cs) outcome) same cell) asked
     (subst (λ (cs : List (Cell X F)). IfSome log (λ events. IsMerge (journals_of (states_of M cs)) (entries_of events))) same' merged)

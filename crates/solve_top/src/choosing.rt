@@ -17,9 +17,7 @@ use delivery_core::Start;
 use problem_solved::ProblemSolved;
 use problem_text::ProblemFile;
 use pseudotree::widths;
-use solve_methods::{
-    Choice, Chosen, choice_deliveries, chosen_by, dpop_answer, node_rows_if,
-};
+use solve_methods::{Choice, Chosen, choice_deliveries, chosen_by, dpop_answer, node_rows_if};
 use solve_report::Answer;
 use std::alloc::Global;
 use std::thread::Threads;

@@ -11,7 +11,7 @@ ghost use Rattle.run_log.specs.Logs.{entries_of};
 
 use agent_cells::Cell;
 use dcop_base::NoMemory;
-use protocol_steps::JournalList;
+use protocol_steps::{Journal, JournalList};
 use run_log::{Log, merge};
 use std::alloc::Global;
 
@@ -39,7 +39,14 @@ fn journals_in(alloc: Global, cells: &[Cell]) -> Result<JournalList, NoMemory>
 {
     let mut journals = Vec::with_capacity(alloc, cells.len())?;
     for cell in cells {
-        journals.push(cell.journal().clone()?)?;
+        journals.push(journal_in(cell)?)?;
     }
     Ok(JournalList::from_vec(journals))
+}
+
+/// The journal of a cell, copied.
+fn journal_in(cell: &Cell) -> Result<Journal, NoMemory>
+    ensures { IfOk result (λ journal. journal ≡ (state_of (λ b. meaning (b.vtable, b.value)) cell.now).journal) }
+{
+    Ok(cell.journal().clone()?)
 }

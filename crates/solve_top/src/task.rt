@@ -21,7 +21,9 @@ pub enum FileTask {
     /// Solve the problem by the plain method.
     Plain,
     /// Solve the problem by DPOP, and certify the answer or not.
-    Dpop { certified: bool },
+    Dpop {
+        certified: bool,
+    },
     /// Solve the problem by ADOPT, for a requested error, with a budget of deliveries, and certify
     /// the answer by the log of the run or not.
     Adopt {
