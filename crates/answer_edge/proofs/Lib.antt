@@ -1,0 +1,3 @@
+mod PassLaws
+pub mod StatusLaws
+pub mod ShowLaws

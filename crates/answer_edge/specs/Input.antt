@@ -1,0 +1,47 @@
+-- What a call read of its source.
+use Rattle.std.specs.Prelude.{◌≡◌, ℕ, ◌<◌, ◌≤◌, List, [], length, Option, Some, None, Result, Ok, Err}
+use Rattle.dcop_edge.specs.Faults.{Rose}
+use Rattle.dcop_base.specs.Limits.{input_limit}
+use Rattle.answer_edge.specs.declared.reading.ReadEnd.{ReadEnd}
+use Rattle.answer_edge.specs.declared.reading.ReadEnd.TheVariants as ends
+
+-- nothing was read; or the source failed; or more than input_limit bytes came; or these are all the bytes that came
+pub data Input : Type 0 where
+  Unread : Input
+  Broken : Input
+  TooLong : Input
+  Whole : List ℕ → Input
+
+-- how a source stands: the bytes that it has left, where it tells them, and its count of faults
+pub record SourceState : Type 0 where
+  pub left : Option (List ℕ)
+  pub faults : ℕ
+
+-- the state of a source that has this left and failed so often
+abbrev pub source_state : Option (List ℕ) → ℕ → SourceState
+source_state left faults = record { left = left; faults = faults }
+
+-- these bytes were all that a source had left, where it tells them, and now none is left
+abbrev pub IsAllOf : List ℕ → Option (List ℕ) → Option (List ℕ) → Type 0
+IsAllOf bytes None after = Unit {0}
+IsAllOf bytes (Some left) after = (bytes ≡ left) × (after ≡ Some [])
+
+-- a source had more than input_limit bytes left, where it tells them
+abbrev pub HadMore : Option (List ℕ) → Type 0
+HadMore None = Unit {0}
+HadMore (Some left) = input_limit < length left
+
+-- what was read of a source that stood so before, and stands so afterwards: a source of which nothing was read is as it was, and only a broken one failed
+abbrev pub IsReadFrom : Input → SourceState → SourceState → Type 0
+IsReadFrom Unread before after = after ≡ before
+IsReadFrom Broken before after = Rose before.faults after.faults
+IsReadFrom TooLong before after = HadMore before.left × (after.faults ≡ before.faults)
+IsReadFrom (Whole bytes) before after =
+    (length bytes ≤ input_limit) × IsAllOf bytes before.left after.left × (after.faults ≡ before.faults)
+
+-- a reading to the end gave this input, unless memory was wanted
+abbrev pub IsReading : Result (List ℕ) ReadEnd → SourceState → SourceState → Type 0
+IsReading (Ok bytes) before after = IsReadFrom (Whole bytes) before after
+IsReading (Err ends.Failed) before after = IsReadFrom Broken before after
+IsReading (Err ends.TooLong) before after = IsReadFrom TooLong before after
+IsReading (Err ends.NoMemory) before after = Unit {0}

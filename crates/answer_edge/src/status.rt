@@ -1,0 +1,89 @@
+//! Statuses, and the codes with which a program ends.
+
+ghost use Rattle.std.specs.Prelude.{◌≡◌};
+ghost use Rattle.answer_edge.specs.Statuses.{status_of_ending, status_of_verdict, status_of, code_of};
+
+use certificate_text::{Ending, Verdict};
+use solve_report::Answer;
+
+/// How a call ended.
+#[derive(Clone, Copy, Debug, PartialEq, Eq)]
+pub enum Status {
+    /// A solved report or summary, a yes, a tree or an upgraded text was printed.
+    Solved,
+    /// ADOPT has spent its budget. A report or a summary with bounds was printed.
+    Spent,
+    /// The words are refused, or ask for what is not served yet.
+    BadWords,
+    /// The text of the problem, or that of the report behind it, is refused.
+    BadText,
+    /// The tables of the agents would be too wide.
+    TooWide,
+    /// The source failed.
+    ReadFault,
+    /// The sink failed. What is written is a prefix of the answer's text.
+    WriteFault,
+    /// Memory was wanted and not had. Nothing is written.
+    NoMemory,
+    /// The report does not hold.
+    No,
+    /// The plain method would have more assignments to try than it tries.
+    TooMany,
+}
+
+impl Status {
+    /// The code with which a program ends: 0 for solved, and one of its own for each other status.
+    pub fn code(&self) -> u8
+        ensures { result ≡ code_of self.now }
+    {
+        match self {
+            Status::Solved => 0,
+            Status::Spent => 1,
+            Status::BadWords => 2,
+            Status::BadText => 3,
+            Status::TooWide => 4,
+            Status::ReadFault => 5,
+            Status::WriteFault => 6,
+            Status::NoMemory => 7,
+            Status::No => 10,
+            Status::TooMany => 11,
+        }
+    }
+
+    /// The status of a report.
+    fn of_ending(ending: Ending) -> Status
+        ensures { result ≡ status_of_ending ending }
+    {
+        match ending {
+            Ending::Solved => Status::Solved,
+            Ending::Spent => Status::Spent,
+        }
+    }
+
+    /// The status of a verdict.
+    fn of_verdict(verdict: Verdict) -> Status
+        ensures { result ≡ status_of_verdict verdict }
+    {
+        match verdict {
+            Verdict::Yes { .. } => Status::Solved,
+            Verdict::No(_) => Status::No,
+        }
+    }
+
+    /// The status that goes with an answer.
+    pub(crate) fn of(answer: &Answer) -> Status
+        ensures { result ≡ status_of answer.now }
+    {
+        match answer {
+            Answer::Report { report, .. } => Status::of_ending(report.status),
+            Answer::Drill { summary } => Status::of_ending(summary.status),
+            Answer::Verdict { verdict, .. } => Status::of_verdict(*verdict),
+            Answer::Tree { .. } | Answer::Upgraded { .. } => Status::Solved,
+            Answer::Words { .. } | Answer::NotYet => Status::BadWords,
+            Answer::ProblemText { .. } | Answer::ReportText { .. } => Status::BadText,
+            Answer::WideAgent { .. } | Answer::WideTotal { .. } => Status::TooWide,
+            Answer::Read => Status::ReadFault,
+            Answer::Many { .. } => Status::TooMany,
+        }
+    }
+}

@@ -1,0 +1,120 @@
+-- Which answer belongs to which words and input, and what its status says of the source.
+use Rattle.std.proofs.Common.{◌≡◌, ℕ, ◌<◌, List, Option, Some, Result, Ok, Err, IfOk, sym, ap, subst, arith, refl}
+use Rattle.dcop_edge.specs.Faults.{Rose}
+use Rattle.dcop_base.specs.declared.memory.NoMemory.{NoMemory}
+use Rattle.problem_text.specs.Declarations.{Declared}
+use Rattle.problem_text.specs.Reading.{Fault}
+use Rattle.solve_words.specs.declared.fault.WordFault.{WordFault}
+use Rattle.solve_words.specs.declared.fault.WordFault.TheVariants as words
+use Rattle.solve_report.specs.declared.answer.Answer.{Answer}
+use Rattle.solve_report.specs.declared.answer.Answer.TheVariants as answers
+use Rattle.answer_edge.specs.declared.status.Status.{Status}
+use Rattle.answer_edge.specs.declared.status.Status.TheVariants.{ReadFault}
+use Rattle.answer_edge.specs.Input.{Input, Unread, Broken, TooLong, Whole, SourceState, IsAllOf, HadMore, IsReadFrom}
+use Rattle.answer_edge.specs.Statuses.{status_of}
+use Rattle.answer_edge.specs.Whole.{whole_read}
+use Rattle.answer_edge.proofs.StatusLaws.{read-alone}
+use Rattle.order_top.specs.declared.words.Asked.{Asked}
+use Rattle.order_top.specs.Words.{order_answer_to}
+use Rattle.order_top.specs.Answering.{IsOrdered, IsTextAnswer, IsInputAnswer, IsAskedAnswer}
+use Rattle.order_top.specs.Ordering.{IsAnswered, IsAccepted, GoesWell}
+
+-- the answer to an input, where words are accepted
+pub input-answered : (words : List (List ℕ)) (asked : Asked) (before after : SourceState) (input : Input) (answer : Answer)
+    → Ok asked ≡ order_answer_to words → IsReadFrom input before after → IsInputAnswer input answer → IsAnswered words before after answer
+input-answered words asked before after input answer told read is = record {
+  input = input;
+  read = read;
+  belongs = subst (λ (r : Result Asked WordFault). IsAskedAnswer r input answer) told is;
+}
+
+-- the same on all bytes that were read, unless memory was wanted
+pub text-answered : (words : List (List ℕ)) (asked : Asked) (before after : SourceState) (bytes slice : List ℕ) (result : Result Answer NoMemory)
+    → Ok asked ≡ order_answer_to words → IsReadFrom (Whole bytes) before after → slice ≡ bytes
+    → IfOk result (IsTextAnswer (whole_read slice)) → IfOk result (IsAnswered words before after)
+text-answered words asked before after bytes slice (Ok answer) told read same is =
+    input-answered words asked before after (Whole bytes) answer told read (subst (λ (t : List ℕ). IsTextAnswer (whole_read t) answer) same is)
+text-answered words asked before after bytes slice (Err none) told read same is = tt
+
+-- the answer to words that are refused
+pub words-answered : (words : List (List ℕ)) (fault : WordFault) (state : SourceState) (answer : Answer) → Err fault ≡ order_answer_to words
+    → IsAskedAnswer (Err fault) Unread answer → IsAnswered words state state answer
+words-answered words fault state answer told is = record {
+  input = Unread;
+  read = refl;
+  belongs = subst (λ (r : Result Asked WordFault). IsAskedAnswer r Unread answer) told is;
+}
+
+text-sound : (read : Result Declared Fault) → ¬ IsTextAnswer read answers.Read
+text-sound (Ok d) is = is
+text-sound (Err fault) is = cc is
+
+-- only a broken input is answered by a failed reading
+input-sound : (input : Input) (answer : Answer) → IsInputAnswer input answer → status_of answer ≡ ReadFault → input ≡ Broken
+input-sound Unread answer is fault = absurd is
+input-sound Broken answer is fault = refl
+input-sound TooLong answer is fault = let s = ap status_of is in cc
+input-sound (Whole bytes) answer is fault = absurd (text-sound (whole_read bytes) (subst (IsTextAnswer (whole_read bytes)) (read-alone answer fault) is))
+
+asked-sound : (asked : Result Asked WordFault) (input : Input) (answer : Answer) → IsAskedAnswer asked input answer → status_of answer ≡ ReadFault → input ≡ Broken
+asked-sound (Ok asked) input answer is fault = input-sound input answer is fault
+asked-sound (Err (words.Bad at kind)) input answer is fault = let s = ap status_of is.1 in cc
+asked-sound (Err words.NoMemory) input answer is fault = absurd is
+
+-- a broken input is answered by a failed reading
+asked-broken : (asked : Result Asked WordFault) (answer : Answer) → IsAskedAnswer asked Broken answer → status_of answer ≡ ReadFault
+asked-broken (Ok asked) answer is = ap status_of is
+asked-broken (Err (words.Bad at kind)) answer is = cc is.0
+asked-broken (Err words.NoMemory) answer is = absurd is
+
+-- an answer by a failed reading comes only where the source failed
+pub rose-answered : (words : List (List ℕ)) (before after : SourceState) (answer : Answer) → IsAnswered words before after answer
+    → status_of answer ≡ ReadFault → Rose before.faults after.faults
+rose-answered words before after answer done fault =
+    subst (λ (i : Input). IsReadFrom i before after) (asked-sound (order_answer_to words) done.input answer done.belongs fault) done.read
+
+-- and it comes wherever the source failed
+failed-input : (words : List (List ℕ)) (before after : SourceState) (input : Input) (answer : Answer) → IsReadFrom input before after → IsAskedAnswer (order_answer_to words) input answer
+    → before.faults < after.faults → status_of answer ≡ ReadFault
+failed-input words before after Unread answer read is more = absurd (omega (arith, more, ap (λ (s : SourceState). s.faults) read))
+failed-input words before after Broken answer read is more = asked-broken (order_answer_to words) answer is
+failed-input words before after TooLong answer read is more = absurd (omega (arith, more, read.1))
+failed-input words before after (Whole bytes) answer read is more = absurd (omega (arith, more, read.2))
+
+pub fault-answered : (words : List (List ℕ)) (before after : SourceState) (answer : Answer) → IsAnswered words before after answer
+    → before.faults < after.faults → status_of answer ≡ ReadFault
+fault-answered words before after answer done more = failed-input words before after done.input answer done.read done.belongs more
+
+-- the text of a file in some order is a good answer
+ordered-well : (d : Declared) (answer : Answer) → IsOrdered d answer → GoesWell (status_of answer)
+ordered-well d (answers.Upgraded file) is = tt
+ordered-well d (answers.Report report file) is = absurd is
+ordered-well d (answers.Tree deliveries nodes names) is = absurd is
+ordered-well d (answers.Verdict verdict names) is = absurd is
+ordered-well d (answers.Drill summary) is = absurd is
+ordered-well d (answers.Words at kind) is = absurd is
+ordered-well d (answers.ProblemText line kind problem) is = absurd is
+ordered-well d (answers.ReportText line kind) is = absurd is
+ordered-well d (answers.Many n) is = absurd is
+ordered-well d (answers.WideAgent var cells names) is = absurd is
+ordered-well d (answers.WideTotal cells) is = absurd is
+ordered-well d answers.Read is = absurd is
+ordered-well d answers.NotYet is = absurd is
+
+-- all of a text that is told, and accepted, is read and goes well
+input-well : (words : List (List ℕ)) (text : List ℕ) (accepted : IsAccepted words text) (before after : SourceState) (input : Input) (answer : Answer)
+    → before.left ≡ Some text → ¬ Rose before.faults after.faults → IsReadFrom input before after → IsInputAnswer input answer → GoesWell (status_of answer)
+input-well words text accepted before after Unread answer told steady read is = absurd is
+input-well words text accepted before after Broken answer told steady read is = absurd (steady read)
+input-well words text accepted before after TooLong answer told steady read is =
+    let more = subst HadMore told read.0 in absurd (omega (arith, more, accepted.short))
+input-well words text accepted before after (Whole bytes) answer told steady read is =
+    let all = subst (λ (l : Option (List ℕ)). IsAllOf bytes l after.left) told read.1 in
+    ordered-well accepted.declared answer
+    (subst (λ (r : Result Declared Fault). IsTextAnswer r answer) accepted.read (subst (λ (t : List ℕ). IsTextAnswer (whole_read t) answer) all.0 is))
+
+pub well-answered : (words : List (List ℕ)) (text : List ℕ) (before after : SourceState) (answer : Answer) → IsAnswered words before after answer
+    → before.left ≡ Some text → IsAccepted words text → ¬ Rose before.faults after.faults → GoesWell (status_of answer)
+well-answered words text before after answer done told accepted steady =
+    input-well words text accepted before after done.input answer told steady done.read
+    (subst (λ (r : Result Asked WordFault). IsAskedAnswer r done.input answer) accepted.answered done.belongs)

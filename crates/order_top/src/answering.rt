@@ -1,0 +1,57 @@
+//! The answer to words and a source.
+
+ghost use Rattle.std.specs.Prelude.{map, IfOk, string_bytes};
+ghost use Rattle.solve_report.specs.AnswerText.{HasText};
+ghost use Rattle.answer_edge.specs.Input.{source_state};
+ghost use Rattle.answer_edge.specs.Whole.{whole_read};
+ghost use Rattle.order_top.specs.Answering.{IsTextAnswer};
+ghost use Rattle.order_top.specs.Ordering.{IsAnswered};
+
+use crate::words::{Asked, read_order_words};
+use answer_edge::{ReadEnd, fault_answer, read_all, read_whole, words_answer};
+use dcop_base::NoMemory;
+use dcop_edge::Source;
+use order_search::narrowed;
+use problem_text::{TextFault, TextKind};
+use solve_report::Answer;
+use solve_words::WordFault;
+use std::alloc::Global;
+
+/// The answer to words, and where they are accepted to all that the source has left. The words are
+/// tested before anything is read.
+pub(crate) fn answer_of<S: Source>(
+    alloc: Global,
+    words: &[String],
+    source: &mut S,
+) -> Result<Answer, NoMemory>
+    ensures answered { IfOk result (IsAnswered (map string_bytes words.now)
+        (source_state (S.left source.old) (S.faults source.old))
+        (source_state (S.left source.new) (S.faults source.new))) }
+    ensures told { IfOk result HasText }
+{
+    let asked = match read_order_words(words) {
+        Ok(asked) => asked,
+        Err(WordFault::Bad { at, kind }) => return Ok(words_answer(at, kind)),
+        Err(WordFault::NoMemory) => return Err(NoMemory),
+    };
+    match read_all(alloc, source) {
+        Ok(bytes) => text_answer(alloc, asked, bytes.as_slice()),
+        Err(ReadEnd::Failed) => Ok(Answer::Read),
+        Err(ReadEnd::TooLong) => Ok(fault_answer(0, TextKind::TooLong)),
+        Err(ReadEnd::NoMemory) => Err(NoMemory),
+    }
+}
+
+/// The answer to all bytes of an input.
+fn text_answer(alloc: Global, asked: Asked, bytes: &[u8]) -> Result<Answer, NoMemory>
+    ensures belongs { IfOk result (IsTextAnswer (whole_read bytes.now)) }
+    ensures told { IfOk result HasText }
+{
+    match read_whole(alloc, bytes) {
+        Ok(file) => Ok(Answer::Upgraded {
+            file: narrowed(alloc, file, asked.tries, asked.seed)?,
+        }),
+        Err(TextFault::Bad { line, kind }) => Ok(fault_answer(line, kind)),
+        Err(TextFault::NoMemory) => Err(NoMemory),
+    }
+}
