@@ -13,23 +13,11 @@
 # bench/adopt/plain.rs; a second one of it is sparing: it sets its costs and forgets entries only where
 # what it knows has changed. Prints the best of fifteen runs each; stops with status 1 where the two differ.
 set -eu
-top=$(cd "$(dirname "$0")/.." && pwd)
-kit=$(dirname "$(dirname "$(readlink -f "$(command -v rt)")")")
-copy=$(mktemp -d)
-trap 'rm -rf "$copy"' EXIT
-mkdir "$copy/crates"
-for crate in dcop_base pseudotree cost_table util_kernel util_join util_project adopt_context adopt_bounds \
-    protocol_steps dfs_agent dpop_agent adopt_agent delivery_core; do
-    cp -r "$top/crates/$crate" "$copy/crates/$crate"
-    grep "^$crate:" "$top/crates.txt" >> "$copy/crates.txt"
-done
-made="$copy/crates/bench_adopt"
-cp -r "$top/bench/adopt/crate" "$made"
-find "$made" -name '*.txt' | while read -r file; do mv "$file" "${file%.txt}"; done
+. "$(dirname "$0")/common.sh"
+copy_crates dcop_base pseudotree cost_table util_kernel util_join util_project adopt_context adopt_bounds \
+    protocol_steps dfs_agent dpop_agent adopt_agent delivery_core
 uses="dcop_base pseudotree adopt_context protocol_steps adopt_agent delivery_core"
-echo "bench_adopt staticlib: $uses" >> "$copy/crates.txt"
-(cd "$made" && rt lib > "$copy/log" 2>&1) || { tail -20 "$copy/log"; exit 1; }
-rustc -O --edition 2024 "$top/bench/adopt/harness.rs" -o "$copy/harness" \
-    -L "native=$made/out" -l static=bench_adopt \
-    -L "native=$kit/c" -l static=libc_c
-"$copy/harness" "$top/examples/timetable.dcop"
+add_crate adopt/crate "bench_adopt staticlib: $uses"
+make_crate bench_adopt lib
+build_on bench_adopt adopt/harness.rs harness
+"$folder/harness" "$top/examples/timetable.dcop"

@@ -8,10 +8,10 @@
 # ratio of the two times; it is to be at most 2.
 set -eu
 program=${1:?usage: bench/check.sh PROGRAM}
-folder=$(mktemp -d)
-trap 'rm -rf "$folder"' EXIT
+. "$(dirname "$0")/common.sh"
 python3 - "$program" "$folder" <<'PY'
-import os, random, subprocess, sys, time
+import os, random, sys
+from timing import best
 program, folder = sys.argv[1:]
 random.seed(11)
 count, size = 1000, 16
@@ -25,17 +25,7 @@ with open(f"{folder}/tree", "w") as out:
         out.write(f"table v{i} v{j} : {cells}\n")
     out.write("end\n")
 def run(words, path):
-    best, peak, out = None, 0, b""
-    for _ in range(5):
-        with open(path) as text:
-            begin = time.perf_counter()
-            child = subprocess.Popen([program] + words, stdin=text, stdout=subprocess.PIPE)
-            out = child.stdout.read()
-            _, _, used = os.wait4(child.pid, 0)
-            took = time.perf_counter() - begin
-        best = took if best is None else min(best, took)
-        peak = max(peak, used.ru_maxrss / 1024)
-    return best, peak, out
+    return best([program] + words, path)
 def must_begin(what, answer, start):
     if not answer.startswith(start):
         sys.exit(f"{what}: the answer begins with {answer[:100]!r}")

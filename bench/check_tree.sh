@@ -7,14 +7,11 @@
 # variables: 999 tables on neighbours in the chain, and 4,000,000 on all pairs in turn. Prints the
 # best of five calls for each.
 set -eu
-top=$(cd "$(dirname "$0")/.." && pwd)
-place=$(mktemp -d)
-trap 'rm -rf "$place"' EXIT
-cd "$place"
-git init -q .
+. "$(dirname "$0")/common.sh"
+copy_crates dcop_base pseudotree
+echo 'tree_bench: dcop_base pseudotree' >> "$folder/crates.txt"
+cd "$folder"
 mkdir -p crates/tree_bench/src crates/tree_bench/proofs/chain
-cp -r "$top/crates/dcop_base" "$top/crates/pseudotree" crates/
-printf '%s\n' 'dcop_base:' 'pseudotree: dcop_base' 'tree_bench: dcop_base pseudotree' > crates.txt
 cat > crates/tree_bench/src/main.rt <<'RT'
 //! How long `check_tree` takes on a chain of 1,000 variables.
 #![tactic(auto)]
@@ -113,6 +110,5 @@ use Rattle.tree_bench.proofs.chain.Given as goal
 abbrev pub invariant-loop-index : goal.invariant-loop-index
 invariant-loop-index l = (length l.parents.items ≡ l.index) × ((v u : ℕ) → parent_at l.parents.items v ≡ Some u → u < 1000)
 ANTT
-cd crates/tree_bench
-rt run > run.log 2>&1 || { cat run.log; exit 1; }
-grep ' tables: ' run.log
+make_crate tree_bench run
+grep ' tables: ' told

@@ -9,21 +9,9 @@
 # and built in a copy of the repository, where it is one more crate. The plain side is bench/codes/plain.rs.
 # Prints the best of fifteen runs each; stops with status 1 where the two differ.
 set -eu
-top=$(cd "$(dirname "$0")/.." && pwd)
-kit=$(dirname "$(dirname "$(readlink -f "$(command -v rt)")")")
-copy=$(mktemp -d)
-trap 'rm -rf "$copy"' EXIT
-mkdir "$copy/crates"
-for crate in dcop_base pseudotree adopt_context protocol_steps message_code wire_frames; do
-    cp -r "$top/crates/$crate" "$copy/crates/$crate"
-    grep "^$crate:" "$top/crates.txt" >> "$copy/crates.txt"
-done
-made="$copy/crates/bench_codes"
-cp -r "$top/bench/codes/crate" "$made"
-find "$made" -name '*.txt' | while read -r file; do mv "$file" "${file%.txt}"; done
-echo "bench_codes staticlib: dcop_base protocol_steps message_code wire_frames" >> "$copy/crates.txt"
-(cd "$made" && rt lib > "$copy/log" 2>&1) || { tail -40 "$copy/log"; exit 1; }
-rustc -O --edition 2024 "$top/bench/codes/harness.rs" -o "$copy/harness" \
-    -L "native=$made/out" -l static=bench_codes \
-    -L "native=$kit/c" -l static=libc_c
-"$copy/harness"
+. "$(dirname "$0")/common.sh"
+copy_crates dcop_base pseudotree adopt_context protocol_steps message_code wire_frames
+add_crate codes/crate "bench_codes staticlib: dcop_base protocol_steps message_code wire_frames"
+make_crate bench_codes lib
+build_on bench_codes codes/harness.rs harness
+"$folder/harness"

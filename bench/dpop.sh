@@ -8,10 +8,8 @@
 # to ours: above 1 we are faster. Both must print the same bytes.
 set -eu
 program=${1:?usage: bench/dpop.sh PROGRAM}
-here=$(cd "$(dirname "$0")" && pwd)
-folder=$(mktemp -d)
-trap 'rm -rf "$folder"' EXIT
-rustc -O --edition 2021 -o "$folder/plain" "$here/dpop/plain.rs"
+. "$(dirname "$0")/common.sh"
+rustc -O --edition 2021 -o "$folder/plain" "$top/bench/dpop/plain.rs"
 python3 - "$folder" <<'PY'
 import random, sys
 folder = sys.argv[1]
@@ -39,28 +37,17 @@ rails = [(k, k + 2) for k in range(198)]
 write("ladder", 200, 12, rungs + rails)
 PY
 python3 - "$program" "$folder" <<'PY'
-import os, shutil, subprocess, sys, time
+import shutil, subprocess, sys, time
+from timing import best
 program, folder = sys.argv[1:]
-def run(words, path):
-    best, peak, out = None, 0, b""
-    for _ in range(5):
-        with open(path) as text:
-            begin = time.perf_counter()
-            child = subprocess.Popen(words, stdin=text, stdout=subprocess.PIPE)
-            out = child.stdout.read()
-            _, _, used = os.wait4(child.pid, 0)
-            took = time.perf_counter() - begin
-        best = took if best is None else min(best, took)
-        peak = max(peak, used.ru_maxrss / 1024)
-    return best, peak, out
 for name, what in (("tree", "tree of 1,000 variables of size 16"), ("clique", "clique of four variables of size 32"),
                    ("ladder", "ladder of 100 rungs of size 12")):
     path = f"{folder}/{name}"
-    ours, memory, answer = run([program, "solve", "--method", "dpop"], path)
-    reading, _, _ = run([program, "solve", "--method", "plain"], path)
-    search, _, _ = run([program, "tree"], path)
-    plain, plain_memory, expected = run([f"{folder}/plain"], path)
-    plain_reading, _, _ = run([f"{folder}/plain", "read"], path)
+    ours, memory, answer = best([program, "solve", "--method", "dpop"], path)
+    reading, _, _ = best([program, "solve", "--method", "plain"], path, status=11)
+    search, _, _ = best([program, "tree"], path)
+    plain, plain_memory, expected = best([f"{folder}/plain"], path)
+    plain_reading, _, _ = best([f"{folder}/plain", "read"], path)
     assert answer == expected, (answer[:200], expected[:200])
     print(f"{what}:")
     print(f"  whole command {ours:.4f} s, plain {plain:.4f} s, ratio {plain / ours:.2f}; memory {memory:.0f} and {plain_memory:.0f} MB")

@@ -6,14 +6,14 @@
 # up to 1,000,000; `drill` makes it from the number 0, and a few lines of Python write the same one as
 # text for `solve`. Both solve it by DPOP and must find the same cost. Prints the best of five runs of
 # each whole command, and the ratio of their times: above 1 the drill is faster than reading the text
-# and solving it. Then what share of the drill making the problem is: that of a drill by the method plain, which
-# refuses the problem for its many assignments once it is made. At most a tenth is wanted.
+# and solving it. Then how long making the problem and reading the text take alone, by the plain method,
+# which refuses so many assignments: making is to take at most a tenth of the drill.
 set -eu
 program=${1:?usage: bench/drill.sh PROGRAM}
-folder=$(mktemp -d)
-trap 'rm -rf "$folder"' EXIT
+. "$(dirname "$0")/common.sh"
 python3 - "$program" "$folder" <<'PY'
-import os, subprocess, sys, time
+import os, sys
+from timing import best
 program, folder = sys.argv[1:]
 count, size, top = 1000, 16, 1000000
 def words(state):
@@ -35,26 +35,17 @@ with open(f"{folder}/problem", "w") as out:
         out.write(f"table v{partner} v{i} : {cells}\n")
     out.write("end\n")
 def run(options, path):
-    best, peak, out = None, 0, b""
-    for _ in range(5):
-        with open(path) as text:
-            begin = time.perf_counter()
-            child = subprocess.Popen([program] + options, stdin=text, stdout=subprocess.PIPE)
-            out = child.stdout.read()
-            _, _, used = os.wait4(child.pid, 0)
-            took = time.perf_counter() - begin
-        best = took if best is None else min(best, took)
-        peak = max(peak, used.ru_maxrss / 1024)
-    return best, peak, out.decode()
+    took, peak, out = best([program] + options, path)
+    return took, peak, out.decode()
 def costs(answer):
     return [line for line in answer.split("\n") if line.split(" ")[0] in ("status", "cost", "lower", "upper")]
 numbers = ["--vars", str(count), "--size", str(size), "--degree", "1", "--top", str(top)]
 drill, drill_memory, summary = run(["drill", *numbers, "--method", "dpop"], os.devnull)
-made, _, refused = run(["drill", *numbers, "--method", "plain"], os.devnull)
-assert refused.startswith("refused many assignments "), refused[:200]
 solve, solve_memory, report = run(["solve", "--method", "dpop"], f"{folder}/problem")
+making, _, _ = best([program, "drill", *numbers, "--method", "plain"], os.devnull, status=11)
+reading, _, _ = best([program, "solve", "--method", "plain"], f"{folder}/problem", status=11)
 assert costs(summary) == costs(report) and summary.startswith("status solved\n"), (summary[:200], report[:200])
 megabytes = os.path.getsize(f"{folder}/problem") / 1e6
 print(f"drill {drill:.4f} s with {drill_memory:.0f} MB, solve {solve:.4f} s with {solve_memory:.0f} MB on {megabytes:.1f} MB of text, ratio {solve / drill:.2f}")
-print(f"making the problem {made:.4f} s, {made / drill:.2f} of the drill (wanted at most 0.10)")
+print(f"making the problem alone {making:.4f} s, {making / drill:.2f} of the drill; reading the text alone {reading:.4f} s, {reading / solve:.2f} of solving it")
 PY

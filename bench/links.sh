@@ -12,39 +12,16 @@
 # The crates of bench/links are a static library and a program; they are proved and built in a copy of the
 # repository, where they are two more crates. Stops with status 1 where not all items came.
 set -eu
-top=$(cd "$(dirname "$0")/.." && pwd)
-kit=$(dirname "$(dirname "$(readlink -f "$(command -v rt)")")")
-copy=$(mktemp -d)
-trap 'rm -rf "$copy"' EXIT
-mkdir "$copy/crates"
-cp "$top/HANDLES" "$copy/HANDLES"
-cp -r "$top/crates/fifo_links" "$copy/crates/fifo_links"
-grep "^fifo_links:" "$top/crates.txt" > "$copy/crates.txt"
+. "$(dirname "$0")/common.sh"
+copy_crates fifo_links
+add_crate links/one_thread "bench_links staticlib: fifo_links rtrb"
+add_crate links/two_threads "bench_threads: fifo_links rtrb"
 
-# Copies the files of a bench crate, without the `.txt` behind their names.
-# arguments: the crate's name, its folder in bench
-crate() {
-    cp -r "$top/bench/$2" "$copy/crates/$1"
-    find "$copy/crates/$1" -name '*.txt' | while read -r file; do mv "$file" "${file%.txt}"; done
-}
+make_crate bench_links lib
+build_on bench_links links/harness.rs one_thread
+"$folder/one_thread"
 
-# Proves and builds a bench crate, and runs a program. What it writes goes to the file `told`.
-# arguments: the crate's name, and what `rt` is to do
-make() {
-    (cd "$copy/crates/$1" && rt "$2" > "$copy/told" 2> "$copy/log") || { tail -20 "$copy/told" "$copy/log"; exit 1; }
-}
-
-crate bench_links links/one_thread
-echo "bench_links staticlib: fifo_links rtrb" >> "$copy/crates.txt"
-crate bench_threads links/two_threads
-echo "bench_threads: fifo_links rtrb" >> "$copy/crates.txt"
-make bench_links lib
-rustc -O "$top/bench/links/harness.rs" -o "$copy/one_thread" \
-    -L "native=$copy/crates/bench_links/out" -l static=bench_links \
-    -L "native=$kit/c" -l static=libc_c
-"$copy/one_thread"
-
-make bench_threads run
+make_crate bench_threads run
 awk '{ printf "two threads: %.1f ns an item through a link, %.1f ns through a bare ring, ratio %.2f; ", $2 / $1, $3 / $1, $3 / $2
     printf "%.1f ns through a bare ring whose sender waits for slots, ratio %.2f\n", $4 / $1, $4 / $2 }
-    END { exit NR != 1 }' "$copy/told"
+    END { exit NR != 1 }' "$folder/told"

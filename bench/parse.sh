@@ -6,8 +6,8 @@
 # the program reads it whole, refuses, and does nothing else. Prints the best of five runs.
 set -eu
 program=${1:?usage: bench/parse.sh PROGRAM}
-file=$(mktemp)
-trap 'rm -f "$file"' EXIT
+. "$(dirname "$0")/common.sh"
+file="$folder/problem"
 python3 - "$file" <<'PY'
 import random, sys
 random.seed(7)
@@ -18,17 +18,10 @@ with open(sys.argv[1], "w") as out:
     out.write("end\n")
 PY
 python3 - "$program" "$file" <<'PY'
-import os, resource, subprocess, sys, time
+import os, sys
+from timing import best
 program, path = sys.argv[1:]
-size = os.path.getsize(path)
-best = None
-for _ in range(5):
-    with open(path) as text:
-        begin = time.perf_counter()
-        done = subprocess.run([program, "solve", "--method", "plain"], stdin=text, capture_output=True)
-        took = time.perf_counter() - begin
-    assert done.returncode == 11, (done.returncode, done.stdout)
-    best = took if best is None else min(best, took)
-peak = resource.getrusage(resource.RUSAGE_CHILDREN).ru_maxrss / 1024
-print(f"{size / 1e6:.1f} MB in {best:.3f} s: {size / 1e6 / best:.1f} MB/s, at most {peak:.0f} MB of memory")
+size = os.path.getsize(path) / 1e6
+took, peak, _ = best([program, "solve", "--method", "plain"], path, status=11)
+print(f"{size:.1f} MB in {took:.3f} s: {size / took:.1f} MB/s, at most {peak:.0f} MB of memory")
 PY

@@ -6,8 +6,8 @@
 # best of five runs.
 set -eu
 program=${1:?usage: bench/plain.sh PROGRAM}
-file=$(mktemp)
-trap 'rm -f "$file"' EXIT
+. "$(dirname "$0")/common.sh"
+file="$folder/problem"
 python3 - "$file" <<'PY'
 import itertools, random, sys
 random.seed(7)
@@ -20,15 +20,9 @@ with open(sys.argv[1], "w") as out:
     out.write("end\n")
 PY
 python3 - "$program" "$file" <<'PY'
-import subprocess, sys, time
+import sys
+from timing import best
 program, path = sys.argv[1:]
-best = None
-for _ in range(5):
-    with open(path) as text:
-        begin = time.perf_counter()
-        done = subprocess.run([program, "solve", "--method", "plain"], stdin=text, capture_output=True)
-        took = time.perf_counter() - begin
-    assert done.returncode == 0, (done.returncode, done.stdout)
-    best = took if best is None else min(best, took)
-print(f"65536 assignments of 28 tables in {best:.3f} s")
+took, _, _ = best([program, "solve", "--method", "plain"], path)
+print(f"65536 assignments of 28 tables in {took:.3f} s")
 PY

@@ -6,8 +6,7 @@
 # variables; in the other one each variable has 8 neighbours. Prints the best of five runs of each.
 set -eu
 program=${1:?usage: bench/tree.sh PROGRAM}
-folder=$(mktemp -d)
-trap 'rm -rf "$folder"' EXIT
+. "$(dirname "$0")/common.sh"
 python3 - "$folder" <<'PY'
 import sys
 folder = sys.argv[1]
@@ -24,18 +23,11 @@ write("chain", [(i, i + 1) for i in range(count - 1)])
 write("eight", [(i, (i + step) % count) for i in range(count) for step in (1, 7, 31, 211)])
 PY
 python3 - "$program" "$folder" <<'PY'
-import os, resource, subprocess, sys, time
+import sys
+from timing import best
 program, folder = sys.argv[1:]
 for name, what in (("chain", "a chain"), ("eight", "8 neighbours each")):
-    best = None
-    for _ in range(5):
-        with open(f"{folder}/{name}") as text:
-            begin = time.perf_counter()
-            done = subprocess.run([program, "tree"], stdin=text, capture_output=True)
-            took = time.perf_counter() - begin
-        assert done.returncode == 0, (done.returncode, done.stdout)
-        assert b"\ndeliveries 1998\n" in done.stdout
-        best = took if best is None else min(best, took)
-    peak = resource.getrusage(resource.RUSAGE_CHILDREN).ru_maxrss / 1024
-    print(f"1,000 variables, {what}: {best:.3f} s, at most {peak:.0f} MB of memory")
+    took, peak, out = best([program, "tree"], f"{folder}/{name}")
+    assert b"\ndeliveries 1998\n" in out, out[:200]
+    print(f"1,000 variables, {what}: {took:.3f} s, at most {peak:.0f} MB of memory")
 PY

@@ -25,8 +25,7 @@ while [ $# -gt 0 ]; do
     esac
     shift 2
 done
-folder=$(mktemp -d)
-trap 'rm -rf "$folder"' EXIT
+. "$(dirname "$0")/common.sh"
 python3 - "$folder" <<'PY'
 import random, sys
 folder = sys.argv[1]
@@ -50,15 +49,9 @@ ties = [(above(above(i)), i) for i in random.sample(range(3, 100), 30)]
 write("adopt", 1, 100, 4, 100, sorted(binary + ties))
 PY
 python3 - "$program" "$before" "$runs" "$folder" <<'PY'
-import os, subprocess, sys, time
+import os, sys
+from timing import once
 program, before, runs, folder = sys.argv[1], sys.argv[2], int(sys.argv[3]), sys.argv[4]
-def once(words, path):
-    with open(path) as text:
-        begin = time.perf_counter()
-        child = subprocess.Popen(words, stdin=text, stdout=subprocess.PIPE)
-        out = child.stdout.read()
-        _, status, used = os.wait4(child.pid, 0)
-        return time.perf_counter() - begin, os.waitstatus_to_exitcode(status), used.ru_maxrss / 1024, out
 def field(out, name):
     return next((int(line.split()[1]) for line in out.splitlines() if line.startswith(name + b" ")), None)
 def time_all(commands, path):
