@@ -52,9 +52,12 @@ best = {}
 for path, (status, out) in by_dpop.items():
     if status != 0:
         status, out = solve(path, "--method", "adopt")
-    word, best[path], _ = answer_of(out)
-    if status != 0 or word != "solved":
-        sys.exit(f"{path}: neither method solves it: {out[:200]!r}")
+    word, cost, _ = answer_of(out)
+    if status == 0 and word == "solved":
+        best[path] = cost
+    else:
+        print(f"{os.path.basename(path)} is left out, as neither method solves it as given")
+paths = list(best)
 def fault_of(path, error, status, out):
     if error is None:
         return None if (status, out) == by_dpop[path] else "not the bytes of one worker"
