@@ -1,5 +1,5 @@
 -- Which answer belongs to which words and input, and what its status says of the source.
-use Rattle.std.proofs.Common.{◌≡◌, ℕ, ◌<◌, List, Option, Some, Result, Ok, Err, IfOk, sym, ap, subst, arith, refl}
+use Rattle.std.proofs.Common.{◌≡◌, ℕ, ◌<◌, List, Option, Some, Result, Ok, Err, IfOk, ap, subst, arith, refl}
 use Rattle.dcop_edge.specs.Faults.{Rose}
 use Rattle.dcop_base.specs.declared.memory.NoMemory.{NoMemory}
 use Rattle.problem_text.specs.Declarations.{Declared}
@@ -8,7 +8,6 @@ use Rattle.solve_words.specs.declared.fault.WordFault.{WordFault}
 use Rattle.solve_words.specs.declared.fault.WordFault.TheVariants as words
 use Rattle.solve_report.specs.declared.answer.Answer.{Answer}
 use Rattle.solve_report.specs.declared.answer.Answer.TheVariants as answers
-use Rattle.answer_edge.specs.declared.status.Status.{Status}
 use Rattle.answer_edge.specs.declared.status.Status.TheVariants.{ReadFault}
 use Rattle.answer_edge.specs.Input.{Input, Unread, Broken, TooLong, Whole, SourceState, IsAllOf, HadMore, IsReadFrom}
 use Rattle.answer_edge.specs.Statuses.{status_of}
@@ -35,15 +34,6 @@ pub text-answered : (words : List (List ℕ)) (asked : Asked) (before after : So
 text-answered words asked before after bytes slice (Ok answer) told read same is =
     input-answered words asked before after (Whole bytes) answer told read (subst (λ (t : List ℕ). IsTextAnswer (whole_read t) answer) same is)
 text-answered words asked before after bytes slice (Err none) told read same is = tt
-
--- the answer to words that are refused
-pub words-answered : (words : List (List ℕ)) (fault : WordFault) (state : SourceState) (answer : Answer) → Err fault ≡ order_answer_to words
-    → IsAskedAnswer (Err fault) Unread answer → IsAnswered words state state answer
-words-answered words fault state answer told is = record {
-  input = Unread;
-  read = refl;
-  belongs = subst (λ (r : Result Asked WordFault). IsAskedAnswer r Unread answer) told is;
-}
 
 text-sound : (read : Result Declared Fault) → ¬ IsTextAnswer read answers.Read
 text-sound (Ok d) is = is

@@ -22,8 +22,8 @@ use Rattle.certificate_text.specs.ReportLines.{Fault as ReportFault}
 use Rattle.certificate_text.specs.ReportReading.{report_read}
 use Rattle.solve_report.specs.declared.answer.Answer.{Answer}
 use Rattle.solve_report.specs.declared.answer.Answer.TheVariants as answers
-use Rattle.solve_top.specs.declared.status.Status.{Status}
-use Rattle.solve_top.specs.declared.status.Status.TheVariants.{Solved, TooWide, ReadFault, WriteFault, NoMemory as no_memory}
+use Rattle.answer_edge.specs.declared.status.Status.{Status}
+use Rattle.answer_edge.specs.declared.status.Status.TheVariants.{Solved, TooWide, ReadFault, WriteFault, NoMemory as no_memory}
 use Rattle.solve_top.specs.declared.task.Task.{Task}
 use Rattle.solve_top.specs.declared.task.Task.TheVariants.{File, Check}
 use Rattle.solve_top.specs.declared.task.FileTask.{FileTask}
@@ -35,15 +35,16 @@ use Rattle.solve_methods.specs.Drill.{drilled}
 use Rattle.solve_methods.specs.Dpop.{wide_in, wide_answer, IsDpopSolved, IsAnswerBy, IsDpopAnswer}
 use Rattle.problem_solved.specs.Goal.{solved, problem_solved}
 use Rattle.solve_methods.specs.Goal.{TellsRight}
-use Rattle.solve_top.specs.Input.{Input, Unread, Broken, TooLong, Whole, SourceState, IsAllOf, HadMore, IsReadFrom}
+use Rattle.answer_edge.specs.Input.{Input, Unread, Broken, TooLong, Whole, SourceState, IsAllOf, HadMore, IsReadFrom}
 use Rattle.solve_top.specs.Served.{task_of}
 use Rattle.solve_top.specs.Drilling.{drill_of, made_for}
 use Rattle.solve_top.specs.declared.drilling.Drill.{Drill}
 use Rattle.solve_top.specs.Solving.{Answered, HasFitTree, IsWithinLimits, IsTextFor, Accepts, AsksDrill, GoesWell}
-use Rattle.solve_top.specs.Statuses.{status_of, status_of_ending, status_of_verdict}
+use Rattle.answer_edge.specs.Statuses.{status_of, status_of_ending, status_of_verdict}
 use Rattle.solve_methods.specs.Tree.{IsTreeAnswer}
-use Rattle.solve_top.specs.Whole.{whole_read}
+use Rattle.answer_edge.specs.Whole.{whole_read}
 use Rattle.solve_check.specs.Checking.{IsReadAnswer}
+use Rattle.answer_edge.proofs.StatusLaws.{ending-told, read-alone}
 use Rattle.solve_top.proofs.SameLaws.{one_file, report_in}
 use Rattle.solve_top.proofs.PrintedLaws.{printed_solved}
 
@@ -91,48 +92,6 @@ Answered-unread words command before after (Ok answer) asked unread same is righ
   right = right;
 }
 Answered-unread words command before after (Err none) asked unread same is right = tt
-
--- the status of a report is no fault
-ending-told : (ending : Ending) → (status_of_ending ending ≢ WriteFault) × (status_of_ending ending ≢ no_memory) × (status_of_ending ending ≢ ReadFault)
-ending-told endings.Solved = (λ e. cc, λ e. cc, λ e. cc)
-ending-told endings.Spent = (λ e. cc, λ e. cc, λ e. cc)
-
--- nor is that of a verdict
-verdict-told : (verdict : Verdict) → (status_of_verdict verdict ≢ WriteFault) × (status_of_verdict verdict ≢ no_memory) × (status_of_verdict verdict ≢ ReadFault)
-verdict-told (verdicts.Yes cost error) = (λ e. cc, λ e. cc, λ e. cc)
-verdict-told (verdicts.No differs) = (λ e. cc, λ e. cc, λ e. cc)
-
--- no answer has the status of a sink that failed, or of want of memory
-pub told-status : (answer : Answer) → (status_of answer ≢ WriteFault) × (status_of answer ≢ no_memory)
-told-status (answers.Report report file) = let told = ending-told report.status in (told.0, told.1)
-told-status (answers.Verdict verdict names) = let told = verdict-told verdict in (told.0, told.1)
-told-status (answers.Tree deliveries nodes names) = (λ e. cc, λ e. cc)
-told-status (answers.Drill summary) = let told = ending-told summary.status in (told.0, told.1)
-told-status (answers.Upgraded file) = (λ e. cc, λ e. cc)
-told-status (answers.Words at kind) = (λ e. cc, λ e. cc)
-told-status (answers.ProblemText line kind problem) = (λ e. cc, λ e. cc)
-told-status (answers.ReportText line kind) = (λ e. cc, λ e. cc)
-told-status (answers.Many n) = (λ e. cc, λ e. cc)
-told-status (answers.WideAgent var cells names) = (λ e. cc, λ e. cc)
-told-status (answers.WideTotal cells) = (λ e. cc, λ e. cc)
-told-status answers.Read = (λ e. cc, λ e. cc)
-told-status answers.NotYet = (λ e. cc, λ e. cc)
-
--- one answer alone has the status of a source that failed
-read-alone : (answer : Answer) → status_of answer ≡ ReadFault → answer ≡ answers.Read
-read-alone (answers.Report report file) e = absurd ((ending-told report.status).2 e)
-read-alone (answers.Drill summary) e = absurd ((ending-told summary.status).2 e)
-read-alone (answers.Verdict verdict names) e = absurd ((verdict-told verdict).2 e)
-read-alone answers.Read e = refl
-read-alone (answers.Tree deliveries nodes names) e = cc
-read-alone (answers.Upgraded file) e = cc
-read-alone (answers.Words at kind) e = cc
-read-alone (answers.ProblemText line kind problem) e = cc
-read-alone (answers.ReportText line kind) e = cc
-read-alone (answers.Many n) e = cc
-read-alone (answers.WideAgent var cells names) e = cc
-read-alone (answers.WideTotal cells) e = cc
-read-alone answers.NotYet e = cc
 
 -- an answer of `tree` is solved
 tree-solved : (file : TextFile) (answer : Answer) → IsTreeAnswer file answer → status_of answer ≡ Solved

@@ -1,4 +1,3 @@
-mod PassLaws
 mod UsedLaws
 mod PrefixLaws
 mod BlankLaws

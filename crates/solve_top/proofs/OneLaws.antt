@@ -12,10 +12,10 @@ use Rattle.solve_report.specs.declared.answer.Answer.{Answer}
 use Rattle.solve_top.specs.declared.task.Task.TheVariants.{File}
 use Rattle.solve_top.specs.declared.task.FileTask.TheVariants as tasks
 use Rattle.solve_top.specs.Answering.{IsTextAnswer, IsInputAnswer}
-use Rattle.solve_top.specs.Input.{Input, Unread, Broken, TooLong, Whole}
+use Rattle.answer_edge.specs.Input.{Input, Unread, Broken, TooLong, Whole}
 use Rattle.solve_top.specs.Same.{AreReadAlike, AutoAnswersAreThoseOfDpop, DpopAnswersAreOne, HasFitProblem}
 use Rattle.solve_top.specs.Solving.{HasFitTree}
-use Rattle.solve_top.specs.Whole.{whole_read}
+use Rattle.answer_edge.specs.Whole.{whole_read}
 use Rattle.solve_top.proofs.AnswerLaws.{fit-none, IsAnswer-task, task-IsAnswer}
 use Rattle.solve_top.proofs.SameLaws.{one_answer}
 

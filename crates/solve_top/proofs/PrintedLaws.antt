@@ -32,8 +32,8 @@ use Rattle.solve_methods.specs.Dpop.{wide_in, wide_answer, IsDpopReport, IsAnswe
 use Rattle.solve_check.specs.Checking.{IsReadAnswer, IsCheckAnswer, AnswersCheck}
 use Rattle.solve_top.specs.Answering.{lines_in, IsReportAnswer}
 use Rattle.solve_top.specs.Solving.{IsPrintedFor}
-use Rattle.solve_top.specs.Statuses.{status_of, status_of_verdict}
-use Rattle.solve_top.specs.declared.status.Status.TheVariants.{Solved}
+use Rattle.answer_edge.specs.Statuses.{status_of, status_of_verdict}
+use Rattle.answer_edge.specs.declared.status.Status.TheVariants.{Solved}
 use Rattle.solve_top.proofs.BlankLaws.{rest_kept}
 use Rattle.solve_top.proofs.PrefixLaws.{text_kept}
 use Rattle.solve_top.proofs.UsedLaws.{text_used}

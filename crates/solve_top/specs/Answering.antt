@@ -20,8 +20,8 @@ use Rattle.solve_methods.specs.Adopt.{AnswersAdopt}
 use Rattle.solve_methods.specs.Auto.{AnswersAuto}
 use Rattle.solve_methods.specs.Drill.{drilled}
 use Rattle.solve_methods.specs.Dpop.{AnswersDpop}
-use Rattle.solve_top.specs.Input.{Input, Unread, Broken, TooLong, Whole}
-use Rattle.problem_text.specs.Kinds.{number_of_text, number_of_problem}
+use Rattle.answer_edge.specs.Input.{Input, Unread, Broken, TooLong, Whole}
+use Rattle.answer_edge.specs.Showing.{refused_by}
 use Rattle.solve_words.specs.Kinds.{number_of_words}
 use Rattle.solve_methods.specs.Plain.{IsPlainReport, HasFirstOptimum, IsTooMany}
 use Rattle.solve_top.specs.Served.{task_of}
@@ -29,7 +29,7 @@ use Rattle.solve_top.specs.Drilling.{drill_of, made_for}
 use Rattle.solve_top.specs.declared.drilling.Drill.{Drill}
 use Rattle.solve_methods.specs.Tree.{AnswersTree}
 use Rattle.solve_check.specs.Checking.{AnswersCheck}
-use Rattle.solve_top.specs.Whole.{whole_read}
+use Rattle.answer_edge.specs.Whole.{whole_read}
 
 -- the answer to a task on a text that declares this: plain has at most assignment_limit assignments to try
 abbrev pub IsFileAnswer : FileTask → Declared → Answer → Type 0
@@ -42,10 +42,6 @@ IsFileAnswer (tasks.Auto error budget certified) d answer = AnswersAuto d error 
 IsFileAnswer tasks.Tree d answer = AnswersTree d answer
 IsFileAnswer tasks.Upgrade d (answers.Upgraded file) = declared_by file ≡ record d { version = 2 }
 IsFileAnswer task d answer = ⊥
-
--- the answer to a problem text with this first fault
-abbrev pub refused_by : Fault → Answer
-refused_by fault = answers.ProblemText fault.line (number_of_text fault.kind) (number_of_problem fault.kind)
 
 -- the answer to a task on a text that is read as this
 abbrev pub IsTextAnswer : FileTask → Result Declared Fault → Answer → Type 0

@@ -1,10 +1,5 @@
-pub mod Input
-pub mod Output
 pub mod Served
 pub mod Drilling
-pub mod Whole
-pub mod Texts
 pub mod Answering
-pub mod Statuses
 pub mod Solving
 pub mod Same

@@ -7,10 +7,10 @@ use Rattle.solve_report.specs.declared.answer.Answer.{Answer}
 use Rattle.solve_top.specs.declared.task.Task.TheVariants.{File}
 use Rattle.solve_top.specs.declared.task.FileTask.TheVariants as tasks
 use Rattle.solve_top.specs.Answering.{IsAnswer}
-use Rattle.solve_top.specs.Input.{Input, Whole}
+use Rattle.answer_edge.specs.Input.{Input, Whole}
 use Rattle.solve_top.specs.Served.{task_of}
 use Rattle.solve_top.specs.Solving.{HasFitTree}
-use Rattle.solve_top.specs.Whole.{whole_read}
+use Rattle.answer_edge.specs.Whole.{whole_read}
 
 -- words that ask for DPOP, with a certificate or without
 pub record AskForDpop (certified : Bool) (words : List (List ℕ)) : Type 0 where

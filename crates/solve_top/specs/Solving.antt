@@ -2,8 +2,6 @@
 use Rattle.std.specs.Prelude.{◌≡◌, ℕ, ◌≤◌, ◌⊎◌, true, List, [], ◌∷◌, ◌++◌, length, drop, Some, None, Ok}
 use Rattle.dcop_base.specs.Table.{product}
 use Rattle.dcop_base.specs.Whole.{IsProblem}
-use Rattle.dcop_edge.specs.Faults.{Rose}
-use Rattle.dcop_edge.specs.Sink.{Adds}
 use Rattle.dcop_base.specs.Limits.{assignment_limit, input_limit}
 use Rattle.problem_text.specs.Declarations.{Declared}
 use Rattle.problem_text.specs.File.{TextFile, IsFile}
@@ -17,9 +15,8 @@ use Rattle.solve_report.specs.declared.answer.Answer.TheVariants as answers
 use Rattle.solve_words.specs.declared.command.Command.{Command}
 use Rattle.solve_words.specs.Command.{answer_to}
 use Rattle.solve_report.specs.declared.answer.Answer.{Answer}
-use Rattle.solve_report.specs.AnswerText.{answer_text}
-use Rattle.solve_top.specs.declared.status.Status.{Status}
-use Rattle.solve_top.specs.declared.status.Status.TheVariants as statuses
+use Rattle.answer_edge.specs.declared.status.Status.{Status}
+use Rattle.answer_edge.specs.declared.status.Status.TheVariants as statuses
 use Rattle.solve_top.specs.declared.task.Task.{Task}
 use Rattle.solve_top.specs.declared.task.Task.TheVariants.{File, Check}
 use Rattle.solve_top.specs.declared.task.FileTask.{FileTask}
@@ -28,13 +25,13 @@ use Rattle.solve_top.specs.Answering.{IsAnswer}
 use Rattle.solve_methods.specs.Dpop.{wide_in, AnswersDpop}
 use Rattle.problem_solved.specs.Goal.{solved}
 use Rattle.solve_methods.specs.Goal.{TellsRight}
-use Rattle.solve_top.specs.Input.{Input, SourceState, IsReadFrom}
-use Rattle.solve_top.specs.Output.{SinkState, AddsPrefix}
+use Rattle.answer_edge.specs.Input.{Input, SourceState, IsReadFrom}
+use Rattle.answer_edge.specs.Output.{SinkState}
+use Rattle.answer_edge.specs.Showing.{IsShown, IsCut}
 use Rattle.solve_top.specs.Served.{task_of}
 use Rattle.solve_top.specs.Drilling.{drill_of, made_for}
 use Rattle.solve_top.specs.declared.drilling.Drill.{Drill}
-use Rattle.solve_top.specs.Statuses.{status_of}
-use Rattle.solve_top.specs.Whole.{whole_read}
+use Rattle.answer_edge.specs.Whole.{whole_read}
 
 -- an answer to words, with what was read for it of a source that stood so before and stands so afterwards
 pub record Answered (words : List (List ℕ)) (before after : SourceState) (answer : Answer) : Type 0 where
@@ -42,24 +39,6 @@ pub record Answered (words : List (List ℕ)) (before after : SourceState) (answ
   pub read : IsReadFrom input before after
   pub belongs : IsAnswer words input answer
   pub right : TellsRight answer
-
--- the whole text of an answer was written, the sink is finished, and the status is the answer's
-pub record IsShown (answer : Answer) (before after : SinkState) (status : Status) : Type 0 where
-  pub text : Adds before.held (answer_text answer) after.held
-  pub finished : after.finished ≡ true
-  pub same : status ≡ status_of answer
-
--- the sink failed behind a prefix of the text of an answer
-pub record IsCut (answer : Answer) (before after : SinkState) (status : Status) : Type 0 where
-  pub prefix : AddsPrefix before.held (answer_text answer) after.held
-  pub fault : status ≡ statuses.WriteFault
-
--- an answer was shown, to a sink that did not fail; or the sink failed, as its count of faults tells; or memory was wanted
-abbrev pub Shows : Answer → SinkState → SinkState → ℕ → ℕ → Status → Type 0
-Shows answer sink sink' faults faults' status =
-    ((status ≡ statuses.NoMemory) × (faults' ≡ faults))
-    ⊎ (IsShown answer sink sink' status × (faults' ≡ faults))
-    ⊎ (IsCut answer sink sink' status × Rose faults faults')
 
 -- a call on these words answered and showed its answer, or its sink failed
 pub record Solves (words : List (List ℕ)) (source source' : SourceState) (sink sink' : SinkState) (status : Status) : Type 0 where

@@ -6,23 +6,20 @@ ghost use Rattle.solve_report.specs.AnswerText.{HasText};
 ghost use Rattle.problem_text.specs.Reading.{text_read};
 ghost use Rattle.problem_text.specs.Steps.{declared_by};
 ghost use Rattle.solve_methods.specs.Goal.{TellsRight};
-ghost use Rattle.solve_top.specs.Input.{source_state};
+ghost use Rattle.answer_edge.specs.Input.{source_state};
 ghost use Rattle.solve_top.specs.Answering.{IsFileAnswer, IsTextAnswer, IsReportAnswer, IsTaskAnswer, lines_in};
 ghost use Rattle.solve_top.specs.Served.{IsTaskInRange};
 ghost use Rattle.solve_top.specs.Solving.{Answered};
-ghost use Rattle.problem_text.specs.Kinds.{number_of_text, number_of_problem};
-ghost use Rattle.solve_words.specs.Kinds.{number_of_words};
-ghost use Rattle.solve_top.specs.Whole.{whole_read};
+ghost use Rattle.answer_edge.specs.Whole.{whole_read};
 
 use crate::agents::by_search;
 use crate::choosing::by_dpop;
 use crate::crew::Crew;
 use crate::drilling::unread_answer;
 use crate::reaching::by_adopt;
-use crate::reading::{MAX_INPUT, ReadEnd, read_all};
 use crate::settling::by_auto;
 use crate::task::{FileTask, Task, workers_of};
-use crate::whole::read_whole;
+use answer_edge::{MAX_INPUT, ReadEnd, fault_answer, read_all, read_whole, words_answer};
 use dcop_base::NoMemory;
 use dcop_edge::{Gate, Source};
 use problem_text::{ProblemFile, TextFault, TextKind, read_problem};
@@ -190,26 +187,5 @@ fn upgraded(file: ProblemFile) -> ProblemFile
         names,
         labels,
         problem,
-    }
-}
-
-/// The answer to words that are refused.
-fn words_answer(at: u64, kind: WordKind) -> Answer
-    ensures { result ≡ Answer.Words at (number_of_words kind) }
-{
-    Answer::Words {
-        at,
-        kind: kind.number(),
-    }
-}
-
-/// The answer to a text that is refused.
-fn fault_answer(line: u64, kind: TextKind) -> Answer
-    ensures { result ≡ Answer.ProblemText line (number_of_text kind) (number_of_problem kind) }
-{
-    Answer::ProblemText {
-        line,
-        kind: kind.number(),
-        problem: kind.problem(),
     }
 }

@@ -5,7 +5,6 @@
 //! tells of its file is right, and when each fault may come.
 #![tactic(auto)]
 
-mod after_end;
 mod agents;
 mod answering;
 mod choosing;
@@ -14,15 +13,10 @@ mod drilling;
 mod law;
 mod logging;
 mod reaching;
-mod reading;
 mod settling;
-mod status;
 mod task;
 mod top;
-mod whole;
-mod writing;
 
+pub use answer_edge::{MAX_INPUT, Status};
 pub use law::{auto_answers_are_those_of_dpop, dpop_answers_are_one};
-pub use reading::MAX_INPUT;
-pub use status::Status;
 pub use top::solve;

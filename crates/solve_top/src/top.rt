@@ -2,17 +2,14 @@
 
 ghost use Rattle.std.specs.Prelude.{◌≡◌, ◌≢◌, ◌<◌, ◌⊎◌, ℕ, List, Some, map, string_bytes};
 ghost use Rattle.dcop_edge.specs.Faults.{Rose};
-ghost use Rattle.solve_top.specs.Input.{source_state};
-ghost use Rattle.solve_top.specs.Output.{sink_state};
-ghost use Rattle.solve_report.specs.AnswerText.{HasText};
-ghost use Rattle.solve_top.specs.Solving.{Shows, Solves, Accepts, AsksDrill, GoesWell};
+ghost use Rattle.answer_edge.specs.Input.{source_state};
+ghost use Rattle.answer_edge.specs.Output.{sink_state};
+ghost use Rattle.solve_top.specs.Solving.{Solves, Accepts, AsksDrill, GoesWell};
 
 use crate::answering::answer_of;
-use crate::status::Status;
 use crate::task::Task;
-use crate::writing::write_all;
+use answer_edge::{Status, show};
 use dcop_edge::{Gate, Sink, Source};
-use solve_report::{Answer, text_of};
 use std::alloc::Global;
 use std::net::Net;
 use std::random::RandomSource;
@@ -70,22 +67,4 @@ pub fn solve<
         return Status::NoMemory;
     };
     show(alloc, &answer, sink)
-}
-
-/// Writes the whole text of an answer, and says how it went.
-fn show<K: Sink>(alloc: Global, answer: &Answer, sink: &mut K) -> Status
-    requires { HasText answer.now }
-    ensures shows { Shows answer.now
-        (sink_state (K.held sink.old) (K.finished sink.old))
-        (sink_state (K.held sink.new) (K.finished sink.new))
-        (K.faults sink.old) (K.faults sink.new) result }
-    ensures unwritten { result ≡ Status.NoMemory → sink.new ≡ sink.old }
-{
-    let Ok(text) = text_of(alloc, answer) else {
-        return Status::NoMemory;
-    };
-    match write_all(sink, text.as_slice()) {
-        Ok(()) => Status::of(answer),
-        Err(_) => Status::WriteFault,
-    }
 }

@@ -2,10 +2,20 @@
 
 use std::alloc::Global;
 
-/// A worked case: what the program is given, and what it has to answer.
+/// The program that a case is for.
+#[derive(Clone, Copy)]
+pub enum Program {
+    /// `dcop`
+    Dcop,
+    /// `dcop_order`
+    DcopOrder,
+}
+
+/// A worked case: what a program is given, and what it has to answer.
 #[derive(Drop)]
 pub struct Case {
-    /// The command's words.
+    pub program: Program,
+    /// The program's words.
     pub words: Vec<String>,
     /// What the input is joined from, in order.
     pub pieces: Vec<Piece>,
@@ -24,6 +34,8 @@ pub struct Case {
 pub enum Piece {
     /// The bytes of a file, or the output that a case expects.
     File(String),
+    /// What `dcop_order` without words writes for such bytes.
+    Ordered(String),
     /// A text, so many times.
     Text(Vec<u8>, u64),
 }
@@ -59,6 +71,7 @@ impl Case {
     /// A case that says nothing yet.
     pub fn new(alloc: Global) -> Self {
         Case {
+            program: Program::Dcop,
             words: Vec::new(alloc),
             pieces: Vec::new(alloc),
             changes: Vec::new(alloc),

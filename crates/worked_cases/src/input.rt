@@ -2,7 +2,9 @@
 
 use crate::case::{Case, Change, Output, Piece};
 use crate::parse::read_case;
-use anyhow::{Result, bail};
+use anyhow::{Result, bail, ensure};
+use dcop_edge::{MemorySink, MemorySource};
+use order_top::order;
 use std::alloc::Global;
 use std::fs;
 use std::rt::Files;
@@ -19,6 +21,10 @@ pub fn input_of<R: Files + AllocGlobal>(rt: &R, case: &Case) -> Result<Vec<u8>> 
     for piece in case.pieces.iter() {
         match piece {
             Piece::File(name) => input.append(&mut file_of(rt, name.as_str())?)?,
+            Piece::Ordered(name) => {
+                let text = file_of(rt, name.as_str())?;
+                input.append(&mut ordered(rt.alloc(), text)?)?;
+            }
             Piece::Text(bytes, times) => {
                 for _ in 0..*times {
                     input.extend_from_slice(bytes)?;
@@ -43,6 +49,15 @@ fn file_of<R: Files + AllocGlobal>(rt: &R, path: &str) -> Result<Vec<u8>> {
         }
     }
     bail!("{path} has no output")
+}
+
+/// What `dcop_order` writes for this text.
+fn ordered(alloc: Global, text: Vec<u8>) -> Result<Vec<u8>> {
+    let mut source = MemorySource::new(text, Vec::new(alloc));
+    let mut sink = MemorySink::new(alloc, Vec::new(alloc));
+    let status = order(alloc, &[], &mut source, &mut sink);
+    ensure!(status.code() == 0, "dcop_order refuses the text");
+    Ok(sink.bytes().to_vec(alloc)?)
 }
 
 /// The input with one text in the place of another, which has to stand in it exactly once.

@@ -1,10 +1,11 @@
 //! A case, run and compared.
 
-use crate::case::{Answer, Case, Output};
+use crate::case::{Answer, Case, Output, Program};
 use crate::escape::written;
 use crate::input::{case_at, input_of};
 use anyhow::{Result, bail};
 use dcop_edge::{MemorySink, MemorySource, OpenGate};
+use order_top::order;
 use solve_top::solve;
 use std::net::Net;
 use std::random::RandomSource;
@@ -62,7 +63,7 @@ pub fn run_case<
     Ok(())
 }
 
-/// What the program answers to the words of a case on this input.
+/// What the program of a case answers to its words on this input.
 fn found_on<R: Threads + Wait + Clock + RandomSource + Net + AllocGlobal + Sync>(
     rt: &R,
     case: &Case,
@@ -72,7 +73,10 @@ fn found_on<R: Threads + Wait + Clock + RandomSource + Net + AllocGlobal + Sync>
     let input = input.to_vec(alloc)?;
     let mut source = MemorySource::new(input, case.failing_reads.clone()?);
     let mut sink = MemorySink::new(alloc, case.failing_writes.clone()?);
-    let status = solve(rt, alloc, &case.words, &mut source, &mut sink, &OpenGate);
+    let status = match case.program {
+        Program::Dcop => solve(rt, alloc, &case.words, &mut source, &mut sink, &OpenGate),
+        Program::DcopOrder => order(alloc, &case.words, &mut source, &mut sink),
+    };
     Ok(Found {
         status: status.code(),
         output: sink.bytes().to_vec(alloc)?,

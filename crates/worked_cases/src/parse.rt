@@ -1,6 +1,6 @@
 //! Case files, read.
 
-use crate::case::{Answer, Case, Change, Output, Piece};
+use crate::case::{Answer, Case, Change, Output, Piece, Program};
 use crate::escape::add_escaped;
 use anyhow::{Context, Result, bail, ensure};
 use std::alloc::Global;
@@ -79,12 +79,17 @@ impl Reading {
     /// Takes a key with its value.
     fn key(&mut self, key: &str, value: &str) -> Result<()> {
         match key {
+            "program" => self.case.program = program(value)?,
             "words" => {
                 for word in value.split_whitespace() {
                     self.case.words.push(String::from_str(self.alloc, word)?)?;
                 }
             }
             "input" => self.input(value)?,
+            "ordered" => {
+                let name = String::from_str(self.alloc, value)?;
+                self.case.pieces.push(Piece::Ordered(name))?;
+            }
             "repeat" => self.input_text(number(value)?)?,
             "replace" => {
                 let change = Change {
@@ -166,6 +171,15 @@ fn escaped(alloc: Global, written: &str) -> Result<Vec<u8>> {
     let goes_on = add_escaped(&mut bytes, written)?;
     ensure!(!goes_on, "an escape is cut off");
     Ok(bytes)
+}
+
+/// The program of this name.
+fn program(name: &str) -> Result<Program> {
+    match name {
+        "dcop" => Ok(Program::Dcop),
+        "dcop_order" => Ok(Program::DcopOrder),
+        _ => bail!("{name} is no program"),
+    }
 }
 
 fn number(word: &str) -> Result<u64> {

@@ -1,6 +1,4 @@
-use Rattle.std.proofs.Common.{refl}
-use Rattle.answer_edge.specs.Input.{Broken, TooLong}
-use Rattle.order_top.proofs.AnswerLaws.{input-answered, text-answered, words-answered}
+use Rattle.order_top.proofs.AnswerLaws.{text-answered}
 use Rattle.order_top.proofs.answering.answer_of.Goals as goal
 
 pub returns-in-Ok-read_all-clause-answered : goal.returns-in-Ok-read_all-clause-answered

@@ -1,4 +1,3 @@
-use Rattle.answer_edge.specs.Output.{SinkState}
 use Rattle.answer_edge.proofs.ShowLaws.{shown-so, read-so, write-so, source-so, status-so}
 use Rattle.order_top.specs.Ordering.{GoesWell}
 use Rattle.order_top.proofs.AnswerLaws.{rose-answered, fault-answered, well-answered}

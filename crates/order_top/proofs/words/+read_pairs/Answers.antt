@@ -1,7 +1,6 @@
-use Rattle.std.proofs.Common.{◌≡◌, ℕ, ◌+◌, List, ◌∷◌, String, Global, Result, Ok, map, string_bytes, sym, ap, ◌∙◌}
-use Rattle.solve_words.specs.declared.fault.WordFault.{WordFault}
+use Rattle.std.proofs.Common.{◌≡◌, ℕ, ◌+◌, List, ◌∷◌, String, Global, Ok, map, string_bytes, sym, ap, ◌∙◌}
 use Rattle.order_top.specs.declared.words.Given.{Given}
-use Rattle.order_top.specs.Words.{place_behind, with_number, option_told, number_told, pairs_told}
+use Rattle.order_top.specs.Words.{place_behind, option_told, number_told, pairs_told}
 use Rattle.order_top.proofs.WordLaws.{number_taken}
 use Rattle.order_top.proofs.words.+read_pairs.Goals as goal
 

@@ -1,5 +1,5 @@
 use Rattle.std.proofs.Common.{refl, sym}
-use Rattle.solve_top.specs.Input.{Broken, TooLong}
+use Rattle.answer_edge.specs.Input.{Broken, TooLong}
 use Rattle.solve_top.proofs.AnswerLaws.{Answered-task, Answered-text, Answered-unread}
 use Rattle.solve_top.proofs.answering.answer_of.Goals as goal
 

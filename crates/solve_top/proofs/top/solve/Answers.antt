@@ -1,4 +1,5 @@
-use Rattle.solve_top.proofs.ShowLaws.{solved-so, read-so, write-so, source-so, complete-so, drill-so}
+use Rattle.answer_edge.proofs.ShowLaws.{write-so}
+use Rattle.solve_top.proofs.ShowLaws.{solved-so, read-so, source-so, complete-so, drill-so}
 use Rattle.solve_top.proofs.top.solve.Goals as goal
 
 pub returns-clause-answered : goal.returns-clause-answered
@@ -11,7 +12,7 @@ returns-clause-read_fault g c = λ fault.
 
 pub returns-clause-write_fault : goal.returns-clause-write_fault
 returns-clause-write_fault g c = λ fault.
-    write-so _ _ _ c.in-Ok.answer c.in-Ok.ensures.answered _ _ _ _ _ c.show.ensures.shows fault
+    write-so c.in-Ok.answer _ _ _ _ _ c.show.ensures.shows fault
 
 pub returns-clause-source_failed : goal.returns-clause-source_failed
 returns-clause-source_failed g c = λ more.
