@@ -9,12 +9,13 @@ import sys
 from fractions import Fraction
 from pathlib import Path
 
-from . import __version__, draw, meetings, pydcop, wcsp
-from .explain import explain
-from .problem import MOST_BYTES, Problem, Table, TextFault, Trouble, Variable, parse
+from . import __version__, draw, meetings, pydcop, replay, wcsp
+from .explain import differs, explain
+from .problem import MOST_BYTES, TextFault, Trouble, parse
 from .programs import Programs
-from .report import read_report, read_tree
-from .solving import Best, Refused, Solver, deadline
+from .progress import Progress
+from .report import Report, fitted, read_report, read_tree
+from .solving import Best, Refused, Solver, accepts, cost_of, deadline
 from .translate import Translation, plain, translate
 
 SOLVED, OPEN, USAGE, TEXT = 0, 1, 2, 3
@@ -47,7 +48,7 @@ def parser() -> argparse.ArgumentParser:
     solve = commands.add_parser("solve", help="solve a problem: .dcop, .wcsp, pyDCOP .yaml, meetings .csv, .uai")
     solve.add_argument("file", metavar="FILE")
     solve.add_argument("--time", type=seconds, metavar="30s", help="stop after this time with the best so far")
-    solve.add_argument("--error", type=natural, default=0, metavar="E", help="by how much the cost may miss the best (adopt)")
+    solve.add_argument("--error", type=amount, default=0, metavar="E", help="by how much the cost may miss the best (adopt)")
     solve.add_argument("--method", choices=("auto", "plain", "dpop", "order", "cut", "adopt"), default="auto")
     solve.add_argument("--workers", type=natural, default=1, metavar="N")
     solve.add_argument("--json", action="store_true", help="the answer as JSON")
@@ -77,19 +78,29 @@ def parser() -> argparse.ArgumentParser:
     when = commands.add_parser("meetings", help="a timetable from a CSV")
     when.add_argument("file", metavar="CSV")
     when.add_argument("--ics", metavar="OUT", help="write the timetable there as iCalendar")
+    when.add_argument("--svg", metavar="OUT", help="write a picture of the timetable there")
+    when.add_argument("--report", metavar="OUT", help="write the report of dcop there, with its certificate")
     when.add_argument("--time", type=seconds, metavar="30s")
     when.add_argument("--workers", type=natural, default=1, metavar="N")
     when.set_defaults(run=run_meetings)
 
-    picture = commands.add_parser("draw", help="a picture as SVG")
-    picture.add_argument("what", choices=("graph", "tree"))
-    picture.add_argument("file", metavar="FILE")
-    picture.add_argument("report", metavar="REPORT", nargs="?")
+    picture = commands.add_parser(
+        "draw",
+        help="a picture as SVG: of the problem's graph, of its tree, of a run's bounds",
+        description="Draws a problem as SVG: graph (also without this word), with the values of a report where one is named; "
+        "tree, with separators and table sizes; bounds, those of the root over the messages, by a report with a log "
+        "(also without this word, where the report has one).",
+        usage="sefwllon draw [-h] [--points N] [graph|tree|bounds] FILE [REPORT]",
+    )
+    picture.add_argument("words", metavar="[graph|tree|bounds] FILE [REPORT]", nargs="+")
+    picture.add_argument("--points", type=natural, default=replay.POINTS, metavar="N", help="how often a log is replayed, at most")
     picture.set_defaults(run=run_draw)
 
     cost = commands.add_parser("cost", help="what an assignment costs: lines or words NAME=VALUE")
     cost.add_argument("file", metavar="FILE")
     cost.add_argument("assignment", metavar="NAME=VALUE|ASSIGNMENT", nargs="+")
+    cost.add_argument("--bound", type=amount, metavar="B", help="say how far the cost is from this bound")
+    cost.add_argument("--report", metavar="REPORT", help="say how far the cost may be from the best one, by this report's certificate")
     cost.set_defaults(run=run_cost)
     return top
 
@@ -98,6 +109,12 @@ def natural(word: str) -> int:
     if not word.isdigit():
         raise argparse.ArgumentTypeError(f"{word} is no whole number from 0 up")
     return int(word)
+
+
+def amount(word: str) -> Fraction:
+    if not re.fullmatch(r"-?\d+(\.\d+)?", word):
+        raise argparse.ArgumentTypeError(f"{word} is no number")
+    return Fraction(word)
 
 
 def seconds(word: str) -> float:
@@ -150,29 +167,32 @@ def run_solve(options: argparse.Namespace) -> int:
     options.text = read_text(options.file)
     programs = Programs()
     told = load(options.file, options.text, programs)
-    error = options.error * told.scale
-    solver = Solver(programs, told.problem, error, options.workers, options.method, deadline(options.time), progress())
-    best = solver.solve()
-    if options.report and best.report is not None:
-        Path(options.report).write_text(best.report)
+    error = int(max(options.error, 0) * told.scale)
+    best = solved(programs, told, options, error, options.method)
     print(as_json(best, told) if options.json else as_text(best, told), end="")
     return status_of(best, told)
 
 
+def solved(programs: Programs, told: Translation, options: argparse.Namespace, error: int = 0, method: str = "auto") -> Best:
+    """Solves a problem, and writes the report where it is wanted."""
+    progress = Progress(told)
+    until = deadline(options.time)
+    best = Solver(programs, told.problem, error, options.workers, method, until, progress.tell, progress.tick).solve()
+    progress.end()
+    if options.report and best.report is not None:
+        write(options.report, best.report)
+    return best
+
+
+def write(name: str, text: str) -> None:
+    try:
+        Path(name).write_text(text, newline="")
+    except OSError as fault:
+        raise Trouble(f"{name} can't be written: {fault.strerror}") from None
+
+
 def status_of(best: Best, told: Translation) -> int:
     return SOLVED if best.solved and best.values is not None and not told.broken(best.values) else OPEN
-
-
-def progress():
-    """Says on a terminal's standard error how far it is."""
-    if not sys.stderr.isatty():
-        return lambda what, best: None
-
-    def tell(what: str, best: Best) -> None:
-        known = "" if best.cost is None else f": cost {best.cost}, best between {best.lower} and {best.upper}"
-        print(f"\r\x1b[K{what}{known}", end="" if best.cost is None else "\n", file=sys.stderr, flush=True)
-
-    return tell
 
 
 def number(value: Fraction) -> str:
@@ -239,27 +259,33 @@ def as_json(best: Best, told: Translation) -> str:
 
 def run_check(options: argparse.Namespace) -> int:
     options.text = read_text(options.file)
-    told = load(options.file, options.text, Programs())
-    text = told.problem.text() if Path(options.file).suffix.lower() in KINDS else ended(options.text)
-    answer = Programs().run(["check"], text + read_text(options.report))
-    if answer.status == 0:
-        print(f"yes, verified: {' '.join(answer.text.split()[2:-1])}")
-        return SOLVED
+    programs = Programs()
+    told = load(options.file, options.text, programs)
+    report = read_text(options.report)
+    options.text = fitted(told.problem, report).text() + report
+    answer = programs.run(["check"], options.text)
     if answer.status == 10:
-        print("no: " + answer.text.splitlines()[1])
+        print("no: " + differs(answer.text))
         return OPEN
-    options.text = text + read_text(options.report)
-    raise Refused(answer)
+    if answer.status != 0:
+        raise Refused(answer)
+    read = read_report(report, fitted(told.problem, report))
+    if not accepts(answer, read):
+        raise Trouble("dcop check says yes to another cost than the report's: don't trust this program")
+    gap = abs(read.cost - (read.lower if told.problem.goal == "min" else read.upper))
+    worse = "and none is better" if gap == 0 else f"at most {number(Fraction(gap, told.scale))} from the best"
+    print(f"yes, verified: {noun(told)} {number(told.own_cost(read.cost))}, {worse}")
+    return SOLVED
 
 
-def ended(text: str) -> str:
-    return text if text.endswith("\n") else text + "\n"
+def noun(told: Translation) -> str:
+    return "cost" if told.problem.goal == "min" else "sum"
 
 
 def run_explain(options: argparse.Namespace) -> int:
     options.text = read_text(options.file)
     answer = read_text(options.answer) if options.answer else Programs().run(["tree"], options.text).text
-    if not answer.startswith("refused"):
+    if not answer.startswith(("refused", "status no")):
         print("dcop takes this file.")
         return SOLVED
     print(explain(answer, options.text))
@@ -282,7 +308,7 @@ def run_to(options: argparse.Namespace) -> int:
 def run_meetings(options: argparse.Namespace) -> int:
     told = meetings.read(read_text(options.file))
     made = translate(meetings.source(told, Path(options.file).name))
-    best = Solver(Programs(), made.problem, workers=options.workers, until=deadline(options.time), tell=progress()).solve()
+    best = solved(Programs(), made, options)
     if best.values is None:
         print(as_text(best, made), end="")
         return OPEN
@@ -292,23 +318,76 @@ def run_meetings(options: argparse.Namespace) -> int:
     chosen = made.told(best.values)
     print(meetings.table(told, chosen), end="")
     if options.ics:
-        Path(options.ics).write_text(meetings.icalendar(told, chosen), newline="")
+        write(options.ics, meetings.icalendar(told, chosen))
+    if options.svg:
+        write(options.svg, draw.timetable(told, chosen))
     return status_of(best, made)
 
 
 def run_draw(options: argparse.Namespace) -> int:
-    options.text = read_text(options.file)
+    what = options.words.pop(0) if options.words[0] in ("graph", "tree", "bounds") else None
+    if not 1 <= len(options.words) <= 2:
+        raise Trouble("draw takes a FILE, and a REPORT behind it where there is one")
+    file, *reports = options.words
+    options.text = read_text(file)
     programs = Programs()
-    problem = load(options.file, options.text, programs).problem
-    if options.what == "graph":
-        values = read_report(read_text(options.report), problem).values if options.report else None
-        print(draw.graph(problem, values), end="")
-        return SOLVED
+    told = load(file, options.text, programs)
+    report = read_text(reports[0]) if reports else None
+    if what is None:
+        what = "bounds" if report is not None and "\ncertificate log" in report else "graph"
+    if what == "tree":
+        print(tree_of(programs, told, report), end="")
+    elif what == "graph":
+        print(graph_of(told, report), end="")
+    elif report is None:
+        raise Trouble("the bounds of a run are drawn from a report with a log: name it behind the file")
+    else:
+        problem = fitted(told.problem, report)
+        options.text = problem.text() + report
+        print(bounds_of(programs, told, report, Path(file).name, options.points), end="")
+    return SOLVED
+
+
+def graph_of(told: Translation, report: str | None) -> str:
+    """The problem's graph, by the user's own names and values."""
+    if report is None:
+        return draw.graph(told.problem, told.names, [f"{v.size} values" for v in told.problem.variables])
+    problem = fitted(told.problem, report)
+    by_name = dict(zip((v.name for v in problem.variables), read_report(report, problem).values))
+    chosen = told.told([by_name[v.name] for v in told.problem.variables])
+    return draw.graph(told.problem, told.names, [str(value) for value in chosen.values()])
+
+
+def tree_of(programs: Programs, told: Translation, report: str | None) -> str:
+    """The tree of the agents, as the file has its variables, or in the order of a report."""
+    problem = told.problem if report is None else fitted(told.problem, report)
     answer = programs.run(["tree"], problem.text())
     if answer.status != 0:
         raise Refused(answer)
-    print(draw.tree(problem, read_tree(answer.text)), end="")
-    return SOLVED
+    own = dict(zip((v.name for v in told.problem.variables), told.names))
+    return draw.tree(problem, read_tree(answer.text), own)
+
+
+def bounds_of(programs: Programs, told: Translation, report: str, title: str, points: int) -> str:
+    """The root's bounds over the messages of a log."""
+    problem = fitted(told.problem, report)
+    read = read_report(report, problem)
+    if read.certificate != "log":
+        raise Trouble("the report has no log: make it with `sefwllon solve --method adopt --report OUT`")
+    answer = programs.run(["check"], problem.text() + report)
+    if answer.status == 10:
+        raise Trouble("dcop check says no to this report: " + differs(answer.text))
+    if answer.status != 0:
+        raise Refused(answer)
+    with Progress(told) as progress:
+        moments = replay.moments(programs, problem, report, max(2, points), progress.replayed)
+    return draw.bounds(moments, lambda total: number(told.own_cost(total)), bounds_title(told, read, title), read.cost)
+
+
+def bounds_title(told: Translation, read: Report, title: str) -> str:
+    own = {what: number(told.own_cost(getattr(read, what))) for what in ("cost", "lower", "upper")}
+    known = "none is better" if read.exact else f"the best lies between {own['lower']} and {own['upper']}"
+    return f"{title}: {read.deliveries:,} messages, {noun(told)} {own['cost']}, {known} (verified)"
 
 
 def run_cost(options: argparse.Namespace) -> int:
@@ -317,14 +396,29 @@ def run_cost(options: argparse.Namespace) -> int:
     programs = Programs()
     told = load(options.file, options.text, programs)
     values = assignment(options.assignment, told)
-    answer = programs.run(["solve", "--method", "plain"], pinned(told.problem, values).text())
-    if answer.status != 0:
-        raise Refused(answer)
-    total = int(answer.text.split("\ncost ", 1)[1].split()[0])
+    total = cost_of(programs, told.problem, values)
     for name in told.broken(values):
         print(f"broken: {name}")
-    print(f"cost {number(told.own_cost(total))}")
+    own = told.own_cost(total)
+    print(f"{noun(told)} {number(own)}")
+    if options.bound is not None:
+        print(f"{number(abs(own - options.bound))} from the bound {number(options.bound)}")
+    if options.report:
+        print(from_the_best(programs, told, total, read_text(options.report)))
     return SOLVED
+
+
+def from_the_best(programs: Programs, told: Translation, total: int, report: str) -> str:
+    """How far a sum may be from the best one, by a report's certificate."""
+    problem = fitted(told.problem, report)
+    answer = programs.run(["check"], problem.text() + report)
+    if answer.status == 10:
+        raise Trouble("dcop check says no to this report: " + differs(answer.text))
+    if answer.status != 0:
+        raise Trouble(explain(answer.text, problem.text() + report))
+    read = read_report(report, problem)
+    gap = abs(total - (read.lower if problem.goal == "min" else read.upper))
+    return "none is better (verified)" if gap == 0 else f"at most {number(Fraction(gap, told.scale))} from the best (verified)"
 
 
 def assignment(words: list[str], told: Translation) -> list[int]:
@@ -348,10 +442,3 @@ def assignment(words: list[str], told: Translation) -> list[int]:
             raise Trouble(f"{word} is no value of {name}")
         values.append(value)
     return values
-
-
-def pinned(problem: Problem, values: list[int]) -> Problem:
-    """The problem with one value for each variable."""
-    variables = [Variable(v.name, 1) for v in problem.variables]
-    tables = [Table(t.scope, (problem.cell(t, values),)) for t in problem.tables]
-    return Problem(problem.goal, variables, tables)

@@ -3,16 +3,22 @@
 from __future__ import annotations
 
 import math
+from collections.abc import Callable
 from html import escape
 
+from .meetings import Meetings
 from .problem import Problem, Trouble
+from .replay import Moment
 from .report import Node
 
 _STYLE = (
     "<style>text{font:12px sans-serif;text-anchor:middle;fill:#222}"
     ".small{font-size:10px;fill:#666}line,path{stroke:#888;fill:none}"
-    ".dashed{stroke-dasharray:4 3;stroke:#b55}circle{fill:#eef4ff;stroke:#35a}</style>"
+    ".dashed{stroke-dasharray:4 3;stroke:#b55}circle{fill:#eef4ff;stroke:#35a}"
+    ".title{font-size:13px}.left{text-anchor:end}.legend{text-anchor:start}.grid{stroke:#ddd}"
+    ".lower{stroke:#35a;stroke-width:2}.upper{stroke:#b55;stroke-width:2}.cost{fill:#222;stroke:none}</style>"
 )
+_LEFT, _TOP, _WIDE, _HIGH = 70, 76, 560, 280
 
 
 def svg(width: float, height: float, parts: list[str]) -> str:
@@ -31,8 +37,8 @@ def edge(a: tuple[float, float], b: tuple[float, float], kind: str = "") -> str:
     return f'<line{f" class={chr(34)}{kind}{chr(34)}" if kind else ""} x1="{a[0]:.1f}" y1="{a[1]:.1f}" x2="{b[0]:.1f}" y2="{b[1]:.1f}"/>'
 
 
-def graph(problem: Problem, values: list[int] | None = None) -> str:
-    """The variables on a ring, with a line between two that share a table, and the values of a report below."""
+def graph(problem: Problem, names: list[str], below: list[str]) -> str:
+    """The variables on a ring, with a line between two that share a table, and a word below each."""
     count = len(problem.variables)
     radius = max(90.0, count * 60 / (2 * math.pi))
     middle = radius + 60
@@ -41,13 +47,12 @@ def graph(problem: Problem, values: list[int] | None = None) -> str:
         for i in range(count)
     ]
     parts = [edge(spots[a], spots[b]) for a, near in enumerate(problem.neighbours()) for b in sorted(near) if a < b]
-    for place, variable in enumerate(problem.variables):
-        below = variable.value_name(values[place]) if values else f"{variable.size} values"
-        parts += circle(*spots[place], variable.name, below)
+    for spot, name, word in zip(spots, names, below):
+        parts += circle(*spot, name, word)
     return svg(2 * middle, 2 * middle + 20, parts)
 
 
-def tree(problem: Problem, nodes: list[Node]) -> str:
+def tree(problem: Problem, nodes: list[Node], own: dict[str, str]) -> str:
     """The tree over which the agents work: solid lines to parents, dashed ones to others of the separator, and the
     cells of each agent's joined table."""
     sizes = {v.name: v.size for v in problem.variables}
@@ -80,30 +85,77 @@ def tree(problem: Problem, nodes: list[Node]) -> str:
             parts.append(edge(spots[node.name], spots[node.parent], "dashed"))
     for node in nodes:
         cells = math.prod(sizes[name] for name in [node.name, *node.separator])
-        parts += circle(*spots[node.name], node.name, f"{cells:,} cells")
+        parts += circle(*spots[node.name], own[node.name], f"{cells:,} cells")
     return svg(max(x for x, _ in spots.values()) + 60, max(y for _, y in spots.values()) + 60, parts)
 
 
-def bounds(points: list[tuple[int, int, int | None]]) -> str:
-    """The root's bounds over the messages delivered: a line of lower and one of upper bounds."""
-    if not points:
-        raise Trouble("the log has no event of the root")
-    most = max(p[0] for p in points) or 1
-    tops = [p[2] for p in points if p[2] is not None] + [p[1] for p in points]
-    top = max(tops) or 1
+def bounds(moments: list[Moment], told: Callable[[int], str], title: str, cost: int) -> str:
+    """The root's bounds over the messages delivered, as steps: a line of lower and one of upper bounds, and the cost of
+    the report's values as a dot at the end."""
+    last = max(m.deliveries for m in moments)
+    seen = [cost, *(y for m in moments for y in (m.lower, m.upper) if y is not None)]
+    low, high = min(seen), max(seen)
 
     def spot(x: int, y: int) -> tuple[float, float]:
-        return 50 + 500 * x / most, 320 - 280 * y / top
+        return _LEFT + _WIDE * x / max(last, 1), _TOP + _HIGH * (high - y) / max(high - low, 1)
 
-    parts = [edge((50, 320), (550, 320)), edge((50, 320), (50, 40))]
-    for which, colour in ((1, "#35a"), (2, "#b55")):
-        line = [spot(p[0], p[which]) for p in points if p[which] is not None]  # type: ignore[arg-type]
+    parts = [f'<text class="title" x="{_LEFT + _WIDE / 2:.0f}" y="24">{escape(title)}</text>']
+    for y in ticks(low, high):
+        at = spot(0, y)[1]
+        parts.append(edge((_LEFT, at), (_LEFT + _WIDE, at), "grid"))
+        parts.append(f'<text class="left" x="{_LEFT - 8}" y="{at + 4:.1f}">{escape(told(y))}</text>')
+    for x in ticks(0, last):
+        at = spot(x, low)[0]
+        parts.append(edge((at, _TOP + _HIGH), (at, _TOP + _HIGH + 5)))
+        parts.append(f'<text x="{at:.1f}" y="{_TOP + _HIGH + 20}">{x:,}</text>')
+    parts.append(edge((_LEFT, _TOP + _HIGH), (_LEFT + _WIDE, _TOP + _HIGH)))
+    parts.append(f'<text x="{_LEFT + _WIDE / 2:.0f}" y="{_TOP + _HIGH + 42}">messages delivered</text>')
+    for place, which in enumerate(("upper", "lower")):
+        line = [(m.deliveries, getattr(m, which)) for m in moments if getattr(m, which) is not None]
         if line:
-            way = " ".join(f"{'M' if i == 0 else 'L'}{x:.1f},{y:.1f}" for i, (x, y) in enumerate(line))
-            parts.append(f'<path style="stroke:{colour};stroke-width:2" d="{way}"/>')
-    parts += [
-        f'<text x="300" y="345">{most:,} messages</text>',
-        f'<text x="25" y="44">{top:,}</text>',
-        '<text x="25" y="324">0</text>',
-    ]
-    return svg(600, 360, parts)
+            parts.append(steps([spot(x, y) for x, y in line], spot(last, line[-1][1]), which))
+        y = 48 + 16 * place
+        parts.append(f'<path class="{which}" d="M{_LEFT + _WIDE - 110},{y - 4} h24"/>')
+        parts.append(f'<text class="legend" x="{_LEFT + _WIDE - 80}" y="{y}">{which} bound</text>')
+    x, at = spot(last, cost)
+    parts.append(f'<circle class="cost" cx="{x:.1f}" cy="{at:.1f}" r="4"/>')
+    parts.append(f'<text class="legend" x="{x + 8:.1f}" y="{at + 4:.1f}">{escape(told(cost))}</text>')
+    return svg(_LEFT + _WIDE + 70, _TOP + _HIGH + 60, parts)
+
+
+def timetable(told: Meetings, chosen: dict[str, object]) -> str:
+    """A row for each slot and a column for each person, with the meetings in it; grey where somebody can't."""
+    people = sorted(told.people())
+    left = 30 + 7 * max(len(slot.name) for slot in told.slots)
+    wide = 30 + 7 * max(len(word) for word in [*people, *told.meetings])
+    hues = {name: 360 * place // len(told.meetings) for place, name in enumerate(told.meetings)}
+    parts = [f'<text x="{left + wide * (i + 0.5):.1f}" y="30">{escape(name)}</text>' for i, name in enumerate(people)]
+    for row, slot in enumerate(told.slots):
+        y = 42 + 34 * row
+        parts.append(f'<text class="left" x="{left - 10}" y="{y + 20}">{escape(slot.name)}</text>')
+        parts.append(edge((left, y), (left + wide * len(people), y), "grid"))
+        for column, person in enumerate(people):
+            x = left + wide * column
+            if slot.name in told.absent.get(person, ()):
+                parts.append(f'<rect x="{x + 2}" y="{y + 2}" width="{wide - 4}" height="30" fill="#eee"/>')
+            for name in (n for n, who in told.meetings.items() if person in who and chosen[n] == slot.name):
+                fill = f"hsl({hues[name]},60%,85%)"
+                parts.append(f'<rect x="{x + 2}" y="{y + 2}" width="{wide - 4}" height="30" rx="4" fill="{fill}"/>')
+                parts.append(f'<text x="{x + wide / 2:.1f}" y="{y + 21}">{escape(name)}</text>')
+    return svg(left + wide * len(people) + 20, 42 + 34 * len(told.slots) + 12, parts)
+
+
+def steps(spots: list[tuple[float, float]], end: tuple[float, float], kind: str) -> str:
+    """A line that goes on level until the next spot."""
+    way = f"M{spots[0][0]:.1f},{spots[0][1]:.1f}"
+    for x, y in [*spots[1:], end]:
+        way += f" H{x:.1f} V{y:.1f}"
+    return f'<path class="{kind}" d="{way}"/>'
+
+
+def ticks(low: int, high: int) -> list[int]:
+    """Round numbers from the one to the other, about five."""
+    span = max(high - low, 1)
+    step = 10 ** max(0, len(str(span)) - 1)
+    step = next((s for s in (step // 5, step // 2, step, 2 * step) if s and span // s <= 6), 2 * step)
+    return list(range(-(-low // step) * step, high + 1, step))

@@ -51,7 +51,29 @@ WORDS = {
     9: "the option does not go with this command, or with this method",
     10: "these words are right, and this program does not serve them yet",
 }
-WCSP = "the WCSP text is not as its format asks"
+WCSP = {
+    1: "a whole number from 0 up was expected",
+    2: "the text is over before its last word",
+    3: "a function names a variable that is not there, or the same one twice",
+    4: "a tuple names a value that its variable has not",
+    5: "a function has more than four variables",
+    8: "words follow behind the last function",
+}
+EDIT = {
+    1: "the line is none of `set`, `fill`, `answer`, `end`",
+    2: "a number was expected: 1 to 19 digits",
+    3: "there is no table of this number",
+    4: "the table has no such cell, or not so many",
+    5: "a cost is at most 2^50 = 1125899906842624",
+    6: "the greatest costs of all tables would sum to more than 2^62",
+    7: "the line `end` is missing: it must be the last one",
+}
+EVENTS = {
+    "nobody": "names an agent that is not there",
+    "ended": "is of an agent that had ended before",
+    "nothing": "takes no message, or none from one of its senders",
+    "order": "names its senders in a wrong order",
+}
 
 
 def explain(answer: str, text: str = "", words: list[str] | None = None) -> str:
@@ -65,8 +87,11 @@ def explain(answer: str, text: str = "", words: list[str] | None = None) -> str:
             return of_text(int(line), int(kind), int(rest[1]) if len(rest) == 2 else 0, text)
         case ["refused", "report", "line", line, "kind", kind]:
             return quoted(text, int(line)) + f"The report is refused: {REPORT.get(int(kind), 'kind ' + kind)}."
-        case ["refused", "wcsp", "line", line, "kind", kind]:
-            return quoted(text, int(line)) + f"{WCSP} (kind {kind})."
+        case ["refused", "wcsp", "line", line, "kind", kind, *rest]:
+            what = PROBLEM.get(int(rest[1]), "") if len(rest) == 2 else WCSP.get(int(kind), f"kind {kind}")
+            return quoted(text, int(line)) + f"The WCSP is refused: {what}."
+        case ["refused", "edit", "line", line, "kind", kind]:
+            return quoted(text, int(line)) + f"The edit is refused: {EDIT.get(int(kind), 'kind ' + kind)}."
         case ["refused", "wide", "agent", name, "cells", cells, "limit", limit]:
             return (
                 f"DPOP would need a table of {int(cells):,} cells at {name}, and {int(limit):,} are the most. "
@@ -83,9 +108,52 @@ def explain(answer: str, text: str = "", words: list[str] | None = None) -> str:
             return "Reading the input failed: try again."
         case ["refused", "link"]:
             return "A connection between two nodes failed: try again."
+        case ["refused", "differs", *_] | ["refused", "bytes", *_]:
+            return "What one node sent is not what the other one received: try again, and mind the network."
+        case ["status", "no", *_]:
+            return differs(answer)
         case []:
             return "The program printed nothing: it was out of memory, or its output could not be written."
     return "That is no refusal of dcop."
+
+
+def differs(answer: str) -> str:
+    """What `dcop check` or `dcop replay` says where it says no, in a sentence."""
+    line = next((it for it in answer.splitlines() if it.startswith("differs ")), "")
+    told = line.split()[1:]
+    where = ""
+    if told[:1] == ["turn"] and len(told) > 2:
+        where, told = f"in turn {told[1]} ", told[2:]
+    return where + of_difference(told) + f" (`{line}`)"
+
+
+def of_difference(told: list[str]) -> str:
+    match told:
+        case ["tree", "roots", count]:
+            return f"{count} variables have no parent, and one has to"
+        case ["tree", "loop", name]:
+            return f"the parents of {name} lead round in a circle"
+        case ["tree", "pair", one, other]:
+            return f"{one} and {other} share a table, and neither stands above the other in the tree"
+        case ["scope", name]:
+            return f"the table of {name} is over other variables than its separator from the root down"
+        case ["cell", name, cell, value, "left", left, "right", right]:
+            return f"cell {cell} of {name} claims that its branch costs at least {left}, and with value {value} it costs {right}"
+        case ["root", "left", left, "right", right]:
+            return f"the root's cell shows the bound {left}, and the values cost {right}"
+        case ["event", number, kind] if kind in EVENTS:
+            return f"event {number} {EVENTS[kind]}"
+        case ["event", number, "too-many", name, "left", left, "right", right]:
+            return f"event {number} takes {left} messages from {name}, and {right} are there"
+        case ["stamp", number, "left", left, "right", right]:
+            return f"event {number} has the stamp {left}, and it must be {right}"
+        case ["status", status]:
+            return f"the report says `{status}`, and its run did not end so"
+        case ["value", name]:
+            return f"the run ends with another value of {name}"
+        case [what, "left", left, "right", right]:
+            return f"the report says `{what} {left}`, and {right} is right"
+    return "the report differs"
 
 
 def quoted(text: str, line: int) -> str:

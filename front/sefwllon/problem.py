@@ -3,6 +3,7 @@
 from __future__ import annotations
 
 import re
+import time
 from dataclasses import dataclass, field
 from itertools import product
 from math import prod
@@ -57,6 +58,8 @@ class Problem:
     variables: list[Variable]
     tables: list[Table]
     comments: list[str] = field(default_factory=list)
+    source: str | None = None
+    """The text that it was read from, up to its line `end`."""
 
     def index_of(self, name: str) -> int | None:
         return next((i for i, v in enumerate(self.variables) if v.name == name), None)
@@ -81,8 +84,37 @@ class Problem:
                     near[a].add(b)
         return near
 
+    def reordered(self, names: list[str]) -> Problem:
+        """The same problem with its variables in this order."""
+        at = {v.name: place for place, v in enumerate(self.variables)}
+        to = {at[name]: place for place, name in enumerate(names)}
+        tables = [Table(tuple(to[v] for v in table.scope), table.costs) for table in self.tables]
+        return Problem(self.goal, [self.variables[at[name]] for name in names], tables, list(self.comments))
+
+    def improved(self, assignment: list[int], until: float | None = None) -> list[int]:
+        """An assignment that no change of one variable betters, found from this one; the best so far at that moment."""
+        sign = 1 if self.goal == "min" else -1
+        own: list[list[Table]] = [[] for _ in self.variables]
+        for table in self.tables:
+            for variable in table.scope:
+                own[variable].append(table)
+        values, waiting = list(assignment), list(range(len(self.variables)))
+        while waiting and (until is None or time.monotonic() < until):
+            variable = waiting.pop(0)
+            kept, costs = values[variable], []
+            for values[variable] in range(self.variables[variable].size):
+                costs.append(sign * sum(self.cell(table, values) for table in own[variable]))
+            least = min(costs)
+            values[variable] = kept if costs[kept] == least else costs.index(least)
+            if values[variable] != kept:
+                near = {v for table in own[variable] for v in table.scope}
+                waiting += sorted(near - {variable} - set(waiting))
+        return values
+
     def text(self) -> str:
-        """The problem as text, which `dcop` reads."""
+        """The problem as text, which `dcop` reads: the one that it was read from, so that it is told by its own lines."""
+        if self.source is not None:
+            return self.source
         lines = [f"# {line}".rstrip() for line in self.comments]
         lines.append("dcop 2")
         if self.goal == "max":
@@ -138,15 +170,13 @@ def is_number(word: str) -> bool:
 
 
 def lines_of(text: str) -> list[tuple[int, list[str], str]]:
-    """The lines that have words, each with its number, its words, and itself; up to the line `end`."""
+    """The lines that have words, each with its number, its words, and itself."""
     found = []
     for number, line in enumerate(text.split("\n"), 1):
         bare = line[:-1] if line.endswith("\r") else line
         words = [word for word in re.split(r"[ \t]+", bare.split("#", 1)[0]) if word]
         if words:
             found.append((number, words, line))
-            if words[0] == "end":
-                break
     return found
 
 
@@ -157,7 +187,7 @@ def parse(text: str) -> Problem:
         raise TextFault(lines[0][0] if lines else 1, "the first line is neither `dcop 1` nor `dcop 2`")
     problem = Problem("min", [], [])
     places: dict[str, int] = {}
-    for number, words, _ in lines[1:]:
+    for at, (number, words, _) in enumerate(lines[1:], 2):
         match words:
             case ["goal", ("min" | "max") as goal]:
                 problem.goal = goal
@@ -168,17 +198,23 @@ def parse(text: str) -> Problem:
                 places[name] = len(problem.variables)
                 problem.variables.append(Variable(name, int(size)))
             case ["table", *rest] if ":" in rest:
-                at = rest.index(":")
+                colon = rest.index(":")
                 try:
-                    scope = tuple(places[name] for name in rest[:at])
-                    costs = tuple(int(word) for word in rest[at + 1 :])
-                except (KeyError, ValueError) as fault:
-                    raise TextFault(number, f"a name or a cost is wrong: {fault}") from None
+                    scope = tuple(places[name] for name in rest[:colon])
+                except KeyError as fault:
+                    raise TextFault(number, f"a name is wrong: {fault}") from None
+                bad = next((word for word in rest[colon + 1 :] if not is_number(word)), None)
+                if bad is not None:
+                    raise TextFault(number, f"{bad} is no number")
+                costs = tuple(int(word) for word in rest[colon + 1 :])
                 if len(costs) != prod(problem.variables[v].size for v in scope):
                     raise TextFault(number, f"the table has {len(costs)} costs")
                 problem.tables.append(Table(scope, costs))
-            case ["end"]:
+            case ["end"] if at == len(lines):
+                problem.source = "\n".join(text.split("\n")[:number]) + "\n"
                 return problem
+            case ["end"]:
+                raise TextFault(lines[at][0], "words follow behind the line `end`")
             case _:
                 raise TextFault(number, "the line is none of `goal`, `var`, `table`, `end`")
     raise TextFault(text.count("\n") + 1, "the line `end` is missing")

@@ -6,10 +6,14 @@ import os
 import shutil
 import subprocess
 import time
+from collections.abc import Callable
 from dataclasses import dataclass
 from pathlib import Path
 
 from .problem import Trouble
+
+TICK = 0.25
+"""How often, in seconds, it is said how far a program is."""
 
 _CRATES = Path(__file__).resolve().parents[2] / "crates"
 
@@ -34,14 +38,16 @@ class Programs:
         self.dcop = dcop or found("SEFWLLON_DCOP", "dcop", "solve_cli")
         self.order = order or found("SEFWLLON_ORDER", "dcop_order", "order_cli")
 
-    def run(self, words: list[str], text: str, until: float | None = None) -> Answer:
+    def run(
+        self, words: list[str], text: str, until: float | None = None, tick: Callable[[], None] | None = None
+    ) -> Answer:
         """Runs `dcop` on a text, at most until this moment of `time.monotonic`."""
         if self.dcop is None:
             raise Trouble(
                 "the program dcop is not built: run `cd crates/solve_cli && rt run -- tree < ../../examples/pair.dcop`, "
                 "or name it by SEFWLLON_DCOP"
             )
-        return run([self.dcop, *words], text, until)
+        return run([self.dcop, *words], text, until, tick)
 
     def reorder(self, text: str, tries: int, until: float | None = None) -> Answer | None:
         """Runs `dcop_order`, where it is built."""
@@ -59,7 +65,7 @@ def found(variable: str, name: str, crate: str) -> str | None:
     return str(built) if built.is_file() else None
 
 
-def run(command: list[str], text: str, until: float | None) -> Answer:
+def run(command: list[str], text: str, until: float | None, tick: Callable[[], None] | None = None) -> Answer:
     """Runs a program to its end, or until its time is over."""
     left = None if until is None else until - time.monotonic()
     if left is not None and left <= 0:
@@ -69,13 +75,31 @@ def run(command: list[str], text: str, until: float | None) -> Answer:
     except OSError as fault:
         raise Trouble(f"{command[0]} can't be run: {fault.strerror}") from None
     try:
-        told, _ = process.communicate(text.encode(), timeout=left)
-    except subprocess.TimeoutExpired:
-        process.kill()
-        process.communicate()
-        return Answer("", None)
+        told = ended(process, text.encode(), until, tick)
     except BaseException:
         process.kill()
         process.wait()
         raise
+    if told is None:
+        process.kill()
+        process.communicate()
+        return Answer("", None)
     return Answer(told.decode("utf-8", "replace"), process.returncode)
+
+
+def ended(
+    process: subprocess.Popen[bytes], given: bytes | None, until: float | None, tick: Callable[[], None] | None
+) -> bytes | None:
+    """What a program prints until it ends; None where its time is over first."""
+    while True:
+        left = None if until is None else max(0.0, until - time.monotonic())
+        if tick:
+            left = TICK if left is None else min(left, TICK)
+        try:
+            return process.communicate(given, timeout=left)[0]
+        except subprocess.TimeoutExpired:
+            given = None
+            if until is not None and time.monotonic() >= until:
+                return None
+            if tick:
+                tick()

@@ -64,6 +64,15 @@ def read_report(text: str, problem: Problem) -> Report:
     return Report(status, method, values=values, certificate=certificate, **count)
 
 
+def fitted(problem: Problem, report: str) -> Problem:
+    """The problem with its variables in the order in which a report has them, where these are the same variables.
+
+    `solve` may have solved the problem in another order; whatever the order is, each assignment costs the same."""
+    names = [words[1] for words in map(str.split, report.splitlines()) if words[:1] == ["value"] and len(words) == 3]
+    own = [v.name for v in problem.variables]
+    return problem.reordered(names) if names != own and sorted(names) == sorted(own) else problem
+
+
 def read_tree(text: str) -> list[Node]:
     """Reads the answer of `dcop tree`."""
     nodes = []

@@ -6,12 +6,13 @@ import time
 from collections.abc import Callable
 from dataclasses import dataclass, field
 
-from .problem import Problem, Trouble, parse
+from .problem import MOST_BYTES, Problem, Table, Trouble, Variable, parse
 from .programs import Answer, Programs
 from .report import Report, read_report
 
 BUDGETS = (1_000, 10_000, 100_000, 1_000_000, 10_000_000)
 ORDERS = 1_000
+NO_MEMORY = 7
 
 
 @dataclass
@@ -38,13 +39,22 @@ class Best:
         self.lower = report.lower if self.lower is None else max(self.lower, report.lower)
         self.upper = report.upper if self.upper is None else min(self.upper, report.upper)
         better = self.cost is None or (report.cost < self.cost if goal == "min" else report.cost > self.cost)
-        if better or report.status == "solved":
+        if better:
             self.values, self.cost = report.values, report.cost
-        if self.cost is not None and goal == "min":
-            self.upper = min(self.upper, self.cost)
-        elif self.cost is not None:
-            self.lower = max(self.lower, self.cost)
+        self.keep_bound(goal)
         self.solved = report.status == "solved"
+
+    def take_better(self, values: list[int], cost: int, goal: str) -> None:
+        """Takes an assignment that is better than the one that is kept."""
+        self.values, self.cost = values, cost
+        self.keep_bound(goal)
+
+    def keep_bound(self, goal: str) -> None:
+        """The bound on the side of the assignment is what it costs: what is told as reached is in hand."""
+        if goal == "min":
+            self.upper = self.cost
+        else:
+            self.lower = self.cost
 
     def check(self, report: Report, goal: str) -> None:
         """Takes the bound of a report that was checked."""
@@ -75,6 +85,7 @@ class Solver:
     method: str = "auto"
     until: float | None = None
     tell: Callable[[str, Best], None] = lambda what, best: None
+    tick: Callable[[], None] | None = None
     best: Best = field(default_factory=Best)
 
     def solve(self) -> Best:
@@ -101,7 +112,7 @@ class Solver:
                 return
 
     def run(self, words: list[str], text: str) -> Answer:
-        answer = self.programs.run(words, text, self.until)
+        answer = self.programs.run(words, text, self.until, self.tick)
         if answer.status is None:
             self.best.stopped = "the time is over"
         return answer
@@ -135,10 +146,19 @@ class Solver:
                 answer = self.run([*words, *self.worker_words()], text)
             if not self.taken(answer, text, self.problem):
                 return False
+            self.improve()
             self.tell(f"adopt, {budget} messages", self.best)
             if self.best.solved or self.best.stopped:
                 return True
         return True
+
+    def improve(self) -> None:
+        """Betters a spent answer's assignment, a variable at a time. What it costs then is for `dcop` to say."""
+        if self.best.solved or self.best.values is None:
+            return
+        values = self.problem.improved(self.best.values, self.until)
+        if values != self.best.values:
+            self.best.take_better(values, cost_of(self.programs, self.problem, values), self.problem.goal)
 
     def worker_words(self) -> list[str]:
         return ["--workers", str(self.workers)] if self.workers > 1 else []
@@ -163,13 +183,33 @@ class Solver:
 
     def checked(self, text: str, report_text: str, report: Report) -> bool:
         """Whether `dcop check` says yes to this report, with this cost."""
-        answer = self.run(["check"], text + report_text)
-        if answer.status is None:
+        if len(text) + len(report_text) > MOST_BYTES:
             return False
-        told = dict(line.split(maxsplit=1) for line in answer.text.splitlines() if " " in line)
-        if answer.status == 0 and told.get("status") == "yes" and told.get("cost") == str(report.cost):
+        answer = self.run(["check"], text + report_text)
+        if answer.status in (None, NO_MEMORY):
+            return False
+        if accepts(answer, report):
             return True
         raise Trouble("dcop check does not accept the report that dcop printed: don't trust this program\n" + answer.text)
+
+
+def accepts(answer: Answer, report: Report) -> bool:
+    """Whether an answer of `dcop check` says yes to a report with this cost."""
+    told = dict(line.split(maxsplit=1) for line in answer.text.splitlines() if " " in line)
+    return answer.status == 0 and told.get("status") == "yes" and told.get("cost") == str(report.cost)
+
+
+def cost_of(programs: Programs, problem: Problem, values: list[int]) -> int:
+    """What an assignment costs, told by `dcop` itself on the problem with one value for each variable."""
+    variables = [Variable(v.name, 1) for v in problem.variables]
+    tables = [Table(t.scope, (problem.cell(t, values),)) for t in problem.tables]
+    answer = programs.run(["solve", "--method", "plain"], Problem(problem.goal, variables, tables).text())
+    if answer.status != 0:
+        raise Refused(answer)
+    told = int(answer.text.split("\ncost ", 1)[1].split()[0])
+    if told != problem.cost(values):
+        raise Trouble("dcop printed a cost that its values do not have: don't trust this program")
+    return told
 
 
 def in_order(report: Report, problem: Problem, wanted: Problem) -> Report:

@@ -1,7 +1,9 @@
 #!/usr/bin/env python3
 """A stand-in for `dcop` that tries all assignments. FAKE tells how it misbehaves, by words:
-wide: dpop is too wide; lies: it prints a cost that is one too low; forges: its check says no; slow: it takes for ever;
-spends: adopt is spent below a budget of 100000, with an assignment that is worse each time."""
+wide: dpop is too wide; lies: it prints a cost that is one too low; forges: its check says no; slow: it takes for ever,
+once it has written a word to the file FAKE_MARK; spends: adopt is spent below a budget of 100000, with an assignment
+that is worse each time; logs: adopt prints a log of eight events, and replay knows it; stuck: replay says that the
+third event is unlawful."""
 
 import itertools
 import os
@@ -11,7 +13,7 @@ from pathlib import Path
 
 sys.path.insert(0, str(Path(__file__).resolve().parents[1]))
 
-from sefwllon.problem import parse  # noqa: E402
+from sefwllon.problem import TextFault, parse  # noqa: E402
 from sefwllon.report import read_report  # noqa: E402
 
 FAKE = os.environ.get("FAKE", "").split()
@@ -22,17 +24,25 @@ def main() -> int:
     text = sys.stdin.read()
     if words[0] == "check":
         return check(text)
+    if words[0] == "replay" and "logs" in FAKE:
+        return replay(text, int(words[2]))
     if words[0] == "upgrade":
-        print(parse(text).text(), end="")
+        try:
+            print(parse(text).text(), end="")
+        except TextFault as fault:
+            print(f"refused text line {fault.line} kind 2")
+            return 3
         return 0
     options = dict(zip(words[1::2], words[2::2]))
     method = options.get("--method", "plain")
     if "slow" in FAKE:
+        if "FAKE_MARK" in os.environ:
+            Path(os.environ["FAKE_MARK"]).write_text("begun")
         time.sleep(60)
     if method == "dpop" and "wide" in FAKE:
         print("refused wide agent a cells 2097152 limit 1048576")
         return 4
-    if method == "cut" or (method == "adopt" and "--certificate" in options):
+    if words[0] == "replay" or method == "cut" or (method == "adopt" and "--certificate" in options and "logs" not in FAKE):
         print("refused words at 1 kind 10")
         return 2
     return solve(text, method, int(options.get("--budget", "1000000")))
@@ -57,6 +67,10 @@ def solve(text: str, method: str, budget: int) -> int:
         print(f"value {variable.name} {variable.value_name(value)}")
     if method == "dpop":
         print(f"certificate tables\nutil a - : : {best}")
+    if method == "adopt" and "logs" in FAKE:
+        print("certificate log")
+        for stamp in range(1, 9):
+            print(f"event x {stamp} y {stamp}" if stamp % 2 else f"event y {stamp} x 1")
     print("end")
     return 1 if spent else 0
 
@@ -69,6 +83,19 @@ def check(text: str) -> int:
         print("status no\ndiffers cost left 1 right 2\nend")
         return 10
     print(f"status yes\ncost {report.cost}\nerror 0\nend")
+    return 0
+
+
+def replay(text: str, after: int) -> int:
+    problem = parse(text.split("\nend\n", 1)[0] + "\nend\n")
+    if "stuck" in FAKE and after > 2:
+        print("status no\ndiffers event 3 too-many y left 3 right 1\nend")
+        return 10
+    print(f"status replay\nevents {after}")
+    for variable in problem.variables:
+        upper = "-" if after < 3 else str(10 - after)
+        print(f"agent {variable.name} value 0 lower {after // 4} upper {upper} threshold 0 ended no")
+    print("end")
     return 0
 
 

@@ -1,0 +1,281 @@
+"""The trials of random.sh, which says what they are."""
+import glob, itertools, math, os, random, resource, signal, sys, tempfile, time
+from collections import Counter
+from alter import altered, altered_in_form, altered_words, near
+from sefwllon.problem import Problem, Table, TextFault, Variable, parse
+
+STARTS = {0: (b"status solved\n", b"status tree\n", b"status yes\n", b"status replay\n", b"dcop ", b"# bar ", b"answer 1\n", b"end\n"),
+          1: (b"status spent\n",), 2: (b"refused words at ",), 3: (b"refused text line ", b"refused report line ", b"refused wcsp line ", b"refused edit line "),
+          4: (b"refused wide ",), 10: (b"status no\ndiffers ",), 11: (b"refused many ",)}
+MOST_SECONDS, MANY = 1.0, 100_000
+FEW, MOST = 1_000, 65_536
+
+
+class Answer:
+    """What a run ended with: its status, its output, its complaints, its processor time in seconds."""
+    def __init__(self, program, words, data):
+        given, out, err = (os.memfd_create(it) for it in ("in", "out", "err"))
+        try:
+            os.write(given, data)
+            os.lseek(given, 0, os.SEEK_SET)
+            actions = [(os.POSIX_SPAWN_DUP2, fd, to) for to, fd in enumerate((given, out, err))]
+            child = os.posix_spawn(program, [program, *words], {}, file_actions=actions)
+            resource.prlimit(child, resource.RLIMIT_CPU, (60, 60))
+            signal.signal(signal.SIGALRM, lambda *_: os.kill(child, signal.SIGKILL))
+            signal.alarm(120)
+            _, status, used = os.wait4(child, 0)
+            signal.alarm(0)
+            self.status, self.seconds = os.waitstatus_to_exitcode(status), used.ru_utime + used.ru_stime
+            self.out, self.err = (os.pread(fd, os.fstat(fd).st_size, 0) for fd in (out, err))
+        finally:
+            for fd in (given, out, err):
+                os.close(fd)
+        self.lines = [line.split() for line in self.out.decode("latin-1").splitlines()]
+
+    def number(self, what):
+        return next((int(words[1]) for words in self.lines if len(words) == 2 and words[0] == what), None)
+
+
+def small_problem(rng):
+    """A problem of up to six variables, of either version and goal."""
+    wide = rng.random() < 0.5
+    named = wide and rng.random() < 0.5
+    variables = []
+    for i in range(rng.randint(1, 6)):
+        size = rng.randint(1, 4)
+        variables.append(Variable(f"v{i}", size, tuple(f"n{k}" for k in range(size)) if named and rng.random() < 0.7 else None))
+    top = rng.choice((0, 1, 9, 9, 1000, 2**50))
+    tables = []
+    for _ in range(rng.randint(0, 2 * len(variables))):
+        scope = tuple(rng.sample(range(len(variables)), min(len(variables), rng.randint(1, 4 if wide else 2))))
+        tables.append(Table(scope, tuple(rng.randint(0, top) for _ in range(math.prod(variables[v].size for v in scope)))))
+    problem = Problem(rng.choice(("min", "max")) if wide else "min", variables, tables)
+    text = problem.text()
+    return (text if wide else text.replace("dcop 2", "dcop 1", 1)).encode()
+
+
+def wcsp_text(rng):
+    sizes = [rng.randint(1, 3) for _ in range(rng.randint(1, 4))]
+    functions = []
+    for _ in range(rng.randint(0, 4)):
+        scope = rng.sample(range(len(sizes)), rng.randint(0, min(4, len(sizes))))
+        tuples = [[rng.randrange(sizes[v]) for v in scope] + [rng.randint(0, 20)] for _ in range(rng.randint(0, 5) if scope else 0)]
+        functions.append([len(scope), *scope, rng.randint(0, 3), len(tuples), *(n for it in tuples for n in it)])
+    head = f"p {len(sizes)} {max(sizes)} {len(functions)} {rng.choice((1, 10, 1000))}\n"
+    return (head + "\n".join(" ".join(map(str, it)) for it in [sizes, *functions]) + "\n").encode()
+
+
+def edit_lines(rng, problem):
+    lines = []
+    for _ in range(rng.randint(0, 6)):
+        if problem.tables and rng.random() < 0.6:
+            at = rng.randrange(len(problem.tables))
+            size = len(problem.tables[at].costs)
+            if rng.random() < 0.6:
+                lines.append(f"set {at} {rng.randrange(size)} {rng.randint(0, 9)}")
+            else:
+                lines.append(f"fill {at} : " + " ".join(str(rng.randint(0, 9)) for _ in range(size)))
+        else:
+            lines.append("answer")
+    return ("\n".join([*lines, "answer", "end"]) + "\n").encode()
+
+
+def sum_best(problem):
+    """The best sum of all assignments, tried one by one."""
+    sums = (problem.cost(list(it)) for it in itertools.product(*(range(v.size) for v in problem.variables)))
+    return min(sums) if problem.goal == "min" else max(sums)
+
+
+def assignments(problem):
+    return math.prod(v.size for v in problem.variables)
+
+
+class Trials:
+    """All trials of a seed."""
+    def __init__(self, top, program, seed):
+        self.program, self.seed = program, seed
+        rng = random.Random(f"{seed} problems")
+        texts = [small_problem(rng) for _ in range(60)]
+        paths = sorted(glob.glob(f"{top}/examples/*.dcop") + glob.glob(f"{top}/crates/worked_cases/data/samples/*.dcop"))
+        texts += [data for data in (open(path, "rb").read() for path in paths) if len(data) < 50_000]
+        self.problems = []
+        for text in texts:
+            if Answer(program, ["upgrade"], text).status == 0:
+                # as `check` asks: nothing behind the line `end`
+                problem = parse(text.decode("latin-1"))
+                self.problems.append((problem.source.encode("latin-1"), problem))
+        self.best = {}
+        self.tables, self.logs = [], []
+        for at, (text, problem) in enumerate(self.problems):
+            plain = Answer(program, ["solve", "--method", "plain"], text)
+            if plain.status == 0:
+                self.best[at] = plain.number("cost")
+                if assignments(problem) <= FEW and self.best[at] != sum_best(problem):
+                    sys.exit(f"plain says {self.best[at]}, and {sum_best(problem)} is the best sum of:\n{text.decode()}")
+            report = Answer(program, ["solve", "--method", "dpop", "--certificate", "yes"], text)
+            if report.status == 0:
+                self.tables.append((at, report.out))
+            for error, budget, workers in (("0", "2000", "1"), ("3", "2000", "3"), ("0", "7", "1")):
+                report = Answer(program, ["solve", "--method", "adopt", "--certificate", "yes", "--error", error, "--budget", budget, "--workers", workers], text)
+                if report.status in (0, 1):
+                    self.logs.append((at, report.out))
+        print(f"seed {seed}: {len(self.problems)} problems, {len(self.best)} of which plain takes, {len(self.tables)} reports with tables and {len(self.logs)} with logs", flush=True)
+        self.kinds = [self.of_words] * 3 + [self.of_text] * 5 + [self.of_tables] * 5 + [self.of_log] * 5 + [self.of_wcsp, self.of_edits]
+
+    def make(self, number):
+        """Trial so many: its kind, its words, its input, and what further is asked of the answer."""
+        rng = random.Random(f"{self.seed} {number}")
+        return rng.choice(self.kinds)(rng)
+
+    def of_words(self, rng):
+        command = rng.choice((b"solve", b"solve", b"solve", b"tree", b"check", b"replay", b"drill", b"drill", b"upgrade", b"edit"))
+        options = {
+            b"--method": lambda: rng.choice((b"plain", b"dpop", b"adopt", b"auto", b"cut", b"best")), b"--workers": lambda: near(rng, 1, 64),
+            b"--error": lambda: near(rng, 0, 2**62), b"--budget": lambda: near(rng, 0, 10**7) if command != b"drill" else rng.choice((b"0", b"1", b"500", b"10000001")),
+            b"--nodes": lambda: near(rng, 1, 8), b"--certificate": lambda: rng.choice((b"yes", b"no", b"maybe")), b"--after": lambda: near(rng, 0, 10**9),
+            b"--seed": lambda: near(rng, 0, 10**19 - 1), b"--vars": lambda: rng.choice((b"0", b"1", b"2", b"20", b"40", b"1000", b"1001")),
+            b"--size": lambda: near(rng, 1, 16), b"--degree": lambda: rng.choice((b"0", b"1", b"1", b"2", b"8", b"9")), b"--top": lambda: near(rng, 0, 10**6),
+            b"--format": lambda: rng.choice((b"dcop", b"wcsp", b"xml")), b"--cells": lambda: near(rng, 1024, 1048576),
+        }
+        likely = {b"solve": list(options)[:6] + list(options)[-2:], b"drill": list(options)[:5] + list(options)[7:12], b"replay": [b"--after"],
+                  b"tree": [b"--workers", b"--format"], b"check": [b"--format"], b"upgrade": [b"--format"], b"edit": [b"--format"]}[command]
+        names = rng.sample(likely, rng.randint(0, min(4, len(likely)))) if rng.random() < 0.8 else rng.sample(list(options), 3)
+        if command == b"drill" and b"--budget" not in names and not rng.random() < 0.2:
+            names.append(b"--budget")
+        words = [command]
+        for name in names:
+            words += [name, options[name]()]
+        if rng.random() < 0.6:
+            words = altered_words(rng, words)
+        at, report = rng.choice(self.logs if command == b"replay" else self.tables)
+        text, problem = self.problems[at]
+        return "words", words, text + report if command in (b"check", b"replay") else text, lambda answer: None
+
+    def of_text(self, rng):
+        text, _ = rng.choice(self.problems)
+        text = altered(rng, text)
+        words = rng.choice(([b"solve", b"--method", b"plain"], [b"solve", b"--method", b"dpop"], [b"solve", b"--method", b"adopt", b"--budget", b"2000"],
+                            [b"solve", b"--budget", b"2000", b"--workers", b"3"], [b"tree"], [b"upgrade"], [b"check"]))
+        return "text", words, text, lambda answer: self.fault_of_solved(words, text, answer)
+
+    def of_report(self, rng, what, reports):
+        at, report = rng.choice(reports)
+        report = altered(rng, report) if rng.random() < 0.5 else altered_in_form(rng, report)
+        text, problem = self.problems[at]
+        if what == "log" and rng.random() < 0.3:
+            words = [b"replay"] if rng.random() < 0.5 else [b"replay", b"--after", near(rng, 0, 30)]
+            return "replay", words, text + report, lambda answer: None
+        return what, [b"check"], text + report, lambda answer: self.fault_of_yes(at, problem, report, answer)
+
+    def of_tables(self, rng):
+        return self.of_report(rng, "tables", self.tables)
+
+    def of_log(self, rng):
+        return self.of_report(rng, "log", self.logs)
+
+    def of_wcsp(self, rng):
+        text = altered(rng, wcsp_text(rng))
+        command = rng.choice(([b"solve", b"--budget", b"2000"], [b"tree"], [b"upgrade"], [b"check"]))
+        return "wcsp", [*command, b"--format", b"wcsp"], text, lambda answer: None
+
+    def of_edits(self, rng):
+        text, problem = rng.choice(self.problems)
+        return "edit", [b"edit"], text + altered(rng, edit_lines(rng, problem)), lambda answer: None
+
+    def fault_of_solved(self, words, text, answer):
+        """What is wrong with an accepted problem's answer, by a reader in Python."""
+        if answer.status not in (0, 1):
+            return None
+        try:
+            problem = parse(text.decode("latin-1"))
+        except TextFault as fault:
+            return f"the reader in Python refuses the text: {fault}"
+        if words[0] == b"upgrade":
+            told = parse(answer.out.decode("latin-1"))
+            return None if (told.goal, told.variables, told.tables) == (problem.goal, problem.variables, problem.tables) else "upgrade writes another problem"
+        if words[0] != b"solve":
+            return None
+        values = values_of(problem, answer.lines)
+        if values is None or problem.cost(values) != answer.number("cost"):
+            return "the values do not cost what is printed"
+        exact = answer.status == 0 and assignments(problem) <= FEW
+        return "another assignment is better" if exact and sum_best(problem) != answer.number("cost") else None
+
+    def fault_of_yes(self, at, problem, report, answer):
+        """What is wrong with a yes to an altered report."""
+        if answer.status != 0:
+            return None
+        cost, error = answer.number("cost"), answer.number("error")
+        if answer.out != b"status yes\ncost %d\nerror %d\nend\n" % (cost, error):
+            return "the answer is not of its form"
+        lines = [line.split() for line in report.decode("latin-1").splitlines()]
+        values = values_of(problem, lines)
+        if values is None or problem.cost(values) != cost:
+            return "check says yes to values that do not cost what it says"
+        printed = [int(words[1]) for words in lines if words[:1] == ["cost"] and len(words) == 2]
+        if printed != [cost]:
+            return "check says yes to a report with another cost"
+        if at in self.best:
+            missed = (cost - self.best[at]) * (1 if problem.goal == "min" else -1)
+            if not 0 <= missed <= error:
+                return f"check says that the cost misses the best one by at most {error}, and plain tells {self.best[at]}"
+        return None
+
+    def fault_of(self, words, answer):
+        """What is wrong with an answer, whatever it was asked."""
+        if answer.err:
+            return f"it wrote to standard error: {answer.err[:200]!r}"
+        if answer.status == 12 and not answer.out and any(not is_text(word) for word in words):
+            return None
+        if answer.status not in STARTS:
+            return f"it ended with {answer.status}"
+        if not answer.out.endswith(b"\n"):
+            return "its output ends in no line"
+        if not answer.out.startswith(STARTS[answer.status]):
+            return f"its output does not begin as status {answer.status} asks"
+        if answer.seconds > MOST_SECONDS and (answer.number("deliveries") or 0) < MANY:
+            return f"it took {answer.seconds:.2f} s"
+        return None
+
+
+def is_text(word):
+    try:
+        word.decode()
+        return True
+    except UnicodeDecodeError:
+        return False
+
+
+def values_of(problem, lines):
+    """The values that `value` lines tell, one for each variable in order; None where they do not."""
+    told = [words[1:] for words in lines if words[:1] == ["value"]]
+    if [it[0] for it in told if len(it) == 2] != [v.name for v in problem.variables] or len(told) != len(problem.variables):
+        return None
+    values = [v.value_of(it[1]) for v, it in zip(problem.variables, told)]
+    return None if None in values else values
+
+
+def main():
+    top, program, seed, count, first = *sys.argv[1:3], int(sys.argv[3]), int(sys.argv[4]), int(sys.argv[5])
+    program = os.path.abspath(program)
+    began, trials, told, slowest = time.monotonic(), Trials(top, program, seed), Counter(), 0.0
+    for number in range(first, first + count):
+        kind, words, data, further = trials.make(number)
+        answer = Answer(program, words, data)
+        fault = trials.fault_of(words, answer) or further(answer)
+        if fault:
+            with tempfile.NamedTemporaryFile(prefix="random-", suffix=".input", delete=False) as it:
+                it.write(data)
+            said = " ".join(repr(word.decode(errors="backslashreplace")) for word in words)
+            sys.exit(f"trial {number} of seed {seed}, {kind}: {fault}\n  dcop {said} < {it.name}\n  status {answer.status}, {answer.out[:400]!r}")
+        told[kind, answer.status] += 1
+        slowest = max(slowest, answer.seconds if (answer.number("deliveries") or 0) < MANY else 0)
+        if (number + 1 - first) % 10_000 == 0:
+            print(f"  {number + 1 - first:,} trials, {time.monotonic() - began:.0f} s", flush=True)
+    for kind in sorted({it for it, _ in told}):
+        ends = ", ".join(f"{status}: {told[kind, status]:,}" for status in sorted(s for k, s in told if k == kind))
+        print(f"{kind}: {sum(n for (k, _), n in told.items() if k == kind):,} trials; by exit status {ends}")
+    print(f"{sum(told.values()):,} trials of seed {seed} in {time.monotonic() - began:.0f} s, none of which was wrong; the slowest took {slowest:.2f} s of processor time")
+
+
+main()
