@@ -7,6 +7,7 @@ from sefwllon.problem import Problem, Table, TextFault, Variable, parse
 STARTS = {0: (b"status solved\n", b"status tree\n", b"status yes\n", b"status replay\n", b"dcop ", b"# bar ", b"answer 1\n", b"end\n"),
           1: (b"status spent\n",), 2: (b"refused words at ",), 3: (b"refused text line ", b"refused report line ", b"refused wcsp line ", b"refused edit line "),
           4: (b"refused wide ",), 10: (b"status no\ndiffers ",), 11: (b"refused many ",)}
+# Who asks for that many messages may wait longer.
 MOST_SECONDS, MANY = 1.0, 100_000
 FEW, MOST = 1_000, 65_536
 
@@ -22,7 +23,7 @@ class Answer:
             child = os.posix_spawn(program, [program, *words], {}, file_actions=actions)
             resource.prlimit(child, resource.RLIMIT_CPU, (60, 60))
             signal.signal(signal.SIGALRM, lambda *_: os.kill(child, signal.SIGKILL))
-            signal.alarm(120)
+            signal.alarm(900)
             _, status, used = os.wait4(child, 0)
             signal.alarm(0)
             self.status, self.seconds = os.waitstatus_to_exitcode(status), used.ru_utime + used.ru_stime

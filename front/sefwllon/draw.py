@@ -12,9 +12,9 @@ from .replay import Moment
 from .report import Node
 
 _STYLE = (
-    "<style>text{font:12px sans-serif;text-anchor:middle;fill:#222}"
+    "<style>text{font:12px sans-serif;text-anchor:middle;fill:#222;paint-order:stroke;stroke:#fff;stroke-width:2px}"
     ".small{font-size:10px;fill:#666}line,path{stroke:#888;fill:none}"
-    ".dashed{stroke-dasharray:4 3;stroke:#b55}circle{fill:#eef4ff;stroke:#35a}"
+    ".dashed{stroke-dasharray:4 3;stroke:#b55}circle{fill:#eef4ff;stroke:#35a}.name{stroke:none}"
     ".title{font-size:13px}.left{text-anchor:end}.legend{text-anchor:start}.grid{stroke:#ddd}"
     ".lower{stroke:#35a;stroke-width:2}.upper{stroke:#b55;stroke-width:2}.cost{fill:#222;stroke:none}</style>"
 )
@@ -27,7 +27,7 @@ def svg(width: float, height: float, parts: list[str]) -> str:
 
 
 def circle(x: float, y: float, name: str, below: str = "") -> list[str]:
-    parts = [f'<circle cx="{x:.1f}" cy="{y:.1f}" r="22"/>', f'<text x="{x:.1f}" y="{y + 4:.1f}">{escape(name[:12])}</text>']
+    parts = [f'<circle cx="{x:.1f}" cy="{y:.1f}" r="22"/>', f'<text class="name" x="{x:.1f}" y="{y + 4:.1f}">{escape(name[:12])}</text>']
     if below:
         parts.append(f'<text class="small" x="{x:.1f}" y="{y + 36:.1f}">{escape(below)}</text>')
     return parts
@@ -35,6 +35,12 @@ def circle(x: float, y: float, name: str, below: str = "") -> list[str]:
 
 def edge(a: tuple[float, float], b: tuple[float, float], kind: str = "") -> str:
     return f'<line{f" class={chr(34)}{kind}{chr(34)}" if kind else ""} x1="{a[0]:.1f}" y1="{a[1]:.1f}" x2="{b[0]:.1f}" y2="{b[1]:.1f}"/>'
+
+
+def bow(a: tuple[float, float], b: tuple[float, float]) -> str:
+    """A dashed line between two spots, bent past those that lie between them."""
+    bend = max(a[0], b[0]) + 14 + 0.13 * abs(a[1] - b[1])
+    return f'<path class="dashed" d="M{a[0]:.1f},{a[1]:.1f} Q{bend:.1f},{(a[1] + b[1]) / 2:.1f} {b[0]:.1f},{b[1]:.1f}"/>'
 
 
 def graph(problem: Problem, names: list[str], below: list[str]) -> str:
@@ -80,13 +86,14 @@ def tree(problem: Problem, nodes: list[Node], own: dict[str, str]) -> str:
     parts = []
     for node in nodes:
         for other in node.separator:
-            parts.append(edge(spots[node.name], spots[other], "" if other == node.parent else "dashed"))
+            parts.append((edge if other == node.parent else bow)(spots[node.name], spots[other]))
         if node.parent is not None and node.parent not in node.separator:
             parts.append(edge(spots[node.name], spots[node.parent], "dashed"))
     for node in nodes:
         cells = math.prod(sizes[name] for name in [node.name, *node.separator])
         parts += circle(*spots[node.name], own[node.name], f"{cells:,} cells")
-    return svg(max(x for x, _ in spots.values()) + 60, max(y for _, y in spots.values()) + 60, parts)
+    bent = max((abs(depth[n.name] - depth[o]) for n in nodes for o in n.separator if o != n.parent), default=0)
+    return svg(max(x for x, _ in spots.values()) + 60 + 6 * bent, max(y for _, y in spots.values()) + 60, parts)
 
 
 def bounds(moments: list[Moment], told: Callable[[int], str], title: str, cost: int) -> str:
@@ -141,7 +148,7 @@ def timetable(told: Meetings, chosen: dict[str, object]) -> str:
             for name in (n for n, who in told.meetings.items() if person in who and chosen[n] == slot.name):
                 fill = f"hsl({hues[name]},60%,85%)"
                 parts.append(f'<rect x="{x + 2}" y="{y + 2}" width="{wide - 4}" height="30" rx="4" fill="{fill}"/>')
-                parts.append(f'<text x="{x + wide / 2:.1f}" y="{y + 21}">{escape(name)}</text>')
+                parts.append(f'<text class="name" x="{x + wide / 2:.1f}" y="{y + 21}">{escape(name)}</text>')
     return svg(left + wide * len(people) + 20, 42 + 34 * len(told.slots) + 12, parts)
 
 

@@ -125,6 +125,8 @@ def source(told: Meetings, title: str) -> Source:
     constraints = []
     for i, name in enumerate(names):
         free = [own_cost(told, name, slot) for slot in slots]
+        if all(cost is None for cost in free):
+            raise Trouble(f"{name} has no slot: in each of them somebody of {', '.join(told.meetings[name])} is absent")
         if any(cost is None or cost for cost in free):
             constraints.append(Constraint(f"when {name} can be", (i,), free))
     for i, first in enumerate(names):

@@ -202,9 +202,10 @@ class Meetings(Case):
             ("slot,a,tomorrow\n", "line 1: tomorrow is no time"),
             ("room,a\n", "line 1: a line begins with"),
             ("slot,a\nmeeting,m,Ann\nabsent,Bo,a\n", "Bo is absent"),
+            ("slot,a\nmeeting,m,Ann;Bo\nabsent,Bo,a\n", "m has no slot: in each of them somebody of Ann, Bo is absent"),
         ):
             with self.assertRaisesRegex(Trouble, why):
-                meetings.read(text)
+                meetings.source(meetings.read(text), "file")
 
 
 class Telling(Case):
