@@ -3,16 +3,17 @@
 #
 # usage: bench/random.sh PROGRAM SEED COUNT [FIRST]
 # PROGRAM is the built program `dcop`. COUNT trials are made, from number FIRST on (0, where it is not given); what a
-# trial is follows from SEED and its number alone. Each gives the program words and an input, of which one was altered:
-# bytes flipped, cut out, doubled or put in, lines and words exchanged, doubled, left out or taken from elsewhere, and
-# numbers put to their limits and one above. The inputs are problems with up to six variables, drawn from SEED, those
-# of examples/ and of the worked cases, their reports with tables and with logs, WCSP texts and edit lines.
-# Each time the program must end within a second of processor time, but for a run of ADOPT of 100,000 messages or more, with an exit status that stands in docs/FORMATS.md
-# and comes without a fault of the machine, with nothing on standard error, and with output that ends in a line and
-# begins as its status asks. Where it accepts an altered problem, the cost must be that of the printed values, added up
-# by another reader in Python, and by plain, dpop, or adopt that is solved with error 0, the best of all assignments
-# where they are few. Where `check` says yes to an altered report, its values must cost what it says, and the best sum,
-# as method plain tells it, must lie within the error that it prints.
+# trial is follows from SEED and its number, and from the logs that three workers write anew each time. Each gives the
+# program words and an input, of which one was altered: bytes flipped, cut out, doubled or put in, lines and words
+# exchanged, doubled, left out or taken from elsewhere, and numbers put to their limits and one above. The inputs are
+# problems with up to six variables, drawn from SEED, those of examples/ and of the worked cases, their reports with
+# tables and with logs, WCSP texts and edit lines.
+# Each time the program must end within a second of processor time, but for a run of ADOPT of 100,000 messages or more,
+# with an exit status that stands in docs/FORMATS.md and comes without a fault of the machine, with nothing on standard
+# error, and with output that ends in a line and begins as its status asks. Where it accepts an altered problem, the cost
+# must be that of the printed values, added up by another reader in Python, and by plain, dpop, or adopt that is solved
+# with error 0, the best of all assignments where they are few. Where `check` says yes to an altered report, its values
+# must cost what it says, and the best sum, as method plain tells it, must lie within the error that it prints.
 # Prints how often each kind of trial ended with each status. Stops with status 1 at the first trial that is wrong, prints
 # it, and leaves its input in the file that it names.
 set -eu
