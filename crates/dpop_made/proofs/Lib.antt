@@ -1,0 +1,4 @@
+pub mod GraphLaws
+pub mod EditLaws
+pub mod HeldLaws
+pub mod KeptLaws
