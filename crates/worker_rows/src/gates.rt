@@ -1,0 +1,108 @@
+//! Gates that tell how two agents were visited.
+
+use dcop_base::VarId;
+use dcop_edge::Gate;
+use std::sync::atomic::{AtomicU64, Ordering};
+use std::thread::yield_now;
+
+/// How often a visit looks for the other agent.
+const MOST_LOOKS: u32 = 100_000_000;
+
+/// Two numbers, one for each agent.
+#[derive(Drop)]
+struct Pair {
+    first: AtomicU64,
+    second: AtomicU64,
+}
+
+impl Pair {
+    fn new() -> Self {
+        Pair {
+            first: AtomicU64::new(0),
+            second: AtomicU64::new(0),
+        }
+    }
+
+    // The number of this agent.
+    fn of(&self, agent: VarId) -> &AtomicU64 {
+        if agent.0 == 0 {
+            &self.first
+        } else {
+            &self.second
+        }
+    }
+
+    // The number of the other one.
+    fn beside(&self, agent: VarId) -> &AtomicU64 {
+        if agent.0 == 0 {
+            &self.second
+        } else {
+            &self.first
+        }
+    }
+}
+
+/// Counts the visits of each agent.
+#[derive(Drop)]
+pub(crate) struct CountingGate {
+    visits: Pair,
+}
+
+impl CountingGate {
+    /// No visit was made.
+    pub(crate) fn new() -> Self {
+        CountingGate {
+            visits: Pair::new(),
+        }
+    }
+
+    /// How often each of the two was visited.
+    pub(crate) fn visits(&self) -> (u64, u64) {
+        (
+            self.visits.first.load(Ordering::SeqCst),
+            self.visits.second.load(Ordering::SeqCst),
+        )
+    }
+}
+
+impl Gate for CountingGate {
+    fn pass(&self, agent: VarId) {
+        self.visits.of(agent).fetch_add(1, Ordering::SeqCst);
+    }
+}
+
+/// Holds each agent at its visits until the other one has come to a visit too, or it was looked for so
+/// often.
+#[derive(Drop)]
+pub(crate) struct MeetingGate {
+    came: Pair,
+    missed: AtomicU64,
+}
+
+impl MeetingGate {
+    /// No agent has come.
+    pub(crate) fn new() -> Self {
+        MeetingGate {
+            came: Pair::new(),
+            missed: AtomicU64::new(0),
+        }
+    }
+
+    /// How many visits went on without the other agent.
+    pub(crate) fn missed(&self) -> u64 {
+        self.missed.load(Ordering::SeqCst)
+    }
+}
+
+impl Gate for MeetingGate {
+    fn pass(&self, agent: VarId) {
+        self.came.of(agent).store(1, Ordering::SeqCst);
+        for _ in 0..MOST_LOOKS {
+            if self.came.beside(agent).load(Ordering::SeqCst) == 1 {
+                return;
+            }
+            yield_now();
+        }
+        self.missed.fetch_add(1, Ordering::SeqCst);
+    }
+}

@@ -1,0 +1,34 @@
+//! Runs the two agents of a small problem by workers, and prints a line for each row: its name and its
+//! count, or that it went otherwise than the row says.
+#![tactic(auto)]
+
+mod gates;
+mod solving;
+
+use solving::{missed_by_two_workers, visits_of};
+use std::io;
+use std::net::Net;
+use std::random::RandomSource;
+use std::sync::Wait;
+use std::thread::Threads;
+use std::time::Clock;
+
+fn main(rt: HostRuntime) -> io::Result<()> {
+    match missed_by_two_workers(&rt) {
+        Some(missed) => println!(rt; "two-workers-meet, visits that saw no other agent: {missed}")?,
+        None => println!(rt; "two-workers-meet: otherwise")?,
+    }
+    print_visits(&rt, "solve --method dpop")?;
+    print_visits(&rt, "tree")
+}
+
+// How often each agent is visited on these words.
+fn print_visits<R>(rt: &R, words: &str) -> io::Result<()>
+where
+    R: Print + Threads + Wait + Clock + RandomSource + Net + AllocGlobal + Sync,
+{
+    match visits_of(rt, words) {
+        Some((x, y)) => println!(rt; "gate-counts, visits by {words}: x {x}, y {y}"),
+        None => println!(rt; "gate-counts, {words}: otherwise"),
+    }
+}
