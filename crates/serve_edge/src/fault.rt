@@ -70,7 +70,7 @@ impl FailingCalls {
 
     /// Counts one more fault.
     pub(crate) fn charge(&mut self)
-        ensures { self.new ≡ record self.old { faults = one_more self.old.faults } }
+        ensures counted { self.new ≡ record self.old { faults = one_more self.old.faults } }
         ensures rose { (self.old.faults ≤ self.new.faults) × Rose self.old.faults self.new.faults }
     {
         self.faults = self.faults.saturating_add(1);

@@ -1,6 +1,3 @@
-use Rattle.std.proofs.Common.{subst, sym, List, ℕ}
-use Rattle.lru.specs.LruCache.{LruCache}
-use Rattle.reply_cache.specs.Cache.{AreReplies}
 use Rattle.reply_cache.proofs.CacheLaws.{looked_replies, looks_more, misses_more, reply_found}
 use Rattle.reply_cache.proofs.cache.ReplyCache.look.Goals as goal
 
