@@ -1,0 +1,59 @@
+-- A cache keeps replies, and counts its looks.
+use Rattle.std.proofs.Common.{◌≡◌, ℕ, suc, ◌+◌, Bool, true, false, ◌⊎◌, inl, inr, List, [], ◌∷◌, ◌++◌, Option, Some, None, Result, Ok, Err, OnOk, OnErr, IfSome, Contains, refl, sym, ap, ◌∙◌, subst, arith, length, length-append}
+use Rattle.std.specs.Cmp.Lexicographic.{bytes_decides}
+use Rattle.std.specs.Map.{lookup}
+use Rattle.lru.specs.LruCache.{LruCache, lru_cache, promoted, put_entries}
+use Rattle.lru.proofs.CallerLemmas.{IsPut, Contains-promoted, Contains-put_entries, Contains-lookup}
+use Rattle.reply_cache.specs.Cache.{same_key, AreReplies, missed, misses_of}
+
+-- the reply that is found is that of the key
+pub found_reply : (reply : List ℕ → List ℕ) (key value : List ℕ) (entries : List (List ℕ × List ℕ)) → AreReplies reply entries → lookup (same_key key) entries ≡ Some value → value ≡ reply key
+found_reply reply key value entries are found =
+    let at = Contains-lookup (same_key key) entries value found in
+    are.each (at.0, value) at.1 ∙ ap reply (sym ((bytes_decides key at.0).0 at.2))
+
+-- after a look
+pub looked_replies : (reply : List ℕ → List ℕ) (key : List ℕ) (entries : List (List ℕ × List ℕ)) → AreReplies reply entries → AreReplies reply (promoted (same_key key) entries)
+looked_replies reply key entries are = record { each = λ e in_it. are.each e (Contains-promoted (same_key key) entries e in_it) }
+
+put_reply : (reply : List ℕ → List ℕ) (key value : List ℕ) (cache : LruCache (List ℕ) (List ℕ)) (e : List ℕ × List ℕ) → value ≡ reply key → IsPut same_key cache key value e → e.1 ≡ reply e.0
+put_reply reply key value cache e is (same, inl new) = same ∙ is ∙ ap reply (sym new)
+put_reply reply key value cache e is (same, inr old) = same ∙ is ∙ ap reply ((bytes_decides key e.0).0 old.2)
+
+one_of : (reply : List ℕ → List ℕ) (key value : List ℕ) (cache : LruCache (List ℕ) (List ℕ)) (e : List ℕ × List ℕ) → AreReplies reply cache.entries → value ≡ reply key
+    → Contains cache.entries e ⊎ IsPut same_key cache key value e → e.1 ≡ reply e.0
+one_of reply key value cache e are is (inl old) = are.each e old
+one_of reply key value cache e are is (inr put) = put_reply reply key value cache e is put
+
+-- after a reply was kept
+pub kept_replies : (reply : List ℕ → List ℕ) (key value : List ℕ) (cache : LruCache (List ℕ) (List ℕ)) → AreReplies reply cache.entries → value ≡ reply key → AreReplies reply (put_entries same_key cache key value)
+kept_replies reply key value cache are is = record { each = λ e in_it. one_of reply key value cache e are is (Contains-put_entries same_key cache key value e in_it) }
+
+-- one more look
+pub misses_of-push : (finds : List Bool) (found : Bool) → misses_of (finds ++ found ∷ []) ≡ misses_of finds + missed found
+misses_of-push [] true = refl
+misses_of-push [] false = refl
+misses_of-push (true ∷ finds) found = misses_of-push finds found
+misses_of-push (false ∷ finds) found =
+    let on : suc (misses_of finds + missed found) ≡ suc (misses_of finds) + missed found = omega arith in
+    ap suc (misses_of-push finds found) ∙ on
+
+-- the counts after one more look
+pub looks_more : (old mid new : List Bool) (found : Bool) (was now : ℕ) → was ≡ length old → mid ≡ old → new ≡ mid ++ found ∷ [] → now ≡ was + 1 → now ≡ length new
+looks_more old mid new found was now counted same noted more = omega (arith, counted, more, ap length noted, ap length same, length-append mid (found ∷ []))
+
+pub misses_more : (old mid new : List Bool) (found : Bool) (was now : ℕ) → was ≡ misses_of old → mid ≡ old → new ≡ mid ++ found ∷ [] → now ≡ was + missed found → now ≡ misses_of new
+misses_more old mid new found was now counted same noted more =
+    more ∙ ap (λ (n : ℕ). n + missed found) counted ∙ sym (misses_of-push old found) ∙ ap (λ (xs : List Bool). misses_of (xs ++ found ∷ [])) (sym same) ∙ ap misses_of (sym noted)
+
+-- what a look finds is the reply to its key
+pub reply_found : (reply : List ℕ → List ℕ) (key given : List ℕ) (found : Option (List ℕ)) (entries : List (List ℕ × List ℕ)) → AreReplies reply entries → found ≡ lookup (same_key key) entries → key ≡ given
+    → IfSome found (λ r. r ≡ reply given)
+reply_found reply key given None entries are is same = tt
+reply_found reply key given (Some value) entries are is same = found_reply reply key value entries are (sym is) ∙ ap reply same
+
+-- after a reply was kept, or could not be
+pub kept_either : {X E : Type 0} (reply : List ℕ → List ℕ) (key value : List ℕ) (old new : LruCache (List ℕ) (List ℕ)) (result : Result X E) → AreReplies reply old.entries → value ≡ reply key
+    → OnOk result (new ≡ lru_cache (put_entries same_key old key value) old.cap) → OnErr result (new ≡ old) → AreReplies reply new.entries
+kept_either reply key value old new (Ok x) are is ok err = subst (λ (c : LruCache (List ℕ) (List ℕ)). AreReplies reply c.entries) (sym ok) (kept_replies reply key value old are is)
+kept_either reply key value old new (Err e) are is ok err = subst (λ (c : LruCache (List ℕ) (List ℕ)). AreReplies reply c.entries) (sym err) are

@@ -1,0 +1,51 @@
+-- What a cache of replies holds, and what a look and a kept reply do to it.
+use Rattle.std.specs.Prelude.{◌≡◌, ℕ, suc, Bool, true, false, List, [], ◌∷◌, ◌++◌, Option, is_some, Contains, nat_eq}
+use Rattle.std.specs.Cmp.Lexicographic.{pointwise}
+use Rattle.std.specs.Map.{lookup}
+use Rattle.lru.specs.LruCache.{LruCache, lru_cache, promoted, put_entries}
+
+-- the entries, each a key and its reply, the last used one first, with how many there may be; and one truth value for each look, true where it found an entry
+pub record CacheState : Type 0 where
+  pub kept : LruCache (List ℕ) (List ℕ)
+  pub finds : List Bool
+
+-- a cache of at most so many entries, at which nobody has looked yet
+abbrev pub fresh_cache : ℕ → CacheState
+fresh_cache entries = record { kept = lru_cache [] entries; finds = [] }
+
+-- whether two keys are the same bytes
+abbrev pub same_key : List ℕ → List ℕ → Bool
+same_key = pointwise nat_eq
+
+-- the reply that is kept at a key
+abbrev pub reply_at : CacheState → List ℕ → Option (List ℕ)
+reply_at cache key = lookup (same_key key) cache.kept.entries
+
+-- after a look at a key: its entry, where there is one, comes first, and the look is noted
+abbrev pub looked_at : CacheState → List ℕ → CacheState
+looked_at cache key = record {
+  kept = lru_cache (promoted (same_key key) cache.kept.entries) cache.kept.cap;
+  finds = cache.finds ++ is_some (reply_at cache key) ∷ [];
+}
+
+-- after a reply was kept at a key: where the key had an entry, that one comes first with this reply; else a new one comes first, and the last one goes where the cache was full
+abbrev pub kept_at : CacheState → List ℕ → List ℕ → CacheState
+kept_at cache key reply = record {
+  kept = lru_cache (put_entries same_key cache.kept key reply) cache.kept.cap;
+  finds = cache.finds;
+}
+
+-- each entry is a key with its reply
+pub record AreReplies (reply : List ℕ → List ℕ) (entries : List (List ℕ × List ℕ)) : Type 0 where
+  pub each : (e : List ℕ × List ℕ) → Contains entries e → e.1 ≡ reply e.0
+
+-- what a look adds to the misses
+abbrev pub missed : Bool → ℕ
+missed true = 0
+missed false = 1
+
+-- how many looks found nothing
+abbrev pub misses_of : List Bool → ℕ
+misses_of [] = 0
+misses_of (true ∷ finds) = misses_of finds
+misses_of (false ∷ finds) = suc (misses_of finds)

@@ -1,0 +1,191 @@
+//! A cache of replies.
+
+ghost use Rattle.std.specs.Prelude.{◌≡◌, ◌≤◌, ◌<◌, ◌+◌, ◌++◌, ◌∷◌, [], length, IfOk, OnOk, OnErr, IfSome, is_some, vec_len, vec_capacity};
+ghost use Rattle.std.specs.Map.{lookup};
+ghost use Rattle.std.specs.NonZero.{non_zero_usize_get};
+ghost use Rattle.lru.specs.LruCache.{lru_cache, put_entries};
+ghost use Rattle.reply_cache.specs.Limits.{entry_limit, key_limit};
+ghost use Rattle.reply_cache.specs.Cache.{fresh_cache, same_key, reply_at, looked_at, kept_at, missed, misses_of};
+
+use crate::maker::Maker;
+use crate::share::LookShare;
+use dcop_base::{Bytes, NoMemory};
+use lru::LruCache;
+use std::alloc::Global;
+use std::marker::{Model, PhantomData};
+use std::num::NonZeroUsize;
+use std::sync::ledger::{Book, Ledger};
+
+/// A cache that keeps replies of this type of maker, those that were used last, and notes of each
+/// look whether it found one. Contracts see the record of its entries and of its looks. Each entry
+/// is a key with its reply, the total of the one book is the number of the looks, and that of the
+/// other the number of those that found nothing.
+#[derive(Drop)]
+pub struct ReplyCache<M: Maker, A: Ledger, B: Ledger> {
+    alloc: Global,
+    entries: LruCache<Bytes, Bytes>,
+    finds: Vec<bool>,
+    looks: Book<A>,
+    misses: Book<B>,
+    of: PhantomData<M>,
+}
+
+impl<M: Maker, A: Ledger, B: Ledger> Model for ReplyCache<M, A, B> {
+    ghost use Rattle.std.specs.Prelude.{◌≡◌, length};
+    ghost use Rattle.reply_cache.specs.Cache.{CacheState, AreReplies, misses_of};
+
+    ghost Value = { CacheState };
+
+    ghost view = { λ c. record { kept = c.entries; finds = c.finds.items } };
+
+    ghost invariant = { λ c. AreReplies M.reply c.entries.entries × (c.looks.total ≡ length c.finds.items) × (c.misses.total ≡ misses_of c.finds.items) };
+}
+
+impl<M: Maker, A: Ledger, B: Ledger> ReplyCache<M, A, B> {
+    /// A cache of at most `entries` entries, 1 to [`MAX_ENTRIES`], which keeps none yet.
+    ///
+    /// [`MAX_ENTRIES`]: crate::MAX_ENTRIES
+    ///
+    /// # Errors
+    ///
+    /// [`NoMemory`] where memory was wanted and not had.
+    pub fn new(
+        alloc: Global,
+        entries: u32,
+        looks: Book<A>,
+        misses: Book<B>,
+    ) -> Result<Self, NoMemory>
+        requires some { (0 < entries) × (entries ≤ entry_limit) }
+        requires fresh { (looks.total ≡ 0) × (misses.total ≡ 0) }
+        ensures { IfOk result (λ c. c ≡ fresh_cache entries) }
+    {
+        Ok(ReplyCache {
+            alloc,
+            entries: LruCache::new(alloc, NonZeroUsize::new(entries as usize).unwrap())?,
+            finds: Vec::new(alloc),
+            looks,
+            misses,
+            of: PhantomData,
+        })
+    }
+
+    /// A copy of the reply that is kept at a key; `None` exactly where none is. The look is counted
+    /// in the share, and the entry that was found comes first.
+    ///
+    /// # Errors
+    ///
+    /// [`NoMemory`] where memory was wanted and not had; nothing is changed.
+    pub fn look(
+        &mut self,
+        share: &mut LookShare<A, B>,
+        key: &[u8],
+    ) -> Result<Option<Bytes>, NoMemory>
+        requires parts { (0 < share.old.looks.parts) × (0 < share.old.misses.parts) }
+        ensures found { IfOk result (λ found. found ≡ reply_at self.old key.now) }
+        ensures looked { OnOk result (self.new ≡ looked_at self.old key.now) }
+        ensures reply { IfOk result (λ found. IfSome found (λ reply. reply ≡ M.reply key.now)) }
+        ensures counted { OnOk result (share.new.looks.amount ≡ share.old.looks.amount + 1) }
+        ensures missed { IfOk result (λ found. share.new.misses.amount ≡ share.old.misses.amount + missed (is_some found)) }
+        ensures parts { (share.new.looks.parts ≡ share.old.looks.parts) × (share.new.misses.parts ≡ share.old.misses.parts) }
+        ensures unchanged { OnErr result (self.new ≡ self.old) }
+        ensures uncounted { OnErr result ((share.new.looks.amount ≡ share.old.looks.amount) × (share.new.misses.amount ≡ share.old.misses.amount)) }
+    {
+        let key = copy(self.alloc, key)?;
+        let found = kept_reply(self.alloc, &self.entries, &key)?;
+        self.finds.reserve(1)?;
+        self.entries.promote(&key);
+        note(
+            &mut self.finds,
+            &mut self.looks,
+            &mut self.misses,
+            share,
+            found.is_some(),
+        );
+        Ok(found)
+    }
+
+    /// Keeps the reply to a key of at most [`MAX_KEY`] bytes. Where the key has an entry already,
+    /// that one gets this reply and comes first; else a new entry comes first, and the last one goes
+    /// where the cache was full.
+    ///
+    /// [`MAX_KEY`]: crate::MAX_KEY
+    ///
+    /// # Errors
+    ///
+    /// [`NoMemory`] where memory was wanted and not had; nothing is changed.
+    pub fn keep(&mut self, key: Bytes, value: Bytes) -> Result<(), NoMemory>
+        requires reply { value ≡ M.reply key }
+        requires short { length key ≤ key_limit }
+        ensures kept { OnOk result (self.new ≡ kept_at self.old key value) }
+        ensures unchanged { OnErr result (self.new ≡ self.old) }
+    {
+        self.entries.put(key, value)?;
+        Ok(())
+    }
+
+    /// How many looks there were.
+    pub fn looks(&self) -> u64
+        ensures { result ≡ length self.now.finds }
+    {
+        self.finds.len() as u64
+    }
+
+    /// Nothing is done; who has all parts of both ledgers learns that the shares add up to what the
+    /// cache counted.
+    pub fn audit(&mut self, share: &mut LookShare<A, B>)
+        requires whole { (share.old.looks.parts ≡ A.parts) × (share.old.misses.parts ≡ B.parts) }
+        ensures same { self.new ≡ self.old }
+        ensures looks { share.new.looks.amount ≡ length self.old.finds }
+        ensures misses { share.new.misses.amount ≡ misses_of self.old.finds }
+        ensures amounts { (share.new.looks.amount ≡ share.old.looks.amount) × (share.new.misses.amount ≡ share.old.misses.amount) }
+        ensures parts { (share.new.looks.parts ≡ share.old.looks.parts) × (share.new.misses.parts ≡ share.old.misses.parts) }
+    {
+        self.looks.audit(&mut share.looks);
+        self.misses.audit(&mut share.misses);
+    }
+}
+
+// A copy of bytes.
+fn copy(alloc: Global, bytes: &[u8]) -> Result<Bytes, NoMemory>
+    ensures { IfOk result (λ copy. copy ≡ bytes.now) }
+{
+    Ok(Bytes::from_vec(Vec::from_slice(alloc, bytes)?))
+}
+
+// A copy of the reply that is kept at a key.
+fn kept_reply(
+    alloc: Global,
+    entries: &LruCache<Bytes, Bytes>,
+    key: &Bytes,
+) -> Result<Option<Bytes>, NoMemory>
+    ensures { IfOk result (λ found. found ≡ lookup (same_key key.now) entries.now.entries) }
+{
+    match entries.peek(key) {
+        Some(reply) => Ok(Some(copy(alloc, reply.as_slice())?)),
+        None => Ok(None),
+    }
+}
+
+// Notes a look, and whether it found an entry.
+fn note<A: Ledger, B: Ledger>(
+    finds: &mut Vec<bool>,
+    looks: &mut Book<A>,
+    misses: &mut Book<B>,
+    share: &mut LookShare<A, B>,
+    found: bool,
+)
+    requires parts { (0 < share.old.looks.parts) × (0 < share.old.misses.parts) }
+    requires room { vec_len finds.old < vec_capacity finds.old }
+    ensures noted { finds.new.items ≡ finds.old.items ++ found ∷ [] }
+    ensures looks { looks.new.total ≡ looks.old.total + 1 }
+    ensures misses { misses.new.total ≡ misses.old.total + missed found }
+    ensures counted_looks { share.new.looks.amount ≡ share.old.looks.amount + 1 }
+    ensures counted_misses { share.new.misses.amount ≡ share.old.misses.amount + missed found }
+    ensures parts { (share.new.looks.parts ≡ share.old.looks.parts) × (share.new.misses.parts ≡ share.old.misses.parts) }
+{
+    finds.push_reserved(found);
+    looks.add(&mut share.looks, 1);
+    if !found {
+        misses.add(&mut share.misses, 1);
+    }
+}

@@ -1,0 +1,18 @@
+//! Replies that are made once and kept: what makes them, and the cache that many sessions share.
+//!
+//! A [`Maker`] makes the reply to a key; each type of maker has one reply for each key. A
+//! [`ReplyCache`] keeps replies, those that were used last, and is shared behind one lock. Whenever
+//! its lock is free, each of its entries is the reply to its key, and what it counted is what the
+//! shares of its users add up to: each look is counted in the [`LookShare`] of the session that
+//! looked, and each that found nothing once more.
+#![tactic(auto)]
+
+mod cache;
+mod limit;
+mod maker;
+mod share;
+
+pub use cache::ReplyCache;
+pub use limit::{MAX_ENTRIES, MAX_KEY, MAX_REPLY, limits_agree};
+pub use maker::{FreshMaker, Maker};
+pub use share::LookShare;

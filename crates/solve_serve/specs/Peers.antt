@@ -1,0 +1,37 @@
+-- Peers: the two ends of many sessions, and how each was served.
+use Rattle.std.specs.Prelude.{◌≡◌, ℕ, ◌<◌, ◌≤◌, ◌^◌, List, length, Option, None, IsSomeAnd, slice_index_or}
+use Rattle.solve_serve.specs.declared.peers.Peer.{Peer}
+use Rattle.solve_serve.specs.Answers.{tally, answering}
+use Rattle.solve_serve.specs.Session.{Outside, outside, HasServed}
+
+-- the most sessions beside each other
+abbrev pub peer_limit : ℕ
+peer_limit = 64
+
+-- the most workers that serve them
+abbrev pub server_limit : ℕ
+server_limit = 16
+
+module _ {S K M A B : Type 0} (made : M → ℕ) where
+  -- a peer whose session did not begin: it has parts of both ledgers, and its maker was not called too often
+  pub record IsFresh (p : Peer S K M A B) : Type 0 where
+    pub endless : p.end ≡ None
+    pub look_parts : 0 < p.share.looks.parts
+    pub miss_parts : 0 < p.share.misses.parts
+    pub calls : made p.maker ≤ 2 ^ 62
+
+module _ {S K M A B : Type 0} (left : S → Option (List ℕ)) (reads : S → ℕ) (held : K → Option (List ℕ)) (writes : K → ℕ) (made : M → ℕ) where
+  -- what is outside of a peer's session
+  abbrev pub outside_of : Peer S K M A B → Outside
+  outside_of p = outside (left p.source) (reads p.source) (answering (held p.sink) (writes p.sink) (tally p.share.looks.amount p.share.misses.amount (made p.maker)))
+
+  -- a peer was served: its end is there, and its session ended so
+  pub record IsServed (reply : List ℕ → List ℕ) (before after : Peer S K M A B) : Type 0 where
+    pub ended : IsSomeAnd after.end (λ end. HasServed reply end (outside_of before) (outside_of after))
+    pub look_parts : after.share.looks.parts ≡ before.share.looks.parts
+    pub miss_parts : after.share.misses.parts ≡ before.share.misses.parts
+
+  -- each peer was served
+  pub record AreServed (reply : List ℕ → List ℕ) (before after : List (Peer S K M A B)) : Type 0 where
+    pub size : length after ≡ length before
+    pub each : (i : ℕ) (d : Peer S K M A B) → i < length before → IsServed reply (slice_index_or before i d) (slice_index_or after i d)

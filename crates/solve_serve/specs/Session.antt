@@ -1,0 +1,95 @@
+-- A session: what was written, and what it answers to which end.
+use Rattle.std.specs.Prelude.{◌≡◌, ◌≢◌, ℕ, ◌+◌, ◌<◌, ◌≤◌, min, List, [], ◌++◌, map, length, take, Option, Result, Ok, Err}
+use Rattle.std.specs.List.{All}
+use Rattle.std.specs.Io.KnownBytes.{prepend_known, IsAtEnd}
+use Rattle.dcop_base.specs.Limits.{count_limit}
+use Rattle.dcop_edge.specs.Faults.{Rose}
+use Rattle.dcop_edge.specs.Sink.{Adds}
+use Rattle.wire_frames.specs.Frame.{framed, framed_all, IsShort, IsTooLong}
+use Rattle.wire_frames.specs.Reader.{Reader}
+use Rattle.solve_serve.specs.Limits.{request_limit, session_limit}
+use Rattle.solve_serve.specs.Requests.{reading, IsStopped, Gives}
+use Rattle.solve_serve.specs.Answers.{Answering, Tallies, IsAnswered}
+use Rattle.solve_serve.specs.declared.end.SessionEnd.{SessionEnd}
+use Rattle.solve_serve.specs.declared.end.SessionEnd.TheVariants as ends
+use Rattle.solve_serve.specs.declared.stop.Stop.{Stop}
+use Rattle.solve_serve.specs.declared.stop.Stop.TheVariants as stops
+
+-- what is outside of a session: what its source has left, where that is told, and its count of faults; and its answering
+pub record Outside : Type 0 where
+  pub left : Option (List ℕ)
+  pub faults : ℕ
+  pub answering : Answering
+
+-- the outside that stands so
+abbrev pub outside : Option (List ℕ) → ℕ → Answering → Outside
+outside left faults answering = record { left = left; faults = faults; answering = answering }
+
+-- how many requests were answered
+abbrev pub served_by : SessionEnd → ℕ
+served_by (ends.Closed served) = served
+served_by (ends.Cut served) = served
+served_by (ends.Long served place) = served
+served_by (ends.Limit served) = served
+served_by (ends.Read served) = served
+served_by (ends.Write served) = served
+served_by (ends.Memory served) = served
+
+-- nothing stands behind the replies, no look was made but for them, and the sink did not fail
+pub record IsQuiet (beside : List ℕ) (extra : ℕ) (before after : Outside) : Type 0 where
+  pub none : beside ≡ []
+  pub as_many : extra ≡ 0
+  pub same : after.answering.faults ≡ before.answering.faults
+
+-- the first of the requests that were not answered was read whole, and of its reply's frame so much was written
+pub record IsBroken (reply : List ℕ → List ℕ) (behind beside : List ℕ) : Type 0 where
+  pub request : List ℕ
+  pub rest : List ℕ
+  pub count : ℕ
+  pub read : behind ≡ framed request ++ rest
+  pub within : length request ≤ request_limit
+  pub most : count ≤ length (framed (reply request))
+  pub written : beside ≡ take count (framed (reply request))
+
+-- why a session ended so, after these requests, with these bytes read behind them, and these written behind their replies
+abbrev pub IsCause : (List ℕ → List ℕ) → SessionEnd → List (List ℕ) → List ℕ → List ℕ → ℕ → Outside → Outside → Type 0
+IsCause reply (ends.Closed served) requests behind beside extra before after =
+    (served < session_limit) × IsQuiet beside extra before after × (behind ≡ []) × IsAtEnd after.left × (after.faults ≡ before.faults)
+IsCause reply (ends.Cut served) requests behind beside extra before after =
+    (served < session_limit) × IsQuiet beside extra before after × (behind ≢ []) × IsShort request_limit behind × IsAtEnd after.left × (after.faults ≡ before.faults)
+IsCause reply (ends.Long served place) requests behind beside extra before after =
+    (served < session_limit) × IsQuiet beside extra before after × IsTooLong request_limit behind × (place ≡ min (length (framed_all requests)) count_limit) × (after.faults ≡ before.faults)
+IsCause reply (ends.Limit served) requests behind beside extra before after =
+    (served ≡ session_limit) × IsQuiet beside extra before after × (after.faults ≡ before.faults)
+IsCause reply (ends.Read served) requests behind beside extra before after =
+    (served < session_limit) × IsQuiet beside extra before after × IsShort request_limit behind × Rose before.faults after.faults
+IsCause reply (ends.Write served) requests behind beside extra before after =
+    (served < session_limit) × IsBroken reply behind beside × (extra ≡ 1) × Rose before.answering.faults after.answering.faults × (after.faults ≡ before.faults)
+IsCause reply (ends.Memory served) requests behind beside extra before after =
+    (served < session_limit) × (beside ≡ []) × (extra ≤ 1) × (after.answering.faults ≡ before.answering.faults) × (after.faults ≡ before.faults)
+
+-- a session ended so: its requests were the first that were read, in order, the frames of their replies were written, and each look that found nothing was a call of the maker
+pub record HasServed (reply : List ℕ → List ℕ) (end : SessionEnd) (before after : Outside) : Type 0 where
+  pub requests : List (List ℕ)
+  pub count : length requests ≡ served_by end
+  pub within : All (λ request. length request ≤ request_limit) requests
+  pub behind : List ℕ
+  pub read : before.left ≡ prepend_known (framed_all requests ++ behind) after.left
+  pub beside : List ℕ
+  pub written : Adds before.answering.held (framed_all (map reply requests) ++ beside) after.answering.held
+  pub extra : ℕ
+  pub tally : Tallies (served_by end + extra) before.answering.tally after.answering.tally
+  pub cause : IsCause reply end requests behind beside extra before after
+
+-- one turn of a session: the next request was read and answered, or the session stops
+abbrev pub IsTurn : (List ℕ → List ℕ) → Result (Unit {0}) Stop → Reader → Outside → Reader → Outside → Type 0
+IsTurn reply (Ok done) r before r' after =
+    (request : List ℕ) × Gives request (reading r before.left before.faults) (reading r' after.left after.faults) × (after.faults ≡ before.faults)
+    × IsAnswered (reply request) (Ok done) before.answering after.answering
+IsTurn reply (Err stops.Write) r before r' after =
+    (request : List ℕ) × Gives request (reading r before.left before.faults) (reading r' after.left after.faults) × (after.faults ≡ before.faults)
+    × IsAnswered (reply request) (Err stops.Write) before.answering after.answering
+IsTurn reply (Err stops.Memory) r before r' after =
+    IsStopped stops.Memory (reading r before.left before.faults) (reading r' after.left after.faults) × IsAnswered [] (Err stops.Memory) before.answering after.answering
+IsTurn reply (Err stop) r before r' after =
+    IsStopped stop (reading r before.left before.faults) (reading r' after.left after.faults) × (after.answering ≡ before.answering)

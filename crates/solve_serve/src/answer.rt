@@ -1,0 +1,94 @@
+//! Answering a request.
+
+ghost use Rattle.std.specs.Prelude.{◌≡◌, ◌≤◌, ◌<◌, ◌+◌, ◌^◌, length, IfOk};
+ghost use Rattle.reply_cache.specs.Limits.{reply_limit, key_limit};
+ghost use Rattle.solve_serve.specs.Answers.{tally, answering, IsAnswered, IsReplied};
+
+use crate::stop::Stop;
+use crate::write::write_all;
+use dcop_base::{Bytes, NoMemory};
+use dcop_edge::Sink;
+use reply_cache::{LookShare, MAX_KEY, Maker, ReplyCache};
+use std::alloc::Global;
+use std::marker::Sync;
+use std::sync::ledger::Ledger;
+use std::sync::{Mutex, Wait};
+use std::thread::Threads;
+use wire_frames::frame;
+
+/// Writes the frame of the reply to a request.
+pub(crate) fn answer<R: Threads + Wait + Sync, K: Sink, M: Maker, A: Ledger, B: Ledger>(
+    rt: &R,
+    alloc: Global,
+    sink: &mut K,
+    cache: &Mutex<ReplyCache<M, A, B>>,
+    share: &mut LookShare<A, B>,
+    maker: &mut M,
+    request: &[u8],
+) -> Result<(), Stop>
+    requires parts { (0 < share.old.looks.parts) × (0 < share.old.misses.parts) }
+    requires calls { M.calls maker.old < 2 ^ 63 }
+    ensures answered { IsAnswered (M.reply request.now) result
+        (answering (K.held sink.old) (K.faults sink.old) (tally share.old.looks.amount share.old.misses.amount (M.calls maker.old)))
+        (answering (K.held sink.new) (K.faults sink.new) (tally share.new.looks.amount share.new.misses.amount (M.calls maker.new))) }
+    ensures parts { (share.new.looks.parts ≡ share.old.looks.parts) × (share.new.misses.parts ≡ share.old.misses.parts) }
+{
+    let reply = reply_to(rt, alloc, cache, share, maker, request)?;
+    let frame = frame(alloc, reply.as_slice())?;
+    match write_all(sink, frame.as_slice()) {
+        Ok(()) => Ok(()),
+        Err(_) => Err(Stop::Write),
+    }
+}
+
+/// The reply to a request: from the cache, or made without its lock, and then kept where its key is
+/// short enough.
+fn reply_to<R: Threads + Wait + Sync, M: Maker, A: Ledger, B: Ledger>(
+    rt: &R,
+    alloc: Global,
+    cache: &Mutex<ReplyCache<M, A, B>>,
+    share: &mut LookShare<A, B>,
+    maker: &mut M,
+    key: &[u8],
+) -> Result<Bytes, NoMemory>
+    requires parts { (0 < share.old.looks.parts) × (0 < share.old.misses.parts) }
+    requires calls { M.calls maker.old < 2 ^ 63 }
+    ensures replied { IfOk result (λ reply. reply ≡ M.reply key.now) }
+    ensures short { IfOk result (λ reply. length reply ≤ reply_limit) }
+    ensures tally { IsReplied result
+        (tally share.old.looks.amount share.old.misses.amount (M.calls maker.old))
+        (tally share.new.looks.amount share.new.misses.amount (M.calls maker.new)) }
+    ensures parts { (share.new.looks.parts ≡ share.old.looks.parts) × (share.new.misses.parts ≡ share.old.misses.parts) }
+{
+    let found = cache.lock(rt).look(share, key)?;
+    if let Some(reply) = found {
+        return Ok(reply);
+    }
+    let reply = maker.make(rt, alloc, key)?;
+    if key.len() <= MAX_KEY {
+        keep(rt, alloc, cache, key, &reply);
+    }
+    Ok(reply)
+}
+
+/// Keeps a reply; where memory was wanted, it is not kept.
+fn keep<R: Wait, M: Maker, A: Ledger, B: Ledger>(
+    rt: &R,
+    alloc: Global,
+    cache: &Mutex<ReplyCache<M, A, B>>,
+    key: &[u8],
+    reply: &Bytes,
+)
+    requires reply { reply.now ≡ M.reply key.now }
+    requires short { length key.now ≤ key_limit }
+{
+    let Ok(key) = Vec::from_slice(alloc, key) else {
+        return;
+    };
+    let Ok(reply) = Vec::from_slice(alloc, reply.as_slice()) else {
+        return;
+    };
+    let _kept = cache
+        .lock(rt)
+        .keep(Bytes::from_vec(key), Bytes::from_vec(reply));
+}

@@ -1,0 +1,48 @@
+//! How a session ended.
+
+/// How a session ended, and how many requests it answered.
+#[derive(Clone, Copy, Debug, PartialEq, Eq)]
+pub enum SessionEnd {
+    /// The input ended behind whole frames.
+    Closed {
+        /// How many requests were answered.
+        served: u64,
+    },
+    /// The input ended inside a frame.
+    Cut {
+        /// How many requests were answered.
+        served: u64,
+    },
+    /// A length field is above [`MAX_REQUEST`].
+    ///
+    /// [`MAX_REQUEST`]: crate::MAX_REQUEST
+    Long {
+        /// How many requests were answered.
+        served: u64,
+        /// The place of that field in the stream, from 0; 2^64 - 1 stands for each place from
+        /// there on.
+        place: u64,
+    },
+    /// [`MAX_REPLIES`] requests were answered.
+    ///
+    /// [`MAX_REPLIES`]: crate::MAX_REPLIES
+    Limit {
+        /// How many requests were answered.
+        served: u64,
+    },
+    /// The source failed.
+    Read {
+        /// How many requests were answered.
+        served: u64,
+    },
+    /// The sink failed.
+    Write {
+        /// How many requests were answered before.
+        served: u64,
+    },
+    /// Memory was wanted and not had. No clause says when it comes.
+    Memory {
+        /// How many requests were answered before.
+        served: u64,
+    },
+}

@@ -1,0 +1,16 @@
+//! Laws of sessions. Each is the contract of a call that does nothing: who needs the law calls it.
+
+ghost use Rattle.solve_serve.specs.Exact.{EndsExactly, AnswersFirst};
+
+/// Where a source tells its bytes, a session that no fault and no want of memory has ended ends as
+/// its whole input says: by the limit where it has that many frames, else by too long a length
+/// field, else behind whole frames or inside one.
+pub fn ends_exactly()
+    ensures { EndsExactly }
+{}
+
+/// Where a source tells its bytes, the requests that a session answered are the first frames of
+/// its whole input, in order.
+pub fn answers_first()
+    ensures { AnswersFirst }
+{}

@@ -1,0 +1,24 @@
+//! Sessions of a server: requests are read as frames, and the frames of their replies are written.
+//!
+//! [`serve_one`] serves one session over a source, a sink and a maker of replies, with a cache of
+//! replies that many sessions share. Its clause says which requests were read, that what was
+//! written is the frames of their replies, why the session ended, and that the maker was called
+//! just where a look at the cache found nothing: so a reply from the cache is the reply without it.
+//! [`serve_peers`] serves many sessions beside each other.
+#![tactic(auto)]
+
+mod answer;
+mod end;
+mod law;
+mod limit;
+mod peers;
+mod request;
+mod session;
+mod stop;
+mod write;
+
+pub use end::SessionEnd;
+pub use law::{answers_first, ends_exactly};
+pub use limit::{MAX_REPLIES, MAX_REQUEST, limits_agree};
+pub use peers::{Peer, PeerList, serve_peers};
+pub use session::serve_one;

@@ -1,0 +1,125 @@
+//! Sessions beside each other.
+
+ghost use Rattle.std.specs.Prelude.{◌≡◌, ◌≤◌, ◌<◌, All, length};
+ghost use Rattle.solve_serve.specs.Peers.{peer_limit, server_limit, IsFresh, IsServed, AreServed};
+
+use crate::end::SessionEnd;
+use crate::session::serve_one;
+use dcop_edge::{Gate, Sink, Source};
+use reply_cache::{LookShare, Maker, ReplyCache};
+use std::alloc::Global;
+use std::marker::{Send, Sync};
+use std::sync::ledger::Ledger;
+use std::sync::{Mutex, Wait};
+use std::thread;
+use std::thread::Threads;
+
+/// The two ends of a session, what serves it, and how it ended.
+#[derive(Drop)]
+pub struct Peer<S, K, M, A: Ledger, B: Ledger> {
+    /// Where its requests come from.
+    pub source: S,
+    /// Where its replies go.
+    pub sink: K,
+    /// What makes replies for it.
+    pub maker: M,
+    /// Its share of the looks at the cache.
+    pub share: LookShare<A, B>,
+    /// How its session ended; `None` until it has.
+    pub end: Option<SessionEnd>,
+}
+
+/// Peers, in order of their sessions' numbers.
+pub type PeerList<S, K, M, A, B> = Vec<Peer<S, K, M, A, B>>;
+
+/// Serves all peers, each by [`serve_one`] with its place in the list, from 0, as the session's
+/// number: at most 64 peers, by so many workers beside each other, 1 to 16. Where no thread can be
+/// had, the sessions are served one after another. Afterwards each peer's end is there. It takes
+/// memory; want of it is the end of a session.
+pub fn serve_peers<
+    R: Threads + Wait + Sync,
+    S: Source + Send,
+    K: Sink + Send,
+    M: Maker,
+    A: Ledger + Send + Sync,
+    B: Ledger + Send + Sync,
+    G: Gate,
+>(
+    rt: &R,
+    alloc: Global,
+    peers: &mut PeerList<S, K, M, A, B>,
+    cache: &Mutex<ReplyCache<M, A, B>>,
+    workers: u32,
+    gate: &G,
+)
+    requires workers { (0 < workers) × (workers ≤ server_limit) }
+    requires few { length peers.old.items ≤ peer_limit }
+    requires fresh { All (λ p. IsFresh M.calls p) peers.old.items }
+    ensures served { AreServed S.left S.faults K.held K.faults M.calls M.reply peers.old.items peers.new.items }
+{
+    serve_all(rt, alloc, peers.as_mut_slice(), cache, workers, gate);
+}
+
+/// [`serve_peers`], on a slice.
+fn serve_all<
+    R: Threads + Wait + Sync,
+    S: Source + Send,
+    K: Sink + Send,
+    M: Maker,
+    A: Ledger + Send + Sync,
+    B: Ledger + Send + Sync,
+    G: Gate,
+>(
+    rt: &R,
+    alloc: Global,
+    peers: &mut [Peer<S, K, M, A, B>],
+    cache: &Mutex<ReplyCache<M, A, B>>,
+    workers: u32,
+    gate: &G,
+)
+    requires workers { 0 < workers }
+    requires few { length peers.old ≤ peer_limit }
+    requires fresh { All (λ p. IsFresh M.calls p) peers.old }
+    ensures served { AreServed S.left S.faults K.held K.faults M.calls M.reply peers.old peers.new }
+{
+    let serve = |i: usize, peer: &mut Peer<S, K, M, A, B>|
+        requires inside { i < 64 }
+        requires fresh { IsFresh M.calls peer.now }
+        ensures { IsServed S.left S.faults K.held K.faults M.calls M.reply peer.entry.now peer.exit.now }
+    { serve_peer(rt, alloc, i as u32, peer, cache, gate) };
+    thread::for_each_mut(rt, peers, workers as usize, &serve);
+}
+
+/// Serves one peer.
+fn serve_peer<
+    R: Threads + Wait + Sync,
+    S: Source,
+    K: Sink,
+    M: Maker,
+    A: Ledger,
+    B: Ledger,
+    G: Gate,
+>(
+    rt: &R,
+    alloc: Global,
+    session: u32,
+    peer: &mut Peer<S, K, M, A, B>,
+    cache: &Mutex<ReplyCache<M, A, B>>,
+    gate: &G,
+)
+    requires { IsFresh M.calls peer.old }
+    ensures { IsServed S.left S.faults K.held K.faults M.calls M.reply peer.old peer.new }
+{
+    let end = serve_one(
+        rt,
+        alloc,
+        session,
+        &mut peer.source,
+        &mut peer.sink,
+        cache,
+        &mut peer.share,
+        &mut peer.maker,
+        gate,
+    );
+    peer.end = Some(end);
+}
