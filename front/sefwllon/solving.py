@@ -126,6 +126,8 @@ class Solver:
 
     def by_order(self, text: str) -> bool:
         ordered = self.programs.reorder(text, ORDERS, self.until)
+        if self.method != "auto" and ordered is None:
+            raise Trouble("the program dcop_order is not built: run `cd crates/order_cli && rt run`, or name it by SEFWLLON_ORDER")
         if ordered is None or ordered.status != 0:
             return False
         other = parse(ordered.text)

@@ -30,6 +30,8 @@ from sefwllon.evaluator import Formula  # noqa: E402
 from sefwllon.explain import differs, explain  # noqa: E402
 from sefwllon.problem import Trouble, parse  # noqa: E402
 from sefwllon.programs import Programs  # noqa: E402
+from sefwllon.report import Report, read_report  # noqa: E402
+from sefwllon.solving import Best  # noqa: E402
 from sefwllon.translate import Constraint, Source, translate  # noqa: E402
 
 FAKE = str(HERE / "fake_dcop.py")
@@ -75,6 +77,26 @@ class Solving(Case):
         status, told, _ = self.front("solve", "--json", str(PROBLEMS / "pair.dcop"), fake="wide spends")
         answer = json.loads(told)
         self.assertEqual((status, answer["cost"], answer["solved"], answer["verified"]), (0, 2, True, False))
+
+    def test_an_assignment_is_no_dearer_than_the_bound_that_is_told(self):
+        best = Best()
+        best.take(Report("spent", "adopt", 0, 522, 15, 8, 11, [0]), "min")
+        self.assertEqual((best.cost, best.lower, best.upper, best.gap("min")), (15, 8, 15, 7))
+        best.take(Report("spent", "adopt", 0, 900, 17, 9, 10, [1]), "min")
+        self.assertEqual((best.values, best.cost, best.lower, best.upper), ([0], 15, 9, 15))
+        best.take_better([2], 12, "min")
+        self.assertEqual((best.values, best.cost, best.lower, best.upper), ([2], 12, 9, 12))
+        best = Best()
+        best.take(Report("spent", "adopt", 0, 5, 10, 12, 20, [0]), "max")
+        self.assertEqual((best.cost, best.lower, best.upper, best.gap("max")), (10, 10, 20, 10))
+
+    def test_an_assignment_is_bettered_a_variable_at_a_time(self):
+        problem = parse((PROBLEMS / "tracking.dcop").read_text())
+        values = problem.improved([0] * 6)
+        self.assertLess(problem.cost(values), problem.cost([0] * 6))
+        for variable, value in itertools.product(range(6), range(2)):
+            other = [*values[:variable], value, *values[variable + 1 :]]
+            self.assertLessEqual(problem.cost(values), problem.cost(other))
 
     def test_the_time_is_kept(self):
         began = time.monotonic()
@@ -260,6 +282,27 @@ class Telling(Case):
             os.environ.update(kept)
         self.assertEqual([m.deliveries for m in found][:4], [0, 3, 6, 10])
         self.assertEqual([(m.lower, m.upper) for m in found if m.events in (2, 3, 8)], [(0, None), (0, 7), (2, 2)])
+
+    @unittest.skipUnless(REAL, "no built program")
+    def test_the_real_program_replays_a_log_to_its_report(self):
+        for name, goal in (("tracking", "min"), ("sensors", "max")):
+            file = str(PROBLEMS / f"{name}.dcop")
+            report = self.file("report", "")
+            self.front("solve", file, "--method", "adopt", "--report", report, program=REAL)
+            text, problem = Path(report).read_text(), parse(Path(file).read_text())
+            told = read_report(text, problem)
+            try:
+                found = replay.moments(Programs(REAL), problem, text)
+            except Trouble as trouble:
+                self.assertIn("has no `replay` yet", str(trouble))
+                continue
+            last = found[-1]
+            self.assertEqual((goal, last.deliveries), (problem.goal, told.deliveries))
+            self.assertEqual((last.lower, last.upper), (told.lower, told.upper))
+            for before, after in zip(found, found[1:]):
+                self.assertTrue(before.lower is None or before.lower <= after.lower)
+                self.assertTrue(before.upper is None or before.upper >= after.upper)
+            self.assertEqual(self.front("draw", file, report, program=REAL)[0], 0)
 
     def test_a_timetable_is_drawn(self):
         picture = self.file("week.svg", "")
