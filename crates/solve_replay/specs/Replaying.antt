@@ -6,7 +6,7 @@ use Rattle.protocol_steps.specs.declared.event.EventFault.{EventFault}
 use Rattle.protocol_steps.specs.Network.{Network, start_state}
 use Rattle.protocol_steps.specs.Run.{run}
 use Rattle.problem_text.specs.Declarations.{Declared}
-use Rattle.problem_text.specs.File.{TextFile}
+use Rattle.problem_text.specs.File.{TextFile, IsFile}
 use Rattle.problem_text.specs.Kinds.{number_of_report}
 use Rattle.problem_text.specs.Steps.{declared_by}
 use Rattle.problem_text.specs.declared.fault.ReportKind.TheVariants.{NoLog}
@@ -21,6 +21,8 @@ use Rattle.certificate_text.specs.ReportLines.{Fault}
 use Rattle.certificate_text.specs.ReportReading.{report_read}
 use Rattle.log_holds.specs.Holds.{agents_for}
 use Rattle.delivery_core.specs.Faults.{FirstFault}
+use Rattle.delivery_core.specs.declared.replaying.ReplayFault.{ReplayFault}
+use Rattle.delivery_core.specs.declared.replaying.ReplayFault.TheVariants.{BadEvent, NoMemory}
 use Rattle.solve_report.specs.declared.answer.Answer.{Answer}
 use Rattle.solve_report.specs.declared.answer.Answer.TheVariants as answers
 use Rattle.solve_report.specs.declared.replay.AgentRow.{AgentRow}
@@ -43,6 +45,11 @@ pub record TellsState (net : Network) (es : List Event) (events : ℕ) (agents :
 abbrev pub TellsFault : Network → List Event → ℕ → EventFault → Type 0
 TellsFault net es at fault = (place : ℕ) × (at ≡ place + 1) × FirstFault net es place fault
 
+-- the answer that tells why events are no run, beside these names; want of memory has none
+abbrev pub IsFaultAnswer : List (List ℕ) → ReplayFault → Answer → Type 0
+IsFaultAnswer names (BadEvent at fault) answer = answer ≡ answers.Verdict (No (Unlawful at fault)) names
+IsFaultAnswer names NoMemory answer = ⊥
+
 -- the answer to a replay of these events from a network of a file's agents: what they lead to, or the first of them that is not lawful
 abbrev pub IsReplay : TextFile → Network → List Event → Answer → Type 0
 IsReplay file net es (answers.Replay events agents names) = (names ≡ file.names) × TellsState net es events agents
@@ -62,6 +69,7 @@ IsReadReplay file before text after (Err fault) answer = answer ≡ answers.Repo
 -- the answer to the text of a report, behind the text of a problem that has so many lines and declares this
 pub record AnswersReplay (d : Declared) (before : ℕ) (text : List ℕ) (after : Option ℕ) (answer : Answer) : Type 0 where
   pub file : TextFile
+  pub is_file : IsFile file
   pub whole : IsProblem file.problem
   pub declared : declared_by file ≡ d
   pub is : IsReadReplay file before text after (report_read text file) answer
