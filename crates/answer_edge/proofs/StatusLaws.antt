@@ -24,11 +24,16 @@ pub told-status : (answer : Answer) → (status_of answer ≢ WriteFault) × (st
 told-status (answers.Report report file) = let told = ending-told report.status in (told.0, told.1)
 told-status (answers.Verdict verdict names) = let told = verdict-told verdict in (told.0, told.1)
 told-status (answers.Tree deliveries nodes names) = (λ e. cc, λ e. cc)
+told-status (answers.Replay events agents names) = (λ e. cc, λ e. cc)
 told-status (answers.Drill summary) = let told = ending-told summary.status in (told.0, told.1)
 told-status (answers.Upgraded file) = (λ e. cc, λ e. cc)
+told-status (answers.UpgradedWcsp bar file) = (λ e. cc, λ e. cc)
+told-status (answers.Edits optima file) = (λ e. cc, λ e. cc)
 told-status (answers.Words at kind) = (λ e. cc, λ e. cc)
 told-status (answers.ProblemText line kind problem) = (λ e. cc, λ e. cc)
+told-status (answers.WcspText line kind problem) = (λ e. cc, λ e. cc)
 told-status (answers.ReportText line kind) = (λ e. cc, λ e. cc)
+told-status (answers.EditText line kind) = (λ e. cc, λ e. cc)
 told-status (answers.Many n) = (λ e. cc, λ e. cc)
 told-status (answers.WideAgent var cells names) = (λ e. cc, λ e. cc)
 told-status (answers.WideTotal cells) = (λ e. cc, λ e. cc)
@@ -42,10 +47,15 @@ read-alone (answers.Drill summary) e = absurd ((ending-told summary.status).2 e)
 read-alone (answers.Verdict verdict names) e = absurd ((verdict-told verdict).2 e)
 read-alone answers.Read e = refl
 read-alone (answers.Tree deliveries nodes names) e = cc
+read-alone (answers.Replay events agents names) e = cc
 read-alone (answers.Upgraded file) e = cc
+read-alone (answers.UpgradedWcsp bar file) e = cc
+read-alone (answers.Edits optima file) e = cc
 read-alone (answers.Words at kind) e = cc
 read-alone (answers.ProblemText line kind problem) e = cc
+read-alone (answers.WcspText line kind problem) e = cc
 read-alone (answers.ReportText line kind) e = cc
+read-alone (answers.EditText line kind) e = cc
 read-alone (answers.Many n) e = cc
 read-alone (answers.WideAgent var cells names) e = cc
 read-alone (answers.WideTotal cells) e = cc

@@ -24,12 +24,17 @@ abbrev pub status_of : Answer → Status
 status_of (answers.Report report file) = status_of_ending report.status
 status_of (answers.Tree deliveries nodes names) = Solved
 status_of (answers.Verdict verdict names) = status_of_verdict verdict
+status_of (answers.Replay events agents names) = Solved
 status_of (answers.Drill summary) = status_of_ending summary.status
 status_of (answers.Upgraded file) = Solved
+status_of (answers.UpgradedWcsp bar file) = Solved
+status_of (answers.Edits optima file) = Solved
 status_of (answers.Words at kind) = BadWords
 status_of answers.NotYet = BadWords
 status_of (answers.ProblemText line kind problem) = BadText
+status_of (answers.WcspText line kind problem) = BadText
 status_of (answers.ReportText line kind) = BadText
+status_of (answers.EditText line kind) = BadText
 status_of (answers.WideAgent var cells names) = TooWide
 status_of (answers.WideTotal cells) = TooWide
 status_of answers.Read = ReadFault

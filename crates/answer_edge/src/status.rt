@@ -9,13 +9,14 @@ use solve_report::Answer;
 /// How a call ended.
 #[derive(Clone, Copy, Debug, PartialEq, Eq)]
 pub enum Status {
-    /// A solved report or summary, a yes, a tree or an upgraded text was printed.
+    /// A solved report or summary, a yes, a tree, a replay, an upgraded text or the optima of an edit
+    /// session were printed.
     Solved,
     /// ADOPT has spent its budget. A report or a summary with bounds was printed.
     Spent,
     /// The words are refused, or ask for what is not served yet.
     BadWords,
-    /// The text of the problem, or that of the report behind it, is refused.
+    /// The text of the problem, that of the report behind it or that of its edits is refused.
     BadText,
     /// The tables of the agents would be too wide.
     TooWide,
@@ -78,9 +79,12 @@ impl Status {
             Answer::Report { report, .. } => Status::of_ending(report.status),
             Answer::Drill { summary } => Status::of_ending(summary.status),
             Answer::Verdict { verdict, .. } => Status::of_verdict(*verdict),
-            Answer::Tree { .. } | Answer::Upgraded { .. } => Status::Solved,
+            Answer::Tree { .. } | Answer::Replay { .. } => Status::Solved,
+            Answer::Upgraded { .. } | Answer::UpgradedWcsp { .. } => Status::Solved,
+            Answer::Edits { .. } => Status::Solved,
             Answer::Words { .. } | Answer::NotYet => Status::BadWords,
-            Answer::ProblemText { .. } | Answer::ReportText { .. } => Status::BadText,
+            Answer::ProblemText { .. } | Answer::WcspText { .. } => Status::BadText,
+            Answer::ReportText { .. } | Answer::EditText { .. } => Status::BadText,
             Answer::WideAgent { .. } | Answer::WideTotal { .. } => Status::TooWide,
             Answer::Read => Status::ReadFault,
             Answer::Many { .. } => Status::TooMany,

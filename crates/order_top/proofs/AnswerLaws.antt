@@ -78,13 +78,18 @@ fault-answered words before after answer done more = failed-input words before a
 -- the text of a file in some order is a good answer
 ordered-well : (d : Declared) (answer : Answer) → IsOrdered d answer → GoesWell (status_of answer)
 ordered-well d (answers.Upgraded file) is = tt
+ordered-well d (answers.UpgradedWcsp bar file) is = absurd is
+ordered-well d (answers.Edits optima file) is = absurd is
 ordered-well d (answers.Report report file) is = absurd is
 ordered-well d (answers.Tree deliveries nodes names) is = absurd is
 ordered-well d (answers.Verdict verdict names) is = absurd is
+ordered-well d (answers.Replay events agents names) is = absurd is
 ordered-well d (answers.Drill summary) is = absurd is
 ordered-well d (answers.Words at kind) is = absurd is
 ordered-well d (answers.ProblemText line kind problem) is = absurd is
+ordered-well d (answers.WcspText line kind problem) is = absurd is
 ordered-well d (answers.ReportText line kind) is = absurd is
+ordered-well d (answers.EditText line kind) is = absurd is
 ordered-well d (answers.Many n) is = absurd is
 ordered-well d (answers.WideAgent var cells names) is = absurd is
 ordered-well d (answers.WideTotal cells) is = absurd is

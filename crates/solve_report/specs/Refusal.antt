@@ -12,14 +12,30 @@ words_refusal at kind = codes "refused" ∷ codes "words" ∷ codes "at" ∷ dec
 abbrev pub problem_words : ℕ → ℕ → List (List ℕ)
 problem_words kind problem = if kind == problem_kind then codes "problem" ∷ decimal problem ∷ [] else []
 
+-- `refused WORD line L kind K`, and `problem P` behind kind 7
+abbrev pub problem_refusal : List ℕ → ℕ → ℕ → ℕ → List (List ℕ)
+problem_refusal word at kind problem =
+    codes "refused" ∷ word ∷ codes "line" ∷ decimal at ∷ codes "kind" ∷ decimal kind ∷ problem_words kind problem
+
 -- `refused text line L kind K`, and `problem P` behind kind 7
 abbrev pub text_refusal : ℕ → ℕ → ℕ → List (List ℕ)
-text_refusal at kind problem =
-    codes "refused" ∷ codes "text" ∷ codes "line" ∷ decimal at ∷ codes "kind" ∷ decimal kind ∷ problem_words kind problem
+text_refusal at kind problem = problem_refusal (codes "text") at kind problem
+
+-- `refused wcsp line L kind K`, and `problem P` behind kind 7
+abbrev pub wcsp_refusal : ℕ → ℕ → ℕ → List (List ℕ)
+wcsp_refusal at kind problem = problem_refusal (codes "wcsp") at kind problem
+
+-- `refused WORD line L kind K`
+abbrev pub line_refusal : List ℕ → ℕ → ℕ → List (List ℕ)
+line_refusal word at kind = codes "refused" ∷ word ∷ codes "line" ∷ decimal at ∷ codes "kind" ∷ decimal kind ∷ []
 
 -- `refused report line L kind K`
 abbrev pub report_refusal : ℕ → ℕ → List (List ℕ)
-report_refusal at kind = codes "refused" ∷ codes "report" ∷ codes "line" ∷ decimal at ∷ codes "kind" ∷ decimal kind ∷ []
+report_refusal at kind = line_refusal (codes "report") at kind
+
+-- `refused edit line L kind K`
+abbrev pub edit_refusal : ℕ → ℕ → List (List ℕ)
+edit_refusal at kind = line_refusal (codes "edit") at kind
 
 -- `refused many assignments N limit 65536`
 abbrev pub many_refusal : ℕ → List (List ℕ)

@@ -3,16 +3,19 @@
 ghost use Rattle.std.specs.Prelude.{◌≡◌, IfOk};
 ghost use Rattle.solve_report.specs.AnswerText.{HasText, answer_text};
 
+use crate::edits::write_edits;
 use crate::refusal::{
-    refuse_many, refuse_not_yet, refuse_read, refuse_report, refuse_text, refuse_total,
-    refuse_wide, refuse_words,
+    refuse_edit, refuse_many, refuse_not_yet, refuse_read, refuse_report, refuse_text,
+    refuse_total, refuse_wcsp, refuse_wide, refuse_words,
 };
+use crate::replay::{AgentRowList, write_replay};
 use crate::summary::{Summary, write_summary};
 use crate::tree::{NodeRowList, write_tree};
+use crate::upgrade::write_barred;
 use crate::verdict::write_verdict;
 use certificate_text::{Report, Verdict, write_report};
 use dcop_base::{Bytes, NoMemory, VarId};
-use problem_text::{Names, ProblemFile, write_problem};
+use problem_text::{EditedList, Names, ProblemFile, write_problem};
 use std::alloc::Global;
 
 /// What a command answers.
@@ -30,9 +33,17 @@ pub enum Answer {
         nodes: NodeRowList,
         names: Names,
     },
-    /// What came of checking a report, and the names of the problem's variables.
+    /// What came of checking a report, and the names of the problem's variables. It tells an
+    /// unlawful replay too.
     Verdict {
         verdict: Verdict,
+        names: Names,
+    },
+    /// How many events were replayed, what each agent has come to behind them, in the order of the
+    /// variables, and the names of the variables.
+    Replay {
+        events: u64,
+        agents: AgentRowList,
         names: Names,
     },
     /// What came of solving a problem that was made from a number.
@@ -41,6 +52,17 @@ pub enum Answer {
     },
     /// A file, told by its canonical text; `upgrade` gives it version 2.
     Upgraded {
+        file: ProblemFile,
+    },
+    /// The file that a WCSP text tells, by its canonical text behind a line with its bar: a cost of
+    /// the file below the bar is the WCSP value, and any other stands for the top of the WCSP text.
+    UpgradedWcsp {
+        bar: u64,
+        file: ProblemFile,
+    },
+    /// The optima that an edit session answers, in order, and the file that was edited.
+    Edits {
+        answers: EditedList,
         file: ProblemFile,
     },
     /// The words are refused, for the fault of this kind at this word. Words count from 1.
@@ -55,9 +77,22 @@ pub enum Answer {
         kind: u8,
         problem: u8,
     },
+    /// The WCSP text is refused, for the fault of this kind at this line. Lines count from 1.
+    /// `problem` is the number of the problem's fault where the kind is 7, and 0 otherwise.
+    WcspText {
+        line: u64,
+        kind: u8,
+        problem: u8,
+    },
     /// The text of a report is refused, for the fault of this kind at this line. Lines count from 1,
     /// at the beginning of the problem text before it.
     ReportText {
+        line: u64,
+        kind: u8,
+    },
+    /// The lines of an edit session are refused, for the fault of this kind at this line. Lines
+    /// count from 1, at the beginning of the problem text before them.
+    EditText {
         line: u64,
         kind: u8,
     },
@@ -86,8 +121,8 @@ pub enum Answer {
 
 /// The exact text of an answer.
 ///
-/// It is the text of the report, of the tree, of the verdict, of the summary or of the file, or the
-/// one line of a refusal.
+/// It is the text of the report, of the tree, of the verdict, of the replay, of the summary, of the
+/// file or of the edits' optima, or the one line of a refusal.
 pub fn text_of(alloc: Global, answer: &Answer) -> Result<Bytes, NoMemory>
     requires { HasText answer.now }
     ensures { IfOk result (λ text. text ≡ answer_text answer.now) }
@@ -100,15 +135,28 @@ pub fn text_of(alloc: Global, answer: &Answer) -> Result<Bytes, NoMemory>
             names,
         } => write_tree(alloc, *deliveries, nodes.as_slice(), names),
         Answer::Verdict { verdict, names } => write_verdict(alloc, verdict, names),
+        Answer::Replay {
+            events,
+            agents,
+            names,
+        } => write_replay(alloc, *events, agents.as_slice(), names),
         Answer::Drill { summary } => write_summary(alloc, summary),
         Answer::Upgraded { file } => write_problem(alloc, file),
+        Answer::UpgradedWcsp { bar, file } => write_barred(alloc, *bar, file),
+        Answer::Edits { answers, file } => write_edits(alloc, answers.as_slice(), file),
         Answer::Words { at, kind } => refuse_words(alloc, *at, *kind),
         Answer::ProblemText {
             line,
             kind,
             problem,
         } => refuse_text(alloc, *line, *kind, *problem),
+        Answer::WcspText {
+            line,
+            kind,
+            problem,
+        } => refuse_wcsp(alloc, *line, *kind, *problem),
         Answer::ReportText { line, kind } => refuse_report(alloc, *line, *kind),
+        Answer::EditText { line, kind } => refuse_edit(alloc, *line, *kind),
         Answer::Many { assignments } => refuse_many(alloc, *assignments),
         Answer::WideAgent { var, cells, names } => refuse_wide(alloc, names.name(*var), *cells),
         Answer::WideTotal { cells } => refuse_total(alloc, *cells),

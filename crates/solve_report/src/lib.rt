@@ -5,11 +5,15 @@
 #![tactic(auto)]
 
 mod answer;
+mod edits;
 mod refusal;
+mod replay;
 mod summary;
 mod tree;
+mod upgrade;
 mod verdict;
 
 pub use answer::{Answer, text_of};
+pub use replay::{AgentRow, AgentRowList};
 pub use summary::Summary;
 pub use tree::{NodeRow, NodeRowList};

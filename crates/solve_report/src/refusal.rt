@@ -3,8 +3,8 @@
 ghost use Rattle.std.specs.Prelude.{◌≡◌, IfOk};
 ghost use Rattle.std.specs.String.{string_bytes};
 ghost use Rattle.problem_text.specs.Canonical.{line as line_of};
-ghost use Rattle.solve_report.specs.Refusal.{words_refusal, text_refusal, report_refusal, many_refusal, wide_refusal};
-ghost use Rattle.solve_report.specs.Refusal.{total_refusal, read_refusal, not_yet_refusal};
+ghost use Rattle.solve_report.specs.Refusal.{words_refusal, problem_refusal, text_refusal, wcsp_refusal, line_refusal, report_refusal, edit_refusal};
+ghost use Rattle.solve_report.specs.Refusal.{many_refusal, wide_refusal, total_refusal, read_refusal, not_yet_refusal};
 
 use dcop_base::{Bytes, MAX_ASSIGNMENTS, MAX_JOINED_CELLS, MAX_SENT_CELLS, NoMemory};
 use std::alloc::Global;
@@ -30,25 +30,64 @@ pub(crate) fn refuse_text(
 ) -> Result<Bytes, NoMemory>
     ensures { IfOk result (λ text. text ≡ line_of (text_refusal line kind problem)) }
 {
-    let mut text = String::new(alloc);
-    if kind == PROBLEM_KIND {
-        write!(
-            text,
-            "refused text line {line} kind {kind} problem {problem}\n"
-        )?;
-        Ok(bytes_of(text))
-    } else {
-        write!(text, "refused text line {line} kind {kind}\n")?;
-        Ok(bytes_of(text))
-    }
+    refuse_problem(alloc, "text", line, kind, problem)
+}
+
+/// `refused wcsp line L kind K`, for kind 7 followed by ` problem P`
+pub(crate) fn refuse_wcsp(
+    alloc: Global,
+    line: u64,
+    kind: u8,
+    problem: u8,
+) -> Result<Bytes, NoMemory>
+    ensures { IfOk result (λ text. text ≡ line_of (wcsp_refusal line kind problem)) }
+{
+    refuse_problem(alloc, "wcsp", line, kind, problem)
 }
 
 /// `refused report line L kind K`
 pub(crate) fn refuse_report(alloc: Global, line: u64, kind: u8) -> Result<Bytes, NoMemory>
     ensures { IfOk result (λ text. text ≡ line_of (report_refusal line kind)) }
 {
+    refuse_line(alloc, "report", line, kind)
+}
+
+/// `refused edit line L kind K`
+pub(crate) fn refuse_edit(alloc: Global, line: u64, kind: u8) -> Result<Bytes, NoMemory>
+    ensures { IfOk result (λ text. text ≡ line_of (edit_refusal line kind)) }
+{
+    refuse_line(alloc, "edit", line, kind)
+}
+
+/// `refused WORD line L kind K`, for kind 7 followed by ` problem P`
+fn refuse_problem(
+    alloc: Global,
+    word: &str,
+    line: u64,
+    kind: u8,
+    problem: u8,
+) -> Result<Bytes, NoMemory>
+    ensures { IfOk result (λ text. text ≡ line_of (problem_refusal word.now line kind problem)) }
+{
     let mut text = String::new(alloc);
-    write!(text, "refused report line {line} kind {kind}\n")?;
+    if kind == PROBLEM_KIND {
+        write!(
+            text,
+            "refused {word} line {line} kind {kind} problem {problem}\n"
+        )?;
+        Ok(bytes_of(text))
+    } else {
+        write!(text, "refused {word} line {line} kind {kind}\n")?;
+        Ok(bytes_of(text))
+    }
+}
+
+/// `refused WORD line L kind K`
+fn refuse_line(alloc: Global, word: &str, line: u64, kind: u8) -> Result<Bytes, NoMemory>
+    ensures { IfOk result (λ text. text ≡ line_of (line_refusal word.now line kind)) }
+{
+    let mut text = String::new(alloc);
+    write!(text, "refused {word} line {line} kind {kind}\n")?;
     Ok(bytes_of(text))
 }
 

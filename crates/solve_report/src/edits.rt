@@ -1,0 +1,93 @@
+//! The text of what an edit session answers.
+
+ghost use Rattle.std.specs.Prelude.{◌≡◌, ◌<◌, ◌++◌, length, OnOk, IfOk};
+ghost use Rattle.std.specs.List.{flat_map, All, AllZip};
+ghost use Rattle.std.specs.String.{string_bytes};
+ghost use Rattle.problem_text.specs.Canonical.{line};
+ghost use Rattle.certificate_text.specs.Named.{HasWord};
+ghost use Rattle.certificate_text.specs.ReportText.{value_words, value_lines};
+ghost use Rattle.solve_report.specs.Edits.{IsNamedOptimum, optimum_lines, optima_lines, edits_text};
+
+use crate::refusal::bytes_of;
+use dcop_base::{Bytes, NoMemory, Val, VarId};
+use problem_text::{Edited, Labels, Names, ProblemFile};
+use std::alloc::Global;
+
+/// The text of a session: for each answer a line with its number, which counts from 1, the number
+/// of tables that were made anew, the cost and a line `value NAME V` for each variable; then `end`.
+/// V is the value's name where the variable has value names, and the value as a number otherwise.
+pub(crate) fn write_edits(
+    alloc: Global,
+    answers: &[Edited],
+    file: &ProblemFile,
+) -> Result<Bytes, NoMemory>
+    requires { All (IsNamedOptimum file.now) answers.now }
+    ensures { IfOk result (λ text. text ≡ edits_text answers.now file.now) }
+{
+    let mut text = String::new(alloc);
+    write_optima(&mut text, answers, file)?;
+    text.push_str("end\n")?;
+    Ok(bytes_of(text))
+}
+
+fn write_optima(text: &mut String, answers: &[Edited], file: &ProblemFile) -> Result<(), NoMemory>
+    requires { All (IsNamedOptimum file.now) answers.now }
+    ensures { OnOk result (string_bytes text.new
+        ≡ string_bytes text.old ++ flat_map line (optima_lines file.now 1 answers.now)) }
+{
+    for (place, edited) in answers.iter().enumerate() {
+        write_optimum(text, place as u64 + 1, edited, file)?;
+    }
+    Ok(())
+}
+
+fn write_optimum(
+    text: &mut String,
+    number: u64,
+    edited: &Edited,
+    file: &ProblemFile,
+) -> Result<(), NoMemory>
+    requires { IsNamedOptimum file.now edited.now }
+    ensures { OnOk result (string_bytes text.new
+        ≡ string_bytes text.old ++ flat_map line (optimum_lines file.now number edited.now)) }
+{
+    let Edited {
+        cost,
+        values,
+        remade,
+    } = edited;
+    write!(text, "answer {number}\nremade {remade}\ncost {cost}\n")?;
+    write_values(text, &file.names, file.labels.as_slice(), values.as_slice())
+}
+
+fn write_values(
+    text: &mut String,
+    names: &Names,
+    labels: &[Labels],
+    values: &[Val],
+) -> Result<(), NoMemory>
+    requires named { length values.now ≡ length names.now }
+    requires worded { AllZip HasWord labels.now values.now }
+    ensures { OnOk result (string_bytes text.new
+        ≡ string_bytes text.old ++ flat_map line (value_lines names.now labels.now values.now)) }
+{
+    for place in 0..names.len() {
+        let name = names.name(VarId(place as u32));
+        write_value(text, name, &labels[place], values[place])?;
+    }
+    Ok(())
+}
+
+fn write_value(text: &mut String, name: &str, labels: &Labels, value: Val) -> Result<(), NoMemory>
+    requires { HasWord labels.now value }
+    ensures { OnOk result (string_bytes text.new
+        ≡ string_bytes text.old ++ line (value_words name.now labels.now value)) }
+{
+    if labels.len() == 0 {
+        let number = value.0;
+        Ok(write!(text, "value {name} {number}\n")?)
+    } else {
+        let label = labels.name(value.0 as usize);
+        Ok(write!(text, "value {name} {label}\n")?)
+    }
+}
