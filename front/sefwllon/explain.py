@@ -86,7 +86,7 @@ def explain(answer: str, text: str = "", words: list[str] | None = None) -> str:
         case ["refused", "text", "line", line, "kind", kind, *rest]:
             return of_text(int(line), int(kind), int(rest[1]) if len(rest) == 2 else 0, text)
         case ["refused", "report", "line", line, "kind", kind]:
-            return quoted(text, int(line)) + f"The report is refused: {REPORT.get(int(kind), 'kind ' + kind)}."
+            return of_report(int(line), int(kind), text)
         case ["refused", "wcsp", "line", line, "kind", kind, *rest]:
             what = PROBLEM.get(int(rest[1]), "") if len(rest) == 2 else WCSP.get(int(kind), f"kind {kind}")
             return quoted(text, int(line)) + f"The WCSP is refused: {what}."
@@ -115,6 +115,15 @@ def explain(answer: str, text: str = "", words: list[str] | None = None) -> str:
         case []:
             return "The program printed nothing: it was out of memory, or its output could not be written."
     return "That is no refusal of dcop."
+
+
+def of_report(line: int, kind: int, text: str) -> str:
+    """A report's fault, by the report's own lines where the text is a problem and the report behind it."""
+    lines = text.split("\n")
+    ends = [number for number, it in enumerate(lines, 1) if it.split("#")[0].split() == ["end"]]
+    first = ends[0] if ends and ends[0] < line else 0
+    place = quoted("\n".join(lines[first:]), line - first).replace("Line", "The report's line" if first else "Line", 1)
+    return place + f"The report is refused: {REPORT.get(kind, f'kind {kind}')}."
 
 
 def differs(answer: str) -> str:
