@@ -1,6 +1,6 @@
 //! Pairs of wires as connections on this machine.
 
-ghost use Rattle.std.specs.Prelude.{◌≡◌, ◌≤◌, ◌↔◌, IfOk, IfErr};
+ghost use Rattle.std.specs.Prelude.{◌≡◌, ◌≤◌, ◌<◌, ◌↔◌, None, Ok, IfSome, IfOk, OnOk, IfErr};
 ghost use Rattle.dcop_edge.specs.Faults.{Rose};
 ghost use Rattle.wire_edge.specs.Dialer.{HasDialCause, IsNew, TellsNothing};
 ghost use Rattle.wire_edge.specs.declared.dialer.DialFault.TheVariants.{Failed as failed};
@@ -31,7 +31,8 @@ pub struct TcpDialer {
 impl TcpDialer {
     /// A dialer that has opened nothing yet. It takes no memory.
     pub fn new() -> Self
-        ensures { result.faults ≡ 0 }
+        ensures counts { result.faults ≡ 0 }
+        ensures unmade { result.runtime ≡ None }
     {
         TcpDialer {
             runtime: None,
@@ -42,6 +43,7 @@ impl TcpDialer {
     // Counts one more fault.
     fn fault(&mut self)
         ensures rose { (self.old.faults ≤ self.new.faults) × Rose self.old.faults self.new.faults }
+        ensures same { self.new.runtime ≡ self.old.runtime }
     {
         self.faults = self.faults.saturating_add(1);
     }
@@ -57,6 +59,7 @@ impl Default for TcpDialer {
 fn runtime_of<R>(rt: &R, kept: Option<LocalRuntime>) -> io::Result<LocalRuntime>
 where
     R: Clock + Net + RandomSource + AllocGlobal,
+    ensures { IfSome kept (λ runtime. result ≡ Ok runtime) }
 {
     match kept {
         Some(runtime) => Ok(runtime),
@@ -82,7 +85,7 @@ where
 }
 
 impl Dialer for TcpDialer {
-    ghost use Rattle.tcp_wire.specs.Tcp.{tcp_told, tcp_joined, tcp_honest};
+    ghost use Rattle.tcp_wire.specs.Tcp.{tcp_told, tcp_joined, tcp_honest, keeps_loop};
 
     type W = TcpWire;
 
@@ -100,6 +103,8 @@ impl Dialer for TcpDialer {
             (λ r. TellsNothing (tcp_told r.0) × TellsNothing (tcp_told r.1)) }
         ensures honest { tcp_honest self.old ↔ tcp_honest self.new }
         ensures each { IfErr result (λ fault. fault ≡ failed) }
+        ensures made { OnOk result (keeps_loop self.new) }
+        ensures kept { keeps_loop self.old → keeps_loop self.new }
     {
         let Ok(mut runtime) = runtime_of(rt, self.runtime.take()) else {
             self.fault();
@@ -123,6 +128,8 @@ impl Dialer for TcpDialer {
         ensures gives { IfOk result (F.gives future) }
         ensures honest { tcp_honest self.old ↔ tcp_honest self.new }
         ensures each { IfErr result (λ fault. fault ≡ failed) }
+        ensures made { OnOk result (keeps_loop self.new) }
+        ensures kept { keeps_loop self.old → keeps_loop self.new }
     {
         let Ok(mut runtime) = runtime_of(rt, self.runtime.take()) else {
             self.fault();
@@ -137,7 +144,13 @@ impl Dialer for TcpDialer {
         Ok(output)
     }
 
-    fn charge(&mut self, wire: &TcpWire) {
+    fn charge(&mut self, wire: &TcpWire)
+        ensures none { (tcp_told wire.now).faults ≡ 0 → self.new.faults ≡ self.old.faults }
+        ensures some { 0 < (tcp_told wire.now).faults
+            → (self.old.faults ≤ self.new.faults) × Rose self.old.faults self.new.faults }
+        ensures honest { tcp_honest self.old ↔ tcp_honest self.new }
+        ensures same { self.new.runtime ≡ self.old.runtime }
+    {
         if wire.faults > 0 {
             self.fault();
         }

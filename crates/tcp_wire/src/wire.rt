@@ -43,11 +43,13 @@ impl TcpWire {
 }
 
 impl Wire for TcpWire {
-    ghost use Rattle.tcp_wire.specs.Tcp.{tcp_told, tcp_joined};
+    ghost use Rattle.tcp_wire.specs.Tcp.{tcp_told, tcp_joined, tcp_apart};
 
     ghost told = { tcp_told };
 
     ghost is_joined = { tcp_joined };
+
+    ghost are_apart = { tcp_apart };
 
     fn poll_write(&mut self, cx: &mut Context<'_>, bytes: &[u8]) -> Poll<Result<usize, Failed>> {
         match self.stream.poll_write(cx, bytes) {

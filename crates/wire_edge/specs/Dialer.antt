@@ -1,6 +1,6 @@
 -- What a dialer's calls do to its count of faults, and what the wires of a new pair tell.
 use Rattle.std.specs.Prelude.{◌≡◌, ◌≤◌, ℕ, List, [], Option, Some, None, Result, Ok, Err}
-use Rattle.dcop_edge.specs.Faults.{Rose}
+use Rattle.dcop_edge.specs.Faults.{Rose, one_more}
 use Rattle.wire_edge.specs.Wire.{Told}
 use Rattle.wire_edge.specs.declared.dialer.DialFault.{DialFault}
 use Rattle.wire_edge.specs.declared.dialer.DialFault.TheVariants.{Failed, NoMemory}
@@ -28,3 +28,8 @@ pub record IsNew (t : Told) : Type 0 where
 pub record TellsNothing (t : Told) : Type 0 where
   pub sent : t.sent ≡ Some []
   pub received : t.received ≡ Some []
+
+-- a pair that was made is counted, and a call that failed is not
+abbrev pub CountsPair : {T : Type 0} → ℕ → Result T DialFault → ℕ → Type 0
+CountsPair old (Ok pair) new = new ≡ one_more old
+CountsPair old (Err fault) new = new ≡ old

@@ -3,12 +3,10 @@ use Rattle.std.specs.Prelude.{◌≡◌, ◌+◌, ◌⊎◌, ℕ, take, ◌++◌
 use Rattle.futures.specs.declared.task.Poll.{Poll}
 use Rattle.futures.specs.declared.task.Poll.TheVariants.{Ready, Pending}
 use Rattle.dcop_base.specs.Limits.{count_limit}
-use Rattle.dcop_edge.specs.Faults.{one_more}
 use Rattle.dcop_edge.specs.Memory.{no_calls}
 use Rattle.dcop_edge.specs.declared.fault.Failed.{Failed}
 use Rattle.wire_edge.specs.Wire.{Told}
-use Rattle.wire_edge.specs.Steady.{AreJoined, sent_by, received_by}
-use Rattle.wire_edge.specs.declared.dialer.DialFault.{DialFault}
+use Rattle.wire_edge.specs.Steady.{AreJoined, AreApart, sent_by, received_by}
 use Rattle.wire_edge.specs.declared.alter.Alter.{Alter}
 use Rattle.wire_edge.specs.declared.alter.PollFail.{PollFail}
 use Rattle.wire_edge.specs.declared.memory.MemoryWire.{MemoryWire}
@@ -50,6 +48,10 @@ pub record CarryAll (a b : MemoryWire) : Type 0 where
   pub there : a.alters.items ≡ []
   pub back : b.alters.items ≡ []
 
+-- two ends that are not of one stream, or the same end of one
+abbrev pub AreOthers : MemoryWire → MemoryWire → Type 0
+AreOthers a b = AreApart a.wire b.wire
+
 -- the ends of the pair with this number, with what is to go wrong at each
 pub record IsPair (pair : ℕ) (polls : List PollFail) (alters : List Alter) (a b : MemoryWire) : Type 0 where
   pub first_calls : a.calls ≡ no_calls (polls_of pair true polls)
@@ -58,11 +60,6 @@ pub record IsPair (pair : ℕ) (polls : List PollFail) (alters : List Alter) (a 
   pub second_alters : b.alters.items ≡ alters_of pair false alters
   pub first_written : a.written ≡ 0
   pub second_written : b.written ≡ 0
-
--- a pair that was made is counted, and a call that failed is not
-abbrev pub CountsPair : {T : Type 0} → ℕ → Result T DialFault → ℕ → Type 0
-CountsPair old (Ok pair) new = new ≡ one_more old
-CountsPair old (Err fault) new = new ≡ old
 
 -- a poll failed exactly where it was to
 abbrev pub FailsWhere : Bool → Poll (Result ℕ Failed) → Type 0

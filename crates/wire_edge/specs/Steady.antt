@@ -1,8 +1,13 @@
 -- The two ends of a stream in memory: each keeps the ring into which it sends and the ring from which it receives, and looking at both pours the one into the other.
-use Rattle.std.specs.Prelude.{◌≡◌, ◌+◌, ℕ, List, ◌++◌, length, Some, not}
+use Rattle.std.specs.Prelude.{⊤, ◌≡◌, ◌≢◌, ◌+◌, ◌⊎◌, ℕ, List, [], ◌++◌, length, take, Some, not, Result, Ok, Err}
+use mathlib.Core.List.{IsPrefix}
+use Rattle.futures.specs.declared.task.Poll.{Poll}
+use Rattle.futures.specs.declared.task.Poll.TheVariants.{Ready, Pending}
+use Rattle.dcop_edge.specs.declared.fault.Failed.{Failed}
 use Rattle.wire_edge.specs.Wire.{Told}
 use Rattle.wire_edge.specs.Ring.{put_into, taken_from, known_in, ring_bytes, IsPoured}
 use Rattle.wire_edge.specs.declared.steady.SteadyWire.{SteadyWire}
+use Rattle.wire_edge.specs.declared.steady.SteadyDialer.{SteadyDialer}
 
 -- all that an end has sent and received
 abbrev pub sent_by : SteadyWire → List ℕ
@@ -34,9 +39,46 @@ pub record AreJoined (a b : SteadyWire) : Type 0 where
   pub there : IsPoured a.room a.outgoing b.incoming
   pub back : IsPoured b.room b.outgoing a.incoming
 
+-- two ends that are not of one stream, or the same end of one
+abbrev pub AreApart : SteadyWire → SteadyWire → Type 0
+AreApart a b = (a.pair ≢ b.pair) ⊎ (a.is_first ≡ b.is_first)
+
+-- the number of the stream of which it is an end
+abbrev pub stream_of : SteadyWire → ℕ
+stream_of w = w.pair
+
+-- an end of a stream that holds nothing
+pub record IsIdle (w : SteadyWire) : Type 0 where
+  pub room : known_room w ≡ ring_bytes
+  pub none : known_bytes w ≡ []
+
+-- an end knows of as many free slots as before, and of the same bytes
+pub record KnowsSame (a b : SteadyWire) : Type 0 where
+  pub room : known_room b ≡ known_room a
+  pub bytes : known_bytes b ≡ known_bytes a
+
+-- what an end knows after a poll for writing: of fewer free slots by those that it has filled
+abbrev pub KnowsWrote : SteadyWire → Poll (Result ℕ Failed) → SteadyWire → Type 0
+KnowsWrote a (Ready (Ok count)) b = (known_room b + count ≡ known_room a) × (known_bytes b ≡ known_bytes a)
+KnowsWrote a (Ready (Err failed)) b = KnowsSame a b
+KnowsWrote a Pending b = KnowsSame a b
+
+-- what an end knows after a poll for reading: the bytes of which it knew were given first, or it knows of them still
+abbrev pub KnowsRead : SteadyWire → List ℕ → Poll (Result ℕ Failed) → SteadyWire → Type 0
+KnowsRead a filled (Ready (Ok count)) b = (known_room b ≡ known_room a) × IsPrefix (known_bytes a) (take count filled ++ known_bytes b)
+KnowsRead a filled (Ready (Err failed)) b = KnowsSame a b
+KnowsRead a filled Pending b = (known_room b ≡ known_room a) × IsPrefix (known_bytes a) (known_bytes b)
+
 -- two ends of one stream that know what both directions hold
 pub record KnowAll (a b : SteadyWire) : Type 0 where
   pub there : received_by b ++ known_bytes b ≡ sent_by a
   pub back : received_by a ++ known_bytes a ≡ sent_by b
   pub room_there : known_room a + length (known_bytes b) ≡ ring_bytes
   pub room_back : known_room b + length (known_bytes a) ≡ ring_bytes
+
+-- a dialer of such streams never fails, and promises that the wires of each of its pairs are joined
+abbrev pub steady_faults : SteadyDialer → ℕ
+steady_faults d = 0
+
+abbrev pub steady_honest : SteadyDialer → Type 0
+steady_honest d = ⊤

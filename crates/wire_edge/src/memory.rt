@@ -37,7 +37,7 @@ pub struct MemoryWire {
 }
 
 impl MemoryWire {
-    ghost use Rattle.wire_edge.specs.Steady.{steady_told, AreJoined, known_room};
+    ghost use Rattle.wire_edge.specs.Steady.{steady_told, AreJoined, KnowsWrote, known_room};
     ghost use Rattle.wire_edge.specs.Memory.{altered, CountsSent};
 
     // Sends the first byte, or what goes out in its place.
@@ -50,6 +50,8 @@ impl MemoryWire {
         ensures registered { OnPending result (IsArmed cx.new) }
         ensures kept { Keeps cx.old cx.new }
         ensures full { OnPending result (known_room self.old.wire ≡ 0) }
+        ensures woken { OnPending result (cx.new.is_woken ≡ true) }
+        ensures knows { KnowsWrote self.old.wire result self.new.wire }
     {
         let sent = [altered(&self.alters, self.written, byte)];
         let polled = self.wire.poll_write(cx, &sent);
@@ -61,12 +63,14 @@ impl MemoryWire {
 }
 
 impl Wire for MemoryWire {
-    ghost use Rattle.wire_edge.specs.Steady.{AreJoined, KnowAll, known_room, known_bytes};
-    ghost use Rattle.wire_edge.specs.Memory.{memory_told, CarryAll, FailsWhere, SendsAltered};
+    ghost use Rattle.wire_edge.specs.Steady.{AreJoined, AreApart, KnowAll, KnowsWrote, KnowsRead, known_room, known_bytes};
+    ghost use Rattle.wire_edge.specs.Memory.{memory_told, CarryAll, AreOthers, FailsWhere, SendsAltered};
 
     ghost told = { memory_told };
 
     ghost is_joined = { CarryAll };
+
+    ghost are_apart = { AreOthers };
 
     fn poll_write(&mut self, cx: &mut Context<'_>, bytes: &[u8]) -> Poll<Result<usize, Failed>>
         ensures written { AfterWrite (memory_told self.old) bytes.now result (memory_told self.new) }
@@ -80,6 +84,8 @@ impl Wire for MemoryWire {
         ensures carried { (w : SteadyWire) → AreJoined self.old.wire w → AreJoined self.new.wire w }
         ensures carries { (w : SteadyWire) → AreJoined w self.old.wire → AreJoined w self.new.wire }
         ensures full { OnPending result (known_room self.old.wire ≡ 0) }
+        ensures woken { OnPending result (cx.new.is_woken ≡ true) }
+        ensures knows { KnowsWrote self.old.wire result self.new.wire }
         ensures same { self.new.alters ≡ self.old.alters }
     {
         if self.calls.come().is_err() {
@@ -105,6 +111,8 @@ impl Wire for MemoryWire {
         ensures carried { (w : SteadyWire) → AreJoined self.old.wire w → AreJoined self.new.wire w }
         ensures carries { (w : SteadyWire) → AreJoined w self.old.wire → AreJoined w self.new.wire }
         ensures empty { OnPending result (known_bytes self.old.wire ≡ []) }
+        ensures woken { OnPending result (cx.new.is_woken ≡ true) }
+        ensures knows { KnowsRead self.old.wire into.new result self.new.wire }
         ensures same { (self.new.alters ≡ self.old.alters) × (self.new.written ≡ self.old.written) }
     {
         if self.calls.come().is_err() {
@@ -119,6 +127,7 @@ impl Wire for MemoryWire {
         ensures joined { CarryAll self.old other.old → CarryAll self.new other.new }
         ensures reach { CarryAll self.old other.old
             → Reach (memory_told self.new) (memory_told other.new) }
+        ensures apart { AreOthers self.old other.old → (self.new ≡ self.old) × (other.new ≡ other.old) }
         ensures carried { AreJoined self.old.wire other.old.wire → AreJoined self.new.wire other.new.wire }
         ensures known { AreJoined self.old.wire other.old.wire → KnowAll self.new.wire other.new.wire }
         ensures same { (self.new.calls ≡ self.old.calls) × (self.new.alters ≡ self.old.alters)
@@ -140,8 +149,9 @@ pub struct MemoryDialer {
 }
 
 impl MemoryDialer {
-    ghost use Rattle.wire_edge.specs.Steady.{steady_told, AreJoined};
-    ghost use Rattle.wire_edge.specs.Memory.{polls_of, alters_of, IsPair, CountsPair};
+    ghost use Rattle.wire_edge.specs.Steady.{steady_told, AreJoined, IsIdle, stream_of};
+    ghost use Rattle.wire_edge.specs.Dialer.{CountsPair};
+    ghost use Rattle.wire_edge.specs.Memory.{polls_of, alters_of, IsPair};
 
     /// A dialer of which the calls of `pair` with the numbers in `fails`, counted from 0, fail, and
     /// whose wires fail at the polls in `polls` and change the bytes in `alters`. It takes no memory.
@@ -188,6 +198,8 @@ impl MemoryDialer {
         ensures joined { IfOk result (λ r. AreJoined r.0.wire r.1.wire) }
         ensures first { IfOk result (λ r. IsNew (steady_told r.0.wire) × TellsNothing (steady_told r.0.wire)) }
         ensures second { IfOk result (λ r. IsNew (steady_told r.1.wire) × TellsNothing (steady_told r.1.wire)) }
+        ensures idle { IfOk result (λ r. IsIdle r.0.wire × IsIdle r.1.wire) }
+        ensures streams { IfOk result (λ r. (stream_of r.0.wire ≡ self.old.made) × (stream_of r.1.wire ≡ self.old.made)) }
     {
         if self.calls.come().is_err() {
             return Err(DialFault::Failed);
@@ -203,8 +215,9 @@ impl MemoryDialer {
 }
 
 impl Dialer for MemoryDialer {
-    ghost use Rattle.wire_edge.specs.Steady.{AreJoined};
-    ghost use Rattle.wire_edge.specs.Memory.{memory_told, CarryAll, IsPair, CountsPair};
+    ghost use Rattle.wire_edge.specs.Steady.{AreJoined, IsIdle, stream_of};
+    ghost use Rattle.wire_edge.specs.Dialer.{CountsPair};
+    ghost use Rattle.wire_edge.specs.Memory.{memory_told, CarryAll, IsPair};
 
     type W = MemoryWire;
 
@@ -223,6 +236,8 @@ impl Dialer for MemoryDialer {
         ensures honest { self.old.alters.items ≡ [] ↔ self.new.alters.items ≡ [] }
         ensures made { IfOk result (λ r. IsPair self.old.made self.old.polls.items self.old.alters.items r.0 r.1) }
         ensures carried { IfOk result (λ r. AreJoined r.0.wire r.1.wire) }
+        ensures idle { IfOk result (λ r. IsIdle r.0.wire × IsIdle r.1.wire) }
+        ensures streams { IfOk result (λ r. (stream_of r.0.wire ≡ self.old.made) × (stream_of r.1.wire ≡ self.old.made)) }
         ensures numbered { CountsPair self.old.made result self.new.made }
         ensures fails { fails_next self.old.calls ≡ true → is_err result ≡ true }
         ensures counted { self.new.calls ≡ after_call self.old.calls }

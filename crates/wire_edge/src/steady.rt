@@ -1,6 +1,6 @@
 //! Wires in memory that never fail.
 
-ghost use Rattle.std.specs.Prelude.{◌≡◌, ◌≤◌, ⊤, [], IfOk, IfErr};
+ghost use Rattle.std.specs.Prelude.{◌≡◌, ◌≤◌, ◌<◌, ◌↔◌, true, [], IfOk, IfErr};
 ghost use Rattle.futures.specs.Poll.{OnPending};
 ghost use Rattle.futures.specs.Task.{IsArmed, Keeps};
 ghost use Rattle.dcop_edge.specs.Faults.{Rose};
@@ -43,7 +43,7 @@ pub struct SteadyWire {
 
 impl SteadyWire {
     ghost use Rattle.wire_edge.specs.Ring.{put_into, taken_from, ring_bytes};
-    ghost use Rattle.wire_edge.specs.Steady.{steady_told, AreJoined, sent_by, received_by, known_room, known_bytes};
+    ghost use Rattle.wire_edge.specs.Steady.{steady_told, AreJoined, IsIdle, stream_of, sent_by, received_by, known_room, known_bytes};
 
     /// The first or the second end of the pair with this number. It takes memory.
     fn new(alloc: Global, pair: u64, is_first: bool) -> Result<SteadyWire, NoMemory>
@@ -69,6 +69,8 @@ impl SteadyWire {
         ensures joined { IfOk result (λ r. AreJoined r.0 r.1) }
         ensures first { IfOk result (λ r. IsNew (steady_told r.0) × TellsNothing (steady_told r.0)) }
         ensures second { IfOk result (λ r. IsNew (steady_told r.1) × TellsNothing (steady_told r.1)) }
+        ensures idle { IfOk result (λ r. IsIdle r.0 × IsIdle r.1) }
+        ensures streams { IfOk result (λ r. (stream_of r.0 ≡ pair) × (stream_of r.1 ≡ pair)) }
     {
         Ok((
             SteadyWire::new(alloc, pair, true)?,
@@ -78,11 +80,13 @@ impl SteadyWire {
 }
 
 impl Wire for SteadyWire {
-    ghost use Rattle.wire_edge.specs.Steady.{steady_told, AreJoined, KnowAll, known_room, known_bytes};
+    ghost use Rattle.wire_edge.specs.Steady.{steady_told, AreJoined, AreApart, KnowAll, KnowsWrote, KnowsRead, known_room, known_bytes};
 
     ghost told = { steady_told };
 
     ghost is_joined = { AreJoined };
+
+    ghost are_apart = { AreApart };
 
     fn poll_write(&mut self, cx: &mut Context<'_>, bytes: &[u8]) -> Poll<Result<usize, Failed>>
         ensures written { AfterWrite (steady_told self.old) bytes.now result (steady_told self.new) }
@@ -91,6 +95,8 @@ impl Wire for SteadyWire {
         ensures registered { OnPending result (IsArmed cx.new) }
         ensures kept { Keeps cx.old cx.new }
         ensures full { OnPending result (known_room self.old ≡ 0) }
+        ensures woken { OnPending result (cx.new.is_woken ≡ true) }
+        ensures knows { KnowsWrote self.old result self.new }
     {
         let count = bytes.len().min(self.room);
         if count == 0 && !bytes.is_empty() {
@@ -109,6 +115,8 @@ impl Wire for SteadyWire {
         ensures registered { OnPending result (IsArmed cx.new) }
         ensures kept { Keeps cx.old cx.new }
         ensures empty { OnPending result (known_bytes self.old ≡ []) }
+        ensures woken { OnPending result (cx.new.is_woken ≡ true) }
+        ensures knows { KnowsRead self.old into.new result self.new }
     {
         let count = self.incoming.take(into);
         if count == 0 && !into.is_empty() {
@@ -124,9 +132,13 @@ impl Wire for SteadyWire {
         ensures joined { AreJoined self.old other.old → AreJoined self.new other.new }
         ensures reach { AreJoined self.old other.old
             → Reach (steady_told self.new) (steady_told other.new) }
+        ensures apart { AreApart self.old other.old → (self.new ≡ self.old) × (other.new ≡ other.old) }
         ensures known { AreJoined self.old other.old → KnowAll self.new other.new }
     {
-        if self.pair != other.pair || self.is_first == other.is_first {
+        if self.pair != other.pair {
+            return;
+        }
+        if self.is_first == other.is_first {
             return;
         }
         self.room = self.outgoing.pour(&mut other.incoming);
@@ -142,7 +154,9 @@ pub struct SteadyDialer {
 
 impl SteadyDialer {
     /// A dialer that has made no pair. It takes no memory.
-    pub fn new() -> Self {
+    pub fn new() -> Self
+        ensures none { result.made ≡ 0 }
+    {
         SteadyDialer { made: 0 }
     }
 }
@@ -154,17 +168,27 @@ impl Default for SteadyDialer {
 }
 
 impl Dialer for SteadyDialer {
-    ghost use Rattle.wire_edge.specs.Steady.{steady_told, AreJoined};
+    ghost use Rattle.wire_edge.specs.Steady.{steady_told, steady_faults, steady_honest, AreJoined, IsIdle, stream_of};
+    ghost use Rattle.wire_edge.specs.Dialer.{CountsPair};
 
     type W = SteadyWire;
 
-    ghost faults = { λ _. 0 };
+    ghost faults = { steady_faults };
 
-    ghost is_honest = { λ _. ⊤ };
+    ghost is_honest = { steady_honest };
 
     fn pair<R>(&mut self, _rt: &R, alloc: Global) -> Result<(SteadyWire, SteadyWire), DialFault>
     where
         R: Threads + Wait + Clock + RandomSource + Net + AllocGlobal + Sync,
+        ensures cause { HasDialCause (steady_faults self.old) (steady_faults self.new) result }
+        ensures new { IfOk result (λ r. IsNew (steady_told r.0) × IsNew (steady_told r.1)) }
+        ensures joined { steady_honest self.old → IfOk result (λ r. AreJoined r.0 r.1) }
+        ensures told { steady_honest self.old → IfOk result
+            (λ r. TellsNothing (steady_told r.0) × TellsNothing (steady_told r.1)) }
+        ensures honest { steady_honest self.old ↔ steady_honest self.new }
+        ensures idle { IfOk result (λ r. IsIdle r.0 × IsIdle r.1) }
+        ensures streams { IfOk result (λ r. (stream_of r.0 ≡ self.old.made) × (stream_of r.1 ≡ self.old.made)) }
+        ensures numbered { CountsPair self.old.made result self.new.made }
     {
         let pair = SteadyWire::pair(alloc, self.made)?;
         self.made = self.made.saturating_add(1);
@@ -175,11 +199,23 @@ impl Dialer for SteadyDialer {
     where
         R: Threads + Wait + Clock + RandomSource + Net + AllocGlobal + Sync,
         F: Future,
+        requires { F.can_poll future }
+        ensures cause { HasDialCause (steady_faults self.old) (steady_faults self.new) result }
+        ensures gives { IfOk result (F.gives future) }
+        ensures honest { steady_honest self.old ↔ steady_honest self.new }
+        ensures memory { IfErr result (λ fault. fault ≡ no_memory) }
+        ensures same { self.new ≡ self.old }
     {
         drive_here(rt, future)
     }
 
-    fn charge(&mut self, _wire: &SteadyWire) {}
+    fn charge(&mut self, wire: &SteadyWire)
+        ensures none { (steady_told wire.now).faults ≡ 0 → steady_faults self.new ≡ steady_faults self.old }
+        ensures some { 0 < (steady_told wire.now).faults
+            → (steady_faults self.old ≤ steady_faults self.new) × Rose (steady_faults self.old) (steady_faults self.new) }
+        ensures honest { steady_honest self.old ↔ steady_honest self.new }
+        ensures same { self.new ≡ self.old }
+    {}
 }
 
 /// Polls the future on this thread until it is ready. A refusal of the executor is want of memory.
