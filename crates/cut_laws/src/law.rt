@@ -1,0 +1,77 @@
+//! The laws of slices and cuts.
+
+ghost use Rattle.cut_laws.specs.Slice.{SlicesAreProblems, SlicesAreOne, UncutSlicesAreWhole};
+ghost use Rattle.cut_laws.specs.Turns.{TurnsAreInOrder};
+ghost use Rattle.cut_laws.specs.Slicing.{SlicingLaw};
+ghost use Rattle.cut_laws.specs.Trees.{SlicesKeepTrees};
+ghost use Rattle.cut_laws.specs.CutSet.{CutSetsAreOne, SlicesHaveCounted, CutSetsMakeNarrow};
+ghost use Rattle.cut_laws.specs.Certificate.{CutCertificatesShowOptima, TurnsMakeCertificates};
+ghost use Rattle.cut_laws.specs.Kept.{CutAnswersAreOptimal, CutAnswersAreOne};
+
+/// A slice of a problem is a problem.
+pub fn slices_are_problems()
+    ensures { SlicesAreProblems }
+{}
+
+/// What is a slice cell by cell is the slice of the definitions, as one value.
+pub fn slices_are_one()
+    ensures { SlicesAreOne }
+{}
+
+/// Where nothing is cut the slice is the problem itself.
+pub fn uncut_slices_are_whole()
+    ensures { UncutSlicesAreWhole }
+{}
+
+/// A slice has as many variables as its problem and the same graph, so the same trees, with the
+/// same separators.
+pub fn slices_keep_trees()
+    ensures { SlicesKeepTrees }
+{}
+
+/// The turns of a cut are all lists of values of its variables, each once, in lexicographic order.
+pub fn turns_are_in_order()
+    ensures { TurnsAreInOrder }
+{}
+
+/// The slicing law: the optimum of a problem is the least of its slices' optima, over all lists of
+/// values of the cut.
+pub fn optima_are_least_of_slices()
+    ensures { SlicingLaw }
+{}
+
+/// Where no size exceeds the limit, the rule of the cut set gives exactly one list of variables.
+pub fn cut_sets_are_one()
+    ensures { CutSetsAreOne }
+{}
+
+/// The tables of a slice have as many cells as they count where the cut variables have size 1.
+pub fn slices_have_counted()
+    ensures { SlicesHaveCounted }
+{}
+
+/// No joined table of a slice by a cut set exceeds the limit, so the tree is narrow there.
+pub fn cut_sets_make_narrow()
+    ensures { CutSetsMakeNarrow }
+{}
+
+/// The first optimum of the slice of the first turn of least cost, with the turn's own values,
+/// costs the optimum of the problem.
+pub fn cut_answers_are_optimal()
+    ensures { CutAnswersAreOptimal }
+{}
+
+/// A cut has exactly one answer on a tree.
+pub fn cut_answers_are_one()
+    ensures { CutAnswersAreOne }
+{}
+
+/// Where a certificate of a cut holds, its values are optimal.
+pub fn cut_certificates_show_optima()
+    ensures { CutCertificatesShowOptima }
+{}
+
+/// Certificates of all turns of a cut, with optimal values, are a certificate of the cut that holds.
+pub fn turns_make_certificates()
+    ensures { TurnsMakeCertificates }
+{}

@@ -1,0 +1,18 @@
+//! Slices of a problem, and cuts.
+//!
+//! Where an agent's joined table is too wide, variables above it are cut: each list of values of
+//! the cut variables is a turn, and the slice of the problem at these values is solved over the
+//! same tree. The laws are about definitions alone: a slice is a problem with the same graph and
+//! the same trees, the optimum is the least of the slices' optima, the rule of the cut set gives
+//! exactly one list of variables, and what a cut answers is optimal. Each is the contract of a call
+//! that does nothing: who needs the law calls it.
+#![tactic(auto)]
+
+mod law;
+
+pub use law::{
+    cut_answers_are_one, cut_answers_are_optimal, cut_certificates_show_optima, cut_sets_are_one,
+    cut_sets_make_narrow, optima_are_least_of_slices, slices_are_one, slices_are_problems,
+    slices_have_counted, slices_keep_trees, turns_are_in_order, turns_make_certificates,
+    uncut_slices_are_whole,
+};
