@@ -3,6 +3,7 @@ import glob, itertools, math, os, random, resource, signal, sys, tempfile, time
 from collections import Counter
 from alter import altered, altered_in_form, altered_words, near
 from sefwllon.problem import Problem, Table, TextFault, Variable, parse
+from verdict import verdict
 
 STARTS = {0: (b"status solved\n", b"status tree\n", b"status yes\n", b"status replay\n", b"dcop ", b"# bar ", b"answer 1\n", b"end\n"),
           1: (b"status spent\n",), 2: (b"refused words at ",), 3: (b"refused text line ", b"refused report line ", b"refused wcsp line ", b"refused edit line "),
@@ -166,7 +167,8 @@ class Trials:
         if what == "log" and rng.random() < 0.3:
             words = [b"replay"] if rng.random() < 0.5 else [b"replay", b"--after", near(rng, 0, 30)]
             return "replay", words, text + report, lambda answer: None
-        return what, [b"check"], text + report, lambda answer: self.fault_of_yes(at, problem, report, answer)
+        return what, [b"check"], text + report, lambda answer: self.fault_of_yes(at, problem, report, answer) or (
+            self.fault_of_verdict(problem, report, answer) if what == "tables" else None)
 
     def of_tables(self, rng):
         return self.of_report(rng, "tables", self.tables)
@@ -221,6 +223,13 @@ class Trials:
             if not 0 <= missed <= error:
                 return f"check says that the cost misses the best one by at most {error}, and plain tells {self.best[at]}"
         return None
+
+    def fault_of_verdict(self, problem, report, answer):
+        """Whether a report with tables that can be read gets another answer than the one reckoned anew in Python."""
+        if answer.status not in (0, 10) or len(report) > 2_000:
+            return None
+        wanted = verdict(problem, [line.split() for line in report.decode("latin-1").splitlines()])
+        return None if wanted.encode() == answer.out else f"the answer should be {wanted!r}"
 
     def fault_of(self, words, answer):
         """What is wrong with an answer, whatever it was asked."""
