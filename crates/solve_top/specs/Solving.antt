@@ -8,11 +8,12 @@ use Rattle.problem_text.specs.File.{TextFile, IsFile}
 use Rattle.problem_text.specs.Steps.{declared_by}
 use Rattle.problem_text.specs.Bytes.{line_feed}
 use Rattle.problem_text.specs.PlainLines.{plain_lines}
-use Rattle.problem_text.specs.Reading.{Parts, text_read}
+use Rattle.problem_text.specs.Reading.{Parts}
 use Rattle.certificate_text.specs.declared.report.Report.{Report}
 use Rattle.certificate_text.specs.ReportText.{report_text}
 use Rattle.solve_report.specs.declared.answer.Answer.TheVariants as answers
 use Rattle.solve_words.specs.declared.command.Command.{Command}
+use Rattle.solve_words.specs.declared.command.Format.{Format}
 use Rattle.solve_words.specs.Command.{answer_to}
 use Rattle.solve_report.specs.declared.answer.Answer.{Answer}
 use Rattle.answer_edge.specs.declared.status.Status.{Status}
@@ -31,7 +32,9 @@ use Rattle.answer_edge.specs.Showing.{IsShown, IsCut}
 use Rattle.solve_top.specs.Served.{task_of}
 use Rattle.solve_top.specs.Drilling.{drill_of, made_for}
 use Rattle.solve_top.specs.declared.drilling.Drill.{Drill}
-use Rattle.answer_edge.specs.Whole.{whole_read}
+use Rattle.solve_inputs.specs.Told.{Told}
+use Rattle.solve_inputs.specs.Inputs.{input_read}
+use Rattle.solve_inputs.specs.Fronts.{front_read}
 
 -- an answer to words, with what was read for it of a source that stood so before and stands so afterwards
 pub record Answered (words : List (List ℕ)) (before after : SourceState) (answer : Answer) : Type 0 where
@@ -62,17 +65,17 @@ IsWithinLimits (tasks.Auto error budget certified) d = Unit {0}
 IsWithinLimits tasks.Tree d = Unit {0}
 IsWithinLimits tasks.Upgrade d = Unit {0}
 
--- a text that is read whole as a problem that is within the limits of a task
-pub record IsProblemFor (task : FileTask) (text : List ℕ) : Type 0 where
-  pub declared : Declared
-  pub read : whole_read text ≡ Ok declared
-  pub within : IsWithinLimits task declared
+-- a text of this format that is read whole as a problem that is within the limits of a task
+pub record IsProblemFor (format : Format) (task : FileTask) (text : List ℕ) : Type 0 where
+  pub told : Told
+  pub read : input_read format text ≡ Ok told
+  pub within : IsWithinLimits task told.declared
 
--- the text of a problem, behind whose line `end` no line has words, also where comments are words; and behind it the report that DPOP prints for it with a certificate
-pub record IsPrintedFor (text : List ℕ) : Type 0 where
+-- the text of a problem in this format, behind whose last line no line has words, also where comments are words; and behind it the report that DPOP prints for it with a certificate
+pub record IsPrintedFor (format : Format) (text : List ℕ) : Type 0 where
   pub problem : List ℕ
   pub parts : Parts
-  pub read : text_read problem ≡ Ok parts
+  pub read : front_read format problem ≡ Ok parts
   pub rest : plain_lines 1 (drop parts.used problem) ≡ []
   pub before : List ℕ
   pub line : problem ≡ before ++ line_feed ∷ []
@@ -84,8 +87,8 @@ pub record IsPrintedFor (text : List ℕ) : Type 0 where
 
 -- a text on which a task is served: a problem within its limits, or for `check` a problem and the report that was printed for it
 abbrev pub IsTextFor : Task → List ℕ → Type 0
-IsTextFor (File task) text = IsProblemFor task text
-IsTextFor Check text = IsPrintedFor text
+IsTextFor (File format task) text = IsProblemFor format task text
+IsTextFor (Check format) text = IsPrintedFor format text
 
 -- words and a text that are accepted, and that can be served
 pub record Accepts (words : List (List ℕ)) (text : List ℕ) : Type 0 where
@@ -109,6 +112,6 @@ pub record AsksDrill (words : List (List ℕ)) : Type 0 where
 abbrev pub GoesWell : Status → Task → Type 0
 GoesWell statuses.Solved task = Unit {0}
 GoesWell statuses.NoMemory task = Unit {0}
-GoesWell statuses.Spent (File (tasks.Adopt error budget certified)) = Unit {0}
-GoesWell statuses.Spent (File (tasks.Auto error budget certified)) = Unit {0}
+GoesWell statuses.Spent (File format (tasks.Adopt error budget certified)) = Unit {0}
+GoesWell statuses.Spent (File format (tasks.Auto error budget certified)) = Unit {0}
 GoesWell status task = ⊥

@@ -4,7 +4,7 @@ use Rattle.problem_text.specs.Bytes.{line_feed}
 use Rattle.problem_text.specs.Declarations.{Declared, Outcome, Declares, Ends, Fails, version_alone}
 use Rattle.problem_text.specs.Lines.{Line, has_some, words, content, lines, onto_first, numbered, with_words}
 use Rattle.problem_text.specs.Reading.{Fault, Parts, line_outcome, read_on, lines_read, text_read}
-use Rattle.solve_top.proofs.UsedLaws.{total}
+use Rattle.solve_inputs.proofs.UsedLaws.{total}
 
 -- a text that ends with line_feed has lines
 data HasLines : List (List ℕ) → Type 0 where
