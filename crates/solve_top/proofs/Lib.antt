@@ -2,6 +2,7 @@ mod UsedLaws
 mod PrefixLaws
 mod BlankLaws
 mod SameLaws
+mod CertificateLaws
 mod PrintedLaws
 mod AnswerLaws
 mod OneLaws
