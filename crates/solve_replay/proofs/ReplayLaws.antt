@@ -1,17 +1,31 @@
 -- What an answer to a replay tells, by what comes of the replay.
-use Rattle.std.proofs.Common.{◌≡◌, ℕ, zero, suc, ◌+◌, ◌<◌, List, [], ◌∷◌, map, length, Option, Some, slice_get, IfSome, sym, ap, subst, ◌∙◌}
+use Rattle.std.proofs.Common.{◌≡◌, ℕ, zero, suc, ◌<◌, List, [], ◌∷◌, length, Option, Some, None, slice_get, IfSome, Err, sym, ap, subst, ◌∙◌, arith}
 use Rattle.std.specs.List.{All}
-use Rattle.std.specs.Option.{option_map}
-use Rattle.std.proofs.lemmas.List.Elements.{All-head, All-tail}
+use Rattle.std.proofs.lemmas.List.Elements.{All-head, All-tail, All-take}
 use Rattle.std.proofs.lemmas.Option.{none-some, same_Some}
 use Rattle.protocol_steps.specs.declared.event.Event.{Event}
 use Rattle.protocol_steps.specs.declared.event.EventFault.{EventFault}
 use Rattle.protocol_steps.specs.Network.{Network}
-use Rattle.protocol_steps.specs.Run.{event_fault}
 use Rattle.run_log.specs.declared.log.LogEvent.{LogEvent}
 use Rattle.run_log.specs.Logs.{event_of, events_of}
 use Rattle.run_log.specs.LogText.{FitsEvent}
-use Rattle.delivery_core.specs.Faults.{FirstFault}
+use Rattle.std.proofs.lemmas.List.{length-map}
+use Rattle.problem_text.specs.File.{TextFile}
+use Rattle.delivery_core.specs.Faults.{FirstFault, Replays}
+use Rattle.delivery_core.specs.State.{SeatView, views_of}
+use Rattle.delivery_core.specs.declared.replaying.ReplayFault.{ReplayFault}
+use Rattle.delivery_core.specs.declared.replaying.ReplayFault.TheVariants.{BadEvent, NoMemory}
+use Rattle.solve_report.specs.AnswerText.{HasText}
+use Rattle.solve_report.specs.Replay.{IsNamedAgent}
+use Rattle.solve_report.specs.declared.answer.Answer.{Answer}
+use Rattle.solve_report.specs.declared.replay.AgentRow.{AgentRow}
+use Rattle.certificate_text.specs.declared.certificate.Certificate.{Certificate}
+use Rattle.certificate_text.specs.declared.certificate.Certificate.TheVariants.{Log}
+use Rattle.certificate_text.specs.declared.report.Report.{Report}
+use Rattle.certificate_text.specs.Fits.{FitsCertificate, Fits}
+use Rattle.solve_replay.specs.Replaying.{log_up_to, IsFaultAnswer}
+use Rattle.solve_replay.specs.Rows.{rows_from}
+use Rattle.solve_replay.proofs.RowLaws.{rows-named}
 use Rattle.solve_report.specs.Verdict.{IsNamedFault}
 use Rattle.solve_report.proofs.FaultNamedLaws.{IsFaultNamed, event-named}
 
@@ -26,3 +40,28 @@ senders-at n (x ∷ log) (suc at) e fit is = senders-at n log at e (All-tail (Fi
 pub fault-named : (n : ℕ) (net : Network) (log : List LogEvent) (at : ℕ) (fault : EventFault) → All (FitsEvent n) log → FirstFault net (events_of log) at fault → IsNamedFault n fault
 fault-named n net log at fault fit first =
     subst (IsFaultNamed n) first.unlawful (event-named n first.middle first.event (senders-at n log at first.event fit first.is))
+
+-- each row of a core state of so many agents is of a variable that has its name
+pub rows-told : (names : List (List ℕ)) (agents : List AgentRow) (seats : List SeatView) → length seats ≡ length names → agents ≡ rows_from 0 (views_of seats) → All (IsNamedAgent (length names)) agents
+rows-told names agents seats many is =
+    let size = length-map seats (λ (x : SeatView). x.view) in
+    subst (λ (rows : List AgentRow). All (IsNamedAgent (length names)) rows) (sym is) (rows-named (length names) 0 (views_of seats) (omega (arith, size, many)))
+
+-- the answer that tells the first fault of events has a text
+pub fault-told : (names : List (List ℕ)) (n : ℕ) (net : Network) (log : List LogEvent) (fault : ReplayFault) (answer : Answer) → n ≡ length names → All (FitsEvent n) log → IsFaultAnswer names fault answer
+    → Replays net (events_of log) (Err fault) → HasText answer
+fault-told names n net log (BadEvent at fault) answer many fit is first =
+    subst HasText (sym is) (subst (λ (m : ℕ). IsNamedFault m fault) many (fault-named n net log first.0 fault fit first.2))
+fault-told names n net log NoMemory answer many fit is first = absurd is
+
+-- the events of a log that fits, so many or all
+up-to-fit : (n : ℕ) (after : Option ℕ) (log : List LogEvent) → All (FitsEvent n) log → All (FitsEvent n) (log_up_to after log)
+up-to-fit n None log fit = fit
+up-to-fit n (Some count) log fit = All-take (FitsEvent n) count log fit
+
+pub events-fit : (file : TextFile) (report : Report) (x : Certificate) (after : Option ℕ) (log read shown : List LogEvent) → Fits report file → report.certificate ≡ Some x → x ≡ Log log → read ≡ log
+    → shown ≡ log_up_to after read → All (FitsEvent (length file.problem.sizes)) shown
+events-fit file report x after log read shown fits some is same all =
+    let certificate : IfSome (Some (Log log)) (FitsCertificate file.problem.sizes report.method) =
+    subst (λ (c : Option Certificate). IfSome c (FitsCertificate file.problem.sizes report.method)) (some ∙ ap (λ (y : Certificate). Some y) is) fits.certificate in
+    subst (λ (events : List LogEvent). All (FitsEvent (length file.problem.sizes)) events) (sym (all ∙ ap (log_up_to after) same)) (up-to-fit (length file.problem.sizes) after log certificate.1)

@@ -1,8 +1,8 @@
 -- What agents have come to, row by row.
-use Rattle.std.proofs.Common.{◌≡◌, ℕ, zero, suc, ◌+◌, ◌≤◌, ◌<◌, List, [], ◌∷◌, ◌++◌, map, length, drop, Some, slice_get, ap, sym, ◌∙◌, append_assoc, add-one, arith}
+use Rattle.std.proofs.Common.{◌≡◌, ℕ, zero, suc, ◌+◌, ◌≤◌, ◌<◌, List, [], ◌∷◌, ◌++◌, length, drop, Some, slice_get, ap, sym, ◌∙◌, append_assoc, add-one, arith}
 use Rattle.std.specs.List.{All}
 use Rattle.std.specs.Option.{option_map}
-use Rattle.std.proofs.Math.Seq.{drop-length}
+use Rattle.std.proofs.Math.ListN.{drop_of_length-le}
 use Rattle.std.proofs.lemmas.List.{append-nil, length-map}
 use Rattle.std.proofs.lemmas.List.Elements.{All-nil, All-cons}
 use Rattle.std.proofs.lemmas.Option.{none-some, same_Some}
@@ -30,12 +30,12 @@ rows-more vs at done new all row is pushed before =
     ∙ before
 
 -- all rows
-pub rows-all : (seats : List SeatView) (count : ℕ) (done all : List AgentRow) → count ≡ length seats → done ++ rows_from count (drop count (views_of seats)) ≡ all → done ≡ all
-rows-all seats count done all many before =
-    let size : count ≡ length (views_of seats) = many ∙ sym (length-map (λ (x : SeatView). x.view) seats) in
-    let none : drop count (views_of seats) ≡ [] = ap (λ (n : ℕ). drop n (views_of seats)) size ∙ drop-length (views_of seats) in
+pub rows-all : (seats : List SeatView) (at : ℕ) (done all : List AgentRow) → length seats ≤ at → done ++ rows_from at (drop at (views_of seats)) ≡ all → done ≡ all
+rows-all seats at done all many before =
+    let size = length-map seats (λ (x : SeatView). x.view) in
+    let none : drop at (views_of seats) ≡ [] = drop_of_length-le (views_of seats) (omega (arith, size, many)) in
     sym (append-nil done)
-    ∙ ap (λ (vs : List View). done ++ rows_from count vs) (sym none)
+    ∙ ap (λ (vs : List View). done ++ rows_from at vs) (sym none)
     ∙ before
 
 -- each row is of a variable that is there

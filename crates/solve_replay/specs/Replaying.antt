@@ -21,6 +21,8 @@ use Rattle.certificate_text.specs.ReportLines.{Fault}
 use Rattle.certificate_text.specs.ReportReading.{report_read}
 use Rattle.log_holds.specs.Holds.{agents_for}
 use Rattle.delivery_core.specs.Faults.{FirstFault}
+use Rattle.delivery_core.specs.declared.replaying.ReplayFault.{ReplayFault}
+use Rattle.delivery_core.specs.declared.replaying.ReplayFault.TheVariants.{BadEvent, NoMemory}
 use Rattle.solve_report.specs.declared.answer.Answer.{Answer}
 use Rattle.solve_report.specs.declared.answer.Answer.TheVariants as answers
 use Rattle.solve_report.specs.declared.replay.AgentRow.{AgentRow}
@@ -42,6 +44,11 @@ pub record TellsState (net : Network) (es : List Event) (events : ℕ) (agents :
 -- the event of this number, counted from 1, is the first of these that is not lawful, and this is wrong with it
 abbrev pub TellsFault : Network → List Event → ℕ → EventFault → Type 0
 TellsFault net es at fault = (place : ℕ) × (at ≡ place + 1) × FirstFault net es place fault
+
+-- the answer that tells why events are no run, beside these names; want of memory has none
+abbrev pub IsFaultAnswer : List (List ℕ) → ReplayFault → Answer → Type 0
+IsFaultAnswer names (BadEvent at fault) answer = answer ≡ answers.Verdict (No (Unlawful at fault)) names
+IsFaultAnswer names NoMemory answer = ⊥
 
 -- the answer to a replay of these events from a network of a file's agents: what they lead to, or the first of them that is not lawful
 abbrev pub IsReplay : TextFile → Network → List Event → Answer → Type 0

@@ -3,24 +3,29 @@
 ghost use Rattle.std.specs.Prelude.{◌≡◌, ◌+◌, ◌≤◌, length, IfOk};
 ghost use Rattle.std.specs.List.{All};
 ghost use Rattle.dcop_base.specs.Limits.{amount_limit, input_limit};
+ghost use Rattle.pseudotree.specs.DepthFirst.{dfs};
 ghost use Rattle.protocol_steps.specs.Network.{start_state};
+ghost use Rattle.protocol_steps.specs.TreeAgents.{adopt_agents};
 ghost use Rattle.run_log.specs.Logs.{events_of};
 ghost use Rattle.run_log.specs.LogText.{FitsEvent};
+ghost use Rattle.problem_text.specs.Kinds.{number_of_report};
 ghost use Rattle.problem_text.specs.Steps.{declared_by};
+ghost use Rattle.problem_text.specs.declared.fault.ReportKind.TheVariants.{NoLog};
 ghost use Rattle.delivery_core.specs.Faults.{Replays};
 ghost use Rattle.log_holds.specs.Holds.{agents_for};
 ghost use Rattle.solve_report.specs.AnswerText.{HasText};
-ghost use Rattle.solve_replay.specs.Replaying.{log_up_to, IsReplay, AnswersReplay};
+ghost use Rattle.solve_replay.specs.CertificateLine.{certificate_line};
+ghost use Rattle.solve_replay.specs.Replaying.{log_up_to, IsFaultAnswer, IsReplay, AnswersReplay};
 
 use crate::certificate_line::certificate_line;
 use crate::events::{events_of, log_up_to};
 use crate::rows::rows_of;
 use certificate_text::{Certificate, Differs, Verdict, read_report};
-use dcop_base::{NoMemory, problem_is_whole};
+use dcop_base::{NoMemory, Problem, problem_is_whole};
 use delivery_core::{CoreState, ReplayFault, replay};
 use log_check::start_for;
 use problem_solved::ProblemSolved;
-use problem_text::{ProblemFile, ReportFault, ReportKind};
+use problem_text::{Names, ProblemFile, ReportFault, ReportKind};
 use run_log::LogEvent;
 use solve_report::Answer;
 use std::alloc::Global;
@@ -50,20 +55,30 @@ pub fn replay_answer(
     problem_is_whole(&file.problem);
     match read_report(alloc, text, &file) {
         Ok(report) => match &report.certificate {
-            Some(Certificate::Log(log)) => {
-                let log = log_up_to(log.as_slice(), after);
-                replayed(alloc, file, report.error, log)
-            }
-            _ => Ok(Answer::ReportText {
-                line: before + certificate_line(text),
-                kind: ReportKind::NoLog.number(),
-            }),
+            Some(certificate) => match certificate {
+                Certificate::Log(log) => {
+                    replayed(alloc, file, report.error, log_up_to(log.as_slice(), after))
+                }
+                Certificate::Tables(_) => Ok(no_log(text, before)),
+            },
+            None => Ok(no_log(text, before)),
         },
         Err(ReportFault::Bad { line, kind }) => Ok(Answer::ReportText {
             line: before + line,
             kind: kind.number(),
         }),
         Err(ReportFault::NoMemory) => Err(NoMemory),
+    }
+}
+
+/// The answer to a report that has no log.
+fn no_log(text: &[u8], before: u64) -> Answer
+    requires few { before + length text.now ≤ input_limit }
+    ensures { result ≡ Answer.ReportText (before + certificate_line text.now) (number_of_report NoLog) }
+{
+    Answer::ReportText {
+        line: before + certificate_line(text),
+        kind: ReportKind::NoLog.number(),
     }
 }
 
@@ -81,21 +96,33 @@ fn replayed(
 {
     problem_is_whole(&file.problem);
     match played(alloc, &file, error, log) {
-        Ok(core) => Ok(Answer::Replay {
-            events: log.len() as u64,
-            agents: rows_of(alloc, &core, file.names.len())?,
-            names: file.names,
-        }),
-        Err(ReplayFault::BadEvent { at, fault }) => Ok(Answer::Verdict {
+        Ok(core) => {
+            let agents = rows_of(alloc, &core, file.names.len())?;
+            Ok(Answer::Replay {
+                events: log.len() as u64,
+                agents,
+                names: file.names,
+            })
+        }
+        Err(fault) => fault_answer(file.names, fault),
+    }
+}
+
+/// The answer that tells why events are no run.
+fn fault_answer(names: Names, fault: ReplayFault) -> Result<Answer, NoMemory>
+    ensures { IfOk result (IsFaultAnswer names fault) }
+{
+    match fault {
+        ReplayFault::BadEvent { at, fault } => Ok(Answer::Verdict {
             verdict: Verdict::No(Differs::Event { at, fault }),
-            names: file.names,
+            names,
         }),
-        Err(ReplayFault::NoMemory) => Err(NoMemory),
+        ReplayFault::NoMemory => Err(NoMemory),
     }
 }
 
 /// The end of the run that these events are, from the start of the ADOPT agents of the problem solved
-/// on its depth-first tree, for a requested error.
+/// for a file on its depth-first tree, for a requested error.
 fn played(
     alloc: Global,
     file: &ProblemFile,
@@ -107,7 +134,21 @@ fn played(
     ensures size { IfOk result (λ core. length core.seats ≡ length file.now.problem.sizes) }
 {
     let solved = ProblemSolved::of(alloc, file)?;
-    let start = start_for(alloc, solved.problem(), error)?;
+    played_on(alloc, solved.problem(), error, log)
+}
+
+/// The same of the agents of this problem.
+fn played_on(
+    alloc: Global,
+    problem: &Problem,
+    error: u64,
+    log: &[LogEvent],
+) -> Result<CoreState, ReplayFault>
+    requires { error ≤ amount_limit }
+    ensures end { Replays (start_state (adopt_agents problem.now (dfs problem.now) error)) (events_of log.now) result }
+    ensures size { IfOk result (λ core. length core.seats ≡ length problem.now.sizes) }
+{
+    let start = start_for(alloc, problem, error)?;
     let events = events_of(alloc, log)?;
-    replay(alloc, solved.problem(), start, &events)
+    replay(alloc, problem, start, &events)
 }
