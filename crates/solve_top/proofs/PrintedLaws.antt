@@ -9,7 +9,9 @@ use Rattle.dcop_base.proofs.ProblemLaws.{cost-le-cap}
 use Rattle.pseudotree.specs.declared.width.Wide.{Wide}
 use Rattle.pseudotree.specs.declared.width.Wide.TheVariants.{Agent, Total}
 use Rattle.problem_text.specs.File.{TextFile, IsFile}
-use Rattle.problem_text.specs.Reading.{Parts, Fault, text_read}
+use Rattle.problem_text.specs.Reading.{Parts}
+use Rattle.solve_words.specs.declared.command.Format.{Format}
+use Rattle.solve_inputs.specs.Fronts.{front_read}
 use Rattle.problem_text.specs.declared.file.Goal.{Goal}
 use Rattle.problem_text.specs.declared.file.Goal.TheVariants.{Min, Max}
 use Rattle.certificate_text.specs.declared.certificate.Certificate.{Certificate}
@@ -35,8 +37,7 @@ use Rattle.solve_top.specs.Solving.{IsPrintedFor}
 use Rattle.answer_edge.specs.Statuses.{status_of, status_of_verdict}
 use Rattle.answer_edge.specs.declared.status.Status.TheVariants.{Solved}
 use Rattle.solve_top.proofs.BlankLaws.{rest_kept}
-use Rattle.solve_top.proofs.PrefixLaws.{text_kept}
-use Rattle.solve_top.proofs.UsedLaws.{text_used}
+use Rattle.solve_inputs.proofs.FrontLaws.{front_kept, front_used}
 use Rattle.solve_top.proofs.SameLaws.{one_file}
 
 -- an answer of DPOP with a report tells of its own file
@@ -118,14 +119,14 @@ printed_again file report is_file whole printed =
     report-again report file is_file whole (certified_some file report report.certificate printed.certificate) (printed_fits file report whole printed)
 
 -- so `check` says yes to a problem and the report that was printed for it
-pub printed_solved : (text : List ℕ) (answer : Answer) → IsPrintedFor text → IsReportAnswer text (text_read text) answer → status_of answer ≡ Solved
-printed_solved text answer printed is =
+pub printed_solved : (format : Format) (text : List ℕ) (answer : Answer) → IsPrintedFor format text → IsReportAnswer text (front_read format text) answer → status_of answer ≡ Solved
+printed_solved format text answer printed is =
     let told_text : List ℕ = report_text printed.report printed.file in
     let used : ℕ = printed.parts.used in
-    let read : text_read text ≡ Ok printed.parts =
-    ap text_read printed.behind ∙ text_kept printed.problem printed.before told_text printed.parts printed.line printed.read in
+    let read : front_read format text ≡ Ok printed.parts =
+    ap (front_read format) printed.behind ∙ front_kept format printed.problem printed.before told_text printed.parts printed.line printed.read in
     let checked : AnswersCheck printed.parts.declared (lines_in (take used text)) (drop used text) answer =
-    subst (λ (r : Result Parts Fault). IsReportAnswer text r answer) read is in
+    subst (λ (r : Result Parts Answer). IsReportAnswer text r answer) read is in
     let dpop = printed.printed in
     let told = report_printed dpop.file printed.file printed.report (wide_in (solved dpop.file.goal dpop.file.problem)) dpop.is in
     let one : checked.file ≡ printed.file =
@@ -133,7 +134,7 @@ printed_solved text answer printed is =
     let whole : IsProblem printed.file.problem = subst (λ (f : TextFile). IsProblem f.problem) (sym told.0) dpop.whole in
     let report : IsDpopReport printed.file true printed.report = subst (λ (f : TextFile). IsDpopReport f true printed.report) (sym told.0) told.1 in
     let again : report_read (drop used (printed.problem ++ told_text)) printed.file ≡ Ok printed.report =
-    rest_kept printed.problem printed.before told_text used printed.file printed.report printed.line (text_used printed.problem printed.parts printed.read) printed.rest
+    rest_kept printed.problem printed.before told_text used printed.file printed.report printed.line (front_used format printed.problem printed.parts printed.read) printed.rest
     (printed_again printed.file printed.report printed.is_file whole report) in
     let before : ℕ = lines_in (take used text) in
     let here : IsCheckAnswer printed.file before (drop used text) answer = subst (λ (f : TextFile). IsCheckAnswer f before (drop used text) answer) one checked.is in
