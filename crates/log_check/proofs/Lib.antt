@@ -1,4 +1,4 @@
 mod ValueLaws
 mod EndLaws
-mod DifferLaws
+pub mod DifferLaws
 mod CheckLaws

@@ -116,9 +116,13 @@ fn stamp_difference(wrong: WrongStamp) -> Differs
     Differs::Stamp { at, left, right }
 }
 
-/// The start of the ADOPT agents of a problem on its depth-first tree, for an error. Its token agents
-/// find the tree.
-fn start_for(alloc: Global, problem: &Problem, error: u64) -> Result<Start, NoMemory>
+/// The start of the ADOPT agents of a problem on its depth-first tree, for an error of at most 2^62.
+/// Its token agents find the tree.
+///
+/// # Errors
+///
+/// [`NoMemory`] where memory was wanted and not had.
+pub fn start_for(alloc: Global, problem: &Problem, error: u64) -> Result<Start, NoMemory>
     requires { error ≤ amount_limit }
     ensures start { IfOk result (IsStartFor problem.now) }
     ensures agents { IfOk result (λ start.

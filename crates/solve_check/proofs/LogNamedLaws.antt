@@ -6,15 +6,11 @@ use Rattle.std.specs.Option.{option_map, option_or}
 use Rattle.std.proofs.lemmas.List.Elements.{All-head, All-tail}
 use Rattle.dcop_base.specs.Limits.{count_limit}
 use Rattle.dcop_base.specs.Problem.{cost}
-use Rattle.protocol_steps.specs.declared.event.Take.{Take}
-use Rattle.protocol_steps.specs.declared.event.Event.{Event}
 use Rattle.protocol_steps.specs.declared.event.EventFault.{EventFault}
-use Rattle.protocol_steps.specs.declared.event.EventFault.TheVariants.{Nobody, Ended, Nothing, Order, TooMany}
 use Rattle.protocol_steps.specs.declared.standing.Standing.{Standing}
-use Rattle.protocol_steps.specs.View.{View, ended_of}
-use Rattle.protocol_steps.specs.Network.{Desk, Network, start_state, waiting}
+use Rattle.protocol_steps.specs.Network.{Network, start_state}
 use Rattle.protocol_steps.specs.Effect.{effect, has_ended, deliveries}
-use Rattle.protocol_steps.specs.Run.{or_else, has_nothing, ascends_from, form_fault, too_many, takes_fault, fault_at, event_fault}
+use Rattle.protocol_steps.specs.Run.{event_fault}
 use Rattle.adopt_ends.specs.EndLaw.{values_of}
 use Rattle.run_log.specs.declared.log.LogEvent.{LogEvent}
 use Rattle.run_log.specs.Logs.{event_of}
@@ -31,39 +27,9 @@ use Rattle.problem_solved.specs.Gap.{gap_of}
 use Rattle.log_holds.specs.Ends.{least_known, lower_for, upper_for}
 use Rattle.log_holds.specs.Holds.{agents_for}
 use Rattle.log_holds.specs.Differences.{unlawful, fault_in, stamp_in, played, root_standing, status_difference, unless_right, count_difference, value_difference, error_difference, bound_difference, end_difference, log_difference}
-use Rattle.solve_report.specs.Verdict.{IsNamedFault, IsNamedDifference}
+use Rattle.solve_report.specs.Verdict.{IsNamedDifference}
+use Rattle.solve_report.proofs.FaultNamedLaws.{IsFaultNamed, event-named}
 use Rattle.solve_check.proofs.ToldNamedLaws.{AreNamed, or-named, if-named, then-named}
-
--- the fault of an event, where there is one, speaks of a sender among so many
-abbrev IsFaultNamed : ℕ → Option EventFault → Type 0
-IsFaultNamed n o = IfSome o (IsNamedFault n)
-
-first-fault : (n : ℕ) (t : Bool) (fault : EventFault) (later : Option EventFault) → IsNamedFault n fault → IsFaultNamed n later → IsFaultNamed n (cond t (Some fault) later)
-first-fault n true fault later here behind = here
-first-fault n false fault later here behind = behind
-
-else-fault : (n : ℕ) (a b : Option EventFault) → IsFaultNamed n a → IsFaultNamed n b → IsFaultNamed n (or_else a b)
-else-fault n None b of_a of_b = of_b
-else-fault n (Some fault) b of_a of_b = of_a
-
-many-named : (n : ℕ) (ds : List Desk) (i : ℕ) (ts : List Take) → All (λ t. t.from < n) ts → IsFaultNamed n (too_many ds i ts)
-many-named n ds i [] named = tt
-many-named n ds i (t ∷ ts) named =
-    first-fault n (nat_lt (length (waiting ds i t.from)) t.count) (TooMany t.from t.count (length (waiting ds i t.from))) (too_many ds i ts)
-    (All-head (λ u. u.from < n) t ts named) (many-named n ds i ts (All-tail (λ u. u.from < n) t ts named))
-
-form-named : (n count : ℕ) (ended : Bool) (ts : List Take) → IsFaultNamed n (form_fault count ended ts)
-form-named n count ended ts =
-    first-fault n (list_any (λ t. nat_le count t.from) ts) Nobody _ tt
-    (first-fault n ended Ended _ tt
-    (first-fault n (has_nothing ts) Nothing _ tt
-    (first-fault n (not (ascends_from 0 ts)) Order None tt tt)))
-
-place-named : (n : ℕ) (ds : List Desk) (e : Event) (view : Option View) (desk : Option Desk) → All (λ t. t.from < n) e.takes → IsFaultNamed n (fault_at ds e view desk)
-place-named n ds e None desk named = tt
-place-named n ds e (Some v) None named = tt
-place-named n ds e (Some v) (Some x) named =
-    else-fault n (form_fault (length ds) (ended_of v) e.takes) (too_many ds e.agent e.takes) (form-named n (length ds) (ended_of v) e.takes) (many-named n ds e.agent e.takes named)
 
 unlawful-named : (n k : ℕ) (o : Option EventFault) → IsFaultNamed n o → AreNamed n (unlawful k o)
 unlawful-named n k None named = tt
@@ -74,7 +40,7 @@ faults-named n k net [] fit = tt
 faults-named n k net (e ∷ log) fit =
     let here = All-head (FitsEvent n) e log fit in
     or-named n (unlawful k (event_fault net (event_of e))) (fault_in (k + 1) (effect net (event_of e)) log)
-    (unlawful-named n k (event_fault net (event_of e)) (place-named n net.desks (event_of e) (slice_get net.views e.agent) (slice_get net.desks e.agent) here.named.senders))
+    (unlawful-named n k (event_fault net (event_of e)) (event-named n net (event_of e) here.named.senders))
     (faults-named n (k + 1) (effect net (event_of e)) log (All-tail (FitsEvent n) e log fit))
 
 stamp-named : (n : ℕ) (o : Option StampDifference) → AreNamed n (option_map (λ (d : StampDifference). differences.Stamp d.event d.left d.right) o)

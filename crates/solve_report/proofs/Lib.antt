@@ -1,2 +1,3 @@
 mod TreeLaws
 mod SummaryLaws
+pub mod FaultNamedLaws

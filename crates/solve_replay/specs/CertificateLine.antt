@@ -1,0 +1,21 @@
+-- Where the certificate of a report begins.
+use Rattle.std.specs.Prelude.{ℕ, List, Option, Some, None, find, codes}
+use Rattle.problem_text.specs.PlainLines.{Plain, plain_lines}
+use Rattle.certificate_text.specs.CertificateLine.{begins_with}
+
+-- the first word of a certificate
+abbrev pub certificate_word : List ℕ
+certificate_word = codes "certificate"
+
+-- the first of these lines that begins a certificate
+abbrev pub first_certificate : List Plain → Option Plain
+first_certificate lines = find (λ line. begins_with certificate_word line.words) lines
+
+-- the number of a line that is there, 0 of none
+abbrev pub number_of_line : Option Plain → ℕ
+number_of_line None = 0
+number_of_line (Some line) = line.number
+
+-- the line of a report's text that begins its certificate, counted from 1
+abbrev pub certificate_line : List ℕ → ℕ
+certificate_line text = number_of_line (first_certificate (plain_lines 1 text))

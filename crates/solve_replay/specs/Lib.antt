@@ -1,0 +1,3 @@
+pub mod CertificateLine
+pub mod Rows
+pub mod Replaying

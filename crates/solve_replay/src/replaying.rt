@@ -1,0 +1,113 @@
+//! Replaying the text of a report.
+
+ghost use Rattle.std.specs.Prelude.{◌≡◌, ◌+◌, ◌≤◌, length, IfOk};
+ghost use Rattle.std.specs.List.{All};
+ghost use Rattle.dcop_base.specs.Limits.{amount_limit, input_limit};
+ghost use Rattle.protocol_steps.specs.Network.{start_state};
+ghost use Rattle.run_log.specs.Logs.{events_of};
+ghost use Rattle.run_log.specs.LogText.{FitsEvent};
+ghost use Rattle.problem_text.specs.Steps.{declared_by};
+ghost use Rattle.delivery_core.specs.Faults.{Replays};
+ghost use Rattle.log_holds.specs.Holds.{agents_for};
+ghost use Rattle.solve_report.specs.AnswerText.{HasText};
+ghost use Rattle.solve_replay.specs.Replaying.{log_up_to, IsReplay, AnswersReplay};
+
+use crate::certificate_line::certificate_line;
+use crate::events::{events_of, log_up_to};
+use crate::rows::rows_of;
+use certificate_text::{Certificate, Differs, Verdict, read_report};
+use dcop_base::{NoMemory, problem_is_whole};
+use delivery_core::{CoreState, ReplayFault, replay};
+use log_check::start_for;
+use problem_solved::ProblemSolved;
+use problem_text::{ProblemFile, ReportFault, ReportKind};
+use run_log::LogEvent;
+use solve_report::Answer;
+use std::alloc::Global;
+
+/// The answer to the text of a report on a file, which stands behind so many lines, where the first
+/// `after` events of its log are replayed, or all.
+///
+/// It is how many events were replayed and what each agent has come to behind them, or the first of
+/// them that is not lawful; where the report has no log, report kind 9 at the first line of its
+/// certificate; or the first fault of its text. Lines count on from the beginning of the input. Lines
+/// and bytes together are at most an input has bytes, 2^28.
+///
+/// # Errors
+///
+/// [`NoMemory`] where memory was wanted and not had.
+pub fn replay_answer(
+    alloc: Global,
+    file: ProblemFile,
+    text: &[u8],
+    before: u64,
+    after: Option<u64>,
+) -> Result<Answer, NoMemory>
+    requires few { before + length text.now ≤ input_limit }
+    ensures belongs { IfOk result (AnswersReplay (declared_by file) before text.now after) }
+    ensures told { IfOk result HasText }
+{
+    problem_is_whole(&file.problem);
+    match read_report(alloc, text, &file) {
+        Ok(report) => match &report.certificate {
+            Some(Certificate::Log(log)) => {
+                let log = log_up_to(log.as_slice(), after);
+                replayed(alloc, file, report.error, log)
+            }
+            _ => Ok(Answer::ReportText {
+                line: before + certificate_line(text),
+                kind: ReportKind::NoLog.number(),
+            }),
+        },
+        Err(ReportFault::Bad { line, kind }) => Ok(Answer::ReportText {
+            line: before + line,
+            kind: kind.number(),
+        }),
+        Err(ReportFault::NoMemory) => Err(NoMemory),
+    }
+}
+
+/// The answer to a replay of these events, for a requested error.
+fn replayed(
+    alloc: Global,
+    file: ProblemFile,
+    error: u64,
+    log: &[LogEvent],
+) -> Result<Answer, NoMemory>
+    requires error { error ≤ amount_limit }
+    requires events { All (FitsEvent (length file.problem.sizes)) log.now }
+    ensures belongs { IfOk result (IsReplay file (start_state (agents_for file error)) (events_of log.now)) }
+    ensures told { IfOk result HasText }
+{
+    problem_is_whole(&file.problem);
+    match played(alloc, &file, error, log) {
+        Ok(core) => Ok(Answer::Replay {
+            events: log.len() as u64,
+            agents: rows_of(alloc, &core, file.names.len())?,
+            names: file.names,
+        }),
+        Err(ReplayFault::BadEvent { at, fault }) => Ok(Answer::Verdict {
+            verdict: Verdict::No(Differs::Event { at, fault }),
+            names: file.names,
+        }),
+        Err(ReplayFault::NoMemory) => Err(NoMemory),
+    }
+}
+
+/// The end of the run that these events are, from the start of the ADOPT agents of the problem solved
+/// on its depth-first tree, for a requested error.
+fn played(
+    alloc: Global,
+    file: &ProblemFile,
+    error: u64,
+    log: &[LogEvent],
+) -> Result<CoreState, ReplayFault>
+    requires { error ≤ amount_limit }
+    ensures end { Replays (start_state (agents_for file.now error)) (events_of log.now) result }
+    ensures size { IfOk result (λ core. length core.seats ≡ length file.now.problem.sizes) }
+{
+    let solved = ProblemSolved::of(alloc, file)?;
+    let start = start_for(alloc, solved.problem(), error)?;
+    let events = events_of(alloc, log)?;
+    replay(alloc, solved.problem(), start, &events)
+}
