@@ -1,9 +1,8 @@
 -- The problem that an input begins with, whatever stands behind it.
-use Rattle.std.proofs.Common.{◌≡◌, ℕ, ◌≤◌, List, [], ◌∷◌, ◌++◌, length, replicate, Option, Some, None, Result, Ok, Err, refl, sym, ap, ap₂, subst, ◌∙◌}
+use Rattle.std.proofs.Common.{◌≡◌, ℕ, ◌≤◌, List, [], ◌∷◌, ◌++◌, length, replicate, Some, Result, Ok, Err, sym, ap, ap₂, subst, ◌∙◌}
 use Rattle.dcop_base.specs.Table.{CostTable}
 use Rattle.problem_text.specs.Bytes.{line_feed}
 use Rattle.problem_text.specs.Declarations.{Declared}
-use Rattle.problem_text.specs.File.{TextFile}
 use Rattle.problem_text.specs.Numbered.{numbered_names}
 use Rattle.problem_text.specs.Reading.{Fault, Parts, text_read}
 use Rattle.problem_text.specs.Steps.{declared_by}
@@ -16,7 +15,6 @@ use Rattle.wcsp_text.specs.Problems.{tables}
 use Rattle.wcsp_text.specs.Texts.{text_read as wcsp_read}
 use Rattle.solve_words.specs.declared.command.Format.{Format}
 use Rattle.solve_words.specs.declared.command.Format.TheVariants.{Dcop as Own, Wcsp}
-use Rattle.solve_report.specs.declared.answer.Answer.{Answer}
 use Rattle.solve_inputs.specs.Told.{told_of, told_by, declared_of}
 use Rattle.solve_inputs.specs.Fronts.{own_front, wcsp_front, front_read}
 use Rattle.solve_inputs.proofs.UsedLaws.{text_used}

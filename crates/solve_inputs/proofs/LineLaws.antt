@@ -1,5 +1,5 @@
 -- The lines of a text that ends with line_feed, and of what stands behind it.
-use Rattle.std.proofs.Common.{◌≡◌, ℕ, ◌+◌, ◌-◌, ◌<◌, ◌≤◌, Bool, true, false, cond, nat_eq, List, [], ◌∷◌, ◌++◌, length, take, refl, sym, ap, subst, ◌∙◌, arith}
+use Rattle.std.proofs.Common.{◌≡◌, ℕ, ◌+◌, ◌-◌, ◌<◌, ◌≤◌, Bool, true, false, cond, nat_eq, List, [], ◌∷◌, ◌++◌, length, take, refl, ap, ◌∙◌, arith}
 use Rattle.std.specs.List.{sum_by}
 use Rattle.std.specs.Prelude.{count_by}
 use Rattle.std.proofs.lemmas.List.{length-append, take-append-le}
@@ -9,7 +9,7 @@ use Rattle.problem_text.specs.Bytes.{line_feed}
 use Rattle.problem_text.specs.Lines.{lines, onto_first}
 use Rattle.wcsp_text.specs.Texts.{bytes_to}
 use Rattle.wcsp_text.specs.Words.{line_at}
-use Rattle.solve_inputs.proofs.PrefixLaws.{lines_join, HasLines, has_lines, some_lines}
+use Rattle.solve_inputs.proofs.PrefixLaws.{lines_join, HasLines, some_lines}
 
 -- how many of the bytes are line_feed
 abbrev feeds : List ℕ → ℕ

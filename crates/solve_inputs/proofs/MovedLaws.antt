@@ -1,6 +1,5 @@
 -- What the words of a WCSP text are read as, where further bytes stand behind them.
-use Rattle.std.proofs.Common.{◌≡◌, ℕ, zero, suc, ◌+◌, ◌≤◌, Bool, true, false, ◌||◌, cond, List, [], ◌∷◌, ◌++◌, length, map, nat_le, nat_lt, Option, Some, None, Result, Ok, Err, refl, sym, ap, subst, ◌∙◌, arith}
-use Rattle.std.specs.List.{sum_by}
+use Rattle.std.proofs.Common.{◌≡◌, ℕ, zero, suc, ◌+◌, ◌≤◌, Bool, true, false, ◌||◌, cond, List, [], ◌∷◌, ◌++◌, length, map, nat_le, nat_lt, Option, Some, None, Result, Ok, Err, refl, sym, ap, subst, ◌∙◌}
 use Rattle.std.proofs.lemmas.List.{map-append}
 use Rattle.std.proofs.lemmas.List.Sums.{sum_by-cons}
 use Rattle.dcop_base.specs.Faults.{is_bad_size}
@@ -11,7 +10,7 @@ use Rattle.wcsp_text.specs.declared.fault.WcspKind.{WcspKind}
 use Rattle.wcsp_text.specs.declared.fault.Fault.{Fault}
 use Rattle.wcsp_text.specs.Words.{Word}
 use Rattle.wcsp_text.specs.Numbers.{Place, number, as_number, read_on, onto}
-use Rattle.wcsp_text.specs.Cells.{Tuple, values_read, tuple_read, tuples_read, cells_read, written_cells}
+use Rattle.wcsp_text.specs.Cells.{values_read, tuple_read, tuples_read, cells_read, written_cells}
 use Rattle.wcsp_text.specs.Functions.{Function, scope_read, over_scope, function_read, functions_read, own_sizes, table_over, count_over, cells_of}
 use Rattle.wcsp_text.specs.Networks.{Network, count_fault, unless, sizes_read, body_read, named_read, network_read}
 use Rattle.solve_inputs.proofs.CutLaws.{moved_word, AllBefore}
