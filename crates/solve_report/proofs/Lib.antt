@@ -1,3 +1,4 @@
 mod TreeLaws
+mod ReplayLaws
 mod SummaryLaws
 pub mod FaultNamedLaws

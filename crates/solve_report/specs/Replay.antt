@@ -2,6 +2,7 @@
 use Rattle.std.specs.Prelude.{ℕ, ◌<◌, Bool, List, [], ◌∷◌, ◌++◌, map, codes, Option, Some, None, if◌then◌else◌}
 use Rattle.std.specs.List.{flat_map, slice_index_or}
 use Rattle.std.specs.Fmt.{decimal}
+use Rattle.protocol_steps.specs.declared.standing.Standing.{Standing}
 use Rattle.problem_text.specs.Canonical.{line}
 use Rattle.solve_report.specs.declared.replay.AgentRow.{AgentRow}
 
@@ -19,10 +20,14 @@ abbrev pub ended_word : Bool → List ℕ
 ended_word ended = if ended then codes "yes" else codes "no"
 
 -- `agent NAME value V lower L upper U threshold T ended E`
+abbrev pub state_words : List ℕ → ℕ → Standing → Bool → List (List ℕ)
+state_words name value standing ended =
+    codes "agent" ∷ name ∷ codes "value" ∷ decimal value ∷ codes "lower" ∷ decimal standing.lower ∷ codes "upper" ∷ bound_word standing.upper
+    ∷ codes "threshold" ∷ decimal standing.threshold ∷ codes "ended" ∷ ended_word ended ∷ []
+
+-- what an agent has come to, behind the name of its variable
 abbrev pub agent_words : List (List ℕ) → AgentRow → List (List ℕ)
-agent_words names row =
-    codes "agent" ∷ slice_index_or names row.agent [] ∷ codes "value" ∷ decimal row.value ∷ codes "lower" ∷ decimal row.standing.lower
-    ∷ codes "upper" ∷ bound_word row.standing.upper ∷ codes "threshold" ∷ decimal row.standing.threshold ∷ codes "ended" ∷ ended_word row.ended ∷ []
+agent_words names row = state_words (slice_index_or names row.agent []) row.value row.standing row.ended
 
 -- the words of each line of a replay: how many events were replayed, and the agents in order
 abbrev pub replay_lines : ℕ → List AgentRow → List (List ℕ) → List (List (List ℕ))

@@ -57,12 +57,7 @@ fn write_optimum(
         remade,
     } = edited;
     write!(text, "answer {number}\nremade {remade}\ncost {cost}\n")?;
-    write_values(
-        text,
-        &file.names,
-        file.labels.as_slice(),
-        values.as_slice(),
-    )
+    write_values(text, &file.names, file.labels.as_slice(), values.as_slice())
 }
 
 fn write_values(

@@ -4,7 +4,7 @@ ghost use Rattle.std.specs.Prelude.{◌≡◌, ◌<◌, ◌++◌, length, map, O
 ghost use Rattle.std.specs.List.{flat_map, All};
 ghost use Rattle.std.specs.String.{string_bytes};
 ghost use Rattle.problem_text.specs.Canonical.{line};
-ghost use Rattle.solve_report.specs.Replay.{IsNamedAgent, bound_word, agent_words, replay_text};
+ghost use Rattle.solve_report.specs.Replay.{IsNamedAgent, bound_word, ended_word, state_words, agent_words, replay_text};
 
 use crate::refusal::bytes_of;
 use dcop_base::{Bytes, NoMemory, Sequence, Val, VarId};
@@ -59,21 +59,42 @@ fn write_agents(text: &mut String, names: &Names, agents: &[AgentRow]) -> Result
 }
 
 fn write_agent(text: &mut String, names: &Names, row: &AgentRow) -> Result<(), NoMemory>
-    requires { row.now.agent < length names.now }
+    requires { IsNamedAgent (length names.now) row.now }
     ensures { OnOk result (string_bytes text.new
         ≡ string_bytes text.old ++ line (agent_words names.now row.now)) }
 {
     let name = names.name(row.agent);
-    let value = row.value.0;
+    write_state(text, name, row.value, row.standing, row.ended)
+}
+
+/// What the agent of the variable with this name has come to.
+fn write_state(
+    text: &mut String,
+    name: &str,
+    value: Val,
+    standing: Standing,
+    ended: bool,
+) -> Result<(), NoMemory>
+    ensures { OnOk result (string_bytes text.new
+        ≡ string_bytes text.old ++ line (state_words name.now value standing ended)) }
+{
+    let value = value.0;
     let Standing {
         lower,
         upper,
         threshold,
-    } = row.standing;
+    } = standing;
     write!(text, "agent {name} value {value} lower {lower} upper ")?;
     write_bound(text, upper)?;
-    write!(text, " threshold {threshold} ended ")?;
-    Ok(text.push_str(if row.ended { "yes\n" } else { "no\n" })?)
+    let ended = ended_word(ended);
+    Ok(write!(text, " threshold {threshold} ended {ended}\n")?)
+}
+
+/// The word that tells whether an agent has ended.
+fn ended_word(ended: bool) -> &'static str
+    ensures { result.now ≡ ended_word ended }
+{
+    if ended { "yes" } else { "no" }
 }
 
 /// An upper bound, or `-` where it is not there.

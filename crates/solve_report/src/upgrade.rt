@@ -8,11 +8,7 @@ use problem_text::{ProblemFile, write_problem};
 use std::alloc::Global;
 
 /// The bar in a comment of its own line, and the canonical text of the file.
-pub(crate) fn write_barred(
-    alloc: Global,
-    bar: u64,
-    file: &ProblemFile,
-) -> Result<Bytes, NoMemory>
+pub(crate) fn write_barred(alloc: Global, bar: u64, file: &ProblemFile) -> Result<Bytes, NoMemory>
     ensures { IfOk result (λ text. text ≡ barred_text bar file.now) }
 {
     let canonical = write_problem(alloc, file)?;
