@@ -1,7 +1,7 @@
 -- What comes of checking the text of a report on a file.
 use Rattle.std.specs.Prelude.{◌≡◌, ℕ, ◌+◌, List, Result, Ok, Err}
 use Rattle.dcop_base.specs.Whole.{IsProblem}
-use Rattle.problem_text.specs.File.{TextFile}
+use Rattle.problem_text.specs.File.{TextFile, IsFile}
 use Rattle.problem_text.specs.Declarations.{Declared}
 use Rattle.problem_text.specs.Steps.{declared_by}
 use Rattle.certificate_text.specs.declared.report.Report.{Report}
@@ -27,6 +27,7 @@ IsCheckAnswer file before text answer = IsReadAnswer file before (report_read te
 -- the answer to the text of a report, behind the text of a problem that has so many lines and declares this
 pub record AnswersCheck (d : Declared) (before : ℕ) (text : List ℕ) (answer : Answer) : Type 0 where
   pub file : TextFile
+  pub is_file : IsFile file
   pub whole : IsProblem file.problem
   pub declared : declared_by file ≡ d
   pub is : IsCheckAnswer file before text answer

@@ -6,7 +6,7 @@ use Rattle.protocol_steps.specs.declared.event.EventFault.{EventFault}
 use Rattle.protocol_steps.specs.Network.{Network, start_state}
 use Rattle.protocol_steps.specs.Run.{run}
 use Rattle.problem_text.specs.Declarations.{Declared}
-use Rattle.problem_text.specs.File.{TextFile}
+use Rattle.problem_text.specs.File.{TextFile, IsFile}
 use Rattle.problem_text.specs.Kinds.{number_of_report}
 use Rattle.problem_text.specs.Steps.{declared_by}
 use Rattle.problem_text.specs.declared.fault.ReportKind.TheVariants.{NoLog}
@@ -62,6 +62,7 @@ IsReadReplay file before text after (Err fault) answer = answer ≡ answers.Repo
 -- the answer to the text of a report, behind the text of a problem that has so many lines and declares this
 pub record AnswersReplay (d : Declared) (before : ℕ) (text : List ℕ) (after : Option ℕ) (answer : Answer) : Type 0 where
   pub file : TextFile
+  pub is_file : IsFile file
   pub whole : IsProblem file.problem
   pub declared : declared_by file ≡ d
   pub is : IsReadReplay file before text after (report_read text file) answer

@@ -1,5 +1,6 @@
 mod BlankLaws
 mod SameLaws
+mod CertificateLaws
 mod PrintedLaws
 mod AnswerLaws
 mod OneLaws

@@ -18,6 +18,7 @@ use crate::choosing::by_dpop;
 use crate::crew::Crew;
 use crate::drilling::unread_answer;
 use crate::reaching::by_adopt;
+use crate::replaying::replay_behind;
 use crate::settling::by_auto;
 use crate::task::{FileTask, Task, workers_of};
 use answer_edge::{MAX_INPUT, ReadEnd, fault_answer, read_all, words_answer};
@@ -80,6 +81,7 @@ fn task_answer<R: Threads + Sync, G: Gate>(
     match task {
         Task::File { format, task } => text_answer(crew, alloc, format, task, bytes),
         Task::Check { format } => report_answer(alloc, format, bytes),
+        Task::Replay { format, after } => replay_behind(alloc, format, after, bytes),
     }
 }
 
@@ -181,7 +183,7 @@ fn report_answer(alloc: Global, format: Format, bytes: &[u8]) -> Result<Answer, 
 }
 
 /// How many lines end in a text.
-fn lines_in(text: &[u8]) -> u64
+pub(crate) fn lines_in(text: &[u8]) -> u64
     ensures { result ≡ lines_in text.now }
 {
     text.iter().filter(|byte| **byte == b'\n').count() as u64

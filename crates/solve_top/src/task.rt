@@ -13,6 +13,8 @@ pub enum Task {
     File { format: Format, task: FileTask },
     /// Check the report that stands behind a problem in this format.
     Check { format: Format },
+    /// Play so many events of the log of such a report again, or all.
+    Replay { format: Format, after: Option<u64> },
 }
 
 /// What is asked on the file of a problem.
@@ -97,6 +99,7 @@ impl Task {
             )),
             Command::Tree { format, .. } => Some(Task::on_file(format, FileTask::Tree)),
             Command::Check { format } => Some(Task::Check { format }),
+            Command::Replay { after, format } => Some(Task::Replay { format, after }),
             Command::Upgrade { format } => Some(Task::on_file(format, FileTask::Upgrade)),
             _ => None,
         }
