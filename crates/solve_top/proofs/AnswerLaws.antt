@@ -25,10 +25,10 @@ use Rattle.solve_report.specs.declared.answer.Answer.TheVariants as answers
 use Rattle.answer_edge.specs.declared.status.Status.{Status}
 use Rattle.answer_edge.specs.declared.status.Status.TheVariants.{Solved, TooWide, ReadFault, WriteFault, NoMemory as no_memory}
 use Rattle.solve_top.specs.declared.task.Task.{Task}
-use Rattle.solve_top.specs.declared.task.Task.TheVariants.{File, Check}
+use Rattle.solve_top.specs.declared.task.Task.TheVariants.{File, Check, Replay}
 use Rattle.solve_top.specs.declared.task.FileTask.{FileTask}
 use Rattle.solve_top.specs.declared.task.FileTask.TheVariants as tasks
-use Rattle.solve_top.specs.Answering.{lines_in, IsUpgraded, IsFileAnswer, IsTextAnswer, IsReportAnswer, IsTaskAnswer, IsInputAnswer, IsDrillAnswer, IsUnreadAnswer, IsServedAnswer, IsCommandAnswer, IsAnswer}
+use Rattle.solve_top.specs.Answering.{lines_in, IsUpgraded, IsFileAnswer, IsTextAnswer, IsReportAnswer, IsReplayAnswer, IsTaskAnswer, IsInputAnswer, IsDrillAnswer, IsUnreadAnswer, IsServedAnswer, IsCommandAnswer, IsAnswer}
 use Rattle.solve_methods.specs.Adopt.{IsAdoptAnswer}
 use Rattle.solve_methods.specs.Auto.{IsAutoBy, IsAutoAnswer}
 use Rattle.solve_methods.specs.Drill.{drilled}
@@ -48,10 +48,13 @@ use Rattle.solve_inputs.specs.Told.{Told, told_of}
 use Rattle.solve_inputs.specs.Inputs.{input_read}
 use Rattle.solve_inputs.specs.Fronts.{front_read}
 use Rattle.solve_check.specs.Checking.{IsReadAnswer}
+use Rattle.solve_replay.specs.Replaying.{IsReplayOf, IsReadReplay}
+use Rattle.certificate_text.specs.declared.certificate.Certificate.{Certificate}
+use Rattle.certificate_text.specs.declared.certificate.Certificate.TheVariants.{Tables, Log}
 use Rattle.answer_edge.proofs.StatusLaws.{ending-told, read-alone}
 use Rattle.solve_inputs.proofs.RefusalLaws.{input_told, front_told}
 use Rattle.solve_top.proofs.SameLaws.{one_file, report_in}
-use Rattle.solve_top.proofs.PrintedLaws.{printed_solved}
+use Rattle.solve_top.proofs.PrintedLaws.{printed_solved, logged_solved}
 
 -- the answer of a task, where words ask for it
 pub IsAnswer-task : (words : List (List ℕ)) (command : Command) (task : Task) (input : Input) (answer : Answer)
@@ -249,9 +252,25 @@ report-sound : (bytes : List ℕ) (read : Result Parts Answer) → ¬ (read ≡ 
 report-sound bytes (Ok parts) told is = read-sound is.file (lines_in (take parts.used bytes)) (report_read (drop parts.used bytes) is.file) is.is
 report-sound bytes (Err refusal) told is = told (ap Err (sym is))
 
+-- nor that of `replay`
+played-sound : (file : TextFile) (before : ℕ) (text : List ℕ) (after : Option ℕ) (error : ℕ) (certificate : Option Certificate) → ¬ IsReplayOf file before text after error certificate answers.Read
+played-sound file before text after error (Some (Log log)) is = is
+played-sound file before text after error (Some (Tables utils)) is = cc is
+played-sound file before text after error None is = cc is
+
+replay-sound : (file : TextFile) (before : ℕ) (text : List ℕ) (after : Option ℕ) (read : Result Report ReportFault) → ¬ IsReadReplay file before text after read answers.Read
+replay-sound file before text after (Ok report) is = played-sound file before text after report.error report.certificate is
+replay-sound file before text after (Err fault) is = cc is
+
+behind-sound : (bytes : List ℕ) (after : Option ℕ) (read : Result Parts Answer) → ¬ (read ≡ Err answers.Read) → ¬ IsReplayAnswer bytes after read answers.Read
+behind-sound bytes after (Ok parts) told is =
+    replay-sound is.file (lines_in (take parts.used bytes)) (drop parts.used bytes) after (report_read (drop parts.used bytes) is.file) is.is
+behind-sound bytes after (Err refusal) told is = told (ap Err (sym is))
+
 task-sound : (task : Task) (bytes : List ℕ) → ¬ IsTaskAnswer task bytes answers.Read
 task-sound (File format task) bytes is = text-sound task (input_read format bytes) (input_told format bytes) is
 task-sound (Check format) bytes is = report-sound bytes (front_read format bytes) (front_told format bytes) is
+task-sound (Replay format after) bytes is = behind-sound bytes after (front_read format bytes) (front_told format bytes) is
 
 -- only a broken input is answered by a failed reading
 input-sound : (task : Task) (input : Input) (answer : Answer) → IsInputAnswer task input answer → status_of answer ≡ ReadFault → input ≡ Broken
@@ -361,6 +380,7 @@ task-well : (task : Task) (text : List ℕ) (answer : Answer) → IsTextFor task
 task-well (File format task) text answer fits is =
     file-well format task fits.told answer fits.within (subst (λ (r : Result Told Answer). IsTextAnswer task r answer) fits.read is)
 task-well (Check format) text answer fits is = solved-well (status_of answer) (Check format) (printed_solved format text answer fits is)
+task-well (Replay format after) text answer fits is = solved-well (status_of answer) (Replay format after) (logged_solved format after text answer fits is)
 
 -- all of a text that is told, and accepted, is read and goes well
 input-well : (text : List ℕ) (words : List (List ℕ)) (accepts : Accepts words text) (before after : SourceState) (input : Input) (answer : Answer)
