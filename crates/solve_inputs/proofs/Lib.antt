@@ -5,3 +5,4 @@ mod MovedLaws
 mod LineLaws
 mod NetworkLaws
 pub mod FrontLaws
+pub mod RefusalLaws

@@ -8,8 +8,10 @@
 mod fault;
 mod front;
 mod further;
+mod law;
 mod reading;
 
 pub use fault::{InputFault, wcsp_answer};
 pub use front::read_front;
+pub use law::wcsp_files_have_values;
 pub use reading::{ReadInput, read_input};

@@ -1,5 +1,3 @@
-mod UsedLaws
-mod PrefixLaws
 mod BlankLaws
 mod SameLaws
 mod CertificateLaws

@@ -28,10 +28,12 @@ use std::time::Clock;
 /// requested error worse than the best, or the budget of messages is spent and the report's bounds
 /// enclose the best sum; with `--method auto`, or without a method, as with `dpop` unless its tables
 /// would be too wide, and else as with `adopt`. `drill` reads nothing: it makes a problem from a
-/// number, solves it in the same ways and writes a summary. `check` reads a problem and a report behind it, and says whether the
-/// report's certificate shows that no better values exist. `tree` reads a problem and writes the
-/// tree over which its agents work, and `upgrade` reads a problem and writes it in the newest
-/// version of its text. With `--format wcsp` each of them reads a WCSP text as its problem.
+/// number, solves it in the same ways and writes a summary. `check` reads a problem and a report
+/// behind it, and says whether the report's certificate shows that no better values exist. `replay`
+/// reads these too, plays the report's log as far as it is asked to, and writes what each agent has
+/// come to there. `tree` reads a problem and writes the tree over which its agents work, and
+/// `upgrade` reads a problem and writes it in the newest version of its text. With `--format wcsp`
+/// all of these but `drill` read a WCSP text as their problem.
 /// Refusals are written to the sink too.
 ///
 /// [`Status::ReadFault`] and [`Status::WriteFault`] come only where the source or the sink failed
