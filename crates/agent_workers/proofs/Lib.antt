@@ -1,10 +1,10 @@
-mod ListLaws
-mod CellLaws
-mod JoinLaws
-mod SettleLaws
-mod PlayLaws
+pub mod ListLaws
+pub mod CellLaws
+pub mod JoinLaws
+pub mod SettleLaws
+pub mod PlayLaws
 mod PartLaws
 mod BrokenLaws
 mod BreakLaws
-mod RoundLaws
-mod RunLaws
+pub mod RoundLaws
+pub mod RunLaws

@@ -15,5 +15,6 @@ mod runs;
 mod settle;
 
 pub use protocol_steps::RunEnd;
-pub use rounds::{CellsList, round};
-pub use runs::run;
+pub use rounds::{CellsList, play_round, round};
+pub use runs::{all_ended, begin_all, run, sharing_after};
+pub use settle::settle_all;

@@ -51,8 +51,8 @@ pub fn round<R: Threads + Sync, G: Gate>(
     play_round(rt, cells.as_mut_slice(), nodes, workers, gate)
 }
 
-/// [`round`], on a slice.
-pub(crate) fn play_round<R: Threads + Sync, G: Gate>(
+/// [`round`], on a slice. It also tells how the cells stand where stamps came to their end.
+pub fn play_round<R: Threads + Sync, G: Gate>(
     rt: &R,
     cells: &mut [Cell],
     nodes: u32,

@@ -135,7 +135,7 @@ fn play_out<R: Threads + Sync, G: Gate>(
 /// How many workers share the round after one in which so many agents took so many messages. It is
 /// all of them, but for one alone where the messages were so few that starting threads would cost more
 /// than it saves, or so many that agents who answer each other at once send more than they save.
-fn sharing_after(taken: u64, agents: u64, workers: u32) -> u32
+pub fn sharing_after(taken: u64, agents: u64, workers: u32) -> u32
     requires { 0 < workers }
     ensures some { 0 < result }
     ensures most { result ≤ workers }
@@ -150,7 +150,7 @@ fn sharing_after(taken: u64, agents: u64, workers: u32) -> u32
 }
 
 /// Whether every agent has ended.
-fn all_ended(cells: &[Cell]) -> bool
+pub fn all_ended(cells: &[Cell]) -> bool
     ensures { result ≡ list_all (λ c. ended_of (state_of (λ b. meaning (b.vtable, b.value)) c).view) cells.now }
 {
     let has_ended = |cell: &Cell| -> bool
@@ -159,8 +159,8 @@ fn all_ended(cells: &[Cell]) -> bool
     cells.iter().all(has_ended)
 }
 
-/// Starts the agents of all cells, in order.
-fn begin_all(cells: &mut [Cell]) -> Result<(), NoMemory>
+/// Starts the agents of all cells, in order. It takes memory; after [`NoMemory`] some may have started.
+pub fn begin_all(cells: &mut [Cell]) -> Result<(), NoMemory>
     requires sound { EachIs (λ c. IsCell (λ b. meaning (b.vtable, b.value)) c) cells.old }
     requires fresh { EachIs (λ c. begun_in c ≡ false) cells.old }
     ensures same { EachBecomes (λ a b. IsSameCell a b) cells.old cells.new }

@@ -12,7 +12,7 @@ use agent_cells::Cell;
 
 /// Settles every link inside a node, of so many nodes. Of the parts of so many cells, it answers how
 /// many there are up to the last one for which something may wait.
-pub(crate) fn settle_all(cells: &mut [Cell], nodes: u32, size: usize) -> usize
+pub fn settle_all(cells: &mut [Cell], nodes: u32, size: usize) -> usize
     requires size { 0 < size }
     requires joined { IsJoined (λ b. meaning (b.vtable, b.value)) nodes cells.old }
     requires sound { EachIs (λ c. IsCell (λ b. meaning (b.vtable, b.value)) c) cells.old }
