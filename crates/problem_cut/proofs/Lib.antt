@@ -1,0 +1,4 @@
+pub mod CountLaws
+pub mod SizeLaws
+pub mod RuleLaws
+pub mod TurnLaws
