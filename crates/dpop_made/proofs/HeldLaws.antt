@@ -30,13 +30,13 @@ use Rattle.dpop_runs.specs.Agents.{IsOptimumTable}
 use Rattle.dpop_runs.proofs.ListLaws.{same_truth, map_alike, from_leaves, has_at}
 use Rattle.dpop_runs.proofs.Plan.{Plan, view_with, full}
 use Rattle.dpop_runs.proofs.SomePlan.{some_plan}
-use Rattle.dpop_runs.proofs.FullLaws.{child_is, sizes_are, separator_within, scope_is, sizes_is, full_separator, best_choice}
+use Rattle.dpop_runs.proofs.FullLaws.{child_is, sizes_are, separator_within, scope_is, sizes_is, full_separator, best_reads, best_choice}
 use Rattle.dpop_runs.proofs.TableLaws.{optimum_table}
 use Rattle.dpop_agent.specs.declared.made.Made.{Made}
 use Rattle.dpop_agent.specs.Keeping.{IsChildTable, MayKeep}
 use Rattle.dpop_agent.specs.Remade.{sent_by, sent_at, joined_count}
 use Rattle.dpop_made.specs.Held.{agent_with, IsHeld, AreHeldFrom, AreAllHeld}
-use Rattle.dpop_made.specs.Laws.{MadeTablesAreOptima, LowestPicksAreFirst, AreLowestPicks, AreChildrenHeld, MayBeJoined, ChildrenMayBeJoined}
+use Rattle.dpop_made.specs.Laws.{MadeTablesAreOptima, LowestPicksAreFirst, AreLowestPicks, AreChildrenHeld, MayBeJoined, ChildrenMayBeJoined, ReadsSeparator, PicksReadSeparators}
 
 -- the table that an agent sent, where its tables are held
 pub sent_is_made : (p : Dcop) (paths : List (List ℕ)) (kept : List (Option Made)) (i : ℕ) (held : IsHeld p paths kept i) → sent_at kept i ≡ Some held.made.sent
@@ -89,6 +89,18 @@ module _ (p : Dcop) (paths : List (List ℕ)) (problem : IsProblem p) (pseudo : 
       ∙ ap (λ (ks : List (Option CostTable)). best_value (view_with p paths j false ks None 0) chosen)
       (children_are j (λ c parent k under. all k (within_in_problem p paths problem pseudo c k (let known = within_tree paths c j parent in omega (arith, known, count)) under))) in
       subst (λ (xs : List ℕ). IsBestChoice p paths xs i) listed_same (best_choice p paths problem pseudo plan.table plan.table_is chosen is i lt)
+
+  reads : (i : ℕ) → AreChildrenHeld p paths kept i → ReadsSeparator p paths kept i
+  reads i held =
+      let are = children_are i held in
+      record {
+        separator_is = ap (λ (ks : List (Option CostTable)). separator (view_with p paths i false ks None 0)) are ∙ full_separator p paths problem pseudo plan.table plan.table_is i;
+        sizes_are = sizes_are p paths problem pseudo i (separator_of p paths i) (separator_within p paths problem pseudo i);
+        same = λ f g same.
+            ap (λ (ks : List (Option CostTable)). best_value (view_with p paths i false ks None 0) f) are
+            ∙ best_reads p paths problem pseudo plan.table plan.table_is i f g same
+            ∙ sym (ap (λ (ks : List (Option CostTable)). best_value (view_with p paths i false ks None 0) g) are);
+      }
 
   module _ (linked : IsLinked p paths) (narrow : IsNarrow p paths) where
     -- the separator of a child: variables of the path, and the variable itself
@@ -156,3 +168,6 @@ lowest_picks_are_first p paths kept values problem pseudo all long picks =
 
 pub children_may_be_joined : ChildrenMayBeJoined
 children_may_be_joined p paths kept i problem pseudo linked narrow long lt held = may_be_joined p paths problem pseudo kept linked narrow long i lt held
+
+pub picks_read_separators : PicksReadSeparators
+picks_read_separators p paths kept i problem pseudo held = reads p paths problem pseudo kept i held

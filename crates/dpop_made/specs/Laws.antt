@@ -1,12 +1,14 @@
 -- The laws of tables that are made and kept.
-use Rattle.std.specs.Prelude.{◌≡◌, ℕ, ◌<◌, List, length, Option, Some, slice_index, slice_set}
+use Rattle.std.specs.Prelude.{◌≡◌, ℕ, ◌<◌, true, List, map, length, Option, Some, slice_index, slice_set}
+use Rattle.dcop_base.specs.Table.{has}
 use Rattle.dcop_base.specs.Problem.{Dcop}
 use Rattle.dcop_base.specs.Whole.{IsProblem}
 use Rattle.dcop_base.specs.Knowledge.{private_of}
 use Rattle.pseudotree.specs.Tree.{parent_of}
-use Rattle.pseudotree.specs.Pseudotree.{IsPseudotree, IsLinked}
+use Rattle.pseudotree.specs.Pseudotree.{IsPseudotree, IsLinked, separator_of}
+use Rattle.pseudotree.specs.Place.{sizes_of}
 use Rattle.pseudotree.specs.Width.{IsNarrow, joined_cells}
-use Rattle.protocol_steps.specs.Dpop.{best_value}
+use Rattle.protocol_steps.specs.Dpop.{best_value, separator, size_of}
 use Rattle.protocol_steps.specs.TreeAgents.{place_at}
 use Rattle.dcop_optimum.specs.TreeOptimum.{IsFirstOptimumOf}
 use Rattle.dpop_runs.specs.Agents.{IsOptimumTable}
@@ -51,3 +53,13 @@ pub record KeepsHeld (p : Dcop) (paths : List (List ℕ)) (kept : List (Option M
 abbrev pub OneMoreIsHeld : Type 0
 OneMoreIsHeld = (p : Dcop) (paths : List (List ℕ)) (kept : List (Option Made)) (i : ℕ) (made : Made) → IsPseudotree p paths → length kept ≡ length p.sizes → i < length p.sizes
     → AreChildrenHeld p paths kept i → IsRemade (agent_with p paths kept i) made → KeepsHeld p paths kept i made
+
+-- what the agent of variable i reads where it picks: its separator is that of the tree, with the sizes of its variables, and no other value changes what it picks
+pub record ReadsSeparator (p : Dcop) (paths : List (List ℕ)) (kept : List (Option Made)) (i : ℕ) : Type 0 where
+  pub separator_is : separator (agent_with p paths kept i) ≡ separator_of p paths i
+  pub sizes_are : map (size_of (agent_with p paths kept i)) (separator_of p paths i) ≡ sizes_of p (separator_of p paths i)
+  pub same : (f g : ℕ → ℕ) → ((u : ℕ) → has (separator_of p paths i) u ≡ true → f u ≡ g u) → best_value (agent_with p paths kept i) f ≡ best_value (agent_with p paths kept i) g
+
+-- so it is where what was made for the descendants is held
+abbrev pub PicksReadSeparators : Type 0
+PicksReadSeparators = (p : Dcop) (paths : List (List ℕ)) (kept : List (Option Made)) (i : ℕ) → IsProblem p → IsPseudotree p paths → AreChildrenHeld p paths kept i → ReadsSeparator p paths kept i

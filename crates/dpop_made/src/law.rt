@@ -2,7 +2,7 @@
 //! needs the law calls it.
 
 ghost use Rattle.dpop_made.specs.Laws.{MadeTablesAreOptima, LowestPicksAreFirst};
-ghost use Rattle.dpop_made.specs.Laws.{ChildrenMayBeJoined, OneMoreIsHeld};
+ghost use Rattle.dpop_made.specs.Laws.{ChildrenMayBeJoined, OneMoreIsHeld, PicksReadSeparators};
 ghost use Rattle.dpop_made.specs.Edits.{EditsLeaveOthers};
 
 /// Where what was made for a variable and all its descendants is held, the table that its agent
@@ -16,6 +16,12 @@ pub fn made_tables_are_optima()
 /// the tree.
 pub fn lowest_picks_are_first()
     ensures { LowestPicksAreFirst }
+{}
+
+/// Where what was made for the descendants of a variable is held, the value that its agent picks
+/// depends on the values of its separator alone.
+pub fn picks_read_separators()
+    ensures { PicksReadSeparators }
 {}
 
 /// Where what was made for the descendants of a variable is held, the tables of its agent may be

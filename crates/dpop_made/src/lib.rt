@@ -11,5 +11,5 @@ mod law;
 
 pub use law::{
     children_may_be_joined, edits_leave_others, lowest_picks_are_first, made_tables_are_optima,
-    one_more_is_held,
+    one_more_is_held, picks_read_separators,
 };

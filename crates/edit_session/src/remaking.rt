@@ -1,0 +1,103 @@
+//! Tables that are made anew.
+
+ghost use Rattle.std.specs.Prelude.{◌≡◌, ℕ, ◌+◌, ◌<◌, ◌≤◌, [], ◌∷◌, IfOk, OnOk, length};
+ghost use Rattle.pseudotree.specs.Preorder.{preorder_of};
+ghost use Rattle.pseudotree.specs.Width.{joined_cells};
+ghost use Rattle.dpop_agent.specs.Remade.{IsRemade};
+ghost use Rattle.dpop_made.specs.Held.{agent_with, AreHeldFrom, AreAllHeld};
+ghost use Rattle.dpop_made.specs.Laws.{AreChildrenHeld};
+ghost use Rattle.edit_session.specs.Loops.{IsGround, StayHeld, AreOthersHeld, cells_among};
+
+use dcop_base::{NoMemory, Problem, VarId, private, problem_is_whole};
+use dpop_agent::{KeptList, Made, Steps, remake};
+use dpop_made::{children_may_be_joined, one_more_is_held};
+use pseudotree::{Tree, place};
+use std::alloc::Global;
+use std::sync::ledger::Ledger;
+
+/// The tables of one agent, from what was made for its children. The steps rise by the cells of its
+/// joined table.
+fn made_at<L: Ledger>(
+    alloc: Global,
+    problem: &Problem,
+    tree: &Tree,
+    var: VarId,
+    kept: &KeptList,
+    steps: &mut Steps<L>,
+) -> Result<Made, NoMemory>
+    requires ground { IsGround problem.now tree.now kept.now.items }
+    requires known { var < length problem.now.sizes }
+    requires children { AreChildrenHeld problem.now tree.now.paths kept.now.items var }
+    ensures made { IfOk result (IsRemade (agent_with problem.now tree.now.paths kept.now.items var)) }
+    ensures counted { OnOk result (steps.new
+        ≡ steps.old + joined_cells problem.now tree.now.paths var) }
+    ensures rises { steps.old ≤ steps.new }
+    ensures within { steps.new ≤ steps.old + joined_cells problem.now tree.now.paths var }
+{
+    children_may_be_joined();
+    problem_is_whole(problem);
+    let own = private(alloc, problem, var)?;
+    let seat = place(alloc, tree, problem, var)?;
+    let made = remake(alloc, &own, &seat, kept, steps)?;
+    Ok(made)
+}
+
+/// Makes the tables of an agent anew, where it is touched, and keeps them.
+fn renew<L: Ledger>(
+    alloc: Global,
+    problem: &Problem,
+    tree: &Tree,
+    touched: &[bool],
+    var: VarId,
+    kept: &mut KeptList,
+    steps: &mut Steps<L>,
+) -> Result<(), NoMemory>
+    requires ground { IsGround problem.now tree.now kept.old.items }
+    requires marked { length touched.now ≡ length problem.now.sizes }
+    requires known { var < length problem.now.sizes }
+    requires children { AreChildrenHeld problem.now tree.now.paths kept.old.items var }
+    requires others { AreOthersHeld problem.now tree.now.paths touched.now kept.old.items }
+    ensures held { OnOk result (AreHeldFrom problem.now tree.now.paths kept.new.items var) }
+    ensures stay { StayHeld problem.now tree.now.paths kept.old.items kept.new.items }
+    ensures counted { OnOk result (steps.new
+        ≡ steps.old + cells_among problem.now tree.now.paths touched.now (var ∷ [])) }
+    ensures rises { steps.old ≤ steps.new }
+    ensures within { steps.new
+        ≤ steps.old + cells_among problem.now tree.now.paths touched.now (var ∷ []) }
+{
+    if touched[var.0 as usize] {
+        one_more_is_held();
+        let made = made_at(alloc, problem, tree, var, kept, steps)?;
+        kept[var.0 as usize] = Some(made);
+    }
+    Ok(())
+}
+
+/// Makes the tables of all touched agents anew, from the leaves up, and keeps them. The steps rise
+/// by the cells of their joined tables.
+pub(crate) fn remake_touched<L: Ledger>(
+    alloc: Global,
+    problem: &Problem,
+    tree: &Tree,
+    touched: &[bool],
+    kept: &mut KeptList,
+    steps: &mut Steps<L>,
+) -> Result<(), NoMemory>
+    requires ground { IsGround problem.now tree.now kept.old.items }
+    requires marked { length touched.now ≡ length problem.now.sizes }
+    requires others { AreOthersHeld problem.now tree.now.paths touched.now kept.old.items }
+    ensures held { OnOk result (AreAllHeld problem.now tree.now.paths kept.new.items) }
+    ensures stay { StayHeld problem.now tree.now.paths kept.old.items kept.new.items }
+    ensures counted { OnOk result (steps.new ≡ steps.old
+        + cells_among problem.now tree.now.paths touched.now (preorder_of tree.now.paths)) }
+    ensures rises { steps.old ≤ steps.new }
+    ensures within { steps.new ≤ steps.old
+        + cells_among problem.now tree.now.paths touched.now (preorder_of tree.now.paths) }
+{
+    problem_is_whole(problem);
+    let order = tree.preorder().as_slice();
+    for index in (0..order.len()).rev() {
+        renew(alloc, problem, tree, touched, order[index], kept, steps)?;
+    }
+    Ok(())
+}
