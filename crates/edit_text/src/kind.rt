@@ -1,0 +1,40 @@
+//! Why the lines of an edit session are refused.
+
+ghost use Rattle.std.specs.Prelude.{◌≡◌};
+ghost use Rattle.edit_text.specs.Kinds.{number_of_edit};
+
+/// The kind of a fault among the lines of an edit session.
+#[derive(Clone, Copy, Debug, PartialEq, Eq)]
+pub enum EditKind {
+    /// The line is none of the forms, or a further word follows `end`.
+    BadLine,
+    /// A word that should be a number is not one of 1 to 19 digits.
+    BadNumber,
+    /// The number of the table is not below the number of tables.
+    NoTable,
+    /// There is no such cell, or there are not as many cells as the table has.
+    NoCell,
+    /// A cost is above [`MAX_COST`](dcop_base::MAX_COST).
+    CostTooLarge,
+    /// The greatest cells of all tables would exceed [`CAP`](dcop_base::CAP) together.
+    SumTooLarge,
+    /// The input is over before `end`.
+    NoEnd,
+}
+
+impl EditKind {
+    /// The number by which a user knows the kind.
+    pub fn number(self) -> u8
+        ensures { result ≡ number_of_edit self }
+    {
+        match self {
+            EditKind::BadLine => 1,
+            EditKind::BadNumber => 2,
+            EditKind::NoTable => 3,
+            EditKind::NoCell => 4,
+            EditKind::CostTooLarge => 5,
+            EditKind::SumTooLarge => 6,
+            EditKind::NoEnd => 7,
+        }
+    }
+}
