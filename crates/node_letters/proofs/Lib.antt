@@ -1,0 +1,5 @@
+mod PayloadLaws
+pub mod LetterLaws
+mod ReadLaws
+pub mod ReceiveLaws
+pub mod ComeLaws

@@ -1,0 +1,5 @@
+pub mod Payloads
+pub mod Letters
+pub mod Reads
+pub mod Passings
+pub mod FirstByte

@@ -1,0 +1,12 @@
+-- Opening the payloads of letters.
+use Rattle.std.specs.Prelude.{◌≡◌, ℕ, List, ◌++◌, map}
+use Rattle.std.specs.List.{All}
+use Rattle.node_letters.specs.declared.payload.Addressed.{Addressed}
+use Rattle.node_letters.specs.Letters.{letter_code, IsLetter}
+
+-- of these letters some were opened, and the payloads of the rest are still to come
+pub record AreOpened (ls opened : List Addressed) (ready : List (List ℕ)) : Type 0 where
+  pub rest : List Addressed
+  pub whole : ls ≡ opened ++ rest
+  pub ready_is : ready ≡ map letter_code rest
+  pub good : All IsLetter rest

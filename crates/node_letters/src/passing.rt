@@ -1,0 +1,100 @@
+//! What one exchange passes on one link.
+
+ghost use Rattle.std.specs.Prelude.{◌≡◌, ◌∷◌, ◌++◌, [], OnOk, OnErr};
+ghost use Rattle.node_letters.specs.Passings.{leads, SamePassing};
+
+use dcop_base::{NoMemory, VarId};
+use protocol_steps::Envelope;
+use std::alloc::Global;
+use std::marker::Model;
+
+/// A link, by the agents and the nodes at its ends, with what an exchange drained of it and what has
+/// arrived so far. Contracts see these parts.
+#[derive(Drop)]
+pub struct LinkPassing {
+    from: VarId,
+    to: VarId,
+    from_node: u32,
+    to_node: u32,
+    drained: Vec<Envelope>,
+    arrived: Vec<Envelope>,
+}
+
+impl Model for LinkPassing {
+    ghost use Rattle.node_letters.specs.Passings.{Passing};
+
+    ghost Value = { Passing };
+
+    ghost view = { λ p. record { from = p.from; to = p.to; from_node = p.from_node; to_node = p.to_node; drained = p.drained.items; arrived = p.arrived.items } };
+}
+
+impl LinkPassing {
+    /// A link of which this was drained, and on which nothing has arrived.
+    pub fn new(
+        alloc: Global,
+        ends: (VarId, VarId),
+        nodes: (u32, u32),
+        drained: Vec<Envelope>,
+    ) -> LinkPassing
+        ensures ends { (result.from ≡ ends.0) × (result.to ≡ ends.1) }
+        ensures nodes { (result.from_node ≡ nodes.0) × (result.to_node ≡ nodes.1) }
+        ensures lists { (result.drained ≡ drained.items) × (result.arrived ≡ []) }
+    {
+        LinkPassing {
+            from: ends.0,
+            to: ends.1,
+            from_node: nodes.0,
+            to_node: nodes.1,
+            drained,
+            arrived: Vec::new(alloc),
+        }
+    }
+
+    /// The agent that sends on the link.
+    pub fn from(&self) -> VarId
+        ensures { result ≡ self.now.from }
+    {
+        self.from
+    }
+
+    /// The agent that takes from it.
+    pub fn to(&self) -> VarId
+        ensures { result ≡ self.now.to }
+    {
+        self.to
+    }
+
+    /// What was drained, in order.
+    pub fn drained(&self) -> &[Envelope]
+        ensures { result.now ≡ self.now.drained }
+    {
+        self.drained.as_slice()
+    }
+
+    /// Whether it leads from one node to another.
+    pub fn leads(&self, from_node: u32, to_node: u32) -> bool
+        ensures { result ≡ leads from_node to_node self.now }
+    {
+        let (from, to) = (self.from_node, self.to_node);
+        from == from_node && to == to_node
+    }
+
+    /// Adds an envelope that has arrived.
+    pub fn receive(&mut self, envelope: Envelope) -> Result<(), NoMemory>
+        ensures same { SamePassing self.old self.new }
+        ensures arrived { OnOk result (self.new.arrived ≡ self.old.arrived ++ envelope ∷ []) }
+        ensures none { OnErr result (self.new ≡ self.old) }
+    {
+        self.arrived.push(envelope)?;
+        Ok(())
+    }
+
+    /// Takes out what was drained and what arrived; nothing is left of either.
+    pub fn take_lists(&mut self, alloc: Global) -> (Vec<Envelope>, Vec<Envelope>)
+        ensures { (result.0.items ≡ self.old.drained) × (result.1.items ≡ self.old.arrived) }
+    {
+        let drained = std::mem::replace(&mut self.drained, Vec::new(alloc));
+        let arrived = std::mem::replace(&mut self.arrived, Vec::new(alloc));
+        (drained, arrived)
+    }
+}
