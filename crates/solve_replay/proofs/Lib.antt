@@ -1,3 +1,4 @@
 mod RowLaws
 mod LineLaws
 mod ReplayLaws
+mod BeginLaws

@@ -1,7 +1,10 @@
 -- Where the certificate of a report begins.
-use Rattle.std.specs.Prelude.{ℕ, List, Option, Some, None, find, codes}
+use Rattle.std.specs.Prelude.{◌≡◌, ℕ, List, Option, Some, None, Ok, IsTrue, is_some, find, codes}
+use Rattle.problem_text.specs.File.{TextFile}
 use Rattle.problem_text.specs.PlainLines.{Plain, plain_lines}
+use Rattle.certificate_text.specs.declared.report.Report.{Report}
 use Rattle.certificate_text.specs.CertificateLine.{begins_with}
+use Rattle.certificate_text.specs.ReportReading.{report_read}
 
 -- the first word of a certificate
 abbrev pub certificate_word : List ℕ
@@ -19,3 +22,7 @@ number_of_line (Some line) = line.number
 -- the line of a report's text that begins its certificate, counted from 1
 abbrev pub certificate_line : List ℕ → ℕ
 certificate_line text = number_of_line (first_certificate (plain_lines 1 text))
+
+-- each report that was read has a line that begins its certificate
+abbrev pub CertificatesBegin : Type 0
+CertificatesBegin = (f : TextFile) (text : List ℕ) (report : Report) → report_read text f ≡ Ok report → IsTrue (is_some (first_certificate (plain_lines 1 text)))

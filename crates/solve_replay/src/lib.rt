@@ -7,7 +7,9 @@
 
 mod certificate_line;
 mod events;
+mod law;
 mod replaying;
 mod rows;
 
+pub use law::certificates_begin;
 pub use replaying::replay_answer;
