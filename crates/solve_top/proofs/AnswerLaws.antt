@@ -1,5 +1,5 @@
 -- Which answer belongs to which words and input, case by case; and what its status says of the source.
-use Rattle.std.proofs.Common.{take, drop, ◌≡◌, ◌≢◌, ℕ, ◌<◌, Bool, false, List, Option, Some, None, Result, Ok, Err, IfOk, sym, ap, subst, arith, refl, ◌∙◌}
+use Rattle.std.proofs.Common.{take, drop, ◌≡◌, ℕ, ◌<◌, Bool, List, Option, Some, None, Result, Ok, Err, IfOk, sym, ap, subst, arith, refl, ◌∙◌}
 use Rattle.dcop_edge.specs.Faults.{Rose}
 use Rattle.dcop_base.specs.Whole.{IsProblem}
 use Rattle.pseudotree.specs.declared.width.Wide.{Wide}
@@ -16,14 +16,12 @@ use Rattle.solve_words.specs.Command.{answer_to}
 use Rattle.certificate_text.specs.declared.report.Ending.{Ending}
 use Rattle.certificate_text.specs.declared.report.Ending.TheVariants as endings
 use Rattle.certificate_text.specs.declared.report.Report.{Report}
-use Rattle.certificate_text.specs.declared.verdict.Verdict.{Verdict}
-use Rattle.certificate_text.specs.declared.verdict.Verdict.TheVariants as verdicts
 use Rattle.certificate_text.specs.ReportLines.{Fault as ReportFault}
 use Rattle.certificate_text.specs.ReportReading.{report_read}
 use Rattle.solve_report.specs.declared.answer.Answer.{Answer}
 use Rattle.solve_report.specs.declared.answer.Answer.TheVariants as answers
 use Rattle.answer_edge.specs.declared.status.Status.{Status}
-use Rattle.answer_edge.specs.declared.status.Status.TheVariants.{Solved, TooWide, ReadFault, WriteFault, NoMemory as no_memory}
+use Rattle.answer_edge.specs.declared.status.Status.TheVariants.{Solved, TooWide, ReadFault}
 use Rattle.solve_top.specs.declared.task.Task.{Task}
 use Rattle.solve_top.specs.declared.task.Task.TheVariants.{File, Check, Replay}
 use Rattle.solve_top.specs.declared.task.FileTask.{FileTask}
@@ -40,7 +38,7 @@ use Rattle.solve_top.specs.Served.{task_of}
 use Rattle.solve_top.specs.Drilling.{drill_of, made_for}
 use Rattle.solve_top.specs.declared.drilling.Drill.{Drill}
 use Rattle.solve_top.specs.Solving.{Answered, HasFitTree, IsWithinLimits, IsTextFor, Accepts, AsksDrill, GoesWell}
-use Rattle.answer_edge.specs.Statuses.{status_of, status_of_ending, status_of_verdict}
+use Rattle.answer_edge.specs.Statuses.{status_of, status_of_ending}
 use Rattle.solve_methods.specs.Tree.{IsTreeAnswer}
 use Rattle.solve_words.specs.declared.command.Format.{Format}
 use Rattle.solve_words.specs.declared.command.Format.TheVariants.{Dcop as Own}
