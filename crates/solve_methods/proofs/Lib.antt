@@ -12,7 +12,7 @@ mod ScopeLaws
 mod MarkLaws
 mod AutoLaws
 mod UtilLaws
-mod NamedLaws
+pub mod NamedLaws
 mod MadeLaws
 mod CertifiedLaws
 pub mod OneLaws

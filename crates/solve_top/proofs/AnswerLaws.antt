@@ -1,5 +1,5 @@
 -- Which answer belongs to which words and input, case by case; and what its status says of the source.
-use Rattle.std.proofs.Common.{take, drop, ◌≡◌, ◌≢◌, ℕ, ◌<◌, Bool, false, List, Option, Some, None, Result, Ok, Err, IfOk, sym, ap, subst, arith, refl, ◌∙◌}
+use Rattle.std.proofs.Common.{take, drop, ◌≡◌, ℕ, ◌<◌, Bool, List, Option, Some, None, Result, Ok, Err, IfOk, sym, ap, subst, arith, refl, ◌∙◌}
 use Rattle.dcop_edge.specs.Faults.{Rose}
 use Rattle.dcop_base.specs.Whole.{IsProblem}
 use Rattle.pseudotree.specs.declared.width.Wide.{Wide}
@@ -7,7 +7,7 @@ use Rattle.pseudotree.specs.declared.width.Wide.TheVariants.{Agent, Total}
 use Rattle.dcop_base.specs.declared.memory.NoMemory.{NoMemory}
 use Rattle.problem_text.specs.Declarations.{Declared}
 use Rattle.problem_text.specs.File.{TextFile}
-use Rattle.problem_text.specs.Reading.{Fault, Parts, text_read}
+use Rattle.problem_text.specs.Reading.{Parts}
 use Rattle.problem_text.specs.Steps.{declared_by}
 use Rattle.solve_words.specs.declared.command.Command.{Command}
 use Rattle.solve_words.specs.declared.fault.WordFault.{WordFault}
@@ -16,19 +16,17 @@ use Rattle.solve_words.specs.Command.{answer_to}
 use Rattle.certificate_text.specs.declared.report.Ending.{Ending}
 use Rattle.certificate_text.specs.declared.report.Ending.TheVariants as endings
 use Rattle.certificate_text.specs.declared.report.Report.{Report}
-use Rattle.certificate_text.specs.declared.verdict.Verdict.{Verdict}
-use Rattle.certificate_text.specs.declared.verdict.Verdict.TheVariants as verdicts
 use Rattle.certificate_text.specs.ReportLines.{Fault as ReportFault}
 use Rattle.certificate_text.specs.ReportReading.{report_read}
 use Rattle.solve_report.specs.declared.answer.Answer.{Answer}
 use Rattle.solve_report.specs.declared.answer.Answer.TheVariants as answers
 use Rattle.answer_edge.specs.declared.status.Status.{Status}
-use Rattle.answer_edge.specs.declared.status.Status.TheVariants.{Solved, TooWide, ReadFault, WriteFault, NoMemory as no_memory}
+use Rattle.answer_edge.specs.declared.status.Status.TheVariants.{Solved, TooWide, ReadFault}
 use Rattle.solve_top.specs.declared.task.Task.{Task}
-use Rattle.solve_top.specs.declared.task.Task.TheVariants.{File, Check}
+use Rattle.solve_top.specs.declared.task.Task.TheVariants.{File, Check, Replay}
 use Rattle.solve_top.specs.declared.task.FileTask.{FileTask}
 use Rattle.solve_top.specs.declared.task.FileTask.TheVariants as tasks
-use Rattle.solve_top.specs.Answering.{lines_in, IsFileAnswer, IsTextAnswer, IsReportAnswer, IsTaskAnswer, IsInputAnswer, IsDrillAnswer, IsUnreadAnswer, IsServedAnswer, IsCommandAnswer, IsAnswer}
+use Rattle.solve_top.specs.Answering.{lines_in, IsUpgraded, IsFileAnswer, IsTextAnswer, IsReportAnswer, IsReplayAnswer, IsTaskAnswer, IsInputAnswer, IsDrillAnswer, IsUnreadAnswer, IsServedAnswer, IsCommandAnswer, IsAnswer}
 use Rattle.solve_methods.specs.Adopt.{IsAdoptAnswer}
 use Rattle.solve_methods.specs.Auto.{IsAutoBy, IsAutoAnswer}
 use Rattle.solve_methods.specs.Drill.{drilled}
@@ -40,13 +38,21 @@ use Rattle.solve_top.specs.Served.{task_of}
 use Rattle.solve_top.specs.Drilling.{drill_of, made_for}
 use Rattle.solve_top.specs.declared.drilling.Drill.{Drill}
 use Rattle.solve_top.specs.Solving.{Answered, HasFitTree, IsWithinLimits, IsTextFor, Accepts, AsksDrill, GoesWell}
-use Rattle.answer_edge.specs.Statuses.{status_of, status_of_ending, status_of_verdict}
+use Rattle.answer_edge.specs.Statuses.{status_of, status_of_ending}
 use Rattle.solve_methods.specs.Tree.{IsTreeAnswer}
-use Rattle.answer_edge.specs.Whole.{whole_read}
+use Rattle.solve_words.specs.declared.command.Format.{Format}
+use Rattle.solve_words.specs.declared.command.Format.TheVariants.{Dcop as Own}
+use Rattle.solve_inputs.specs.Told.{Told, told_of}
+use Rattle.solve_inputs.specs.Inputs.{input_read}
+use Rattle.solve_inputs.specs.Fronts.{front_read}
 use Rattle.solve_check.specs.Checking.{IsReadAnswer}
+use Rattle.solve_replay.specs.Replaying.{IsReplayOf, IsReadReplay}
+use Rattle.certificate_text.specs.declared.certificate.Certificate.{Certificate}
+use Rattle.certificate_text.specs.declared.certificate.Certificate.TheVariants.{Tables, Log}
 use Rattle.answer_edge.proofs.StatusLaws.{ending-told, read-alone}
+use Rattle.solve_inputs.proofs.RefusalLaws.{input_told, front_told}
 use Rattle.solve_top.proofs.SameLaws.{one_file, report_in}
-use Rattle.solve_top.proofs.PrintedLaws.{printed_solved}
+use Rattle.solve_top.proofs.PrintedLaws.{printed_solved, logged_solved}
 
 -- the answer of a task, where words ask for it
 pub IsAnswer-task : (words : List (List ℕ)) (command : Command) (task : Task) (input : Input) (answer : Answer)
@@ -159,55 +165,110 @@ adopt-status file error budget certified answers.Read is = absurd is
 adopt-status file error budget certified answers.NotYet is = absurd is
 
 -- a report of ADOPT goes well
-ending-well : (error budget : ℕ) (certified : Bool) (ending : Ending) → GoesWell (status_of_ending ending) (File (tasks.Adopt error budget certified))
-ending-well error budget certified endings.Solved = tt
-ending-well error budget certified endings.Spent = tt
+ending-well : (format : Format) (error budget : ℕ) (certified : Bool) (ending : Ending) → GoesWell (status_of_ending ending) (File format (tasks.Adopt error budget certified))
+ending-well format error budget certified endings.Solved = tt
+ending-well format error budget certified endings.Spent = tt
 
-adopt-well : (file : TextFile) (error budget : ℕ) (certified : Bool) (answer : Answer) → IsAdoptAnswer file error budget certified answer → GoesWell (status_of answer) (File (tasks.Adopt error budget certified))
-adopt-well file error budget certified answer is =
+adopt-well : (format : Format) (file : TextFile) (error budget : ℕ) (certified : Bool) (answer : Answer) → IsAdoptAnswer file error budget certified answer → GoesWell (status_of answer) (File format (tasks.Adopt error budget certified))
+adopt-well format file error budget certified answer is =
     let told = adopt-status file error budget certified answer is in
-    subst (λ (s : Status). GoesWell s (File (tasks.Adopt error budget certified))) (sym told.1) (ending-well error budget certified told.0)
+    subst (λ (s : Status). GoesWell s (File format (tasks.Adopt error budget certified))) (sym told.1) (ending-well format error budget certified told.0)
 
 -- so does one of auto
-auto-ending : (error budget : ℕ) (certified : Bool) (ending : Ending) → GoesWell (status_of_ending ending) (File (tasks.Auto error budget certified))
-auto-ending error budget certified endings.Solved = tt
-auto-ending error budget certified endings.Spent = tt
+auto-ending : (format : Format) (error budget : ℕ) (certified : Bool) (ending : Ending) → GoesWell (status_of_ending ending) (File format (tasks.Auto error budget certified))
+auto-ending format error budget certified endings.Solved = tt
+auto-ending format error budget certified endings.Spent = tt
 
 auto-status : (file : TextFile) (error budget : ℕ) (certified : Bool) (wide : Option Wide) (answer : Answer) → IsAutoBy file error budget certified wide answer → (ending : Ending) × (status_of answer ≡ status_of_ending ending)
 auto-status file error budget certified None answer is = (endings.Solved, report-solved file certified answer is)
 auto-status file error budget certified (Some wide) answer is = adopt-status file error budget certified answer is
 
-auto-well : (file : TextFile) (error budget : ℕ) (certified : Bool) (answer : Answer) → IsAutoAnswer file error budget certified answer → GoesWell (status_of answer) (File (tasks.Auto error budget certified))
-auto-well file error budget certified answer is =
+auto-well : (format : Format) (file : TextFile) (error budget : ℕ) (certified : Bool) (answer : Answer) → IsAutoAnswer file error budget certified answer → GoesWell (status_of answer) (File format (tasks.Auto error budget certified))
+auto-well format file error budget certified answer is =
     let told = auto-status file error budget certified (wide_in (problem_solved file)) answer is in
-    subst (λ (s : Status). GoesWell s (File (tasks.Auto error budget certified))) (sym told.1) (auto-ending error budget certified told.0)
+    subst (λ (s : Status). GoesWell s (File format (tasks.Auto error budget certified))) (sym told.1) (auto-ending format error budget certified told.0)
+
+-- an upgraded file is solved
+upgraded-solved : (d : Declared) (bar : Option ℕ) (answer : Answer) → IsUpgraded d bar answer → status_of answer ≡ Solved
+upgraded-solved d None (answers.Upgraded file) is = refl
+upgraded-solved d None (answers.UpgradedWcsp bar file) is = absurd is
+upgraded-solved d None (answers.Report report file) is = absurd is
+upgraded-solved d None (answers.Tree deliveries nodes names) is = absurd is
+upgraded-solved d None (answers.Verdict verdict names) is = absurd is
+upgraded-solved d None (answers.Replay events agents names) is = absurd is
+upgraded-solved d None (answers.Drill summary) is = absurd is
+upgraded-solved d None (answers.Edits optima file) is = absurd is
+upgraded-solved d None (answers.Words at kind) is = absurd is
+upgraded-solved d None (answers.ProblemText line kind problem) is = absurd is
+upgraded-solved d None (answers.WcspText line kind problem) is = absurd is
+upgraded-solved d None (answers.ReportText line kind) is = absurd is
+upgraded-solved d None (answers.EditText line kind) is = absurd is
+upgraded-solved d None (answers.Many n) is = absurd is
+upgraded-solved d None (answers.WideAgent var cells names) is = absurd is
+upgraded-solved d None (answers.WideTotal cells) is = absurd is
+upgraded-solved d None answers.Read is = absurd is
+upgraded-solved d None answers.NotYet is = absurd is
+upgraded-solved d (Some bar) (answers.UpgradedWcsp same file) is = refl
+upgraded-solved d (Some bar) (answers.Upgraded file) is = absurd is
+upgraded-solved d (Some bar) (answers.Report report file) is = absurd is
+upgraded-solved d (Some bar) (answers.Tree deliveries nodes names) is = absurd is
+upgraded-solved d (Some bar) (answers.Verdict verdict names) is = absurd is
+upgraded-solved d (Some bar) (answers.Replay events agents names) is = absurd is
+upgraded-solved d (Some bar) (answers.Drill summary) is = absurd is
+upgraded-solved d (Some bar) (answers.Edits optima file) is = absurd is
+upgraded-solved d (Some bar) (answers.Words at kind) is = absurd is
+upgraded-solved d (Some bar) (answers.ProblemText line kind problem) is = absurd is
+upgraded-solved d (Some bar) (answers.WcspText line kind problem) is = absurd is
+upgraded-solved d (Some bar) (answers.ReportText line kind) is = absurd is
+upgraded-solved d (Some bar) (answers.EditText line kind) is = absurd is
+upgraded-solved d (Some bar) (answers.Many n) is = absurd is
+upgraded-solved d (Some bar) (answers.WideAgent var cells names) is = absurd is
+upgraded-solved d (Some bar) (answers.WideTotal cells) is = absurd is
+upgraded-solved d (Some bar) answers.Read is = absurd is
+upgraded-solved d (Some bar) answers.NotYet is = absurd is
 
 -- an answer to what a text declares is no failed reading
-file-sound : (task : FileTask) (d : Declared) → ¬ IsFileAnswer task d answers.Read
-file-sound tasks.Plain d is = is
-file-sound (tasks.Dpop certified) d is = dpop-sound is.file certified (wide_in (solved is.file.goal is.file.problem)) is.is
-file-sound (tasks.Adopt error budget certified) d is = is.is
-file-sound (tasks.Auto error budget certified) d is =
+file-sound : (task : FileTask) (t : Told) → ¬ IsFileAnswer task t answers.Read
+file-sound tasks.Plain t is = is
+file-sound (tasks.Dpop certified) t is = dpop-sound is.file certified (wide_in (solved is.file.goal is.file.problem)) is.is
+file-sound (tasks.Adopt error budget certified) t is = is.is
+file-sound (tasks.Auto error budget certified) t is =
     let told = auto-status is.file error budget certified (wide_in (problem_solved is.file)) answers.Read is.is in (ending-told told.0).2 (sym told.1)
-file-sound tasks.Tree d is = is.is
-file-sound tasks.Upgrade d is = is
+file-sound tasks.Tree t is = is.is
+file-sound tasks.Upgrade t is = let s = upgraded-solved t.declared t.bar answers.Read is in cc
 
-text-sound : (task : FileTask) (read : Result Declared Fault) → ¬ IsTextAnswer task read answers.Read
-text-sound task (Ok d) is = file-sound task d is
-text-sound task (Err fault) is = cc is
+text-sound : (task : FileTask) (read : Result Told Answer) → ¬ (read ≡ Err answers.Read) → ¬ IsTextAnswer task read answers.Read
+text-sound task (Ok t) told is = file-sound task t is
+text-sound task (Err refusal) told is = told (ap Err (sym is))
 
 -- nor is the answer of `check`
 read-sound : (file : TextFile) (before : ℕ) (read : Result Report ReportFault) → ¬ IsReadAnswer file before read answers.Read
 read-sound file before (Ok report) is = is
 read-sound file before (Err fault) is = cc is
 
-report-sound : (bytes : List ℕ) (read : Result Parts Fault) → ¬ IsReportAnswer bytes read answers.Read
-report-sound bytes (Ok parts) is = read-sound is.file (lines_in (take parts.used bytes)) (report_read (drop parts.used bytes) is.file) is.is
-report-sound bytes (Err fault) is = cc is
+report-sound : (bytes : List ℕ) (read : Result Parts Answer) → ¬ (read ≡ Err answers.Read) → ¬ IsReportAnswer bytes read answers.Read
+report-sound bytes (Ok parts) told is = read-sound is.file (lines_in (take parts.used bytes)) (report_read (drop parts.used bytes) is.file) is.is
+report-sound bytes (Err refusal) told is = told (ap Err (sym is))
+
+-- nor that of `replay`
+played-sound : (file : TextFile) (before : ℕ) (text : List ℕ) (after : Option ℕ) (error : ℕ) (certificate : Option Certificate) → ¬ IsReplayOf file before text after error certificate answers.Read
+played-sound file before text after error (Some (Log log)) is = is
+played-sound file before text after error (Some (Tables utils)) is = cc is
+played-sound file before text after error None is = cc is
+
+replay-sound : (file : TextFile) (before : ℕ) (text : List ℕ) (after : Option ℕ) (read : Result Report ReportFault) → ¬ IsReadReplay file before text after read answers.Read
+replay-sound file before text after (Ok report) is = played-sound file before text after report.error report.certificate is
+replay-sound file before text after (Err fault) is = cc is
+
+behind-sound : (bytes : List ℕ) (after : Option ℕ) (read : Result Parts Answer) → ¬ (read ≡ Err answers.Read) → ¬ IsReplayAnswer bytes after read answers.Read
+behind-sound bytes after (Ok parts) told is =
+    replay-sound is.file (lines_in (take parts.used bytes)) (drop parts.used bytes) after (report_read (drop parts.used bytes) is.file) is.is
+behind-sound bytes after (Err refusal) told is = told (ap Err (sym is))
 
 task-sound : (task : Task) (bytes : List ℕ) → ¬ IsTaskAnswer task bytes answers.Read
-task-sound (File task) bytes is = text-sound task (whole_read bytes) is
-task-sound Check bytes is = report-sound bytes (text_read bytes) is
+task-sound (File format task) bytes is = text-sound task (input_read format bytes) (input_told format bytes) is
+task-sound (Check format) bytes is = report-sound bytes (front_read format bytes) (front_told format bytes) is
+task-sound (Replay format after) bytes is = behind-sound bytes after (front_read format bytes) (front_told format bytes) is
 
 -- only a broken input is answered by a failed reading
 input-sound : (task : Task) (input : Input) (answer : Answer) → IsInputAnswer task input answer → status_of answer ≡ ReadFault → input ≡ Broken
@@ -241,7 +302,7 @@ drilled-status seed answers.NotYet = refl
 unread-sound : (drill : Option Drill) (answer : Answer) → IsUnreadAnswer drill answer → status_of answer ≡ ReadFault → ⊥
 unread-sound (Some drill) answer is fault =
     let solved : status_of is.solved ≡ ReadFault = sym (drilled-status drill.seed is.solved) ∙ sym (ap status_of is.told) ∙ fault in
-    file-sound drill.task (declared_by (made_for drill)) (subst (λ (a : Answer). IsFileAnswer drill.task (declared_by (made_for drill)) a) (read-alone is.solved solved) is.is)
+    file-sound drill.task (told_of (made_for drill) None) (subst (λ (a : Answer). IsFileAnswer drill.task (told_of (made_for drill) None) a) (read-alone is.solved solved) is.is)
 unread-sound None answer is fault = let s = ap status_of is in cc
 
 served-sound : (command : Command) (task : Option Task) (input : Input) (answer : Answer) → IsServedAnswer command task input answer → status_of answer ≡ ReadFault → input ≡ Broken
@@ -286,54 +347,38 @@ solved-well : (status : Status) (task : Task) → status ≡ Solved → GoesWell
 solved-well status task is = subst (λ (s : Status). GoesWell s task) (sym is) tt
 
 -- a task on what a text declares goes well, where it is within its limits
-file-well : (task : FileTask) (d : Declared) (answer : Answer) → IsWithinLimits task d → IsFileAnswer task d answer → GoesWell (status_of answer) (File task)
-file-well tasks.Plain d (answers.Report report file) few is = solved-well (status_of_ending report.status) (File tasks.Plain) (ap status_of_ending is.2.status)
-file-well tasks.Plain d (answers.Many n) few is = absurd (omega (arith, few, is.0))
-file-well tasks.Plain d (answers.Tree deliveries nodes names) few is = absurd is
-file-well tasks.Plain d (answers.Verdict verdict names) few is = absurd is
-file-well tasks.Plain d (answers.Replay events agents names) few is = absurd is
-file-well tasks.Plain d (answers.Drill summary) few is = absurd is
-file-well tasks.Plain d (answers.Upgraded file) few is = absurd is
-file-well tasks.Plain d (answers.UpgradedWcsp bar file) few is = absurd is
-file-well tasks.Plain d (answers.Edits optima file) few is = absurd is
-file-well tasks.Plain d (answers.Words at kind) few is = absurd is
-file-well tasks.Plain d (answers.ProblemText line kind problem) few is = absurd is
-file-well tasks.Plain d (answers.WcspText line kind problem) few is = absurd is
-file-well tasks.Plain d (answers.ReportText line kind) few is = absurd is
-file-well tasks.Plain d (answers.EditText line kind) few is = absurd is
-file-well tasks.Plain d (answers.WideAgent var cells names) few is = absurd is
-file-well tasks.Plain d (answers.WideTotal cells) few is = absurd is
-file-well tasks.Plain d answers.Read few is = absurd is
-file-well tasks.Plain d answers.NotYet few is = absurd is
-file-well (tasks.Dpop certified) d answer few is =
-    solved-well (status_of answer) (File (tasks.Dpop certified)) (dpop-solved is.file certified answer (fit-none d few is.file is.whole is.declared) is.is)
-file-well (tasks.Adopt error budget certified) d answer few is = adopt-well is.file error budget certified answer is.is
-file-well (tasks.Auto error budget certified) d answer few is = auto-well is.file error budget certified answer is.is
-file-well tasks.Tree d answer few is = solved-well (status_of answer) (File tasks.Tree) (tree-solved is.file answer is.is)
-file-well tasks.Upgrade d (answers.Upgraded file) few is = tt
-file-well tasks.Upgrade d (answers.UpgradedWcsp bar file) few is = absurd is
-file-well tasks.Upgrade d (answers.Edits optima file) few is = absurd is
-file-well tasks.Upgrade d (answers.Drill summary) few is = absurd is
-file-well tasks.Upgrade d (answers.Report report file) few is = absurd is
-file-well tasks.Upgrade d (answers.Tree deliveries nodes names) few is = absurd is
-file-well tasks.Upgrade d (answers.Verdict verdict names) few is = absurd is
-file-well tasks.Upgrade d (answers.Replay events agents names) few is = absurd is
-file-well tasks.Upgrade d (answers.Words at kind) few is = absurd is
-file-well tasks.Upgrade d (answers.ProblemText line kind problem) few is = absurd is
-file-well tasks.Upgrade d (answers.WcspText line kind problem) few is = absurd is
-file-well tasks.Upgrade d (answers.ReportText line kind) few is = absurd is
-file-well tasks.Upgrade d (answers.EditText line kind) few is = absurd is
-file-well tasks.Upgrade d (answers.Many n) few is = absurd is
-file-well tasks.Upgrade d (answers.WideAgent var cells names) few is = absurd is
-file-well tasks.Upgrade d (answers.WideTotal cells) few is = absurd is
-file-well tasks.Upgrade d answers.Read few is = absurd is
-file-well tasks.Upgrade d answers.NotYet few is = absurd is
+file-well : (format : Format) (task : FileTask) (t : Told) (answer : Answer) → IsWithinLimits task t.declared → IsFileAnswer task t answer → GoesWell (status_of answer) (File format task)
+file-well format tasks.Plain t (answers.Report report file) few is = solved-well (status_of_ending report.status) (File format tasks.Plain) (ap status_of_ending is.2.status)
+file-well format tasks.Plain t (answers.Many n) few is = absurd (omega (arith, few, is.0))
+file-well format tasks.Plain t (answers.Tree deliveries nodes names) few is = absurd is
+file-well format tasks.Plain t (answers.Verdict verdict names) few is = absurd is
+file-well format tasks.Plain t (answers.Replay events agents names) few is = absurd is
+file-well format tasks.Plain t (answers.Drill summary) few is = absurd is
+file-well format tasks.Plain t (answers.Upgraded file) few is = absurd is
+file-well format tasks.Plain t (answers.UpgradedWcsp bar file) few is = absurd is
+file-well format tasks.Plain t (answers.Edits optima file) few is = absurd is
+file-well format tasks.Plain t (answers.Words at kind) few is = absurd is
+file-well format tasks.Plain t (answers.ProblemText line kind problem) few is = absurd is
+file-well format tasks.Plain t (answers.WcspText line kind problem) few is = absurd is
+file-well format tasks.Plain t (answers.ReportText line kind) few is = absurd is
+file-well format tasks.Plain t (answers.EditText line kind) few is = absurd is
+file-well format tasks.Plain t (answers.WideAgent var cells names) few is = absurd is
+file-well format tasks.Plain t (answers.WideTotal cells) few is = absurd is
+file-well format tasks.Plain t answers.Read few is = absurd is
+file-well format tasks.Plain t answers.NotYet few is = absurd is
+file-well format (tasks.Dpop certified) t answer few is =
+    solved-well (status_of answer) (File format (tasks.Dpop certified)) (dpop-solved is.file certified answer (fit-none t.declared few is.file is.whole is.declared) is.is)
+file-well format (tasks.Adopt error budget certified) t answer few is = adopt-well format is.file error budget certified answer is.is
+file-well format (tasks.Auto error budget certified) t answer few is = auto-well format is.file error budget certified answer is.is
+file-well format tasks.Tree t answer few is = solved-well (status_of answer) (File format tasks.Tree) (tree-solved is.file answer is.is)
+file-well format tasks.Upgrade t answer few is = solved-well (status_of answer) (File format tasks.Upgrade) (upgraded-solved t.declared t.bar answer is)
 
 -- so does each task on a text for it
 task-well : (task : Task) (text : List ℕ) (answer : Answer) → IsTextFor task text → IsTaskAnswer task text answer → GoesWell (status_of answer) task
-task-well (File task) text answer fits is =
-    file-well task fits.declared answer fits.within (subst (λ (r : Result Declared Fault). IsTextAnswer task r answer) fits.read is)
-task-well Check text answer fits is = solved-well (status_of answer) Check (printed_solved text answer fits is)
+task-well (File format task) text answer fits is =
+    file-well format task fits.told answer fits.within (subst (λ (r : Result Told Answer). IsTextAnswer task r answer) fits.read is)
+task-well (Check format) text answer fits is = solved-well (status_of answer) (Check format) (printed_solved format text answer fits is)
+task-well (Replay format after) text answer fits is = solved-well (status_of answer) (Replay format after) (logged_solved format after text answer fits is)
 
 -- all of a text that is told, and accepted, is read and goes well
 input-well : (text : List ℕ) (words : List (List ℕ)) (accepts : Accepts words text) (before after : SourceState) (input : Input) (answer : Answer)
@@ -361,8 +406,8 @@ drill-IsAnswer words asks input answer is =
 
 -- a drill goes well
 pub drill-well : (words : List (List ℕ)) (before after : SourceState) (answer : Answer) → Answered words before after answer → (asks : AsksDrill words)
-    → GoesWell (status_of answer) (File asks.drill.task)
+    → GoesWell (status_of answer) (File Own asks.drill.task)
 drill-well words before after answer done asks =
     let is = drill-IsAnswer words asks done.input answer done.belongs in
     let same : status_of answer ≡ status_of is.solved = ap status_of is.told ∙ drilled-status asks.drill.seed is.solved in
-    subst (λ (s : Status). GoesWell s (File asks.drill.task)) (sym same) (file-well asks.drill.task (declared_by (made_for asks.drill)) is.solved asks.within is.is)
+    subst (λ (s : Status). GoesWell s (File Own asks.drill.task)) (sym same) (file-well Own asks.drill.task (told_of (made_for asks.drill) None) is.solved asks.within is.is)

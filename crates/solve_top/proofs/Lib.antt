@@ -1,7 +1,6 @@
-mod UsedLaws
-mod PrefixLaws
 mod BlankLaws
 mod SameLaws
+mod CertificateLaws
 mod PrintedLaws
 mod AnswerLaws
 mod OneLaws

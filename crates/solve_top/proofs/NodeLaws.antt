@@ -1,5 +1,5 @@
 -- The nodes of a tree that are kept from agents, where they are wanted.
-use Rattle.std.proofs.Common.{◌≡◌, ℕ, Bool, true, false, cond, List, Option, Some, None, IfSome, is_some, refl, sym, ap, subst, ◌∙◌}
+use Rattle.std.proofs.Common.{◌≡◌, ℕ, Bool, true, false, cond, List, Option, Some, None, IfSome, is_some, sym, ap, subst}
 use Rattle.dcop_base.specs.Problem.{Dcop}
 use Rattle.pseudotree.specs.DepthFirst.{dfs}
 use Rattle.solve_report.specs.declared.tree.NodeRow.{NodeRow}

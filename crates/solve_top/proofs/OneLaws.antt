@@ -4,7 +4,6 @@ use Rattle.dcop_optimum.specs.TreeOptimum.{FirstOptimaOfTreesAreOne}
 use Rattle.pseudotree.specs.DepthFirst.{DepthFirstTreesAreLinked}
 use Rattle.pseudotree.specs.declared.width.Wide.{Wide}
 use Rattle.problem_text.specs.Declarations.{Declared}
-use Rattle.problem_text.specs.Reading.{Fault}
 use Rattle.problem_solved.specs.Goal.{problem_solved}
 use Rattle.solve_methods.specs.Auto.{AnswersAuto, IsAutoBy}
 use Rattle.solve_methods.specs.Dpop.{wide_in, AnswersDpop, IsAnswerBy}
@@ -15,39 +14,45 @@ use Rattle.solve_top.specs.Answering.{IsTextAnswer, IsInputAnswer}
 use Rattle.answer_edge.specs.Input.{Input, Unread, Broken, TooLong, Whole}
 use Rattle.solve_top.specs.Same.{AreReadAlike, AutoAnswersAreThoseOfDpop, DpopAnswersAreOne, HasFitProblem}
 use Rattle.solve_top.specs.Solving.{HasFitTree}
-use Rattle.answer_edge.specs.Whole.{whole_read}
+use Rattle.solve_words.specs.declared.command.Format.{Format}
+use Rattle.solve_inputs.specs.Told.{Told}
+use Rattle.solve_inputs.specs.Inputs.{input_read, declared_in}
 use Rattle.solve_top.proofs.AnswerLaws.{fit-none, IsAnswer-task, task-IsAnswer}
 use Rattle.solve_top.proofs.SameLaws.{one_answer}
 
 module _ (optima : FirstOptimaOfTreesAreOne) (trees : DepthFirstTreesAreLinked) (certified : Bool) where
-  one_of_text : (read : Result Declared Fault) (a b : Answer) → IsTextAnswer (tasks.Dpop certified) read a → IsTextAnswer (tasks.Dpop certified) read b → a ≡ b
-  one_of_text (Ok d) a b of_a of_b = one_answer optima trees certified d a b of_a of_b
-  one_of_text (Err fault) a b of_a of_b = of_a ∙ sym of_b
+  one_of_text : (read read' : Result Told Answer) (a b : Answer) → declared_in read ≡ declared_in read' → IsTextAnswer (tasks.Dpop certified) read a → IsTextAnswer (tasks.Dpop certified) read' b → a ≡ b
+  one_of_text (Ok t) (Ok t') a b same of_a of_b =
+      let one : t.declared ≡ t'.declared = cc in
+      one_answer optima trees certified t.declared a b of_a (subst (λ (d : Declared). AnswersDpop d certified b) (sym one) of_b)
+  one_of_text (Ok t) (Err refusal) a b same of_a of_b = absurd (cc)
+  one_of_text (Err refusal) (Ok t) a b same of_a of_b = absurd (cc)
+  one_of_text (Err refusal) (Err refusal') a b same of_a of_b = let one : refusal ≡ refusal' = cc in of_a ∙ one ∙ sym of_b
 
-  one_of_input : (input input' : Input) (a b : Answer) → AreReadAlike input input' → IsInputAnswer (File (tasks.Dpop certified)) input a → IsInputAnswer (File (tasks.Dpop certified)) input' b → a ≡ b
-  one_of_input Unread Unread a b alike of_a of_b = absurd of_a
-  one_of_input Unread Broken a b alike of_a of_b = absurd of_a
-  one_of_input Unread TooLong a b alike of_a of_b = absurd of_a
-  one_of_input Unread (Whole bytes') a b alike of_a of_b = absurd of_a
-  one_of_input Broken Unread a b alike of_a of_b = absurd of_b
-  one_of_input Broken Broken a b alike of_a of_b = of_a ∙ sym of_b
-  one_of_input Broken TooLong a b alike of_a of_b = cc alike
-  one_of_input Broken (Whole bytes') a b alike of_a of_b = cc alike
-  one_of_input TooLong Unread a b alike of_a of_b = absurd of_b
-  one_of_input TooLong Broken a b alike of_a of_b = cc alike
-  one_of_input TooLong TooLong a b alike of_a of_b = of_a ∙ sym of_b
-  one_of_input TooLong (Whole bytes') a b alike of_a of_b = cc alike
-  one_of_input (Whole bytes) Unread a b alike of_a of_b = absurd of_b
-  one_of_input (Whole bytes) Broken a b alike of_a of_b = cc alike
-  one_of_input (Whole bytes) TooLong a b alike of_a of_b = cc alike
-  one_of_input (Whole bytes) (Whole bytes') a b alike of_a of_b =
-      one_of_text (whole_read bytes) a b of_a (subst (λ (read : Result Declared Fault). IsTextAnswer (tasks.Dpop certified) read b) (sym alike) of_b)
+  module _ (format format' : Format) where
+    one_of_input : (input input' : Input) (a b : Answer) → AreReadAlike format format' input input' → IsInputAnswer (File format (tasks.Dpop certified)) input a → IsInputAnswer (File format' (tasks.Dpop certified)) input' b → a ≡ b
+    one_of_input Unread Unread a b alike of_a of_b = absurd of_a
+    one_of_input Unread Broken a b alike of_a of_b = absurd of_a
+    one_of_input Unread TooLong a b alike of_a of_b = absurd of_a
+    one_of_input Unread (Whole bytes') a b alike of_a of_b = absurd of_a
+    one_of_input Broken Unread a b alike of_a of_b = absurd of_b
+    one_of_input Broken Broken a b alike of_a of_b = of_a ∙ sym of_b
+    one_of_input Broken TooLong a b alike of_a of_b = cc alike
+    one_of_input Broken (Whole bytes') a b alike of_a of_b = cc alike
+    one_of_input TooLong Unread a b alike of_a of_b = absurd of_b
+    one_of_input TooLong Broken a b alike of_a of_b = cc alike
+    one_of_input TooLong TooLong a b alike of_a of_b = of_a ∙ sym of_b
+    one_of_input TooLong (Whole bytes') a b alike of_a of_b = cc alike
+    one_of_input (Whole bytes) Unread a b alike of_a of_b = absurd of_b
+    one_of_input (Whole bytes) Broken a b alike of_a of_b = cc alike
+    one_of_input (Whole bytes) TooLong a b alike of_a of_b = cc alike
+    one_of_input (Whole bytes) (Whole bytes') a b alike of_a of_b = one_of_text (input_read format bytes) (input_read format' bytes') a b alike of_a of_b
 
 pub dpop_answers_one : FirstOptimaOfTreesAreOne → DepthFirstTreesAreLinked → DpopAnswersAreOne
-dpop_answers_one optima trees certified words words' input input' a b asks asks' alike of_a of_b =
-    one_of_input optima trees certified input input' a b alike
-    (task-IsAnswer words asks.command (File (tasks.Dpop certified)) input a asks.asked asks.served of_a)
-    (task-IsAnswer words' asks'.command (File (tasks.Dpop certified)) input' b asks'.asked asks'.served of_b)
+dpop_answers_one optima trees format format' certified words words' input input' a b asks asks' alike of_a of_b =
+    one_of_input optima trees certified format format' input input' a b alike
+    (task-IsAnswer words asks.command (File format (tasks.Dpop certified)) input a asks.asked asks.served of_a)
+    (task-IsAnswer words' asks'.command (File format' (tasks.Dpop certified)) input' b asks'.asked asks'.served of_b)
 
 -- an answer of auto is one of DPOP where nothing is too wide
 fit-dpop : (d : Declared) (error budget : ℕ) (certified : Bool) (answer : Answer) → HasFitTree d → AnswersAuto d error budget certified answer → AnswersDpop d certified answer
@@ -61,16 +66,16 @@ fit-dpop d error budget certified answer fit is =
           (subst (λ (wide : Option Wide). IsAutoBy is.file error budget certified wide answer) none is.is);
     }
 
-auto_of_input : (error budget : ℕ) (certified : Bool) (input : Input) (answer : Answer) → HasFitProblem input → IsInputAnswer (File (tasks.Auto error budget certified)) input answer → IsInputAnswer (File (tasks.Dpop certified)) input answer
-auto_of_input error budget certified Unread answer fit is = absurd fit
-auto_of_input error budget certified Broken answer fit is = absurd fit
-auto_of_input error budget certified TooLong answer fit is = absurd fit
-auto_of_input error budget certified (Whole bytes) answer fit is =
-    subst (λ (read : Result Declared Fault). IsTextAnswer (tasks.Dpop certified) read answer) (sym fit.1)
-    (fit-dpop fit.0 error budget certified answer fit.2 (subst (λ (read : Result Declared Fault). IsTextAnswer (tasks.Auto error budget certified) read answer) fit.1 is))
+auto_of_input : (format : Format) (error budget : ℕ) (certified : Bool) (input : Input) (answer : Answer) → HasFitProblem format input → IsInputAnswer (File format (tasks.Auto error budget certified)) input answer → IsInputAnswer (File format (tasks.Dpop certified)) input answer
+auto_of_input format error budget certified Unread answer fit is = absurd fit
+auto_of_input format error budget certified Broken answer fit is = absurd fit
+auto_of_input format error budget certified TooLong answer fit is = absurd fit
+auto_of_input format error budget certified (Whole bytes) answer fit is =
+    subst (λ (read : Result Told Answer). IsTextAnswer (tasks.Dpop certified) read answer) (sym fit.1)
+    (fit-dpop fit.0.declared error budget certified answer fit.2 (subst (λ (read : Result Told Answer). IsTextAnswer (tasks.Auto error budget certified) read answer) fit.1 is))
 
 pub auto_answers_dpop : AutoAnswersAreThoseOfDpop
-auto_answers_dpop certified words words' input answer asks asks' fit is =
-    IsAnswer-task words' asks'.command (File (tasks.Dpop certified)) input answer asks'.asked asks'.served
-    (auto_of_input asks.error asks.budget certified input answer fit
-    (task-IsAnswer words asks.command (File (tasks.Auto asks.error asks.budget certified)) input answer asks.asked asks.served is))
+auto_answers_dpop format certified words words' input answer asks asks' fit is =
+    IsAnswer-task words' asks'.command (File format (tasks.Dpop certified)) input answer asks'.asked asks'.served
+    (auto_of_input format asks.error asks.budget certified input answer fit
+    (task-IsAnswer words asks.command (File format (tasks.Auto asks.error asks.budget certified)) input answer asks.asked asks.served is))

@@ -8,6 +8,7 @@ use Rattle.answer_edge.specs.Input.{SourceState}
 use Rattle.answer_edge.specs.Output.{SinkState}
 use Rattle.answer_edge.specs.Showing.{Shows}
 use Rattle.answer_edge.proofs.ShowLaws as shows
+use Rattle.solve_words.specs.declared.command.Format.TheVariants.{Dcop as Own}
 use Rattle.solve_top.specs.declared.task.Task.TheVariants.{File}
 use Rattle.solve_top.specs.Solving.{GoesWell, Answered, Accepts, AsksDrill, Solves}
 use Rattle.solve_top.proofs.AnswerLaws.{Rose-answered, ReadFault-answered, well-answered, drill-well}
@@ -43,7 +44,7 @@ complete-so words source source' answer answered sink sink' faults faults' statu
 
 pub drill-so : (words : List (List ℕ)) (source source' : SourceState) (answer : Answer) → Answered words source source' answer
     → (sink sink' : SinkState) (faults faults' : ℕ) (status : Status) → Shows answer sink sink' faults faults' status
-    → (asks : AsksDrill words) → ¬ Rose faults faults' → GoesWell status (File asks.drill.task)
+    → (asks : AsksDrill words) → ¬ Rose faults faults' → GoesWell status (File Own asks.drill.task)
 drill-so words source source' answer answered sink sink' faults faults' status shown asks quiet =
-    shows.status-so (λ (s : Status). GoesWell s (File asks.drill.task)) answer sink sink' faults faults' status shown quiet tt
+    shows.status-so (λ (s : Status). GoesWell s (File Own asks.drill.task)) answer sink sink' faults faults' status shown quiet tt
     (drill-well words source source' answer answered asks)

@@ -4,7 +4,7 @@ use Rattle.dcop_base.specs.Table.{product}
 use Rattle.dcop_base.specs.Limits.{assignment_limit}
 use Rattle.problem_text.specs.Declarations.{Declared}
 use Rattle.problem_text.specs.Bytes.{line_feed}
-use Rattle.problem_text.specs.Reading.{Fault, Parts, text_read}
+use Rattle.problem_text.specs.Reading.{Parts}
 use Rattle.problem_text.specs.Steps.{declared_by}
 use Rattle.solve_words.specs.declared.command.Command.{Command}
 use Rattle.solve_words.specs.declared.fault.WordFault.{WordFault}
@@ -13,7 +13,7 @@ use Rattle.solve_words.specs.Command.{answer_to}
 use Rattle.solve_report.specs.declared.answer.Answer.{Answer}
 use Rattle.solve_report.specs.declared.answer.Answer.TheVariants as answers
 use Rattle.solve_top.specs.declared.task.Task.{Task}
-use Rattle.solve_top.specs.declared.task.Task.TheVariants.{File, Check}
+use Rattle.solve_top.specs.declared.task.Task.TheVariants.{File, Check, Replay}
 use Rattle.solve_top.specs.declared.task.FileTask.{FileTask}
 use Rattle.solve_top.specs.declared.task.FileTask.TheVariants as tasks
 use Rattle.solve_methods.specs.Adopt.{AnswersAdopt}
@@ -21,7 +21,9 @@ use Rattle.solve_methods.specs.Auto.{AnswersAuto}
 use Rattle.solve_methods.specs.Drill.{drilled}
 use Rattle.solve_methods.specs.Dpop.{AnswersDpop}
 use Rattle.answer_edge.specs.Input.{Input, Unread, Broken, TooLong, Whole}
-use Rattle.answer_edge.specs.Showing.{refused_by}
+use Rattle.solve_inputs.specs.Told.{Told, told_of}
+use Rattle.solve_inputs.specs.Inputs.{input_read}
+use Rattle.solve_inputs.specs.Fronts.{front_read}
 use Rattle.solve_words.specs.Kinds.{number_of_words}
 use Rattle.solve_methods.specs.Plain.{IsPlainReport, HasFirstOptimum, IsTooMany}
 use Rattle.solve_top.specs.Served.{task_of}
@@ -29,38 +31,50 @@ use Rattle.solve_top.specs.Drilling.{drill_of, made_for}
 use Rattle.solve_top.specs.declared.drilling.Drill.{Drill}
 use Rattle.solve_methods.specs.Tree.{AnswersTree}
 use Rattle.solve_check.specs.Checking.{AnswersCheck}
-use Rattle.answer_edge.specs.Whole.{whole_read}
+use Rattle.solve_replay.specs.Replaying.{AnswersReplay}
+
+-- the answer of `upgrade` to what is told: the file in version 2, with the bar of a WCSP text
+abbrev pub IsUpgraded : Declared → Option ℕ → Answer → Type 0
+IsUpgraded d None (answers.Upgraded file) = declared_by file ≡ record d { version = 2 }
+IsUpgraded d (Some bar) (answers.UpgradedWcsp same file) = (same ≡ bar) × (declared_by file ≡ record d { version = 2 })
+IsUpgraded d bar answer = ⊥
 
 -- the answer to a task on a text that declares this: plain has at most assignment_limit assignments to try
-abbrev pub IsFileAnswer : FileTask → Declared → Answer → Type 0
-IsFileAnswer tasks.Plain d (answers.Report report file) =
-    (product d.sizes ≤ assignment_limit) × (declared_by file ≡ d) × IsPlainReport file report × HasFirstOptimum file report
-IsFileAnswer tasks.Plain d (answers.Many assignments) = IsTooMany (product d.sizes) assignments
-IsFileAnswer (tasks.Dpop certified) d answer = AnswersDpop d certified answer
-IsFileAnswer (tasks.Adopt error budget certified) d answer = AnswersAdopt d error budget certified answer
-IsFileAnswer (tasks.Auto error budget certified) d answer = AnswersAuto d error budget certified answer
-IsFileAnswer tasks.Tree d answer = AnswersTree d answer
-IsFileAnswer tasks.Upgrade d (answers.Upgraded file) = declared_by file ≡ record d { version = 2 }
-IsFileAnswer task d answer = ⊥
+abbrev pub IsFileAnswer : FileTask → Told → Answer → Type 0
+IsFileAnswer tasks.Plain t (answers.Report report file) =
+    (product t.declared.sizes ≤ assignment_limit) × (declared_by file ≡ t.declared) × IsPlainReport file report × HasFirstOptimum file report
+IsFileAnswer tasks.Plain t (answers.Many assignments) = IsTooMany (product t.declared.sizes) assignments
+IsFileAnswer (tasks.Dpop certified) t answer = AnswersDpop t.declared certified answer
+IsFileAnswer (tasks.Adopt error budget certified) t answer = AnswersAdopt t.declared error budget certified answer
+IsFileAnswer (tasks.Auto error budget certified) t answer = AnswersAuto t.declared error budget certified answer
+IsFileAnswer tasks.Tree t answer = AnswersTree t.declared answer
+IsFileAnswer tasks.Upgrade t answer = IsUpgraded t.declared t.bar answer
+IsFileAnswer task t answer = ⊥
 
--- the answer to a task on a text that is read as this
-abbrev pub IsTextAnswer : FileTask → Result Declared Fault → Answer → Type 0
-IsTextAnswer task (Ok declared) answer = IsFileAnswer task declared answer
-IsTextAnswer task (Err fault) answer = answer ≡ refused_by fault
+-- the answer to a task on an input that is read as this
+abbrev pub IsTextAnswer : FileTask → Result Told Answer → Answer → Type 0
+IsTextAnswer task (Ok told) answer = IsFileAnswer task told answer
+IsTextAnswer task (Err refusal) answer = answer ≡ refusal
 
 -- how many lines end in a text
 abbrev pub lines_in : List ℕ → ℕ
 lines_in bytes = count_by (λ b. b == line_feed) bytes
 
--- the answer of `check` on a text whose problem is read as this: what comes of the report behind the problem's line `end`
-abbrev pub IsReportAnswer : List ℕ → Result Parts Fault → Answer → Type 0
+-- the answer of `check` on an input whose problem is read as this: what comes of the report behind the problem's last line
+abbrev pub IsReportAnswer : List ℕ → Result Parts Answer → Answer → Type 0
 IsReportAnswer bytes (Ok parts) answer = AnswersCheck parts.declared (lines_in (take parts.used bytes)) (drop parts.used bytes) answer
-IsReportAnswer bytes (Err fault) answer = answer ≡ refused_by fault
+IsReportAnswer bytes (Err refusal) answer = answer ≡ refusal
 
--- the answer to a task on a text: `check` reads a problem and the report behind it, every other task a problem to the text's last line
+-- the answer of `replay` on an input whose problem is read as this: what comes of the first events of the log of the report behind the problem's last line
+abbrev pub IsReplayAnswer : List ℕ → Option ℕ → Result Parts Answer → Answer → Type 0
+IsReplayAnswer bytes after (Ok parts) answer = AnswersReplay parts.declared (lines_in (take parts.used bytes)) (drop parts.used bytes) after answer
+IsReplayAnswer bytes after (Err refusal) answer = answer ≡ refusal
+
+-- the answer to a task on a text, by the format of its problem: `check` and `replay` read a problem and the report behind it, every other task a problem behind which no further word stands
 abbrev pub IsTaskAnswer : Task → List ℕ → Answer → Type 0
-IsTaskAnswer (File task) bytes answer = IsTextAnswer task (whole_read bytes) answer
-IsTaskAnswer Check bytes answer = IsReportAnswer bytes (text_read bytes) answer
+IsTaskAnswer (File format task) bytes answer = IsTextAnswer task (input_read format bytes) answer
+IsTaskAnswer (Check format) bytes answer = IsReportAnswer bytes (front_read format bytes) answer
+IsTaskAnswer (Replay format after) bytes answer = IsReplayAnswer bytes after (front_read format bytes) answer
 
 -- the answer to a task on an input
 abbrev pub IsInputAnswer : Task → Input → Answer → Type 0
@@ -72,7 +86,7 @@ IsInputAnswer task (Whole bytes) answer = IsTaskAnswer task bytes answer
 -- the answer to a drill: what it tells of an answer of `solve` on the file that is made for it
 pub record IsDrillAnswer (drill : Drill) (answer : Answer) : Type 0 where
   pub solved : Answer
-  pub is : IsFileAnswer drill.task (declared_by (made_for drill)) solved
+  pub is : IsFileAnswer drill.task (told_of (made_for drill) None) solved
   pub told : answer ≡ drilled drill.seed solved
 
 -- the answer to a command for which nothing is read: a drill, or one that is not served yet

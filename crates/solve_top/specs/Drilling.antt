@@ -7,7 +7,7 @@ use Rattle.problem_text.specs.Numbered.{numbered_file}
 use Rattle.solve_words.specs.declared.command.Command.{Command}
 use Rattle.solve_words.specs.declared.command.Command.TheVariants as commands
 use Rattle.solve_words.specs.declared.command.Format.TheVariants.{Dcop as Own}
-use Rattle.solve_top.specs.Served.{task_of, IsTaskInRange}
+use Rattle.solve_top.specs.Served.{task_of, IsFileTaskInRange}
 use Rattle.solve_top.specs.declared.drilling.Drill.{Drill}
 use Rattle.solve_top.specs.declared.task.Task.{Task}
 use Rattle.solve_top.specs.declared.task.Task.TheVariants.{File}
@@ -18,7 +18,7 @@ made_for drill = numbered_file (made_problem drill.seed drill.vars drill.size dr
 
 -- a drill by these numbers, where this is asked on the file that is made
 abbrev pub drill_by : ℕ → ℕ → ℕ → ℕ → ℕ → Option Task → Option Drill
-drill_by seed vars size degree top (Some (File task)) =
+drill_by seed vars size degree top (Some (File format task)) =
     Some (record { seed = seed; vars = vars; size = size; degree = degree; top = top; task = task })
 drill_by seed vars size degree top _ = None
 
@@ -30,4 +30,4 @@ drill_of _ = None
 
 -- a drill for which a problem can be made, and whose task is in its range
 abbrev pub IsDrillInRange : Drill → Type 0
-IsDrillInRange drill = CanMake drill.vars drill.size drill.degree drill.top × IsTaskInRange (File drill.task)
+IsDrillInRange drill = CanMake drill.vars drill.size drill.degree drill.top × IsFileTaskInRange drill.task

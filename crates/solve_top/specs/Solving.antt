@@ -1,37 +1,45 @@
 -- What a top call does: it answers, and shows its answer.
-use Rattle.std.specs.Prelude.{◌≡◌, ℕ, ◌≤◌, ◌⊎◌, true, List, [], ◌∷◌, ◌++◌, length, drop, Some, None, Ok}
+use Rattle.std.specs.Prelude.{◌≡◌, ℕ, ◌≤◌, ◌⊎◌, List, [], ◌∷◌, ◌++◌, length, drop, Option, Some, None, Ok, IsTrue, is_some}
+use Rattle.std.specs.List.{All}
 use Rattle.dcop_base.specs.Table.{product}
 use Rattle.dcop_base.specs.Whole.{IsProblem}
-use Rattle.dcop_base.specs.Limits.{assignment_limit, input_limit}
+use Rattle.dcop_base.specs.Limits.{amount_limit, assignment_limit, input_limit}
 use Rattle.problem_text.specs.Declarations.{Declared}
-use Rattle.problem_text.specs.File.{TextFile, IsFile}
+use Rattle.problem_text.specs.File.{TextFile}
 use Rattle.problem_text.specs.Steps.{declared_by}
 use Rattle.problem_text.specs.Bytes.{line_feed}
 use Rattle.problem_text.specs.PlainLines.{plain_lines}
-use Rattle.problem_text.specs.Reading.{Parts, text_read}
+use Rattle.problem_text.specs.Reading.{Parts}
+use Rattle.run_log.specs.declared.log.LogEvent.{LogEvent}
+use Rattle.run_log.specs.EventLine.{take_limit}
+use Rattle.certificate_text.specs.declared.certificate.Certificate.{Certificate}
+use Rattle.certificate_text.specs.declared.certificate.Certificate.TheVariants.{Log}
 use Rattle.certificate_text.specs.declared.report.Report.{Report}
 use Rattle.certificate_text.specs.ReportText.{report_text}
 use Rattle.solve_report.specs.declared.answer.Answer.TheVariants as answers
 use Rattle.solve_words.specs.declared.command.Command.{Command}
+use Rattle.solve_words.specs.declared.command.Format.{Format}
 use Rattle.solve_words.specs.Command.{answer_to}
 use Rattle.solve_report.specs.declared.answer.Answer.{Answer}
 use Rattle.answer_edge.specs.declared.status.Status.{Status}
 use Rattle.answer_edge.specs.declared.status.Status.TheVariants as statuses
 use Rattle.solve_top.specs.declared.task.Task.{Task}
-use Rattle.solve_top.specs.declared.task.Task.TheVariants.{File, Check}
+use Rattle.solve_top.specs.declared.task.Task.TheVariants.{File, Check, Replay}
 use Rattle.solve_top.specs.declared.task.FileTask.{FileTask}
 use Rattle.solve_top.specs.declared.task.FileTask.TheVariants as tasks
-use Rattle.solve_top.specs.Answering.{IsAnswer}
-use Rattle.solve_methods.specs.Dpop.{wide_in, AnswersDpop}
+use Rattle.solve_top.specs.Answering.{IsAnswer, IsFileAnswer}
+use Rattle.solve_methods.specs.Dpop.{wide_in}
 use Rattle.problem_solved.specs.Goal.{solved}
 use Rattle.solve_methods.specs.Goal.{TellsRight}
 use Rattle.answer_edge.specs.Input.{Input, SourceState, IsReadFrom}
 use Rattle.answer_edge.specs.Output.{SinkState}
 use Rattle.answer_edge.specs.Showing.{IsShown, IsCut}
-use Rattle.solve_top.specs.Served.{task_of}
+use Rattle.solve_top.specs.Served.{task_of, IsFileTaskInRange}
 use Rattle.solve_top.specs.Drilling.{drill_of, made_for}
 use Rattle.solve_top.specs.declared.drilling.Drill.{Drill}
-use Rattle.answer_edge.specs.Whole.{whole_read}
+use Rattle.solve_inputs.specs.Told.{Told}
+use Rattle.solve_inputs.specs.Inputs.{input_read}
+use Rattle.solve_inputs.specs.Fronts.{front_read}
 
 -- an answer to words, with what was read for it of a source that stood so before and stands so afterwards
 pub record Answered (words : List (List ℕ)) (before after : SourceState) (answer : Answer) : Type 0 where
@@ -62,30 +70,49 @@ IsWithinLimits (tasks.Auto error budget certified) d = Unit {0}
 IsWithinLimits tasks.Tree d = Unit {0}
 IsWithinLimits tasks.Upgrade d = Unit {0}
 
--- a text that is read whole as a problem that is within the limits of a task
-pub record IsProblemFor (task : FileTask) (text : List ℕ) : Type 0 where
-  pub declared : Declared
-  pub read : whole_read text ≡ Ok declared
-  pub within : IsWithinLimits task declared
+-- a text of this format that is read whole as a problem that is within the limits of a task
+pub record IsProblemFor (format : Format) (task : FileTask) (text : List ℕ) : Type 0 where
+  pub told : Told
+  pub read : input_read format text ≡ Ok told
+  pub within : IsWithinLimits task told.declared
 
--- the text of a problem, behind whose line `end` no line has words, also where comments are words; and behind it the report that DPOP prints for it with a certificate
-pub record IsPrintedFor (text : List ℕ) : Type 0 where
+-- an event of a log whose stamp and counts can be read again
+abbrev pub IsReadableEvent : LogEvent → Type 0
+IsReadableEvent e = (e.stamp ≤ amount_limit) × All (λ t. t.count ≤ take_limit) e.takes
+
+-- the numbers that a report with this certificate prints can be read again: those of a report of DPOP always can, and those of a report with a log where its deliveries and stamps are at most amount_limit and its counts at most take_limit
+abbrev pub IsReadable : Report → Option Certificate → Type 0
+IsReadable report (Some (Log log)) = (report.deliveries ≤ amount_limit) × All IsReadableEvent log
+IsReadable report certificate = Unit {0}
+
+-- the text of a problem in this format, behind whose last line no line has words, also where comments are words; and behind it a report that some method prints for it with a certificate
+pub record IsPrintedFor (format : Format) (text : List ℕ) : Type 0 where
   pub problem : List ℕ
   pub parts : Parts
-  pub read : text_read problem ≡ Ok parts
+  pub read : front_read format problem ≡ Ok parts
   pub rest : plain_lines 1 (drop parts.used problem) ≡ []
   pub before : List ℕ
   pub line : problem ≡ before ++ line_feed ∷ []
   pub file : TextFile
-  pub is_file : IsFile file
   pub report : Report
-  pub printed : AnswersDpop parts.declared true (answers.Report report file)
+  pub task : FileTask
+  pub range : IsFileTaskInRange task
+  pub printed : IsFileAnswer task (record { declared = parts.declared; bar = None }) (answers.Report report file)
+  pub certified : IsTrue (is_some report.certificate)
+  pub readable : IsReadable report report.certificate
   pub behind : text ≡ problem ++ report_text report file
 
--- a text on which a task is served: a problem within its limits, or for `check` a problem and the report that was printed for it
+-- the same, where the certificate is a log
+pub record IsLoggedFor (format : Format) (text : List ℕ) : Type 0 where
+  pub printed : IsPrintedFor format text
+  pub log : List LogEvent
+  pub is : printed.report.certificate ≡ Some (Log log)
+
+-- a text on which a task is served: a problem within its limits, or for `check` a problem and the report that was printed for it, and for `replay` one with a log
 abbrev pub IsTextFor : Task → List ℕ → Type 0
-IsTextFor (File task) text = IsProblemFor task text
-IsTextFor Check text = IsPrintedFor text
+IsTextFor (File format task) text = IsProblemFor format task text
+IsTextFor (Check format) text = IsPrintedFor format text
+IsTextFor (Replay format after) text = IsLoggedFor format text
 
 -- words and a text that are accepted, and that can be served
 pub record Accepts (words : List (List ℕ)) (text : List ℕ) : Type 0 where
@@ -109,6 +136,6 @@ pub record AsksDrill (words : List (List ℕ)) : Type 0 where
 abbrev pub GoesWell : Status → Task → Type 0
 GoesWell statuses.Solved task = Unit {0}
 GoesWell statuses.NoMemory task = Unit {0}
-GoesWell statuses.Spent (File (tasks.Adopt error budget certified)) = Unit {0}
-GoesWell statuses.Spent (File (tasks.Auto error budget certified)) = Unit {0}
+GoesWell statuses.Spent (File format (tasks.Adopt error budget certified)) = Unit {0}
+GoesWell statuses.Spent (File format (tasks.Auto error budget certified)) = Unit {0}
 GoesWell status task = ⊥

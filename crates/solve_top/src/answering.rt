@@ -3,30 +3,33 @@
 ghost use Rattle.std.specs.Prelude.{◌≡◌, ◌≤◌, length, map, IfOk, string_bytes};
 ghost use Rattle.dcop_base.specs.Limits.{input_limit};
 ghost use Rattle.solve_report.specs.AnswerText.{HasText};
-ghost use Rattle.problem_text.specs.Reading.{text_read};
 ghost use Rattle.problem_text.specs.Steps.{declared_by};
 ghost use Rattle.solve_methods.specs.Goal.{TellsRight};
 ghost use Rattle.answer_edge.specs.Input.{source_state};
-ghost use Rattle.solve_top.specs.Answering.{IsFileAnswer, IsTextAnswer, IsReportAnswer, IsTaskAnswer, lines_in};
-ghost use Rattle.solve_top.specs.Served.{IsTaskInRange};
+ghost use Rattle.solve_top.specs.Answering.{IsFileAnswer, IsTextAnswer, IsReportAnswer, IsTaskAnswer, IsUpgraded, lines_in};
+ghost use Rattle.solve_top.specs.Served.{IsTaskInRange, IsFileTaskInRange};
 ghost use Rattle.solve_top.specs.Solving.{Answered};
-ghost use Rattle.answer_edge.specs.Whole.{whole_read};
+ghost use Rattle.solve_inputs.specs.Told.{told_of};
+ghost use Rattle.solve_inputs.specs.Inputs.{input_read};
+ghost use Rattle.solve_inputs.specs.Fronts.{front_read};
 
 use crate::agents::by_search;
 use crate::choosing::by_dpop;
 use crate::crew::Crew;
 use crate::drilling::unread_answer;
 use crate::reaching::by_adopt;
+use crate::replaying::replay_behind;
 use crate::settling::by_auto;
 use crate::task::{FileTask, Task, workers_of};
-use answer_edge::{MAX_INPUT, ReadEnd, fault_answer, read_all, read_whole, words_answer};
+use answer_edge::{MAX_INPUT, ReadEnd, fault_answer, read_all, words_answer};
 use dcop_base::NoMemory;
 use dcop_edge::{Gate, Source};
-use problem_text::{ProblemFile, TextFault, TextKind, read_problem};
+use problem_text::{ProblemFile, TextKind};
 use solve_check::check_answer;
+use solve_inputs::{InputFault, ReadInput, read_front, read_input, wcsp_answer};
 use solve_methods::{Asked, plain_answer};
 use solve_report::Answer;
-use solve_words::{WordFault, WordKind, read_words};
+use solve_words::{Format, WordFault, WordKind, read_words};
 use std::alloc::Global;
 use std::thread::Threads;
 
@@ -76,8 +79,9 @@ fn task_answer<R: Threads + Sync, G: Gate>(
     ensures told { IfOk result HasText }
 {
     match task {
-        Task::File(task) => text_answer(crew, alloc, task, bytes),
-        Task::Check => report_answer(alloc, bytes),
+        Task::File { format, task } => text_answer(crew, alloc, format, task, bytes),
+        Task::Check { format } => report_answer(alloc, format, bytes),
+        Task::Replay { format, after } => replay_behind(alloc, format, after, bytes),
     }
 }
 
@@ -85,33 +89,36 @@ fn task_answer<R: Threads + Sync, G: Gate>(
 fn text_answer<R: Threads + Sync, G: Gate>(
     crew: &Crew<R, G>,
     alloc: Global,
+    format: Format,
     task: FileTask,
     bytes: &[u8],
 ) -> Result<Answer, NoMemory>
-    requires range { IsTaskInRange (Task.File task) }
-    ensures belongs { IfOk result (IsTextAnswer task (whole_read bytes.now)) }
+    requires range { IsFileTaskInRange task }
+    ensures belongs { IfOk result (IsTextAnswer task (input_read format bytes.now)) }
     ensures right { IfOk result TellsRight }
     ensures told { IfOk result HasText }
 {
-    match read_whole(alloc, bytes) {
-        Ok(file) => file_answer(crew, alloc, task, file),
-        Err(TextFault::Bad { line, kind }) => Ok(fault_answer(line, kind)),
-        Err(TextFault::NoMemory) => Err(NoMemory),
+    match read_input(alloc, format, bytes) {
+        Ok(read) => file_answer(crew, alloc, task, read),
+        Err(InputFault::Text { line, kind }) => Ok(fault_answer(line, kind)),
+        Err(InputFault::Wcsp { line, kind }) => Ok(wcsp_answer(line, kind)),
+        Err(InputFault::NoMemory) => Err(NoMemory),
     }
 }
 
-/// The answer to a task on a file.
+/// The answer to a task on a file, with the bar of a WCSP text.
 pub(crate) fn file_answer<R: Threads + Sync, G: Gate>(
     crew: &Crew<R, G>,
     alloc: Global,
     task: FileTask,
-    file: ProblemFile,
+    read: ReadInput,
 ) -> Result<Answer, NoMemory>
-    requires range { IsTaskInRange (Task.File task) }
-    ensures belongs { IfOk result (IsFileAnswer task (declared_by file)) }
+    requires range { IsFileTaskInRange task }
+    ensures belongs { IfOk result (IsFileAnswer task (told_of read.file read.bar)) }
     ensures right { IfOk result TellsRight }
     ensures told { IfOk result HasText }
 {
+    let ReadInput { file, bar } = read;
     match task {
         FileTask::Plain => plain_answer(alloc, file),
         FileTask::Dpop { certified } => by_dpop(crew, alloc, file, certified),
@@ -140,31 +147,43 @@ pub(crate) fn file_answer<R: Threads + Sync, G: Gate>(
             by_auto(crew, alloc, file, asked)
         }
         FileTask::Tree => by_search(crew, alloc, file),
-        FileTask::Upgrade => Ok(Answer::Upgraded {
-            file: upgraded(file),
-        }),
+        FileTask::Upgrade => Ok(upgrade_answer(file, bar)),
+    }
+}
+
+/// The answer of `upgrade` on a file, with the bar of a WCSP text.
+fn upgrade_answer(file: ProblemFile, bar: Option<u64>) -> Answer
+    ensures belongs { IsUpgraded (declared_by file) bar result }
+    ensures right { TellsRight result }
+    ensures told { HasText result }
+{
+    let file = upgraded(file);
+    match bar {
+        None => Answer::Upgraded { file },
+        Some(bar) => Answer::UpgradedWcsp { bar, file },
     }
 }
 
 /// The answer of `check` on a text: what comes of the report that stands behind a problem.
-fn report_answer(alloc: Global, bytes: &[u8]) -> Result<Answer, NoMemory>
+fn report_answer(alloc: Global, format: Format, bytes: &[u8]) -> Result<Answer, NoMemory>
     requires short { length bytes.now ≤ input_limit }
-    ensures belongs { IfOk result (IsReportAnswer bytes.now (text_read bytes.now)) }
+    ensures belongs { IfOk result (IsReportAnswer bytes.now (front_read format bytes.now)) }
     ensures right { IfOk result TellsRight }
     ensures told { IfOk result HasText }
 {
-    match read_problem(alloc, bytes) {
+    match read_front(alloc, format, bytes) {
         Ok(read) => {
             let (before, text) = bytes.split_at(read.used);
             check_answer(alloc, read.file, text, lines_in(before))
         }
-        Err(TextFault::Bad { line, kind }) => Ok(fault_answer(line, kind)),
-        Err(TextFault::NoMemory) => Err(NoMemory),
+        Err(InputFault::Text { line, kind }) => Ok(fault_answer(line, kind)),
+        Err(InputFault::Wcsp { line, kind }) => Ok(wcsp_answer(line, kind)),
+        Err(InputFault::NoMemory) => Err(NoMemory),
     }
 }
 
 /// How many lines end in a text.
-fn lines_in(text: &[u8]) -> u64
+pub(crate) fn lines_in(text: &[u8]) -> u64
     ensures { result ≡ lines_in text.now }
 {
     text.iter().filter(|byte| **byte == b'\n').count() as u64

@@ -13,6 +13,7 @@ use crate::task::{FileTask, Task};
 use dcop_base::NoMemory;
 use dcop_edge::Gate;
 use instance_make::make_problem;
+use solve_inputs::ReadInput;
 use solve_methods::drill_answer;
 use solve_report::Answer;
 use solve_words::{Command, Format};
@@ -71,7 +72,7 @@ impl Drill {
             cells,
         };
         match Task::of(&solve) {
-            Some(Task::File(task)) => Some(Drill {
+            Some(Task::File { task, .. }) => Some(Drill {
                 seed,
                 vars,
                 size,
@@ -122,6 +123,6 @@ fn made_answer<R: Threads + Sync, G: Gate>(
         task,
     } = drill;
     let file = make_problem(alloc, seed, vars, size, degree, top)?;
-    let solved = file_answer(crew, alloc, task, file)?;
+    let solved = file_answer(crew, alloc, task, ReadInput { file, bar: None })?;
     Ok(drill_answer(seed, solved))
 }

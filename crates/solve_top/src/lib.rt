@@ -13,6 +13,7 @@ mod drilling;
 mod law;
 mod logging;
 mod reaching;
+mod replaying;
 mod settling;
 mod task;
 mod top;

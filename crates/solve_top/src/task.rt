@@ -9,10 +9,12 @@ use solve_words::{Choice, Command, Format};
 /// What a served command asks for.
 #[derive(Clone, Copy, Debug, PartialEq, Eq)]
 pub enum Task {
-    /// An answer on the file of a problem.
-    File(FileTask),
-    /// Check the report that stands behind a problem.
-    Check,
+    /// An answer on the file of a problem that is given in this format.
+    File { format: Format, task: FileTask },
+    /// Check the report that stands behind a problem in this format.
+    Check { format: Format },
+    /// Play so many events of the log of such a report again, or all.
+    Replay { format: Format, after: Option<u64> },
 }
 
 /// What is asked on the file of a problem.
@@ -50,59 +52,64 @@ impl Task {
         ensures same { result ≡ task_of command.now }
         ensures range { IfSome result IsTaskInRange }
     {
-        match command {
+        match *command {
             Command::Solve {
                 method: Choice::Plain,
-                format: Format::Dcop,
+                format,
                 ..
-            } => Some(Task::File(FileTask::Plain)),
+            } => Some(Task::on_file(format, FileTask::Plain)),
             Command::Solve {
                 method: Choice::Dpop,
                 nodes: 1,
-                certificate,
-                format: Format::Dcop,
+                certificate: certified,
+                format,
                 ..
-            } => Some(Task::File(FileTask::Dpop {
-                certified: *certificate,
-            })),
+            } => Some(Task::on_file(format, FileTask::Dpop { certified })),
             Command::Solve {
                 method: Choice::Adopt,
                 error,
                 budget,
                 nodes: 1,
-                certificate,
-                format: Format::Dcop,
+                certificate: certified,
+                format,
                 ..
-            } => Some(Task::File(FileTask::Adopt {
-                error: *error,
-                budget: *budget,
-                certified: *certificate,
-            })),
+            } => Some(Task::on_file(
+                format,
+                FileTask::Adopt {
+                    error,
+                    budget,
+                    certified,
+                },
+            )),
             Command::Solve {
                 method: Choice::Auto,
                 error,
                 budget,
                 nodes: 1,
-                certificate,
-                format: Format::Dcop,
+                certificate: certified,
+                format,
                 ..
-            } => Some(Task::File(FileTask::Auto {
-                error: *error,
-                budget: *budget,
-                certified: *certificate,
-            })),
-            Command::Tree {
-                format: Format::Dcop,
-                ..
-            } => Some(Task::File(FileTask::Tree)),
-            Command::Check {
-                format: Format::Dcop,
-            } => Some(Task::Check),
-            Command::Upgrade {
-                format: Format::Dcop,
-            } => Some(Task::File(FileTask::Upgrade)),
+            } => Some(Task::on_file(
+                format,
+                FileTask::Auto {
+                    error,
+                    budget,
+                    certified,
+                },
+            )),
+            Command::Tree { format, .. } => Some(Task::on_file(format, FileTask::Tree)),
+            Command::Check { format } => Some(Task::Check { format }),
+            Command::Replay { after, format } => Some(Task::Replay { format, after }),
+            Command::Upgrade { format } => Some(Task::on_file(format, FileTask::Upgrade)),
             _ => None,
         }
+    }
+
+    /// What is asked on a file, as a task.
+    fn on_file(format: Format, task: FileTask) -> Task
+        ensures { result ≡ Task.File format task }
+    {
+        Task::File { format, task }
     }
 }
 

@@ -10,6 +10,7 @@ use crate::answering::answer_of;
 use crate::task::Task;
 use answer_edge::{Status, show};
 use dcop_edge::{Gate, Sink, Source};
+use solve_words::Format;
 use std::alloc::Global;
 use std::net::Net;
 use std::random::RandomSource;
@@ -27,10 +28,13 @@ use std::time::Clock;
 /// requested error worse than the best, or the budget of messages is spent and the report's bounds
 /// enclose the best sum; with `--method auto`, or without a method, as with `dpop` unless its tables
 /// would be too wide, and else as with `adopt`. `drill` reads nothing: it makes a problem from a
-/// number, solves it in the same ways and writes a summary. `check` reads a problem and a report behind it, and says whether the
-/// report's certificate shows that no better values exist. `tree` reads a problem and writes the
-/// tree over which its agents work, and `upgrade` reads a problem and writes it in the newest
-/// version of its text. Refusals are written to the sink too.
+/// number, solves it in the same ways and writes a summary. `check` reads a problem and a report
+/// behind it, and says whether the report's certificate shows that no better values exist. `replay`
+/// reads these too, plays the report's log as far as it is asked to, and writes what each agent has
+/// come to there. `tree` reads a problem and writes the tree over which its agents work, and
+/// `upgrade` reads a problem and writes it in the newest version of its text. With `--format wcsp`
+/// all of these but `drill` read a WCSP text as their problem.
+/// Refusals are written to the sink too.
 ///
 /// [`Status::ReadFault`] and [`Status::WriteFault`] come only where the source or the sink failed
 /// in this call. With `WriteFault` a prefix of the answer is written, with [`Status::NoMemory`],
@@ -61,7 +65,7 @@ pub fn solve<
         ¬ Rose (K.faults sink.old) (K.faults sink.new) →
         GoesWell result accepts.task }
     ensures drilled { (asks : AsksDrill (map string_bytes words.now)) →
-        ¬ Rose (K.faults sink.old) (K.faults sink.new) → GoesWell result (Task.File asks.drill.task) }
+        ¬ Rose (K.faults sink.old) (K.faults sink.new) → GoesWell result (Task.File Format.Dcop asks.drill.task) }
 {
     let Ok(answer) = answer_of(rt, alloc, words, source, gate) else {
         return Status::NoMemory;

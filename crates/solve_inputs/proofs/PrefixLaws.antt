@@ -4,10 +4,10 @@ use Rattle.problem_text.specs.Bytes.{line_feed}
 use Rattle.problem_text.specs.Declarations.{Declared, Outcome, Declares, Ends, Fails, version_alone}
 use Rattle.problem_text.specs.Lines.{Line, has_some, words, content, lines, onto_first, numbered, with_words}
 use Rattle.problem_text.specs.Reading.{Fault, Parts, line_outcome, read_on, lines_read, text_read}
-use Rattle.solve_top.proofs.UsedLaws.{total}
+use Rattle.solve_inputs.proofs.UsedLaws.{total}
 
 -- a text that ends with line_feed has lines
-data HasLines : List (List ℕ) → Type 0 where
+pub data HasLines : List (List ℕ) → Type 0 where
   has_lines : (l : List ℕ) (ls : List (List ℕ)) → HasLines (l ∷ ls)
 
 step_has : (c : Bool) (b : ℕ) (ls : List (List ℕ)) → HasLines (cond c ((b ∷ []) ∷ ls) (onto_first b ls))
@@ -15,7 +15,7 @@ step_has true b ls = has_lines (b ∷ []) ls
 step_has false b [] = has_lines (b ∷ []) []
 step_has false b (l ∷ ls) = has_lines (b ∷ l) ls
 
-some_lines : (bytes : List ℕ) → HasLines (lines (bytes ++ line_feed ∷ []))
+pub some_lines : (bytes : List ℕ) → HasLines (lines (bytes ++ line_feed ∷ []))
 some_lines [] = has_lines (line_feed ∷ []) []
 some_lines (b ∷ bs) = step_has (nat_eq b line_feed) b (lines (bs ++ line_feed ∷ []))
 

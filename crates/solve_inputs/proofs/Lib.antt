@@ -1,0 +1,8 @@
+mod UsedLaws
+pub mod PrefixLaws
+mod CutLaws
+mod MovedLaws
+mod LineLaws
+mod NetworkLaws
+pub mod FrontLaws
+pub mod RefusalLaws

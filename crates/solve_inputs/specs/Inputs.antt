@@ -1,0 +1,51 @@
+-- What a whole input is read as: the problem that it tells, behind which no further word stands.
+use Rattle.std.specs.Prelude.{ℕ, List, [], ◌∷◌, drop, Option, Some, None, Result, Ok, Err}
+use Rattle.problem_text.specs.Declarations.{Declared}
+use Rattle.problem_text.specs.Reading.{Fault}
+use Rattle.wcsp_text.specs.declared.fault.Fault.{Fault as WcspFault}
+use Rattle.wcsp_text.specs.declared.fault.WcspKind.TheVariants.{AfterEnd}
+use Rattle.wcsp_text.specs.Networks.{Network}
+use Rattle.wcsp_text.specs.Texts.{text_read as wcsp_read}
+use Rattle.wcsp_text.specs.Kinds.{number_of_kind, number_of_problem}
+use Rattle.wcsp_text.specs.Words.{Word, words, line_at}
+use Rattle.solve_words.specs.declared.command.Format.{Format}
+use Rattle.solve_words.specs.declared.command.Format.TheVariants.{Dcop as Own, Wcsp}
+use Rattle.solve_report.specs.declared.answer.Answer.{Answer}
+use Rattle.solve_report.specs.declared.answer.Answer.TheVariants.{WcspText}
+use Rattle.answer_edge.specs.Showing.{refused_by}
+use Rattle.answer_edge.specs.Whole.{whole_read}
+use Rattle.solve_inputs.specs.Told.{Told, told_by, wcsp_refused_by}
+
+-- a whole problem text that is read as this
+abbrev pub own_input : Result Declared Fault → Result Told Answer
+own_input (Ok declared) = Ok (record { declared = declared; bar = None })
+own_input (Err fault) = Err (refused_by fault)
+
+-- the line of the first of these words of a text
+abbrev pub line_of_first : List ℕ → List Word → Option ℕ
+line_of_first bytes [] = None
+line_of_first bytes (word ∷ later) = Some (line_at bytes word.after)
+
+-- the line of the first word behind so many bytes of a text
+abbrev pub further_line : List ℕ → ℕ → Option ℕ
+further_line bytes used = line_of_first bytes (words (drop used bytes))
+
+-- what a network tells, unless a further word stands on this line of its text
+abbrev pub unless_further : Network → Option ℕ → Result Told Answer
+unless_further w None = Ok (told_by w)
+unless_further w (Some line) = Err (WcspText line (number_of_kind AfterEnd) (number_of_problem AfterEnd))
+
+-- a whole WCSP text that is read as this, up to and with the line of its last word
+abbrev pub wcsp_input : List ℕ → Result (Network × ℕ) WcspFault → Result Told Answer
+wcsp_input bytes (Ok read) = unless_further read.0 (further_line bytes read.1)
+wcsp_input bytes (Err fault) = Err (wcsp_refused_by bytes fault)
+
+-- the problem that a whole input in this format tells; else the answer that refuses it
+abbrev pub input_read : Format → List ℕ → Result Told Answer
+input_read Own bytes = own_input (whole_read bytes)
+input_read Wcsp bytes = wcsp_input bytes (wcsp_read bytes)
+
+-- what an input declares, by what it is read as
+abbrev pub declared_in : Result Told Answer → Result Declared Answer
+declared_in (Ok told) = Ok told.declared
+declared_in (Err refusal) = Err refusal

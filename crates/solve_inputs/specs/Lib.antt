@@ -1,0 +1,5 @@
+pub mod Told
+pub mod Fronts
+pub mod Inputs
+pub mod Gives
+pub mod Laws

@@ -1,0 +1,43 @@
+-- A problem as an input tells it, and how an input is refused.
+use Rattle.std.specs.Prelude.{ℕ, List, [], Option, Some, length, replicate}
+use Rattle.problem_text.specs.Declarations.{Declared}
+use Rattle.problem_text.specs.File.{TextFile}
+use Rattle.problem_text.specs.Numbered.{numbered_names}
+use Rattle.problem_text.specs.Steps.{declared_by}
+use Rattle.problem_text.specs.declared.file.Goal.TheVariants.{Min}
+use Rattle.wcsp_text.specs.declared.fault.Fault.{Fault}
+use Rattle.wcsp_text.specs.Kinds.{number_of_kind, number_of_problem}
+use Rattle.wcsp_text.specs.Networks.{Network}
+use Rattle.wcsp_text.specs.Problems.{tables, bar}
+use Rattle.wcsp_text.specs.Words.{line_at}
+use Rattle.solve_report.specs.declared.answer.Answer.{Answer}
+use Rattle.solve_report.specs.declared.answer.Answer.TheVariants.{WcspText}
+
+-- a problem as it is told: what is declared, and the bar where the text is a WCSP text
+pub record Told : Type 0 where
+  pub declared : Declared
+  pub bar : Option ℕ
+
+-- a file and a bar, as what they tell
+abbrev pub told_of : TextFile → Option ℕ → Told
+told_of file bar = record { declared = declared_by file; bar = bar }
+
+-- what a network declares: its sizes and its raised tables, with variables named by their numbers, in version 2, with goal min
+abbrev pub declared_of : Network → Declared
+declared_of w = record {
+  version = 2;
+  goal = Min;
+  names = numbered_names (length w.sizes);
+  labels = replicate (length w.sizes) [];
+  sizes = w.sizes;
+  tables = tables w;
+}
+
+-- a network, as what it tells
+abbrev pub told_by : Network → Told
+told_by w = record { declared = declared_of w; bar = Some (bar w) }
+
+-- the answer to a WCSP text with this first fault
+abbrev pub wcsp_refused_by : List ℕ → Fault → Answer
+wcsp_refused_by bytes fault =
+    WcspText (line_at bytes fault.after) (number_of_kind fault.kind) (number_of_problem fault.kind)

@@ -1,0 +1,47 @@
+//! The problem that an input begins with.
+
+ghost use Rattle.std.specs.Prelude.{◌≤◌, length, IfOk};
+ghost use Rattle.solve_inputs.specs.Fronts.{front_read};
+ghost use Rattle.solve_inputs.specs.Gives.{IsFront};
+
+use crate::fault::InputFault;
+use problem_text::{ReadFile, read_problem};
+use solve_words::Format;
+use std::alloc::Global;
+use wcsp_text::read_wcsp;
+
+/// The problem that an input in this format begins with, and how many bytes the input has up to and
+/// with its last line. What stands behind that line is not looked at.
+///
+/// # Errors
+///
+/// The first fault of the text with its line; [`InputFault::NoMemory`] where memory was wanted and
+/// not had.
+pub fn read_front(alloc: Global, format: Format, bytes: &[u8]) -> Result<ReadFile, InputFault>
+    ensures read { IsFront (front_read format bytes.now) result }
+    ensures within { IfOk result (λ read. read.used ≤ length bytes.now) }
+{
+    match format {
+        Format::Dcop => own_front(alloc, bytes),
+        Format::Wcsp => wcsp_front(alloc, bytes),
+    }
+}
+
+fn own_front(alloc: Global, bytes: &[u8]) -> Result<ReadFile, InputFault>
+    ensures read { IsFront (front_read Format.Dcop bytes.now) result }
+    ensures within { IfOk result (λ read. read.used ≤ length bytes.now) }
+{
+    let read = read_problem(alloc, bytes)?;
+    Ok(read)
+}
+
+fn wcsp_front(alloc: Global, bytes: &[u8]) -> Result<ReadFile, InputFault>
+    ensures read { IsFront (front_read Format.Wcsp bytes.now) result }
+    ensures within { IfOk result (λ read. read.used ≤ length bytes.now) }
+{
+    let read = read_wcsp(alloc, bytes)?;
+    Ok(ReadFile {
+        file: read.file,
+        used: read.used,
+    })
+}

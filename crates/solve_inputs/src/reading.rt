@@ -1,0 +1,60 @@
+//! Reading a whole input as a problem.
+
+ghost use Rattle.solve_inputs.specs.Gives.{IsInput};
+ghost use Rattle.solve_inputs.specs.Inputs.{input_read};
+
+use crate::fault::InputFault;
+use crate::further::further_line;
+use answer_edge::read_whole;
+use problem_text::ProblemFile;
+use solve_words::Format;
+use std::alloc::Global;
+use wcsp_text::{WcspKind, read_wcsp};
+
+/// A problem that was read of a whole input.
+#[derive(Debug, Drop)]
+pub struct ReadInput {
+    pub file: ProblemFile,
+    /// The bar of a WCSP text: the WCSP value of an assignment is its cost where that is below the
+    /// bar, and top otherwise. A problem text has none.
+    pub bar: Option<u64>,
+}
+
+/// The problem that a whole input in this format tells.
+///
+/// # Errors
+///
+/// The first fault of the text with its line; where there is none, kind 8 at the first line of a
+/// problem text with words behind its line `end`, or at the first word behind a WCSP text;
+/// [`InputFault::NoMemory`] where memory was wanted and not had.
+pub fn read_input(alloc: Global, format: Format, bytes: &[u8]) -> Result<ReadInput, InputFault>
+    ensures { IsInput (input_read format bytes.now) result }
+{
+    match format {
+        Format::Dcop => own_input(alloc, bytes),
+        Format::Wcsp => wcsp_input(alloc, bytes),
+    }
+}
+
+fn own_input(alloc: Global, bytes: &[u8]) -> Result<ReadInput, InputFault>
+    ensures { IsInput (input_read Format.Dcop bytes.now) result }
+{
+    let file = read_whole(alloc, bytes)?;
+    Ok(ReadInput { file, bar: None })
+}
+
+fn wcsp_input(alloc: Global, bytes: &[u8]) -> Result<ReadInput, InputFault>
+    ensures { IsInput (input_read Format.Wcsp bytes.now) result }
+{
+    let read = read_wcsp(alloc, bytes)?;
+    match further_line(bytes, read.used) {
+        None => Ok(ReadInput {
+            file: read.file,
+            bar: Some(read.bar),
+        }),
+        Some(line) => Err(InputFault::Wcsp {
+            line,
+            kind: WcspKind::AfterEnd,
+        }),
+    }
+}

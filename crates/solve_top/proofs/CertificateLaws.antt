@@ -1,0 +1,207 @@
+-- A report that was printed with its certificate fits its file, and holds.
+use Rattle.std.proofs.Common.{◌≡◌, ℕ, ◌<◌, ◌≤◌, Bool, true, false, List, [], ◌∷◌, length, Option, Some, None, IfSome, IsTrue, is_some, refl, sym, subst, arith}
+use Rattle.std.specs.List.{All, AllZip}
+use Rattle.std.proofs.lemmas.Bool.{false≢true}
+use Rattle.std.proofs.lemmas.List.Elements.{All-nil, All-cons, All-head, All-tail}
+use Rattle.dcop_base.specs.Limits.{amount_limit}
+use Rattle.dcop_base.specs.Problem.{Dcop, IsAssignment, cost}
+use Rattle.dcop_base.specs.Table.{AreWithin}
+use Rattle.dcop_base.specs.Whole.{IsProblem}
+use Rattle.dcop_base.proofs.ProblemLaws.{cost-le-cap}
+use Rattle.dcop_optimum.specs.Goal.{top_of}
+use Rattle.pseudotree.specs.declared.width.Wide.{Wide}
+use Rattle.pseudotree.specs.declared.width.Wide.TheVariants.{Agent, Total}
+use Rattle.token_runs.proofs.RunLaws.{token_runs}
+use Rattle.adopt_runs.proofs.RunLaws.{adopt_bounds_enclose}
+use Rattle.protocol_steps.specs.Adopt.{AdoptView}
+use Rattle.protocol_steps.specs.AdoptBounds.{lower_bound}
+use Rattle.problem_text.specs.File.{TextFile}
+use Rattle.problem_text.specs.Declarations.{Declared}
+use Rattle.problem_text.specs.Steps.{declared_by}
+use Rattle.problem_text.specs.declared.file.Goal.{Goal}
+use Rattle.problem_text.specs.declared.file.Goal.TheVariants.{Min, Max}
+use Rattle.run_log.specs.declared.log.LogEvent.{LogEvent}
+use Rattle.run_log.specs.LogText.{IsNamedEvent, FitsEvent}
+use Rattle.certificate_text.specs.declared.certificate.Certificate.{Certificate}
+use Rattle.certificate_text.specs.declared.certificate.Certificate.TheVariants.{Tables, Log}
+use Rattle.certificate_text.specs.declared.report.Method.TheVariants.{Dpop}
+use Rattle.certificate_text.specs.declared.report.Report.{Report}
+use Rattle.certificate_text.specs.Fits.{FitsCertificate, Fits}
+use Rattle.problem_solved.specs.Goal.{solved, problem_solved}
+use Rattle.problem_solved.specs.Holds.{HoldsTables}
+use Rattle.problem_solved.proofs.SolvedLaws.{solved_sizes}
+use Rattle.log_holds.specs.Ends.{least_known, lower_for, upper_for, least_shown, TellsEnd}
+use Rattle.log_holds.specs.Holds.{HoldsLog}
+use Rattle.log_holds.specs.Laws.{LogsShow}
+use Rattle.log_holds.proofs.HoldsLaws.{logs_show}
+use Rattle.solve_report.specs.declared.answer.Answer.TheVariants as answers
+use Rattle.solve_methods.specs.Adopt.{IsAdoptReport, IsAdoptAnswer}
+use Rattle.solve_methods.specs.Auto.{IsAutoBy}
+use Rattle.solve_methods.specs.Certified.{IsCertifiedBy, IsLoggedBy}
+use Rattle.solve_methods.specs.Dpop.{wide_in, wide_answer, IsDpopReport, IsAnswerBy}
+use Rattle.solve_methods.proofs.NamedLaws.{log_named}
+use Rattle.solve_inputs.specs.Told.{Told}
+use Rattle.solve_top.specs.declared.task.FileTask.{FileTask}
+use Rattle.solve_top.specs.declared.task.FileTask.TheVariants as tasks
+use Rattle.solve_top.specs.Answering.{IsUpgraded, IsFileAnswer}
+use Rattle.solve_top.specs.Served.{IsFileTaskInRange}
+use Rattle.solve_top.specs.Solving.{IsReadableEvent, IsReadable}
+
+-- a certificate with which a report holds
+abbrev pub Certifies : TextFile → Report → Option Certificate → Type 0
+Certifies file report None = ⊥
+Certifies file report (Some (Tables utils)) = HoldsTables file report utils
+Certifies file report (Some (Log log)) = HoldsLog file report log
+
+-- a report with a certificate, on a file that declares this: it fits the file, and holds
+pub record IsCertified (d : Declared) (file : TextFile) (report : Report) : Type 0 where
+  pub whole : IsProblem file.problem
+  pub declared : declared_by file ≡ d
+  pub fits : Fits report file
+  pub holds : Certifies file report report.certificate
+
+some_none : (certificate : Option Certificate) → certificate ≡ None → ¬ IsTrue (is_some certificate)
+some_none certificate is some = false≢true (subst (λ (c : Option Certificate). is_some c ≡ true) is some)
+
+-- values of the problem solved are values of the file
+zip_within : (sizes values : List ℕ) → AreWithin sizes values → AllZip (λ value size. value < size) values sizes
+zip_within [] [] within = tt
+zip_within [] (v ∷ vs) within = absurd within
+zip_within (s ∷ ss) [] within = absurd within
+zip_within (s ∷ ss) (v ∷ vs) within = (within.0, zip_within ss vs within.1)
+
+values_fit : (goal : Goal) (p : Dcop) (values : List ℕ) → IsAssignment (solved goal p) values → AllZip (λ value size. value < size) values p.sizes
+values_fit Min p values is = zip_within p.sizes values is
+values_fit Max p values is = zip_within p.sizes values is
+
+-- a report of DPOP
+tables_fit : (file : TextFile) (report : Report) (certificate : Option Certificate) → report.method ≡ Dpop → IsCertifiedBy file report certificate
+    → IfSome certificate (FitsCertificate file.problem.sizes report.method)
+tables_fit file report None method is = absurd is
+tables_fit file report (Some (Tables utils)) method is = (method, is.fits)
+tables_fit file report (Some (Log log)) method is = absurd is
+
+tables_hold : (file : TextFile) (report : Report) (certificate : Option Certificate) → IsCertifiedBy file report certificate → Certifies file report certificate
+tables_hold file report None is = absurd is
+tables_hold file report (Some (Tables utils)) is = is.holds
+tables_hold file report (Some (Log log)) is = absurd is
+
+dpop_certified : (d : Declared) (file : TextFile) (report : Report) → IsProblem file.problem → declared_by file ≡ d → IsDpopReport file true report → IsCertified d file report
+dpop_certified d file report whole declared is =
+    let most = cost-le-cap file.problem report.values whole in
+    let cheap : report.cost ≤ amount_limit = omega (arith, most, is.cost) in record {
+      whole = whole;
+      declared = declared;
+      fits = record {
+        values = values_fit file.goal file.problem report.values is.first.assignment;
+        error = omega (arith, is.error);
+        deliveries = omega (arith, is.deliveries, whole.few);
+        cost = cheap;
+        lower = omega (arith, cheap, is.lower);
+        upper = omega (arith, cheap, is.upper);
+        certificate = tables_fit file report report.certificate is.method is.certificate;
+        goal = is.goal;
+      };
+      holds = tables_hold file report report.certificate is.certificate;
+    }
+
+-- a report of ADOPT: its bounds are amounts
+least-le : (sum : ℕ) (bound : Option ℕ) → least_known sum bound ≤ sum
+least-le sum None = omega arith
+least-le sum (Some bound) = omega arith
+
+lower-le : (v : AdoptView) → lower_bound v ≤ amount_limit
+lower-le v = omega arith
+
+lower_small : (goal : Goal) (p : Dcop) (lower upper : ℕ) → IsProblem p → lower ≤ amount_limit → lower_for goal p lower upper ≤ amount_limit
+lower_small Min p lower upper whole small = small
+lower_small Max p lower upper whole small = let most : top_of p ≤ amount_limit = whole.sums in omega (arith, most)
+
+upper_small : (goal : Goal) (p : Dcop) (values : List ℕ) (lower : ℕ) (bound : Option ℕ) → IsProblem p → upper_for goal p lower (least_known (cost (solved goal p) values) bound) ≤ amount_limit
+upper_small Min p values lower bound whole =
+    let most = cost-le-cap p values whole in
+    let least = least-le (cost p values) bound in omega (arith, most, least)
+upper_small Max p values lower bound whole = let most : top_of p ≤ amount_limit = whole.sums in omega (arith, most)
+
+events_fit : (n : ℕ) (log : List LogEvent) → All (IsNamedEvent n) log → All IsReadableEvent log → All (FitsEvent n) log
+events_fit n [] named readable = All-nil (FitsEvent n)
+events_fit n (e ∷ log) named readable =
+    let can = All-head IsReadableEvent e log readable in
+    All-cons (FitsEvent n) e log (record { named = All-head (IsNamedEvent n) e log named; stamp = can.0; counts = can.1 })
+    (events_fit n log (All-tail (IsNamedEvent n) e log named) (All-tail IsReadableEvent e log readable))
+
+module _ (d : Declared) (file : TextFile) (report : Report) (error budget : ℕ) (whole : IsProblem file.problem) (declared : declared_by file ≡ d) (small : error ≤ amount_limit)
+    (is : IsAdoptReport file error budget true report) where
+  -- with this log
+  logged_with : (log : List LogEvent) → report.certificate ≡ Some (Log log) → IsLoggedBy file is.end report (Some (Log log)) → IsReadable report (Some (Log log)) → IsCertified d file report
+  logged_with log here logged readable =
+      let shows : LogsShow = logs_show token_runs adopt_bounds_enclose in
+      let shown = shows file report log whole logged.holds in
+      let told : TellsEnd file is.end report = is.told in
+      let most = cost-le-cap file.problem report.values whole in
+      let named : All (IsNamedEvent (length file.problem.sizes)) log =
+      subst (λ (ss : List ℕ). All (IsNamedEvent (length ss)) log) (solved_sizes file.goal file.problem) (log_named (problem_solved file) report.error is.end log logged.run) in
+      let certificate : IfSome (Some (Log log)) (FitsCertificate file.problem.sizes report.method) = (is.method, events_fit (length file.problem.sizes) log named readable.1) in
+      let lower = lower_small file.goal file.problem (lower_bound told.top) (least_shown (problem_solved file) report.values told.top) whole (lower-le told.top) in
+      let upper = upper_small file.goal file.problem report.values (lower_bound told.top) _ whole in record {
+        whole = whole;
+        declared = declared;
+        fits = record {
+          values = zip_within file.problem.sizes report.values shown.assignment;
+          error = omega (arith, small, is.error_told);
+          deliveries = readable.0;
+          cost = omega (arith, most, told.sum);
+          lower = subst (λ (n : ℕ). n ≤ amount_limit) (sym told.lower) lower;
+          upper = subst (λ (n : ℕ). n ≤ amount_limit) (sym told.upper) upper;
+          certificate = subst (λ (c : Option Certificate). IfSome c (FitsCertificate file.problem.sizes report.method)) (sym here) certificate;
+          goal = is.goal;
+        };
+        holds = subst (Certifies file report) (sym here) logged.holds;
+      }
+
+  by_certificate : (certificate : Option Certificate) → report.certificate ≡ certificate → IsLoggedBy file is.end report certificate → IsReadable report certificate → IsCertified d file report
+  by_certificate None here logged readable = absurd logged
+  by_certificate (Some (Tables utils)) here logged readable = absurd logged
+  by_certificate (Some (Log log)) here logged readable = logged_with log here logged readable
+
+  adopt_certified : IsReadable report report.certificate → IsCertified d file report
+  adopt_certified readable = by_certificate report.certificate refl is.certificate readable
+
+-- an answer with a report tells of its own file
+wide_no_report : (names : List (List ℕ)) (wide : Wide) (report : Report) (file : TextFile) → ¬ (answers.Report report file ≡ wide_answer names wide)
+wide_no_report names (Agent var cells) report file e = cc
+wide_no_report names (Total cells) report file e = cc
+
+module _ (d : Declared) (report : Report) (file same : TextFile) (whole : IsProblem file.problem) (declared : declared_by file ≡ d) (some : IsTrue (is_some report.certificate)) (readable : IsReadable report report.certificate) where
+  by_dpop : (certified : Bool) → (same ≡ file) × IsDpopReport file certified report → IsCertified d same report
+  by_dpop false is = absurd (some_none report.certificate is.1.certificate some)
+  by_dpop true is = subst (λ (f : TextFile). IsCertified d f report) (sym is.0) (dpop_certified d file report whole declared is.1)
+
+  by_wide : (certified : Bool) (wide : Option Wide) → IsAnswerBy file certified wide (answers.Report report same) → IsCertified d same report
+  by_wide certified None is = by_dpop certified is
+  by_wide certified (Some wide) is = absurd (wide_no_report file.names wide report same is)
+
+  by_adopt : (error budget : ℕ) (certified : Bool) → error ≤ amount_limit → IsAdoptAnswer file error budget certified (answers.Report report same) → IsCertified d same report
+  by_adopt error budget false small is = absurd (some_none report.certificate is.1.certificate some)
+  by_adopt error budget true small is = subst (λ (f : TextFile). IsCertified d f report) (sym is.0) (adopt_certified d file report error budget whole declared small is.1 readable)
+
+  by_auto : (error budget : ℕ) (certified : Bool) (wide : Option Wide) → error ≤ amount_limit → IsAutoBy file error budget certified wide (answers.Report report same) → IsCertified d same report
+  by_auto error budget certified None small is = by_dpop certified is
+  by_auto error budget certified (Some wide) small is = by_adopt error budget certified small is
+
+upgraded_no_report : (d : Declared) (bar : Option ℕ) (report : Report) (file : TextFile) → ¬ IsUpgraded d bar (answers.Report report file)
+upgraded_no_report d None report file is = is
+upgraded_no_report d (Some bar) report file is = is
+
+-- a report that any task prints with a certificate
+pub task_certified : (task : FileTask) (told : Told) (report : Report) (file : TextFile) → IsFileTaskInRange task → IsFileAnswer task told (answers.Report report file) → IsTrue (is_some report.certificate)
+    → IsReadable report report.certificate → IsCertified told.declared file report
+task_certified tasks.Plain told report file range is some readable = absurd (some_none report.certificate is.2.certificate some)
+task_certified (tasks.Dpop certified) told report file range is some readable =
+    by_wide told.declared report is.file file is.whole is.declared some readable certified (wide_in (solved is.file.goal is.file.problem)) is.is
+task_certified (tasks.Adopt error budget certified) told report file range is some readable =
+    by_adopt told.declared report is.file file is.whole is.declared some readable error budget certified range.0 is.is
+task_certified (tasks.Auto error budget certified) told report file range is some readable =
+    by_auto told.declared report is.file file is.whole is.declared some readable error budget certified (wide_in (problem_solved is.file)) range.0 is.is
+task_certified tasks.Tree told report file range is some readable = absurd is.is
+task_certified tasks.Upgrade told report file range is some readable = absurd (upgraded_no_report told.declared told.bar report file is)
