@@ -34,3 +34,10 @@ module _ {S K : Type 0} (left : S → Option (List ℕ)) (reads : S → ℕ) (he
       let all = served_by_all h.sessions h.each in
       let most : served_in (map (λ s. s.end) h.sessions) ≤ 64000 = omega (arith, all, count, few) in
       subst (λ (es : List SessionEnd). served_in es < 2 ^ 64) (sym h.told) (omega (arith, most))
+
+  -- a listener that was opened first waits with the same connections
+  pub opened_first : (clients : ℕ) (ends : List SessionEnd) (looks : ℕ) (waiting waiting₀ waiting' closed closed₀ closed' : Option (List (S × K))) → waiting ≡ waiting₀ → closed ≡ closed₀
+      → HaveServed left reads held writes reply clients ends looks waiting waiting' closed closed' → HaveServed left reads held writes reply clients ends looks waiting₀ waiting' closed₀ closed'
+  opened_first clients ends looks waiting waiting₀ waiting' closed closed₀ closed' same_waiting same_closed h =
+      subst (λ (w : Option (List (S × K))). HaveServed left reads held writes reply clients ends looks w waiting' closed₀ closed') same_waiting
+      (subst (λ (c : Option (List (S × K))). HaveServed left reads held writes reply clients ends looks waiting waiting' c closed') same_closed h)

@@ -1,9 +1,10 @@
 //! The server's top call.
 
-ghost use Rattle.std.specs.Prelude.{◌≡◌, ◌≢◌, map, string_bytes, IfOk};
-ghost use Rattle.serve_words.specs.Words.{IsInRange};
+ghost use Rattle.std.specs.Prelude.{◌≡◌, ◌≢◌, ◌<◌, ◌⊎◌, map, string_bytes, IfOk, IsOk, IsErr};
+ghost use Rattle.dcop_edge.specs.Faults.{Rose};
+ghost use Rattle.serve_words.specs.Words.{IsInRange, words_read};
 ghost use Rattle.serve_words.specs.Told.{HasText};
-ghost use Rattle.serve_top.specs.Serving.{listening, sinking, IsServeAnswer, AnswersServe, Shows};
+ghost use Rattle.serve_top.specs.Serving.{listening, sinking, IsServeAnswer, AnswersServe, Shows, HasAnswered};
 
 use crate::status::ServeStatus;
 use dcop_base::NoMemory;
@@ -34,10 +35,38 @@ pub fn serve_all<R: Threads + Wait + Sync, L: Listener, K: Sink, M: FreshMaker, 
     sink: &mut K,
     gate: &G,
 ) -> ServeStatus
-    ensures answered { result ≢ ServeStatus.NoMemory → (answer : _) × AnswersServe L.S.left L.S.faults L.K.held L.K.faults M.reply (map string_bytes words.now)
+    ensures answered { result ≢ ServeStatus.NoMemory → HasAnswered L.S.left L.S.faults L.K.held L.K.faults M.reply (map string_bytes words.now)
         (listening (L.faults listener.old) (L.waiting listener.old) (L.closed listener.old))
-        (listening (L.faults listener.new) (L.waiting listener.new) (L.closed listener.new)) answer
-        × Shows answer (sinking (K.held sink.old) (K.finished sink.old) (K.faults sink.old)) (sinking (K.held sink.new) (K.finished sink.new) (K.faults sink.new)) result }
+        (listening (L.faults listener.new) (L.waiting listener.new) (L.closed listener.new))
+        (sinking (K.held sink.old) (K.finished sink.old) (K.faults sink.old))
+        (sinking (K.held sink.new) (K.finished sink.new) (K.faults sink.new)) result }
+    ensures unwritten { result ≡ ServeStatus.NoMemory → sink.new ≡ sink.old }
+    ensures refused { result ≡ ServeStatus.BadWords → IsErr (words_read (map string_bytes words.now)) }
+    ensures link_fault { result ≡ ServeStatus.LinkFault → Rose (L.faults listener.old) (L.faults listener.new) }
+    ensures write_fault { result ≡ ServeStatus.WriteFault → Rose (K.faults sink.old) (K.faults sink.new) }
+    ensures listener_failed { L.faults listener.old < L.faults listener.new →
+        (result ≡ ServeStatus.LinkFault) ⊎ (result ≡ ServeStatus.WriteFault) ⊎ (result ≡ ServeStatus.NoMemory) }
+    ensures sink_failed { K.faults sink.old < K.faults sink.new → result ≡ ServeStatus.WriteFault }
+    ensures complete { IsOk (words_read (map string_bytes words.now)) → ¬ Rose (L.faults listener.old) (L.faults listener.new) → ¬ Rose (K.faults sink.old) (K.faults sink.new) →
+        (result ≡ ServeStatus.Solved) ⊎ (result ≡ ServeStatus.NoMemory) }
+{
+    answer_all::<R, L, K, M, G>(rt, alloc, words, listener, sink, gate)
+}
+
+/// [`serve_all`], with the clauses from which its others follow.
+fn answer_all<R: Threads + Wait + Sync, L: Listener, K: Sink, M: FreshMaker, G: Gate>(
+    rt: &R,
+    alloc: Global,
+    words: &[String],
+    listener: &mut L,
+    sink: &mut K,
+    gate: &G,
+) -> ServeStatus
+    ensures answered { result ≢ ServeStatus.NoMemory → HasAnswered L.S.left L.S.faults L.K.held L.K.faults M.reply (map string_bytes words.now)
+        (listening (L.faults listener.old) (L.waiting listener.old) (L.closed listener.old))
+        (listening (L.faults listener.new) (L.waiting listener.new) (L.closed listener.new))
+        (sinking (K.held sink.old) (K.finished sink.old) (K.faults sink.old))
+        (sinking (K.held sink.new) (K.finished sink.new) (K.faults sink.new)) result }
     ensures unwritten { result ≡ ServeStatus.NoMemory → sink.new ≡ sink.old }
 {
     match answer_of::<R, L, M, G>(rt, alloc, words, listener, gate) {
