@@ -1,5 +1,5 @@
 -- Peers that are accepted one after another, and given back so.
-use Rattle.std.proofs.Common.{◌≡◌, ℕ, suc, ◌+◌, ◌<◌, ◌≤◌, List, [], ◌∷◌, ◌++◌, map, length, drop, All, Option, Some, None, IsSome, refl, sym, ap, subst, ◌∙◌, append_assoc, append-nil, arith, length-append}
+use Rattle.std.proofs.Common.{◌≡◌, ℕ, ◌+◌, List, [], ◌∷◌, ◌++◌, map, length, drop, All, Option, IsSome, refl, sym, ap, subst, ◌∙◌, append_assoc, arith, length-append}
 use Rattle.std.proofs.lemmas.List.{map-append}
 use Rattle.std.proofs.lemmas.List.Elements.{All-nil, All-push, All-head, All-tail}
 use Rattle.solve_serve.specs.declared.peers.Peer.{Peer}
@@ -8,7 +8,7 @@ use Rattle.solve_serve.specs.Peers.{IsFresh}
 use Rattle.serve_edge.specs.Listener.{first_of, last_of}
 use Rattle.serve_clients.specs.Sessions.{total, all_before, all_behind}
 use Rattle.serve_clients.specs.Clients.{connection, end_of, looks_of, look_parts_of, miss_parts_of, IsNew}
-use Rattle.serve_clients.proofs.ConnectionLaws.{all_before_none, all_before_more, all_behind_none, all_behind_more}
+use Rattle.serve_clients.proofs.ConnectionLaws.{all_before_none, all_before_more, all_behind_more}
 
 -- how a listener stands: its faults, and the connections that wait, were given back and are out
 pub record Standing (S K : Type 0) : Type 0 where
@@ -56,7 +56,7 @@ module _ {S K M A B : Type 0} where
     new = All-push (λ q. IsNew made q) peers p h.new new;
     same = same ∙ h.same;
     taken = h.taken ∙ ap (λ (w : Option (List (S × K))). all_before (map (λ q. connection q) peers) w) taken ∙ all_before_more (map (λ q. connection q) peers) (connection p) after.waiting
-    ∙ ap (λ (cs : List (S × K)). all_before cs after.waiting) (sym (map-append (λ q. connection q) peers (p ∷ [])));
+        ∙ ap (λ (cs : List (S × K)). all_before cs after.waiting) (sym (map-append (λ q. connection q) peers (p ∷ [])));
     kept = kept ∙ h.kept;
     out = omega (arith, out, h.out, length-append peers (p ∷ []));
   }

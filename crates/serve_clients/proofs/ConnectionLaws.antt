@@ -1,7 +1,7 @@
 -- Connections that wait, and those that were given back.
-use Rattle.std.proofs.Common.{◌≡◌, ℕ, ◌+◌, List, [], ◌∷◌, ◌++◌, Option, Some, None, refl, sym, ap, ◌∙◌, append_assoc, append-nil, arith}
+use Rattle.std.proofs.Common.{◌≡◌, List, [], ◌∷◌, ◌++◌, Option, Some, None, refl, sym, ap, append_assoc, append-nil}
 use Rattle.serve_edge.specs.Listener.{first_of, last_of}
-use Rattle.serve_clients.specs.Sessions.{total, all_before, all_behind}
+use Rattle.serve_clients.specs.Sessions.{all_before, all_behind}
 
 pub all_before_none : {C : Type 0} (w : Option (List C)) → all_before [] w ≡ w
 all_before_none None = refl

@@ -1,12 +1,11 @@
 -- Peers that were served are the sessions of a server.
-use Rattle.std.proofs.Common.{◌≡◌, ℕ, suc, ◌+◌, ◌<◌, ◌≤◌, List, [], ◌∷◌, ◌++◌, map, length, All, Option, Some, None, IsSome, IsSomeAnd, refl, sym, ap, ap₂, subst, ◌∙◌, append_assoc, append-nil, arith}
-use Rattle.std.specs.Prelude.{slice_index_or}
+use Rattle.std.proofs.Common.{◌≡◌, ℕ, suc, ◌+◌, List, [], ◌∷◌, map, length, All, Option, Some, None, IsSome, IsSomeAnd, refl, sym, ap, subst, ◌∙◌, arith}
 use Rattle.std.proofs.lemmas.List.{length-map}
 use Rattle.std.proofs.lemmas.List.Elements.{All-nil, All-cons, All-head, All-tail}
 use Rattle.solve_serve.specs.declared.peers.Peer.{Peer}
 use Rattle.solve_serve.specs.declared.end.SessionEnd.{SessionEnd}
-use Rattle.solve_serve.specs.Answers.{Tally, tally, answering}
-use Rattle.solve_serve.specs.Session.{Outside, outside, HasServed}
+use Rattle.solve_serve.specs.Answers.{tally}
+use Rattle.solve_serve.specs.Session.{Outside, HasServed}
 use Rattle.solve_serve.specs.Peers.{outside_of, IsServed, AreServed}
 use Rattle.serve_clients.specs.Sessions.{total, all_before, all_behind, Session, outside_with, WasServed, WereServed, HaveServed}
 use Rattle.serve_clients.specs.Clients.{end_in, connection, end_of, looks_of, look_parts_of, miss_parts_of, IsNew}

@@ -1,5 +1,5 @@
 -- Peers that are accepted and given back.
-use Rattle.std.specs.Prelude.{◌≡◌, ℕ, ◌≤◌, List, Option, Some, None, Result, Ok, Err}
+use Rattle.std.specs.Prelude.{◌≡◌, ℕ, ◌≤◌, Option, Some, None, Result, Ok, Err}
 use Rattle.dcop_edge.specs.Faults.{Rose}
 use Rattle.solve_serve.specs.declared.peers.Peer.{Peer}
 use Rattle.solve_serve.specs.declared.end.SessionEnd.{SessionEnd}

@@ -6,7 +6,7 @@ mod gate;
 mod maker;
 mod serving;
 
-use serving::{Written, serve_both};
+use serving::{Replies, serve_both};
 use std::io;
 use std::sync::Wait;
 use std::thread::Threads;
@@ -17,17 +17,17 @@ fn main(rt: HostRuntime) -> io::Result<()> {
 
 // How two sessions went, a line for each thing.
 fn print_rows<R: Print + Threads + Wait + AllocGlobal + Sync>(rt: &R) -> io::Result<()> {
-    let Some(written) = serve_both(rt) else {
+    let Some(replies) = serve_both(rt) else {
         return println!(rt; "otherwise");
     };
-    let Written {
+    let Replies {
         first_served,
         second_cut,
         looks,
         missed,
         first,
         second,
-    } = written;
+    } = replies;
     println!(rt; "first session, closed after: {first_served}")?;
     println!(rt; "second session, cut after: {second_cut}")?;
     println!(rt; "looks: {looks}")?;

@@ -12,7 +12,7 @@ use std::thread::Threads;
 
 /// How two sessions went.
 #[derive(Drop)]
-pub(crate) struct Written {
+pub(crate) struct Replies {
     /// How many requests the first session answered before its input was closed.
     pub(crate) first_served: u64,
     /// How many the second one answered before its input was cut.
@@ -29,7 +29,7 @@ pub(crate) struct Written {
 
 /// Serves two clients by two workers: the first asks twice for the same, the second is cut inside
 /// its frame. `None` where it went otherwise.
-pub(crate) fn serve_both<R: Threads + Wait + AllocGlobal + Sync>(rt: &R) -> Option<Written> {
+pub(crate) fn serve_both<R: Threads + Wait + AllocGlobal + Sync>(rt: &R) -> Option<Replies> {
     let alloc = rt.alloc();
     let twice = b"\x00\x00\x00\x02ab\x00\x00\x00\x02ab";
     let cut = b"\x00\x00\x00\x03ab";
@@ -43,8 +43,13 @@ pub(crate) fn serve_both<R: Threads + Wait + AllocGlobal + Sync>(rt: &R) -> Opti
         entries: 4,
         workers: 2,
     };
-    let outcome =
-        serve_clients::<R, MemoryListener, Okay, MeetingGate>(rt, alloc, &mut listener, plan, &gate);
+    let outcome = serve_clients::<R, MemoryListener, Okay, MeetingGate>(
+        rt,
+        alloc,
+        &mut listener,
+        plan,
+        &gate,
+    );
     let outcome = outcome.ok()?;
     let first_served = match outcome.ends.first()? {
         SessionEnd::Closed { served } => *served,
@@ -54,13 +59,13 @@ pub(crate) fn serve_both<R: Threads + Wait + AllocGlobal + Sync>(rt: &R) -> Opti
         SessionEnd::Cut { served } => *served,
         _ => return None,
     };
-    Some(Written {
+    Some(Replies {
         first_served,
         second_cut,
         looks: outcome.looks,
         missed: gate.missed(),
-        first: written(alloc, &listener, 0)?,
-        second: written(alloc, &listener, 1)?,
+        first: replies_at(alloc, &listener, 0)?,
+        second: replies_at(alloc, &listener, 1)?,
     })
 }
 
@@ -72,7 +77,7 @@ fn connection(alloc: Global, bytes: &[u8]) -> Option<(MemorySource, MemorySink)>
 }
 
 // What was written to the connection that was given back at this place.
-fn written(alloc: Global, listener: &MemoryListener, place: usize) -> Option<Vec<u8>> {
+fn replies_at(alloc: Global, listener: &MemoryListener, place: usize) -> Option<Vec<u8>> {
     let (_source, sink) = listener.closed().get(place)?;
     Vec::from_slice(alloc, sink.bytes()).ok()
 }

@@ -1,4 +1,4 @@
-use Rattle.std.proofs.Common.{◌≡◌, ◌++◌, List, Option, map, sym, ap, ◌∙◌, arith}
+use Rattle.std.proofs.Common.{◌++◌, List, Option, map, sym, ap, ◌∙◌, arith}
 use Rattle.solve_serve.specs.declared.end.SessionEnd.{SessionEnd}
 use Rattle.serve_clients.specs.Sessions.{all_before, all_behind}
 use Rattle.serve_clients.specs.Clients.{connection, end_of}

@@ -14,7 +14,7 @@ loop-peer-preserved g c =
     let given = c.give_one.ensures in
     let one = ap length first in (
       one_less c.args.peers.items c.in-Some.peer c.loop-peer.rest.items c.pop_front.new.self.items (g.L.Listener.closed c.args.listener.now) (g.L.Listener.closed c.loop-peer.listener) (g.L.Listener.closed c.give_one.new.listener)
-      before now after inv.0 first given.closed given.ends given.looks given.look_parts given.miss_parts,
+          before now after inv.0 first given.closed given.ends given.looks given.look_parts given.miss_parts,
       given.waiting ∙ inv.1,
       given.faults ∙ inv.2,
       omega (arith, inv.3, given.lent, one),
