@@ -1,5 +1,5 @@
 -- Answers that have a text.
-use Rattle.std.specs.Prelude.{ℕ, ◌<◌, ◌^◌, ⊤}
+use Rattle.std.specs.Prelude.{◌<◌, ◌^◌, ⊤}
 use Rattle.serve_words.specs.Text.{served_in}
 use Rattle.serve_words.specs.declared.answer.ServeAnswer.{ServeAnswer}
 use Rattle.serve_words.specs.declared.answer.ServeAnswer.TheVariants as answers

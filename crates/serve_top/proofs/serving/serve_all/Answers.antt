@@ -1,4 +1,4 @@
-use Rattle.std.proofs.Common.{◌≡◌, ap, map, string_bytes, ◌∙◌}
+use Rattle.std.proofs.Common.{ap, map, string_bytes}
 use Rattle.serve_top.specs.Serving.{listening, sinking}
 use Rattle.serve_top.proofs.ServeLaws.{write_so, refused_so, link_so, listener_failed, sink_failed, complete}
 use Rattle.serve_top.proofs.serving.serve_all.Goals as goal
