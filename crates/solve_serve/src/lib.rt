@@ -22,3 +22,4 @@ pub use law::{answers_first, ends_exactly};
 pub use limit::{MAX_REPLIES, MAX_REQUEST, limits_agree};
 pub use peers::{Peer, PeerList, serve_peers};
 pub use session::serve_one;
+pub use write::write_all;

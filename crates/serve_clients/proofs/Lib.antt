@@ -1,0 +1,3 @@
+mod ConnectionLaws
+mod ClientLaws
+mod SessionLaws

@@ -1,0 +1,42 @@
+//! A maker of short replies.
+
+ghost use Rattle.std.specs.Prelude.{◌≡◌, ◌+◌};
+
+use dcop_base::{Bytes, NoMemory};
+use reply_cache::{FreshMaker, Maker};
+use std::alloc::Global;
+use std::marker::Sync;
+use std::thread::Threads;
+
+/// Replies `ok` to each key.
+#[derive(Drop)]
+pub(crate) struct Okay {
+    calls: u64,
+}
+
+impl Maker for Okay {
+    ghost use Rattle.std.specs.Prelude.{[], ◌∷◌};
+    ghost use Rattle.std.proofs.Common.{arith};
+
+    ghost reply = { λ _. 111 ∷ 107 ∷ [] };
+
+    ghost calls = { λ maker. maker.calls };
+
+    fn make<R: Threads + Sync>(
+        &mut self,
+        _rt: &R,
+        alloc: Global,
+        _key: &[u8],
+    ) -> Result<Bytes, NoMemory> {
+        self.calls += 1;
+        Ok(Bytes::from_vec(Vec::from_slice(alloc, b"ok")?))
+    }
+
+    ghost is_short = { λ _. Prim.omega arith };
+}
+
+impl FreshMaker for Okay {
+    fn fresh() -> Self {
+        Okay { calls: 0 }
+    }
+}

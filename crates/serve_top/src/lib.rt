@@ -1,0 +1,12 @@
+//! The server's top call: words, a listener and a sink to a status.
+//!
+//! [`serve_all`] does all the work of a server over any listener and any maker of replies. Its
+//! clauses say which answer belongs to which words, how each session ended and what was written to
+//! it, that the looks that are told are those of all sessions together, and when each fault may come.
+#![tactic(auto)]
+
+mod serving;
+mod status;
+
+pub use serving::serve_all;
+pub use status::ServeStatus;

@@ -1,0 +1,145 @@
+//! The server's top call.
+
+ghost use Rattle.std.specs.Prelude.{◌≡◌, ◌≢◌, ◌<◌, ◌⊎◌, map, string_bytes, IfOk, IsOk, IsErr};
+ghost use Rattle.dcop_edge.specs.Faults.{Rose};
+ghost use Rattle.serve_words.specs.Words.{IsInRange, words_read};
+ghost use Rattle.serve_words.specs.Told.{HasText};
+ghost use Rattle.serve_top.specs.Serving.{listening, sinking, IsServeAnswer, AnswersServe, Shows, HasAnswered};
+
+use crate::status::ServeStatus;
+use dcop_base::NoMemory;
+use dcop_edge::{Gate, Sink};
+use reply_cache::FreshMaker;
+use serve_clients::{Plan, ServeFault, serve_clients};
+use serve_edge::Listener;
+use serve_words::{ServeAnswer, ServeWords, read_words, text_of};
+use solve_serve::write_all;
+use std::alloc::Global;
+use std::marker::Sync;
+use std::sync::Wait;
+use std::thread::Threads;
+
+/// Answers these words, which are the arguments of the program: opens the listener, accepts as many
+/// clients as they say, serves them beside each other over one cache of replies, each with a fresh
+/// maker, gives them back, and writes to the sink how their sessions went. It may wait.
+///
+/// [`ServeStatus::LinkFault`] and [`ServeStatus::WriteFault`] come only where the listener or the
+/// sink failed in this call. With `WriteFault` a prefix of the answer is written, with
+/// [`ServeStatus::NoMemory`], where memory was wanted and not had, nothing, and otherwise the whole
+/// answer, and the sink is finished.
+pub fn serve_all<R: Threads + Wait + Sync, L: Listener, K: Sink, M: FreshMaker, G: Gate>(
+    rt: &R,
+    alloc: Global,
+    words: &[String],
+    listener: &mut L,
+    sink: &mut K,
+    gate: &G,
+) -> ServeStatus
+    ensures answered { result ≢ ServeStatus.NoMemory → HasAnswered L.S.left L.S.faults L.K.held L.K.faults M.reply (map string_bytes words.now)
+        (listening (L.faults listener.old) (L.waiting listener.old) (L.closed listener.old))
+        (listening (L.faults listener.new) (L.waiting listener.new) (L.closed listener.new))
+        (sinking (K.held sink.old) (K.finished sink.old) (K.faults sink.old))
+        (sinking (K.held sink.new) (K.finished sink.new) (K.faults sink.new)) result }
+    ensures unwritten { result ≡ ServeStatus.NoMemory → sink.new ≡ sink.old }
+    ensures refused { result ≡ ServeStatus.BadWords → IsErr (words_read (map string_bytes words.now)) }
+    ensures link_fault { result ≡ ServeStatus.LinkFault → Rose (L.faults listener.old) (L.faults listener.new) }
+    ensures write_fault { result ≡ ServeStatus.WriteFault → Rose (K.faults sink.old) (K.faults sink.new) }
+    ensures listener_failed { L.faults listener.old < L.faults listener.new →
+        (result ≡ ServeStatus.LinkFault) ⊎ (result ≡ ServeStatus.WriteFault) ⊎ (result ≡ ServeStatus.NoMemory) }
+    ensures sink_failed { K.faults sink.old < K.faults sink.new → result ≡ ServeStatus.WriteFault }
+    ensures complete { IsOk (words_read (map string_bytes words.now)) → ¬ Rose (L.faults listener.old) (L.faults listener.new) → ¬ Rose (K.faults sink.old) (K.faults sink.new) →
+        (result ≡ ServeStatus.Solved) ⊎ (result ≡ ServeStatus.NoMemory) }
+{
+    answer_all::<R, L, K, M, G>(rt, alloc, words, listener, sink, gate)
+}
+
+/// [`serve_all`], with the clauses from which its others follow.
+fn answer_all<R: Threads + Wait + Sync, L: Listener, K: Sink, M: FreshMaker, G: Gate>(
+    rt: &R,
+    alloc: Global,
+    words: &[String],
+    listener: &mut L,
+    sink: &mut K,
+    gate: &G,
+) -> ServeStatus
+    ensures answered { result ≢ ServeStatus.NoMemory → HasAnswered L.S.left L.S.faults L.K.held L.K.faults M.reply (map string_bytes words.now)
+        (listening (L.faults listener.old) (L.waiting listener.old) (L.closed listener.old))
+        (listening (L.faults listener.new) (L.waiting listener.new) (L.closed listener.new))
+        (sinking (K.held sink.old) (K.finished sink.old) (K.faults sink.old))
+        (sinking (K.held sink.new) (K.finished sink.new) (K.faults sink.new)) result }
+    ensures unwritten { result ≡ ServeStatus.NoMemory → sink.new ≡ sink.old }
+{
+    match answer_of::<R, L, M, G>(rt, alloc, words, listener, gate) {
+        Ok(answer) => show(alloc, &answer, sink),
+        Err(NoMemory) => ServeStatus::NoMemory,
+    }
+}
+
+/// The answer to words.
+fn answer_of<R: Threads + Wait + Sync, L: Listener, M: FreshMaker, G: Gate>(
+    rt: &R,
+    alloc: Global,
+    words: &[String],
+    listener: &mut L,
+    gate: &G,
+) -> Result<ServeAnswer, NoMemory>
+    ensures belongs { IfOk result (λ answer. AnswersServe L.S.left L.S.faults L.K.held L.K.faults M.reply (map string_bytes words.now)
+        (listening (L.faults listener.old) (L.waiting listener.old) (L.closed listener.old))
+        (listening (L.faults listener.new) (L.waiting listener.new) (L.closed listener.new)) answer) }
+    ensures told { IfOk result HasText }
+{
+    match read_words(words) {
+        Ok(asked) => served::<R, L, M, G>(rt, alloc, asked, listener, gate),
+        Err(refused) => Ok(ServeAnswer::Words {
+            at: refused.at,
+            kind: refused.kind,
+        }),
+    }
+}
+
+/// The answer to words that are accepted.
+fn served<R: Threads + Wait + Sync, L: Listener, M: FreshMaker, G: Gate>(
+    rt: &R,
+    alloc: Global,
+    asked: ServeWords,
+    listener: &mut L,
+    gate: &G,
+) -> Result<ServeAnswer, NoMemory>
+    requires { IsInRange asked }
+    ensures belongs { IfOk result (λ answer. IsServeAnswer L.S.left L.S.faults L.K.held L.K.faults M.reply (Ok asked)
+        (listening (L.faults listener.old) (L.waiting listener.old) (L.closed listener.old))
+        (listening (L.faults listener.new) (L.waiting listener.new) (L.closed listener.new)) answer) }
+    ensures told { IfOk result HasText }
+{
+    if listener.open(asked.port as u16).is_err() {
+        return Ok(ServeAnswer::Link);
+    }
+    let plan = Plan {
+        clients: asked.clients as u32,
+        entries: asked.entries as u32,
+        workers: asked.workers as u32,
+    };
+    match serve_clients::<R, L, M, G>(rt, alloc, listener, plan, gate) {
+        Ok(outcome) => Ok(ServeAnswer::Summary {
+            ends: outcome.ends,
+            looks: outcome.looks,
+        }),
+        Err(ServeFault::Link) => Ok(ServeAnswer::Link),
+        Err(ServeFault::NoMemory) => Err(NoMemory),
+    }
+}
+
+/// Writes the whole text of an answer, finishes the sink, and says how it went.
+fn show<K: Sink>(alloc: Global, answer: &ServeAnswer, sink: &mut K) -> ServeStatus
+    requires { HasText answer.now }
+    ensures shows { result ≢ ServeStatus.NoMemory → Shows answer.now (sinking (K.held sink.old) (K.finished sink.old) (K.faults sink.old)) (sinking (K.held sink.new) (K.finished sink.new) (K.faults sink.new)) result }
+    ensures unwritten { result ≡ ServeStatus.NoMemory → sink.new ≡ sink.old }
+{
+    let Ok(text) = text_of(alloc, answer) else {
+        return ServeStatus::NoMemory;
+    };
+    match write_all(sink, text.as_slice()) {
+        Ok(()) => ServeStatus::of(answer),
+        Err(_) => ServeStatus::WriteFault,
+    }
+}

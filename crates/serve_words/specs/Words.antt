@@ -1,0 +1,39 @@
+-- The words of the server's program.
+use Rattle.std.specs.Prelude.{ℕ, ◌+◌, ◌≤◌, ◌||◌, List, [], ◌∷◌, length, Option, Some, None, Result, Ok, Err, nat_lt, if◌then◌else◌}
+use Rattle.dcop_base.specs.NumberWord.{number_of}
+use Rattle.serve_words.specs.declared.words.ServeWords.{ServeWords}
+use Rattle.serve_words.specs.declared.words.Refused.{Refused}
+
+-- words are refused at this place, from 1, by this kind
+abbrev pub refused : ℕ → ℕ → Refused
+refused at kind = record { at = at; kind = kind }
+
+-- the number that a word writes, or why it is refused: it writes none, kind 6, or one outside the range, kind 7
+abbrev pub number_within : ℕ → ℕ → ℕ → Option ℕ → Result ℕ Refused
+number_within at least most None = Err (refused at 6)
+number_within at least most (Some n) = if nat_lt n least || nat_lt most n then Err (refused at 7) else Ok n
+
+-- the four numbers, or the first refusal
+abbrev pub all_four : Result ℕ Refused → Result ℕ Refused → Result ℕ Refused → Result ℕ Refused → Result ServeWords Refused
+all_four (Ok port) (Ok clients) (Ok entries) (Ok workers) = Ok (record { port = port; clients = clients; entries = entries; workers = workers })
+all_four (Err r) clients entries workers = Err r
+all_four (Ok port) (Err r) entries workers = Err r
+all_four (Ok port) (Ok clients) (Err r) workers = Err r
+all_four (Ok port) (Ok clients) (Ok entries) (Err r) = Err r
+
+-- why so many words are too few, kind 4 at the first place without one, or too many, kind 3 at the fifth
+abbrev pub wrong_count : ℕ → Refused
+wrong_count count = if nat_lt count 4 then refused (count + 1) 4 else refused 5 3
+
+-- what four words ask for, each in its range: the port, the clients, the entries and the workers; or the first refusal
+abbrev pub words_read : List (List ℕ) → Result ServeWords Refused
+words_read (port ∷ clients ∷ entries ∷ workers ∷ []) =
+    all_four (number_within 1 1024 65535 (number_of port)) (number_within 2 1 64 (number_of clients)) (number_within 3 1 1024 (number_of entries)) (number_within 4 1 16 (number_of workers))
+words_read words = Err (wrong_count (length words))
+
+-- what was asked for is in its range
+pub record IsInRange (asked : ServeWords) : Type 0 where
+  pub port : (1024 ≤ asked.port) × (asked.port ≤ 65535)
+  pub clients : (1 ≤ asked.clients) × (asked.clients ≤ 64)
+  pub entries : (1 ≤ asked.entries) × (asked.entries ≤ 1024)
+  pub workers : (1 ≤ asked.workers) × (asked.workers ≤ 16)

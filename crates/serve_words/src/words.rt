@@ -1,0 +1,93 @@
+//! The words of the server's program.
+
+ghost use Rattle.std.specs.Prelude.{◌≡◌, ◌≤◌, map, string_bytes, IfOk};
+ghost use Rattle.dcop_base.specs.NumberWord.{number_of};
+ghost use Rattle.serve_words.specs.Words.{refused, number_within, all_four, wrong_count, words_read, IsInRange};
+
+use dcop_base::number_of_word;
+
+/// What the server is asked for.
+#[derive(Clone, Copy, Debug, PartialEq, Eq)]
+pub struct ServeWords {
+    /// The port at which it listens, 1,024 to 65,535.
+    pub port: u64,
+    /// How many connections it accepts, 1 to 64.
+    pub clients: u64,
+    /// How many replies its cache keeps, 1 to 1,024.
+    pub entries: u64,
+    /// How many sessions it serves beside each other, 1 to 16.
+    pub workers: u64,
+}
+
+/// Words are refused.
+#[derive(Clone, Copy, Debug, PartialEq, Eq)]
+pub struct Refused {
+    /// The place of the word that is refused, from 1.
+    pub at: u64,
+    /// Why: 3 for a fifth word, 4 where one is missing, 6 where a word writes no number, 7 where
+    /// the number is outside its range.
+    pub kind: u8,
+}
+
+/// What words ask for. They are taken from left to right.
+///
+/// # Errors
+///
+/// The first refusal: the number of words is tested before each word.
+pub fn read_words(words: &[String]) -> Result<ServeWords, Refused>
+    ensures asked { result ≡ words_read (map string_bytes words.now) }
+    ensures range { IfOk result IsInRange }
+{
+    match words {
+        [port, clients, entries, workers] => read_four(
+            port.as_str(),
+            clients.as_str(),
+            entries.as_str(),
+            workers.as_str(),
+        ),
+        _ => Err(wrong_count(words.len())),
+    }
+}
+
+/// What four words ask for.
+fn read_four(port: &str, clients: &str, entries: &str, workers: &str) -> Result<ServeWords, Refused>
+    ensures range { IfOk result IsInRange }
+    ensures asked { result ≡ all_four (number_within 1 1024 65535 (number_of port.now)) (number_within 2 1 64 (number_of clients.now)) (number_within 3 1 1024 (number_of entries.now)) (number_within 4 1 16 (number_of workers.now)) }
+{
+    let port = number_within(1, port, 1_024, 65_535)?;
+    let clients = number_within(2, clients, 1, 64)?;
+    let entries = number_within(3, entries, 1, 1_024)?;
+    let workers = number_within(4, workers, 1, 16)?;
+    Ok(ServeWords {
+        port,
+        clients,
+        entries,
+        workers,
+    })
+}
+
+/// The number that the word at this place writes, in this range.
+fn number_within(at: u64, word: &str, least: u64, most: u64) -> Result<u64, Refused>
+    ensures asked { result ≡ number_within at least most (number_of word.now) }
+    ensures range { IfOk result (λ n. (least ≤ n) × (n ≤ most)) }
+{
+    match number_of_word(word.as_bytes()) {
+        None => Err(Refused { at, kind: 6 }),
+        Some(number) if number < least || most < number => Err(Refused { at, kind: 7 }),
+        Some(number) => Ok(number),
+    }
+}
+
+/// Why so many words are not four.
+fn wrong_count(count: usize) -> Refused
+    ensures { result ≡ wrong_count count }
+{
+    if count < 4 {
+        Refused {
+            at: count as u64 + 1,
+            kind: 4,
+        }
+    } else {
+        Refused { at: 5, kind: 3 }
+    }
+}
