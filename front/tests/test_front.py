@@ -110,8 +110,12 @@ class Solving(Case):
         process = subprocess.Popen(
             [sys.executable, "-m", "sefwllon", "solve", str(PROBLEMS / "pair.dcop")],
             env=environment, stdout=subprocess.PIPE, stderr=subprocess.PIPE, text=True,
+            # (who starts the tests in the background may have interrupts ignored)
+            preexec_fn=lambda: signal.signal(signal.SIGINT, signal.SIG_DFL),
         )  # fmt: skip
-        while not mark.read_text():
+        self.addCleanup(process.kill)
+        latest = time.monotonic() + 60
+        while not mark.read_text() and time.monotonic() < latest:
             time.sleep(0.05)
         process.send_signal(signal.SIGINT)
         told, _ = process.communicate(timeout=40)
