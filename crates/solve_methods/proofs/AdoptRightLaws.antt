@@ -13,7 +13,6 @@ use Rattle.token_runs.specs.Laws.{TokenRuns}
 use Rattle.adopt_runs.specs.RunLaws.{AdoptBoundsEnclose}
 use Rattle.adopt_ends.specs.EndLaw.{AdoptEnds}
 use Rattle.run_log.specs.declared.log.LogEvent.{LogEvent}
-use Rattle.run_log.specs.Laws.{IsStampedRun}
 use Rattle.run_log.specs.LogText.{IsNamedEvent}
 use Rattle.problem_text.specs.File.{TextFile, IsFile}
 use Rattle.problem_text.specs.declared.file.Goal.{Goal}
@@ -26,6 +25,7 @@ use Rattle.problem_solved.specs.Goal.{solved, problem_solved, IsAtMostWorse}
 use Rattle.problem_solved.proofs.SolvedLaws.{solved_problem, solved_sizes}
 use Rattle.solve_methods.specs.Certified.{IsLogFor, IsLoggedBy, IsLogged, certificate_of_log}
 use Rattle.solve_methods.specs.Goal.{IsRightReport}
+use Rattle.solve_methods.specs.Kept.{IsLogOf}
 use Rattle.log_holds.specs.Ends.{least_known, least_shown, lower_for, upper_for, TellsEnd}
 use Rattle.log_holds.specs.Holds.{agents_for}
 use Rattle.log_holds.proofs.HoldsLaws.{small-gap}
@@ -113,23 +113,23 @@ module _ (file : TextFile) (error budget : ℕ) (certified : Bool) (r : Reached)
       }
 
   -- the log of the run shows that it holds
-  log-shows : TokenRuns → AdoptBoundsEnclose → AdoptEnds → (log : List LogEvent) → IsStampedRun (agents_for file error) log is.end → IsLogFor file is.end report log
-  log-shows tokens bounds ends log stamped =
-      let ran : IsStampedRun (agents_for file report.error) log is.end = subst (λ (e : ℕ). IsStampedRun (agents_for file e) log is.end) (sym tells.error_told) stamped in
+  log-shows : TokenRuns → AdoptBoundsEnclose → AdoptEnds → (log : List LogEvent) → IsLogOf (agents_for file error) is.play.rounds is.end log → IsLogFor file is.play.rounds is.end report log
+  log-shows tokens bounds ends log kept =
+      let ran : IsLogOf (agents_for file report.error) is.play.rounds is.end log = subst (λ (e : ℕ). IsLogOf (agents_for file e) is.play.rounds is.end log) (sym tells.error_told) kept in
       record {
         run = ran;
         holds = record {
           end = is.end;
-          run = ran;
+          run = ran.stamped;
           told = told-end;
-          near = small-gap tokens bounds file report log is.end whole ran told-end ends;
+          near = small-gap tokens bounds file report log is.end whole ran.stamped told-end ends;
         };
       }
 
-  log-certifies : TokenRuns → AdoptBoundsEnclose → AdoptEnds → (o : Option (List LogEvent)) → report.certificate ≡ certificate_of_log o → IfSome o (λ log. IsStampedRun (agents_for file error) log is.end)
-      → IsLogged (is_some o) file is.end report
+  log-certifies : TokenRuns → AdoptBoundsEnclose → AdoptEnds → (o : Option (List LogEvent)) → report.certificate ≡ certificate_of_log o → IfSome o (IsLogOf (agents_for file error) is.play.rounds is.end)
+      → IsLogged (is_some o) file is.play.rounds is.end report
   log-certifies tokens bounds ends None certificate kept = certificate
-  log-certifies tokens bounds ends (Some log) certificate kept = subst (IsLoggedBy file is.end report) (sym certificate) (log-shows tokens bounds ends log kept)
+  log-certifies tokens bounds ends (Some log) certificate kept = subst (IsLoggedBy file is.play.rounds is.end report) (sym certificate) (log-shows tokens bounds ends log kept)
 
   -- it is of the form of a report of ADOPT
   pub reached-form : TokenRuns → AdoptBoundsEnclose → AdoptEnds → IsAdoptReport file error budget certified report
@@ -141,13 +141,13 @@ module _ (file : TextFile) (error budget : ℕ) (certified : Bool) (r : Reached)
     method = tells.method;
     goal = tells.goal;
     error_told = tells.error_told;
-    certificate = subst (λ (b : Bool). IsLogged b file is.end report) is.asked (log-certifies tokens bounds ends r.log tells.certificate is.logged);
+    certificate = subst (λ (b : Bool). IsLogged b file is.play.rounds is.end report) is.asked (log-certifies tokens bounds ends r.log tells.certificate is.logged);
   }
 
-  log-worded : IsFile file → (o : Option (List LogEvent)) → IfSome o (λ log. IsStampedRun (agents_for file error) log is.end) → IfSome (certificate_of_log o) (IsNamedCertificate (length file.names))
+  log-worded : IsFile file → (o : Option (List LogEvent)) → IfSome o (IsLogOf (agents_for file error) is.play.rounds is.end) → IfSome (certificate_of_log o) (IsNamedCertificate (length file.names))
   log-worded is_file None kept = tt
   log-worded is_file (Some log) kept =
-      subst (λ (n : ℕ). All (IsNamedEvent n) log) (ap length (solved_sizes file.goal file.problem) ∙ sym is_file.named) (log_named (problem_solved file) error is.end log kept)
+      subst (λ (n : ℕ). All (IsNamedEvent n) log) (ap length (solved_sizes file.goal file.problem) ∙ sym is_file.named) (log_named (problem_solved file) error is.end log kept.stamped)
 
   -- the names of the file can tell it
   pub reached-told : IsFile file → CanTell report file

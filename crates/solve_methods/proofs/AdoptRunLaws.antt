@@ -20,10 +20,10 @@ use Rattle.adopt_runs.specs.AdoptRun.{IsAdoptRun}
 use Rattle.adopt_runs.specs.PendingLaw.{AdoptPending}
 use Rattle.adopt_runs.specs.RunLaws.{HoldsOfAdopt, AdoptBoundsEnclose}
 use Rattle.adopt_ends.specs.EndLaw.{AdoptEnds}
-use Rattle.run_log.specs.Laws.{IsStampedRun}
 use Rattle.log_holds.specs.Ends.{least_known, least_shown, ending_of}
 use Rattle.log_holds.proofs.EndLaws.{agents-assigned, least-above}
 use Rattle.solve_methods.specs.Reached.{HaveReached}
+use Rattle.solve_methods.specs.Kept.{IsLogOf}
 use Rattle.protocol_steps.specs.Outcomes.{HaveRun}
 use Rattle.solve_methods.specs.declared.adopt.Reached.{Reached}
 use Rattle.tree_search.proofs.EndLaws.{run-spent}
@@ -46,7 +46,7 @@ module _ (p : Dcop) (whole : IsProblem p) (is_tree : IsPseudotree p (dfs p)) (li
 
   -- what they have reached, by their values and by the root's standing
   pub reached : (r : Reached) → r.values ≡ outcome.values → r.ending ≡ ending_of is.end → r.deliveries ≡ outcome.deliveries → r.lower ≡ outcome.top.lower → r.upper ≡ least_known (cost p r.values) outcome.top.upper
-      → (certified : Bool) → is_some r.log ≡ certified → IfSome r.log (λ log. IsStampedRun (adopt_agents p (dfs p) error) log is.end) → HaveReached p error budget certified r
+      → (certified : Bool) → is_some r.log ≡ certified → IfSome r.log (IsLogOf (adopt_agents p (dfs p) error) is.rounds is.end) → HaveReached p error budget certified r
   reached r values ending deliveries lower upper certified asked logged =
       let one = holds.agents 0 (let some = whole.some in omega (arith, some)) in
       let v : AdoptView = one.0 in

@@ -27,7 +27,7 @@ pub record IsAdoptPlay (p : Dcop) (error budget : ℕ) (end : Network) : Type 0 
   pub run : IsAdoptRun p (dfs p) error (flat_map (λ es. es) rounds) end
   pub in_rounds : AreRounds budget (start_state (adopt_agents p (dfs p) error)) rounds end
 
--- a report of ADOPT on a file: it tells the end of such a run on the problem solved; where an agent has not ended, the budget is spent; where a certificate is asked for, it has a log of a run with that end
+-- a report of ADOPT on a file: it tells the end of such a run on the problem solved; where an agent has not ended, the budget is spent; where a certificate is asked for, it has the log of that very run
 pub record IsAdoptReport (file : TextFile) (error budget : ℕ) (certified : Bool) (report : Report) : Type 0 where
   pub end : Network
   pub play : IsAdoptPlay (problem_solved file) error budget end
@@ -36,7 +36,7 @@ pub record IsAdoptReport (file : TextFile) (error budget : ℕ) (certified : Boo
   pub method : report.method ≡ Adopt
   pub goal : report.goal ≡ file.goal
   pub error_told : report.error ≡ error
-  pub certificate : IsLogged certified file end report
+  pub certificate : IsLogged certified file play.rounds end report
 
 -- the answer of ADOPT on a file
 abbrev pub IsAdoptAnswer : TextFile → ℕ → ℕ → Bool → Answer → Type 0

@@ -6,10 +6,10 @@ use Rattle.pseudotree.specs.Tree.{parent_of}
 use Rattle.pseudotree.specs.Preorder.{preorder_of}
 use Rattle.pseudotree.specs.Place.{sizes_of}
 use Rattle.pseudotree.specs.DepthFirst.{dfs}
+use Rattle.protocol_steps.specs.declared.event.Event.{Event}
 use Rattle.protocol_steps.specs.Network.{Network}
 use Rattle.dpop_runs.specs.Agents.{IsOptimumTable}
 use Rattle.run_log.specs.declared.log.LogEvent.{LogEvent}
-use Rattle.run_log.specs.Laws.{IsStampedRun}
 use Rattle.problem_text.specs.File.{TextFile}
 use Rattle.certificate_text.specs.declared.certificate.Certificate.{Certificate}
 use Rattle.certificate_text.specs.declared.certificate.Certificate.TheVariants.{Tables, Log}
@@ -19,6 +19,7 @@ use Rattle.certificate_text.specs.Fits.{FitsTables}
 use Rattle.problem_solved.specs.Goal.{problem_solved}
 use Rattle.problem_solved.specs.Holds.{HoldsTables}
 use Rattle.log_holds.specs.Holds.{agents_for, HoldsLog}
+use Rattle.solve_methods.specs.Kept.{IsLogOf}
 
 -- the table of variable i as a certificate tells it: its parent, its separator from the root down, and the subtree optimum for each choice of values there
 pub record IsUtilOf (p : Dcop) (paths : List (List ℕ)) (i : ℕ) (u : Util) : Type 0 where
@@ -52,21 +53,21 @@ abbrev pub IsCertified : Bool → TextFile → Report → Type 0
 IsCertified false file report = report.certificate ≡ None
 IsCertified true file report = IsCertifiedBy file report report.certificate
 
--- this log is a run of the ADOPT agents of the problem solved for a file that ends in this network, with right stamps, and the report holds with it
-pub record IsLogFor (file : TextFile) (end : Network) (report : Report) (log : List LogEvent) : Type 0 where
-  pub run : IsStampedRun (agents_for file report.error) log end
+-- this is the log of the run that the ADOPT agents of the problem solved for a file made in these rounds, which ends in this network, and the report holds with it
+pub record IsLogFor (file : TextFile) (rounds : List (List Event)) (end : Network) (report : Report) (log : List LogEvent) : Type 0 where
+  pub run : IsLogOf (agents_for file report.error) rounds end log
   pub holds : HoldsLog file report log
 
 -- a report has a certificate of such a log
-abbrev pub IsLoggedBy : TextFile → Network → Report → Option Certificate → Type 0
-IsLoggedBy file end report (Some (Log log)) = IsLogFor file end report log
-IsLoggedBy file end report (Some (Tables utils)) = ⊥
-IsLoggedBy file end report None = ⊥
+abbrev pub IsLoggedBy : TextFile → List (List Event) → Network → Report → Option Certificate → Type 0
+IsLoggedBy file rounds end report (Some (Log log)) = IsLogFor file rounds end report log
+IsLoggedBy file rounds end report (Some (Tables utils)) = ⊥
+IsLoggedBy file rounds end report None = ⊥
 
--- a report has the log of a run that ends in this network where one is asked for, and no certificate otherwise
-abbrev pub IsLogged : Bool → TextFile → Network → Report → Type 0
-IsLogged false file end report = report.certificate ≡ None
-IsLogged true file end report = IsLoggedBy file end report report.certificate
+-- a report has the log of the run in these rounds, which ends in this network, where one is asked for, and no certificate otherwise
+abbrev pub IsLogged : Bool → TextFile → List (List Event) → Network → Report → Type 0
+IsLogged false file rounds end report = report.certificate ≡ None
+IsLogged true file rounds end report = IsLoggedBy file rounds end report report.certificate
 
 -- the certificate of a log, where there is one
 abbrev pub certificate_of_log : Option (List LogEvent) → Option Certificate

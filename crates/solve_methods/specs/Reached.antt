@@ -9,12 +9,12 @@ use Rattle.protocol_steps.specs.Adopt.{AdoptView}
 use Rattle.protocol_steps.specs.AdoptBounds.{lower_bound}
 use Rattle.protocol_steps.specs.TreeAgents.{adopt_agents}
 use Rattle.adopt_ends.specs.EndLaw.{values_of}
-use Rattle.run_log.specs.Laws.{IsStampedRun}
 use Rattle.log_holds.specs.Ends.{IsRootAgent, ending_of, least_shown}
 use Rattle.solve_methods.specs.Adopt.{IsAdoptPlay}
+use Rattle.solve_methods.specs.Kept.{IsLogOf}
 use Rattle.solve_methods.specs.declared.adopt.Reached.{Reached}
 
--- what such a run gave: the ending, the deliveries and the values of its end, and the root's bounds, with the values' cost; the values are an assignment, the bounds enclose the optimum, and where all agents have ended the values cost at most the error more; a log was kept exactly where one is asked for, and it is a run with that end and right stamps
+-- what such a run gave: the ending, the deliveries and the values of its end, and the root's bounds, with the values' cost; the values are an assignment, the bounds enclose the optimum, and where all agents have ended the values cost at most the error more; a log was kept exactly where one is asked for, and it is the log of that very run
 pub record HaveReached (p : Dcop) (error budget : ℕ) (certified : Bool) (reached : Reached) : Type 0 where
   pub end : Network
   pub play : IsAdoptPlay p error budget end
@@ -30,4 +30,4 @@ pub record HaveReached (p : Dcop) (error budget : ℕ) (certified : Bool) (reach
   pub enclosed : (least : ℕ) → IsOptimum p least → (reached.lower ≤ least) × (least ≤ reached.upper)
   pub near : has_ended end ≡ true → (least : ℕ) → IsOptimum p least → cost p reached.values ≤ least + error
   pub asked : is_some reached.log ≡ certified
-  pub logged : IfSome reached.log (λ log. IsStampedRun (adopt_agents p (dfs p) error) log end)
+  pub logged : IfSome reached.log (IsLogOf (adopt_agents p (dfs p) error) play.rounds end)

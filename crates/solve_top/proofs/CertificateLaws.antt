@@ -133,14 +133,14 @@ events_fit n (e ∷ log) named readable =
 module _ (d : Declared) (file : TextFile) (report : Report) (error budget : ℕ) (whole : IsProblem file.problem) (declared : declared_by file ≡ d) (small : error ≤ amount_limit)
     (is : IsAdoptReport file error budget true report) where
   -- with this log
-  logged_with : (log : List LogEvent) → report.certificate ≡ Some (Log log) → IsLoggedBy file is.end report (Some (Log log)) → IsReadable report (Some (Log log)) → IsCertified d file report
+  logged_with : (log : List LogEvent) → report.certificate ≡ Some (Log log) → IsLoggedBy file is.play.rounds is.end report (Some (Log log)) → IsReadable report (Some (Log log)) → IsCertified d file report
   logged_with log here logged readable =
       let shows : LogsShow = logs_show token_runs adopt_bounds_enclose in
       let shown = shows file report log whole logged.holds in
       let told : TellsEnd file is.end report = is.told in
       let most = cost-le-cap file.problem report.values whole in
       let named : All (IsNamedEvent (length file.problem.sizes)) log =
-      subst (λ (ss : List ℕ). All (IsNamedEvent (length ss)) log) (solved_sizes file.goal file.problem) (log_named (problem_solved file) report.error is.end log logged.run) in
+      subst (λ (ss : List ℕ). All (IsNamedEvent (length ss)) log) (solved_sizes file.goal file.problem) (log_named (problem_solved file) report.error is.end log logged.run.stamped) in
       let certificate : IfSome (Some (Log log)) (FitsCertificate file.problem.sizes report.method) = (is.method, events_fit (length file.problem.sizes) log named readable.1) in
       let lower = lower_small file.goal file.problem (lower_bound told.top) (least_shown (problem_solved file) report.values told.top) whole (lower-le told.top) in
       let upper = upper_small file.goal file.problem report.values (lower_bound told.top) _ whole in record {
@@ -159,7 +159,7 @@ module _ (d : Declared) (file : TextFile) (report : Report) (error budget : ℕ)
         holds = subst (Certifies file report) (sym here) logged.holds;
       }
 
-  by_certificate : (certificate : Option Certificate) → report.certificate ≡ certificate → IsLoggedBy file is.end report certificate → IsReadable report certificate → IsCertified d file report
+  by_certificate : (certificate : Option Certificate) → report.certificate ≡ certificate → IsLoggedBy file is.play.rounds is.end report certificate → IsReadable report certificate → IsCertified d file report
   by_certificate None here logged readable = absurd logged
   by_certificate (Some (Tables utils)) here logged readable = absurd logged
   by_certificate (Some (Log log)) here logged readable = logged_with log here logged readable

@@ -1,5 +1,6 @@
 -- What agents come to that cells are run of.
-use Rattle.std.proofs.Common.{◌≡◌, ℕ, ◌≤◌, Bool, List, [], ◌∷◌, map, length, Option, Some, None, IfSome, is_some, refl, sym, ap, subst, ◌∙◌, arith}
+use Rattle.std.proofs.Common.{◌≡◌, ℕ, ◌≤◌, Bool, ◌==◌, if◌then◌else◌, List, [], ◌∷◌, ◌++◌, map, length, Option, Some, None, IfSome, is_some, refl, sym, ap, subst, ◌∙◌, inl, inr, arith}
+use Rattle.std.proofs.lemmas.Bool.{cases_Bool}
 use Rattle.std.proofs.lemmas.List.{length-map, length-set}
 use Rattle.std.proofs.lemmas.Option.{same_Some}
 use Rattle.std.specs.declared.dyn_box.DynBox.{DynBox}
@@ -11,9 +12,10 @@ use Rattle.protocol_steps.specs.declared.outcome.Outcome.{Outcome}
 use Rattle.protocol_steps.specs.View.{View}
 use Rattle.protocol_steps.specs.Step.{start_of}
 use Rattle.protocol_steps.specs.Network.{Desk, Network, start_state}
-use Rattle.protocol_steps.specs.Run.{run}
+use Rattle.protocol_steps.specs.Run.{run, journal}
 use Rattle.protocol_steps.specs.JournalStamps.{journal_at}
 use Rattle.protocol_steps.specs.declared.event.Event.{Event}
+use Rattle.protocol_steps.specs.declared.event.Take.{Take}
 use Rattle.protocol_steps.specs.declared.event.Entry.{Entry}
 use Rattle.protocol_steps.proofs.EventLaws.{begins}
 use Rattle.protocol_steps.specs.Effect.{deliveries}
@@ -21,13 +23,13 @@ use Rattle.protocol_steps.specs.RunEnds.{IsRunEnd}
 use Rattle.protocol_steps.specs.Outcomes.{HaveRun}
 use Rattle.worker_runs.specs.Cells.{CellState}
 use Rattle.worker_runs.specs.CellRounds.{total}
-use Rattle.worker_runs.specs.CellRuns.{journals_of, MakesARun, IsCellOutcome}
-use Rattle.worker_runs.specs.Merges.{AscendsAbove, IsMerge, JournalsMerge, events_in}
+use Rattle.worker_runs.specs.CellRuns.{journals_of, MakesARun, IsRunOfCells, IsCellOutcome}
+use Rattle.worker_runs.specs.Merges.{AscendsAbove, IsMerge, JournalsMerge, entries_in, events_in}
 use Rattle.worker_runs.specs.Laws.{CellsTellOutcomes}
 use Rattle.run_log.specs.declared.log.LogEvent.{LogEvent}
 use Rattle.run_log.specs.Laws.{MergedStampsAreRight}
-use Rattle.run_log.specs.Logs.{entries_of}
-use Rattle.solve_methods.specs.Kept.{HaveLogged}
+use Rattle.run_log.specs.Logs.{entry_of, entries_of, events_of}
+use Rattle.solve_methods.specs.Kept.{IsLogOf, HaveLogged}
 use Rattle.agent_cells.specs.declared.cell.Cell.{Cell}
 use Rattle.agent_cells.specs.State.{state_of}
 use Rattle.agent_workers.specs.Joined.{states_of}
@@ -96,6 +98,28 @@ module _ {X : Type 0} {F : X → Type 0} (M : DynBox X Global F → View) (cells
   pub merge_of : (log : List LogEvent) → IsMerge journals (entries_of log) → IsMerge (journals_of (states_of M cells)) (entries_of log)
   merge_of log merged = subst (λ (js : List (List Entry)). IsMerge js (entries_of log)) (are ∙ copied M cells) merged
 
+-- what the entries of one agent in a log take is its journal
+entries_take : (i : ℕ) (log : List LogEvent) → map (λ (e : Entry). e.takes) (entries_in i (entries_of log)) ≡ journal i (events_of log)
+entries_take i [] = refl
+entries_take i (e ∷ log) = elim (cases_Bool (e.agent == i)) [
+  | inl mine ↦
+      ap (λ (b : Bool). map (λ (x : Entry). x.takes) ((if b then (entry_of e).1 ∷ [] else []) ++ entries_in i (entries_of log))) mine
+      ∙ ap (λ (ts : List (List Take)). e.takes ∷ ts) (entries_take i log)
+      ∙ sym (ap (λ (b : Bool). (if b then e.takes ∷ [] else []) ++ journal i (events_of log)) mine)
+  | inr other ↦
+      ap (λ (b : Bool). map (λ (x : Entry). x.takes) ((if b then (entry_of e).1 ∷ [] else []) ++ entries_in i (entries_of log))) other
+      ∙ entries_take i log
+      ∙ sym (ap (λ (b : Bool). (if b then e.takes ∷ [] else []) ++ journal i (events_of log)) other)
+]
+
+-- the merged journals of cells are the log of the run that the cells have made
+log_of_run : (budget : ℕ) (made : List View) (cells : List CellState) (net : Network) (log : List LogEvent) → MergedStampsAreRight → (ran : IsRunOfCells budget made cells net) → IsMerge (journals_of cells) (entries_of log)
+    → IsLogOf made ran.in_rounds.pieces net log
+log_of_run budget made cells net log stamps ran merged = record {
+  same = λ i. sym (entries_take i log) ∙ ap (λ (es : List Entry). map (λ (e : Entry). e.takes) es) (merged.whole i) ∙ ran.in_rounds.agree i;
+  stamped = stamps budget made cells net log ran merged;
+}
+
 -- what agents come to that cells are run of, and the merged journals of the cells, where they are merged, as the log of that run
 have_logged : (budget : ℕ) (made : List View) (cells : List CellState) (end : RunEnd) (outcome : Outcome) (certified : Bool) (log : Option (List LogEvent)) → CellsTellOutcomes → MergedStampsAreRight
     → MakesARun budget made cells end → IsCellOutcome cells outcome → is_some log ≡ certified → IfSome log (λ events. IsMerge (journals_of cells) (entries_of events))
@@ -108,7 +132,7 @@ have_logged budget made cells end outcome certified None tell stamps ran cell as
 have_logged budget made cells end outcome certified (Some log) tell stamps ran cell asked merged = record {
   run = have_run budget made cells end outcome tell ran cell;
   asked = asked;
-  kept = stamps budget made cells ran.0 log ran.1 merged;
+  kept = log_of_run budget made cells ran.0 log stamps ran.1 merged;
 }
 
 -- the same of what is read from cells that have run
