@@ -1,0 +1,6 @@
+pub mod AgreedLaws
+pub mod BestLaws
+pub mod RoomLaws
+pub mod RunLaws
+pub mod PlayedLaws
+pub mod EndLaws

@@ -1,0 +1,4 @@
+pub mod Start
+pub mod Played
+pub mod Refusal
+pub mod End

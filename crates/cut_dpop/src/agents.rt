@@ -1,0 +1,72 @@
+//! Running the agents of one turn.
+
+ghost use Rattle.std.specs.Prelude.{◌≡◌, IfOk};
+ghost use Rattle.agent_links.specs.Ready.{IsNewCell};
+ghost use Rattle.delivery_core.specs.Agents.{IsStartFor, agents_of};
+ghost use Rattle.protocol_steps.specs.Outcomes.{HaveRun};
+ghost use Rattle.agent_seats.specs.Kinds.{view_of};
+ghost use Rattle.cut_dpop.specs.Start.{turn_deliveries};
+
+use crate::crew::Crew;
+use agent_cells::Cell;
+use agent_links::{make_each, outcome_of};
+use agent_seats::{Agent, Seat, seats_of};
+use agent_workers::run;
+use dcop_base::{NoMemory, Problem, problem_is_whole};
+use dcop_edge::Gate;
+use delivery_core::Start;
+use protocol_steps::Outcome;
+use std::alloc::Global;
+use std::thread::Threads;
+use worker_runs::cells_tell_outcomes;
+
+/// What the agents of a problem come to that are run from this start, by workers in rounds until all
+/// have ended or as many messages are delivered as DPOP takes. This is the one place of this crate
+/// where agents are boxed, and the boxes are handed to nobody but `run`.
+pub(crate) fn run_agents<R: Threads + Sync, G: Gate>(
+    crew: &Crew<R, G>,
+    alloc: Global,
+    problem: &Problem,
+    start: &Start,
+) -> Result<Outcome, NoMemory>
+    requires start { IsStartFor problem.now start.now }
+    ensures { IfOk result (HaveRun (turn_deliveries problem.now) (agents_of problem.now start.now)) }
+{
+    cells_tell_outcomes();
+    problem_is_whole(problem);
+    let make = |seat: Seat| -> Result<Cell, NoMemory>
+        ensures { IfOk result (IsNewCell (λ b. meaning (b.vtable, b.value)) (view_of seat.agent) seat.me seat.tails.items seat.heads.items) }
+    {
+        let Seat {
+            agent,
+            me,
+            tails,
+            heads,
+        } = seat;
+        match agent {
+            Agent::Token(agent) => {
+                let Ok(machine) = Box::new(alloc, agent) else {
+                    return Err(NoMemory);
+                };
+                Cell::new(alloc, machine, me, tails, heads)
+            }
+            Agent::Dpop(agent) => {
+                let Ok(machine) = Box::new(alloc, agent) else {
+                    return Err(NoMemory);
+                };
+                Cell::new(alloc, machine, me, tails, heads)
+            }
+            Agent::Adopt(agent) => {
+                let Ok(machine) = Box::new(alloc, agent) else {
+                    return Err(NoMemory);
+                };
+                Cell::new(alloc, machine, me, tails, heads)
+            }
+        }
+    };
+    let budget = 2 * (problem.sizes.as_slice().len() as u64 - 1);
+    let seats = seats_of(alloc, problem, start)?;
+    let mut cells = make_each(alloc, seats, &make)?;
+    let end = run(crew.rt, &mut cells, crew.workers, budget, crew.gate)?;
+    outcome_of(alloc, cells.as_slice(), end)
+}

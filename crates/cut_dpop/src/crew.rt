@@ -1,0 +1,15 @@
+//! What agents are run by.
+
+ghost use Rattle.std.specs.Prelude.{◌<◌};
+
+/// What agents are run by.
+#[derive(Drop)]
+pub(crate) struct Crew<'a, R, G> {
+    /// What threads are started with.
+    pub(crate) rt: &'a R,
+    /// What each visit of an agent passes.
+    pub(crate) gate: &'a G,
+    /// How many threads the agents share.
+    pub(crate) workers: u32,
+    ghost some: { 0 < workers },
+}

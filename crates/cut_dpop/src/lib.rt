@@ -1,0 +1,18 @@
+//! DPOP in turns: an exact answer where the tables of DPOP are too wide.
+//!
+//! [`run_cut`] cuts variables by the rule of the cut set, so that no joined table has more cells than
+//! a limit. In each turn the cut variables have one value each, and DPOP agents solve the slice that
+//! is left, over the same tree. The first turn of least cost is kept.
+#![tactic(auto)]
+
+mod agents;
+mod crew;
+mod fault;
+mod room;
+mod run;
+mod tree;
+mod turn;
+
+pub use fault::{CutFault, MAX_TURNS};
+pub use problem_cut::cut_set;
+pub use run::{CutEnd, run_cut};

@@ -1,0 +1,81 @@
+//! A cut, from its variables to its answer.
+
+ghost use Rattle.std.specs.Prelude.{◌<◌, ◌≤◌, IfOk, IfErr};
+ghost use Rattle.std.specs.List.{All};
+ghost use Rattle.dcop_base.specs.Limits.{joined_limit};
+ghost use Rattle.delivery_core.specs.Agents.{IsTreeFor};
+ghost use Rattle.cut_dpop.specs.End.{IsCutEnd, IsRefused};
+
+use crate::crew::Crew;
+use crate::fault::CutFault;
+use crate::room::turns_of;
+use crate::tree::copy_of;
+use crate::turn::play_turns;
+use cut_laws::{cut_sets_are_one, cut_sets_make_narrow};
+use dcop_base::{Problem, ValList, VarList, problem_is_whole, sizes_of};
+use dcop_edge::Gate;
+use delivery_core::Start;
+use problem_cut::cut_set;
+use pseudotree::Tree;
+use std::alloc::Global;
+use std::thread::Threads;
+
+/// What a cut comes to.
+#[derive(Debug, Drop)]
+pub struct CutEnd {
+    /// The optimum of the problem, which the values cost.
+    pub cost: u64,
+    /// The values of the first turn of least cost.
+    pub values: ValList,
+    /// The variables that are cut, in order of cutting.
+    pub cut: VarList,
+    /// How many turns were played.
+    pub turns: u64,
+    /// How many messages were taken in all turns.
+    pub deliveries: u64,
+}
+
+/// Cuts variables so that no joined table has more than `limit` cells, and lets DPOP agents solve
+/// the slice of each turn on the tree, with so many workers. The first turn of least cost is kept.
+/// `keep` says whether the tables of all turns are to be kept.
+///
+/// # Errors
+///
+/// [`CutFault::TooMany`] exactly where the cut has more than [`MAX_TURNS`](crate::MAX_TURNS) turns;
+/// else [`CutFault::Total`] exactly where the tables to be sent in one turn, or in all turns where
+/// they are kept, have more than [`MAX_SENT_CELLS`](dcop_base::MAX_SENT_CELLS) cells;
+/// [`CutFault::NoMemory`] where memory was wanted and not had.
+pub fn run_cut<R: Threads + Sync, G: Gate>(
+    rt: &R,
+    alloc: Global,
+    problem: &Problem,
+    tree: &Tree,
+    limit: u64,
+    workers: u32,
+    keep: bool,
+    gate: &G,
+) -> Result<CutEnd, CutFault>
+    requires tree { IsTreeFor problem.now tree.now }
+    requires limit { All (λ s. s ≤ limit) problem.now.sizes }
+    requires most { limit ≤ joined_limit }
+    requires workers { 0 < workers }
+    ensures end { IfOk result (IsCutEnd problem.now tree.now.paths limit keep) }
+    ensures refused { IfErr result (IsRefused problem.now tree.now.paths limit keep) }
+{
+    cut_sets_are_one();
+    cut_sets_make_narrow();
+    problem_is_whole(problem);
+    let cut = cut_set(alloc, tree, problem, limit)?;
+    let sizes = sizes_of(alloc, problem.sizes.as_slice(), cut.as_slice())?;
+    let turns = turns_of(alloc, tree, problem, &cut, sizes.as_slice(), keep)?;
+    let start = Start::Dpop(copy_of(alloc, tree, problem)?);
+    let crew = Crew { rt, gate, workers };
+    let best = play_turns(&crew, alloc, problem, &start, &cut, sizes.as_slice(), turns)?;
+    Ok(CutEnd {
+        cost: best.cost,
+        values: best.values,
+        cut,
+        turns,
+        deliveries: turns * best.deliveries,
+    })
+}

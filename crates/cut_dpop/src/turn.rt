@@ -1,0 +1,141 @@
+//! One turn after the other.
+
+ghost use Rattle.std.specs.Prelude.{◌≡◌, ◌<◌, ◌≤◌, length, IfOk};
+ghost use Rattle.std.specs.List.{All};
+ghost use Rattle.cost_table.specs.Slices.{put_in};
+ghost use Rattle.pseudotree.specs.Place.{sizes_of};
+ghost use Rattle.pseudotree.specs.Width.{IsNarrow};
+ghost use Rattle.cut_laws.specs.Slice.{AreCut};
+ghost use Rattle.cut_laws.specs.Turns.{turn_count};
+ghost use Rattle.cut_dpop.specs.Start.{paths_in, IsDpopStart, IsNarrowInTurns, HaveFirst};
+ghost use Rattle.cut_dpop.specs.Played.{IsPlayed, IsBestOf};
+ghost use Rattle.cut_dpop.specs.Refusal.{turn_limit};
+
+use crate::agents::run_agents;
+use crate::crew::Crew;
+use cut_laws::{slices_are_problems, slices_keep_trees, turns_are_in_order};
+use dcop_base::{NoMemory, Problem, Val, ValList, VarId, VarList, cost_of, problem_is_whole};
+use dcop_edge::Gate;
+use delivery_core::Start;
+use dpop_runs::dpop_runs;
+use problem_cut::{slice_at, turn_at};
+use protocol_steps::{Outcome, rounds_are_a_run};
+use std::alloc::Global;
+use std::thread::Threads;
+
+/// What came of a turn.
+#[derive(Debug, Drop)]
+pub(crate) struct Played {
+    /// What the values cost.
+    pub(crate) cost: u64,
+    /// The values of the slice, with the turn's own values of the cut variables.
+    pub(crate) values: ValList,
+    /// How many messages were taken.
+    pub(crate) deliveries: u64,
+}
+
+/// What came of the first turn of least cost, of all turns of a cut.
+pub(crate) fn play_turns<R: Threads + Sync, G: Gate>(
+    crew: &Crew<R, G>,
+    alloc: Global,
+    problem: &Problem,
+    start: &Start,
+    cut: &VarList,
+    sizes: &[u16],
+    turns: u64,
+) -> Result<Played, NoMemory>
+    requires start { IsDpopStart problem.now start.now }
+    requires cut { AreCut problem.now cut.now }
+    requires narrow { IsNarrowInTurns problem.now (paths_in start.now) cut.now }
+    requires sizes { sizes.now ≡ sizes_of problem.now cut.now }
+    requires turns { turns ≡ turn_count problem.now cut.now }
+    requires few { turns ≤ turn_limit }
+    ensures { IfOk result (IsBestOf problem.now (paths_in start.now) cut.now turns) }
+{
+    problem_is_whole(problem);
+    let mut best = play_turn(crew, alloc, problem, start, cut, sizes, 0)?;
+    for number in 1..turns {
+        let played = play_turn(crew, alloc, problem, start, cut, sizes, number)?;
+        if played.cost < best.cost {
+            best = played;
+        }
+    }
+    Ok(best)
+}
+
+/// What came of the turn with this number.
+fn play_turn<R: Threads + Sync, G: Gate>(
+    crew: &Crew<R, G>,
+    alloc: Global,
+    problem: &Problem,
+    start: &Start,
+    cut: &VarList,
+    sizes: &[u16],
+    number: u64,
+) -> Result<Played, NoMemory>
+    requires start { IsDpopStart problem.now start.now }
+    requires cut { AreCut problem.now cut.now }
+    requires narrow { IsNarrowInTurns problem.now (paths_in start.now) cut.now }
+    requires sizes { sizes.now ≡ sizes_of problem.now cut.now }
+    requires few { turn_count problem.now cut.now ≤ turn_limit }
+    requires within { number < turn_count problem.now cut.now }
+    ensures { IfOk result (IsPlayed problem.now (paths_in start.now) cut.now number) }
+{
+    slices_are_problems();
+    slices_keep_trees();
+    turns_are_in_order();
+    let turn = turn_at(alloc, sizes, number as usize)?;
+    let left = slice_at(alloc, problem, cut, &turn)?;
+    let outcome = solve_left(crew, alloc, &left, start)?;
+    let cost = cost_of(&left, outcome.values.as_slice());
+    let values = with_own(outcome.values, cut.as_slice(), turn.as_slice());
+    Ok(Played {
+        cost,
+        values,
+        deliveries: outcome.deliveries,
+    })
+}
+
+/// What DPOP agents come to on what is left of a problem in a turn.
+fn solve_left<R: Threads + Sync, G: Gate>(
+    crew: &Crew<R, G>,
+    alloc: Global,
+    left: &Problem,
+    start: &Start,
+) -> Result<Outcome, NoMemory>
+    requires start { IsDpopStart left.now start.now }
+    requires narrow { IsNarrow left.now (paths_in start.now) }
+    ensures { IfOk result (HaveFirst left.now (paths_in start.now)) }
+{
+    dpop_runs();
+    rounds_are_a_run();
+    problem_is_whole(left);
+    run_agents(crew, alloc, left, start)
+}
+
+/// The values, with a turn's own values of the cut variables.
+fn with_own(values: ValList, cut: &[VarId], turn: &[Val]) -> ValList
+    requires long { length cut.now ≡ length turn.now }
+    requires within { All (λ v. v < length values) cut.now }
+    ensures { result ≡ put_in cut.now turn.now values }
+{
+    let mut values = values.into_vec();
+    put_in(values.as_mut_slice(), cut, turn);
+    ValList::from_vec(values)
+}
+
+/// Puts a turn's own values of the cut variables among the values.
+fn put_in(values: &mut [Val], cut: &[VarId], turn: &[Val])
+    requires long { length cut.now ≡ length turn.now }
+    requires within { All (λ v. v < length values.old) cut.now }
+    ensures { values.new ≡ put_in cut.now turn.now values.old }
+{
+    let Some((var, vars)) = cut.split_first() else {
+        return;
+    };
+    let Some((own, owns)) = turn.split_first() else {
+        return;
+    };
+    put_in(values, vars, owns);
+    values[var.0 as usize] = *own;
+}
