@@ -27,7 +27,7 @@ use Rattle.dcop_base.specs.Limits.{budget_limit}
 use Rattle.agent_workers.specs.Turns.{SomeFailed}
 use Rattle.agent_workers.specs.Broken.{HaveBrokenOff}
 use Rattle.agent_workers.proofs.BrokenLaws.{no_end}
-use Rattle.agent_workers.specs.Run.{views_of, HasStarted, AreStarting, AreBusy, AreDue, ArePlayedIn, AreDulyPlayed, ArePlayedOut}
+use Rattle.agent_workers.specs.Run.{views_of, HasStarted, AreStarting, AreBusy, AreDue, ArePlayedIn, AreDulyPlayed, ArePlayedOut, EndIdle, AtStill, AreIdle, RestsAtStill}
 use Rattle.agent_workers.proofs.ListLaws.{map_back, each_are, one_at}
 use Rattle.agent_workers.proofs.CellLaws.{keeps_none}
 use Rattle.agent_workers.proofs.JoinLaws.{stood, joined_still}
@@ -60,6 +60,12 @@ due_push budget a b c (next ∷ rounds) are busy awake = (busy.0, (λ _. busy.1)
 due_busy : (a : List CellState) (rounds : List (List CellState)) → AreBusy a rounds → AreDue a rounds
 due_busy a [] busy = tt
 due_busy a (next ∷ rounds) busy = (busy.0, (λ _. busy.1), due_busy next rounds busy.2)
+
+-- one round more, which took nothing
+idle_push : (budget : ℕ) (a b c : List CellState) (rounds : List (List CellState)) → AreCellRounds budget a rounds b → total c ≡ total b → EndIdle a (rounds ++ c ∷ [])
+idle_push budget a b c [] same none = none ∙ ap total (sym same)
+idle_push budget a b c (next ∷ []) are none = none ∙ ap total (sym are.2)
+idle_push budget a b c (next ∷ (later ∷ rounds)) are none = idle_push budget next b c (later ∷ rounds) are.2 none
 
 pub none_played : (budget : ℕ) (cells : List CellState) → ArePlayedIn budget AreBusy cells cells
 none_played budget cells = record { rounds = []; are = refl; such = tt }
@@ -205,6 +211,29 @@ module _ {X : Type 0} {F : X → Type 0} (M : DynBox X Global F → View) where
       let made = settling M (home 1 (length now)) now last settled in
       let one = one_node_is_all.settling (states_of M now) (states_of M last) (subst (λ (n : ℕ). IsSettling (home 1 n) (states_of M now) (states_of M last)) (sym (length-map now (state_of M))) made) in
       record { started = states_of M begun; played = states_of M now; starts = starts before begun j s; rounds = p.played; quiet = one.0; settled = one.1 }
+
+  -- one round more, which took nothing, and with which playing stopped
+  pub idle_on : (budget n : ℕ) (started now next : List (Cell X F)) → ArePlayedIn budget AreBusy (states_of M started) (states_of M now) → n ≡ total (states_of M now) → n < budget → all_ended (states_of M now) ≡ false
+      → IsPartRound (home 1 (length now)) (states_of M now) (states_of M next) → total (states_of M next) ≡ total (states_of M now) → AreIdle budget (states_of M started) (states_of M next)
+  unfolding played_on
+  idle_on budget n started now next p is less awake round none =
+      record { played = played_on budget n started now next p is less awake round; idle = idle_push budget (states_of M started) (states_of M now) (states_of M next) p.rounds p.are none }
+
+  -- a run that answers Still
+  pub still_run : (budget : ℕ) (before begun now last : List (Cell X F)) (answer : RunEnd) → IsJoined M 1 before → EachBecomes (HasStarted M) before begun → ArePlayedOut budget (states_of M begun) (states_of M now) answer
+      → AtStill answer (AreIdle budget (states_of M begun) (states_of M now)) → HaveSettled M (home 1 (length now)) (length now) now last → RestsAtStill budget (views_of M before) (states_of M last) answer
+  still_run budget before begun now last (AllEnded n) j s p idle settled = record { rest = tt }
+  still_run budget before begun now last (Spent n) j s p idle settled = record { rest = tt }
+  still_run budget before begun now last (Still n) j s p idle settled =
+      let made = settling M (home 1 (length now)) now last settled in
+      let one = one_node_is_all.settling (states_of M now) (states_of M last) (subst (λ (n : ℕ). IsSettling (home 1 n) (states_of M now) (states_of M last)) (sym (length-map now (state_of M))) made) in
+      record {
+        rest = record {
+          duly = record { started = states_of M begun; played = states_of M now; starts = starts before begun j s; rounds = idle.played; quiet = one.0; settled = one.1 };
+          idle = idle.idle;
+          awake = still_ended (states_of M now) (states_of M last) one.0 ∙ p.stopped.1;
+        };
+      }
 
   -- cells that have not failed
   pub fine_all : (before after : List (Cell X F)) → EachBecomes (HasStarted M) before after → EachIs (λ c. fault_in c ≡ None) after

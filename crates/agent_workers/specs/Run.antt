@@ -75,3 +75,30 @@ HasStopped budget started now (Still n) = (n ≡ total now) × (all_ended now �
 pub record ArePlayedOut (budget : ℕ) (started now : List CellState) (answer : RunEnd) : Type 0 where
   pub played : ArePlayedIn budget AreDue started now
   pub stopped : HasStopped budget started now answer
+
+-- the last one of these rounds took nothing
+abbrev pub EndIdle : List CellState → List (List CellState) → Type 0
+EndIdle before [] = ⊥
+EndIdle before (last ∷ []) = total last ≡ total before
+EndIdle before (next ∷ (later ∷ rounds)) = EndIdle next (later ∷ rounds)
+
+-- this holds where the answer is Still
+abbrev pub AtStill : RunEnd → Type 0 → Type 0
+AtStill (AllEnded n) P = Unit {0}
+AtStill (Spent n) P = Unit {0}
+AtStill (Still n) P = P
+
+-- cells that had started were played in due rounds, the last one of which took nothing
+pub record AreIdle (budget : ℕ) (started now : List CellState) : Type 0 where
+  pub played : ArePlayedIn budget AreDue started now
+  pub idle : EndIdle started played.rounds
+
+-- cells of agents that were made so were duly played, and the last round took nothing while an agent had not ended
+pub record HaveComeToRest (budget : ℕ) (made : List View) (last : List CellState) : Type 0 where
+  pub duly : AreDulyPlayed budget made last
+  pub idle : EndIdle duly.started duly.rounds.rounds
+  pub awake : all_ended last ≡ false
+
+-- where the answer is Still, cells have come to rest so
+pub record RestsAtStill (budget : ℕ) (made : List View) (last : List CellState) (answer : RunEnd) : Type 0 where
+  pub rest : AtStill answer (HaveComeToRest budget made last)

@@ -11,7 +11,7 @@ ghost use Rattle.agent_cells.specs.State.{state_of, begun_in, fault_in, IsCell};
 ghost use Rattle.agent_workers.specs.Joined.{states_of, EachIs, EachBecomes, HasBegun, IsSameCell, IsJoined};
 ghost use Rattle.agent_workers.specs.Turns.{SomeFailed};
 ghost use Rattle.agent_workers.specs.Broken.{HaveBrokenOff};
-ghost use Rattle.agent_workers.specs.Run.{views_of, HasStarted, AreDulyPlayed, ArePlayedOut};
+ghost use Rattle.agent_workers.specs.Run.{views_of, HasStarted, AreDulyPlayed, ArePlayedOut, AtStill, AreIdle, RestsAtStill};
 
 use crate::rounds::{CellsList, play_round};
 use crate::settle::settle_all;
@@ -36,8 +36,9 @@ const MANY_MESSAGES: u64 = 4;
 /// The budget is looked at after the start and after each round, and not within a round. The run
 /// has ended, with so many deliveries, where every agent has ended; where one has not and the
 /// deliveries are at least the budget; or where one has not and a round took nothing. So each round
-/// begins with an agent that has not ended, and each but the last takes something. After the last
-/// round every link is settled once more.
+/// begins with an agent that has not ended, and each but the last takes something; where the answer
+/// is [`RunEnd::Still`] the last one takes nothing. After the last round every link is settled once
+/// more.
 pub fn run<R: Threads + Sync, G: Gate>(
     rt: &R,
     cells: &mut CellsList,
@@ -53,6 +54,8 @@ pub fn run<R: Threads + Sync, G: Gate>(
     ensures run { IfOk result (λ end. MakesARun budget (views_of (λ b. meaning (b.vtable, b.value)) cells.old.items)
         (states_of (λ b. meaning (b.vtable, b.value)) cells.new.items) end) }
     ensures rounds { OnOk result (AreDulyPlayed budget (views_of (λ b. meaning (b.vtable, b.value)) cells.old.items) (states_of (λ b. meaning (b.vtable, b.value)) cells.new.items)) }
+    ensures still { IfOk result (λ end. RestsAtStill budget (views_of (λ b. meaning (b.vtable, b.value)) cells.old.items)
+        (states_of (λ b. meaning (b.vtable, b.value)) cells.new.items) end) }
 {
     run_all(rt, cells.as_mut_slice(), workers, budget, gate)
 }
@@ -73,6 +76,8 @@ fn run_all<R: Threads + Sync, G: Gate>(
     ensures run { IfOk result (λ end. MakesARun budget (views_of (λ b. meaning (b.vtable, b.value)) cells.old)
         (states_of (λ b. meaning (b.vtable, b.value)) cells.new) end) }
     ensures rounds { OnOk result (AreDulyPlayed budget (views_of (λ b. meaning (b.vtable, b.value)) cells.old) (states_of (λ b. meaning (b.vtable, b.value)) cells.new)) }
+    ensures still { IfOk result (λ end. RestsAtStill budget (views_of (λ b. meaning (b.vtable, b.value)) cells.old)
+        (states_of (λ b. meaning (b.vtable, b.value)) cells.new) end) }
 {
     begin_all(cells)?;
     match play_out(rt, cells, workers, budget, gate) {
@@ -107,6 +112,8 @@ fn play_out<R: Threads + Sync, G: Gate>(
     ensures begun { EachIs (λ c. HasBegun (λ b. meaning (b.vtable, b.value)) c) cells.new }
     ensures played { IfOk result (λ end. ArePlayedOut budget (states_of (λ b. meaning (b.vtable, b.value)) cells.old)
         (states_of (λ b. meaning (b.vtable, b.value)) cells.new) end) }
+    ensures still { IfOk result (λ end. AtStill end (AreIdle budget (states_of (λ b. meaning (b.vtable, b.value)) cells.old)
+        (states_of (λ b. meaning (b.vtable, b.value)) cells.new))) }
     ensures err { IfErr result (λ f. SomeFailed f cells.new) }
     ensures end { IfErr result (λ f. f ≡ stamp_end → HaveBrokenOff (λ b. meaning (b.vtable, b.value)) budget (states_of (λ b. meaning (b.vtable, b.value)) cells.old) cells.new) }
 {

@@ -4,7 +4,7 @@ use Rattle.agent_cells.specs.declared.fault.VisitFault.TheVariants.{StampEnd}
 use Rattle.agent_workers.specs.Turns.{SomeFailed}
 use Rattle.agent_workers.specs.Broken.{HaveBrokenOff}
 use Rattle.agent_workers.proofs.BreakLaws.{err_on}
-use Rattle.agent_workers.proofs.RunLaws.{none_played, all_played, busy_played, ended_states, whole_round, played_on, busy_on, fine_still}
+use Rattle.agent_workers.proofs.RunLaws.{none_played, all_played, busy_played, ended_states, whole_round, played_on, busy_on, idle_on, fine_still}
 use Rattle.agent_workers.proofs.runs.play_out.Goals as goal
 
 pub loop-init : goal.loop-init
@@ -53,6 +53,10 @@ returns-then-taken-eq0-clause-played g c = let i = c.loop.invariant in let was =
     },
   );
 }
+
+pub returns-then-taken-eq0-clause-still : goal.returns-then-taken-eq0-clause-still
+returns-then-taken-eq0-clause-still g c = let i = c.loop.invariant in let was = i.deliveries in let more = c.in_ok-taken.ensures.counted in let none = c.if-taken-eq0.true in
+    idle_on (λ b. (goal.Machine-dyn g (b.vtable, b.value)).meaning b.value) c.args.budget c.loop.deliveries c.args.cells.now c.loop.cells c.play_round.new.cells i.played was (i.within c.loop-test.true) i.awake c.in_ok-taken.ensures.round (omega (arith, more, none))
 
 pub loop-preserved : goal.loop-preserved
 loop-preserved g c = let i = c.loop.invariant in let was = i.deliveries in let more = c.in_ok-taken.ensures.counted in let some = c.if-taken-eq0.false in let less = c.if-deliveries-budget.false in let grown = i.progress in record {

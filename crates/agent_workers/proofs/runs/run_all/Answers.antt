@@ -1,7 +1,7 @@
 use Rattle.std.proofs.Common.{subst}
 use Rattle.agent_workers.specs.Turns.{SomeFailed}
 use Rattle.agent_workers.proofs.RoundLaws.{sound_from}
-use Rattle.agent_workers.proofs.RunLaws.{begun_all, joined_all, fine_all, none_yet, whole_run, due_run, never_ends}
+use Rattle.agent_workers.proofs.RunLaws.{begun_all, joined_all, fine_all, none_yet, whole_run, due_run, still_run, never_ends}
 use Rattle.agent_workers.proofs.runs.run_all.Goals as goal
 
 pub play_out-requires-clause-joined : goal.play_out-requires-clause-joined
@@ -31,4 +31,5 @@ pub returns-in-Ok : goal.returns-in-Ok
 returns-in-Ok g c = record {
   run = whole_run (λ b. (goal.Machine-dyn g (b.vtable, b.value)).meaning b.value) c.args.budget c.args.cells.now c.begin_all.new.cells c.play_out.new.cells c.settle_all.new.cells c.in-Ok.end c.requires.joined c.in_ok-begin_all.ensures.started c.in-Ok.ensures.played c.settle_all.ensures.settled;
   rounds = due_run (λ b. (goal.Machine-dyn g (b.vtable, b.value)).meaning b.value) c.args.budget c.args.cells.now c.begin_all.new.cells c.play_out.new.cells c.settle_all.new.cells c.in-Ok.end c.requires.joined c.in_ok-begin_all.ensures.started c.in-Ok.ensures.played c.settle_all.ensures.settled;
+  still = still_run (λ b. (goal.Machine-dyn g (b.vtable, b.value)).meaning b.value) c.args.budget c.args.cells.now c.begin_all.new.cells c.play_out.new.cells c.settle_all.new.cells c.in-Ok.end c.requires.joined c.in_ok-begin_all.ensures.started c.in-Ok.ensures.played c.in-Ok.ensures.still c.settle_all.ensures.settled;
 }
