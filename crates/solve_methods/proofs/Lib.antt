@@ -1,9 +1,9 @@
 mod RightLaws
-mod TellLaws
+pub mod TellLaws
 mod RowLaws
 mod AgreedLaws
 mod BestLaws
-mod ChosenLaws
+pub mod ChosenLaws
 mod TreeLaws
 mod AdoptRunLaws
 mod AdoptRightLaws

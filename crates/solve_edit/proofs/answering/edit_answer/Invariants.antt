@@ -1,0 +1,4 @@
+use Rattle.solve_edit.proofs.answering.edit_answer.Given as goal
+
+abbrev pub ghosts-counted_answer : goal.ghosts-counted_answer
+ghosts-counted_answer a = record { name = a.blank.name; parts = a.blank.parts }
