@@ -39,6 +39,7 @@ status_of (answers.WideAgent var cells names) = TooWide
 status_of (answers.WideTotal cells) = TooWide
 status_of answers.Read = ReadFault
 status_of (answers.Many assignments) = TooMany
+status_of (answers.ManyTurns turns limit) = TooMany
 
 -- the code with which a program ends
 abbrev pub code_of : Status → ℕ

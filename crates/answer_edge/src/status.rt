@@ -87,7 +87,7 @@ impl Status {
             Answer::ReportText { .. } | Answer::EditText { .. } => Status::BadText,
             Answer::WideAgent { .. } | Answer::WideTotal { .. } => Status::TooWide,
             Answer::Read => Status::ReadFault,
-            Answer::Many { .. } => Status::TooMany,
+            Answer::Many { .. } | Answer::ManyTurns { .. } => Status::TooMany,
         }
     }
 }

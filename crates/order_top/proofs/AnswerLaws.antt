@@ -91,6 +91,7 @@ ordered-well d (answers.WcspText line kind problem) is = absurd is
 ordered-well d (answers.ReportText line kind) is = absurd is
 ordered-well d (answers.EditText line kind) is = absurd is
 ordered-well d (answers.Many n) is = absurd is
+ordered-well d (answers.ManyTurns n limit) is = absurd is
 ordered-well d (answers.WideAgent var cells names) is = absurd is
 ordered-well d (answers.WideTotal cells) is = absurd is
 ordered-well d answers.Read is = absurd is

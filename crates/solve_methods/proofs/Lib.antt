@@ -1,8 +1,8 @@
-mod RightLaws
+pub mod RightLaws
 pub mod TellLaws
 mod RowLaws
 mod AgreedLaws
-mod BestLaws
+pub mod BestLaws
 pub mod ChosenLaws
 mod TreeLaws
 mod AdoptRunLaws

@@ -41,6 +41,10 @@ edit_refusal at kind = line_refusal (codes "edit") at kind
 abbrev pub many_refusal : ℕ → List (List ℕ)
 many_refusal assignments = codes "refused" ∷ codes "many" ∷ codes "assignments" ∷ decimal assignments ∷ codes "limit" ∷ decimal assignment_limit ∷ []
 
+-- `refused many turns N limit M`
+abbrev pub turns_refusal : ℕ → ℕ → List (List ℕ)
+turns_refusal turns limit = codes "refused" ∷ codes "many" ∷ codes "turns" ∷ decimal turns ∷ codes "limit" ∷ decimal limit ∷ []
+
 -- `refused wide agent NAME cells N limit 1048576`
 abbrev pub wide_refusal : List ℕ → ℕ → List (List ℕ)
 wide_refusal name cells =

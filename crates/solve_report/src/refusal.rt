@@ -4,7 +4,7 @@ ghost use Rattle.std.specs.Prelude.{◌≡◌, IfOk};
 ghost use Rattle.std.specs.String.{string_bytes};
 ghost use Rattle.problem_text.specs.Canonical.{line as line_of};
 ghost use Rattle.solve_report.specs.Refusal.{words_refusal, problem_refusal, text_refusal, wcsp_refusal, line_refusal, report_refusal, edit_refusal};
-ghost use Rattle.solve_report.specs.Refusal.{many_refusal, wide_refusal, total_refusal, read_refusal, not_yet_refusal};
+ghost use Rattle.solve_report.specs.Refusal.{many_refusal, turns_refusal, wide_refusal, total_refusal, read_refusal, not_yet_refusal};
 
 use dcop_base::{Bytes, MAX_ASSIGNMENTS, MAX_JOINED_CELLS, MAX_SENT_CELLS, NoMemory};
 use std::alloc::Global;
@@ -100,6 +100,15 @@ pub(crate) fn refuse_many(alloc: Global, assignments: u64) -> Result<Bytes, NoMe
         text,
         "refused many assignments {assignments} limit {MAX_ASSIGNMENTS}\n"
     )?;
+    Ok(bytes_of(text))
+}
+
+/// `refused many turns N limit M`
+pub(crate) fn refuse_turns(alloc: Global, turns: u64, limit: u64) -> Result<Bytes, NoMemory>
+    ensures { IfOk result (λ text. text ≡ line_of (turns_refusal turns limit)) }
+{
+    let mut text = String::new(alloc);
+    write!(text, "refused many turns {turns} limit {limit}\n")?;
     Ok(bytes_of(text))
 }
 
