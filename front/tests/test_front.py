@@ -22,8 +22,9 @@ HERE = Path(__file__).resolve().parent
 FRONT = HERE.parent
 EXAMPLES = FRONT / "examples"
 PROBLEMS = FRONT.parent / "examples"
-sys.path.insert(0, str(FRONT))
+sys.path[:0] = [str(FRONT), str(HERE)]
 
+import documents  # noqa: E402
 from sefwllon import meetings, pydcop, replay, wcsp  # noqa: E402
 from sefwllon.cli import main, seconds  # noqa: E402
 from sefwllon.evaluator import Formula  # noqa: E402
@@ -36,6 +37,7 @@ from sefwllon.translate import Constraint, Source, translate  # noqa: E402
 
 FAKE = str(HERE / "fake_dcop.py")
 REAL = os.environ.get("SEFWLLON_DCOP")
+ORDER = os.environ.get("SEFWLLON_ORDER")
 HAS_YAML = importlib.util.find_spec("yaml") is not None
 
 
@@ -142,6 +144,14 @@ class Solving(Case):
             self.assertEqual((status, told.splitlines()[0]), (0, "cost -0.1, and none is better (verified)"))
         status, told, _ = self.front("meetings", str(EXAMPLES / "meetings.csv"), program=REAL)
         self.assertEqual((status, told.splitlines()[0]), (0, "cost 0, and none is better (verified)"))
+
+
+class Documents(unittest.TestCase):
+    @unittest.skipUnless(REAL and ORDER, "no built programs")
+    def test_the_answers_of_the_documents(self):
+        for document in documents.DOCUMENTS:
+            differ, _ = documents.run(document, {"dcop": REAL, "dcop_order": ORDER})
+            self.assertEqual(differ, [])
 
 
 class Translating(Case):

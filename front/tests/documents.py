@@ -1,0 +1,114 @@
+"""Runs the commands of README.md and docs/USE.md, and compares what they print with what stands below them.
+
+usage: python3 front/tests/documents.py DCOP DCOP_ORDER
+
+DCOP and DCOP_ORDER are the built programs `dcop` and `dcop_order`. A command is a line behind `$ ` in a block of a document; what
+it has to print stands below it, up to the next command or the end of the block, and `..` alone stands for any lines. The
+commands of a document run one after the other in one folder, in which `examples` and `front` are those of the repository.
+Those that need what the machine has not (Graphviz, toulbar2, PyYAML) are passed over, which is said. Ends with 1 where an
+answer differs, and prints both.
+"""
+
+from __future__ import annotations
+
+import importlib.util
+import os
+import shutil
+import subprocess
+import sys
+import tempfile
+from dataclasses import dataclass
+from pathlib import Path
+
+TOP = Path(__file__).resolve().parents[2]
+DOCUMENTS = ("README.md", "docs/USE.md")
+ANY = ".."
+
+
+@dataclass
+class Step:
+    """A command of a document, with its line there and what it has to print."""
+
+    place: str
+    command: str
+    expected: list[str]
+
+
+def steps(document: str) -> list[Step]:
+    """The commands of a document, in order."""
+    found: list[Step] = []
+    inside = open_step = False
+    for number, line in enumerate((TOP / document).read_text().splitlines(), 1):
+        if line.startswith("```"):
+            inside, open_step = not inside, False
+        elif inside and line.startswith("$ "):
+            found.append(Step(f"{document}:{number}", line[2:], []))
+            open_step = True
+        elif open_step:
+            found[-1].expected.append(line)
+    return found
+
+
+def is_as_expected(printed: list[str], expected: list[str]) -> bool:
+    """Whether lines are those that are expected, where `..` stands for any lines."""
+    if not expected:
+        return not printed
+    if expected[0] == ANY:
+        return any(is_as_expected(printed[start:], expected[1:]) for start in range(len(printed) + 1))
+    return bool(printed) and printed[0] == expected[0] and is_as_expected(printed[1:], expected[1:])
+
+
+def missing(command: str) -> str | None:
+    """What the machine has not and the command needs."""
+    words = command.replace("|", " ").split()
+    for tool in ("dot", "toulbar2"):
+        if tool in words and shutil.which(tool) is None:
+            return tool
+    if any(word.endswith(".yaml") for word in words) and importlib.util.find_spec("yaml") is None:
+        return "PyYAML"
+    return None
+
+
+def run(document: str, programs: dict[str, str]) -> tuple[list[str], list[str]]:
+    """Runs a document. Gives what differs, and what was passed over."""
+    differ: list[str] = []
+    passed_over: list[str] = []
+    with tempfile.TemporaryDirectory() as name:
+        folder = Path(name)
+        (folder / "bin").mkdir()
+        for program, path in programs.items():
+            (folder / "bin" / program).symlink_to(Path(path).resolve())
+        for part in ("examples", "front"):
+            (folder / part).symlink_to(TOP / part)
+        kept = {name: value for name, value in os.environ.items() if not name.startswith("SEFWLLON_")}
+        environment = kept | {"PATH": f"{folder / 'bin'}:{os.environ['PATH']}", "PYTHONDONTWRITEBYTECODE": "1"}
+        for step in steps(document):
+            wanted = missing(step.command)
+            if wanted is not None:
+                passed_over.append(f"{step.place}: no {wanted}: {step.command}")
+                continue
+            told = subprocess.run(
+                ["bash", "-c", step.command], cwd=folder, env=environment, stdin=subprocess.DEVNULL, capture_output=True, text=True
+            )
+            printed = (told.stdout + told.stderr).splitlines()
+            if not is_as_expected(printed, step.expected):
+                differ.append("\n".join([f"{step.place}: {step.command}", *(f"| {line}" for line in printed)]))
+    return differ, passed_over
+
+
+def main() -> int:
+    if len(sys.argv) != 3:
+        print(__doc__, file=sys.stderr)
+        return 2
+    programs = {"dcop": sys.argv[1], "dcop_order": sys.argv[2]}
+    count = 0
+    for document in DOCUMENTS:
+        differ, passed_over = run(document, programs)
+        print("\n".join(passed_over + differ), end="\n" if passed_over or differ else "")
+        count += len(differ)
+    print(f"{sum(len(steps(document)) for document in DOCUMENTS)} commands, {count} differ")
+    return 1 if count else 0
+
+
+if __name__ == "__main__":
+    sys.exit(main())
