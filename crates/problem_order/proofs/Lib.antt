@@ -9,3 +9,4 @@ mod CostLaws
 mod LineLaws
 mod SearchLaws
 mod WidthLaws
+pub mod NarrowLaws
