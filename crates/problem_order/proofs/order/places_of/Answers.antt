@@ -1,4 +1,4 @@
-use Rattle.std.proofs.Common.{List, ℕ, length, sym, subst, ap, ◌∙◌, arith}
+use Rattle.std.proofs.Common.{List, ℕ, sym, subst, arith}
 use Rattle.problem_order.specs.Order.{ArePlaces}
 use Rattle.problem_order.proofs.OrderLaws.{places_are}
 use Rattle.problem_order.proofs.order.places_of.Goals as goal
