@@ -2,14 +2,14 @@
 use Rattle.std.specs.Prelude.{◌≤◌, Option, Some, None, ◌==◌, if◌then◌else◌}
 use Rattle.dcop_base.specs.Limits.{amount_limit, budget_limit}
 use Rattle.solve_words.specs.declared.command.Command.{Command}
-use Rattle.solve_words.specs.declared.command.Command.TheVariants.{Solve, Tree, Check, Replay, Upgrade}
+use Rattle.solve_words.specs.declared.command.Command.TheVariants.{Solve, Tree, Check, Replay, Upgrade, Edit}
 use Rattle.solve_words.specs.declared.command.Choice.TheVariants.{Plain, Dpop, Adopt, Auto}
 use Rattle.solve_top.specs.declared.task.Task.{Task}
-use Rattle.solve_top.specs.declared.task.Task.TheVariants.{File, Check as CheckReport, Replay as ReplayReport}
+use Rattle.solve_top.specs.declared.task.Task.TheVariants.{File, Check as CheckReport, Replay as ReplayReport, Edit as EditLines}
 use Rattle.solve_top.specs.declared.task.FileTask.{FileTask}
 use Rattle.solve_top.specs.declared.task.FileTask.TheVariants as tasks
 
--- what a command asks for, where it is served: `solve --method plain` and `tree` with any number of workers, `solve --method dpop`, `solve --method adopt` and `solve --method auto` on one node, `check`, `replay` and `upgrade`, all of a problem in either format
+-- what a command asks for, where it is served: `solve --method plain` and `tree` with any number of workers, `solve --method dpop`, `solve --method adopt` and `solve --method auto` on one node, `check`, `replay` and `upgrade`, all of a problem in either format, and `edit`
 abbrev pub task_of : Command → Option Task
 task_of (Solve Plain workers error budget nodes certificate format cells) = Some (File format tasks.Plain)
 task_of (Solve Dpop workers error budget nodes certificate format cells) = if nodes == 1 then Some (File format (tasks.Dpop certificate)) else None
@@ -19,6 +19,7 @@ task_of (Tree workers format) = Some (File format tasks.Tree)
 task_of (Check format) = Some (CheckReport format)
 task_of (Replay after format) = Some (ReplayReport format after)
 task_of (Upgrade format) = Some (File format tasks.Upgrade)
+task_of Edit = Some EditLines
 task_of _ = None
 
 -- the error and the budget of ADOPT and of auto are no greater than its options take

@@ -1,5 +1,5 @@
 -- What a top call does: it answers, and shows its answer.
-use Rattle.std.specs.Prelude.{◌≡◌, ℕ, ◌≤◌, ◌⊎◌, List, [], ◌∷◌, ◌++◌, length, drop, Option, Some, None, Ok, IsTrue, is_some}
+use Rattle.std.specs.Prelude.{◌≡◌, ℕ, ◌≤◌, ◌⊎◌, List, [], ◌∷◌, ◌++◌, length, take, drop, ◌+◌, Option, Some, None, Ok, IsTrue, is_some}
 use Rattle.std.specs.List.{All}
 use Rattle.dcop_base.specs.Table.{product}
 use Rattle.dcop_base.specs.Whole.{IsProblem}
@@ -19,15 +19,17 @@ use Rattle.certificate_text.specs.ReportText.{report_text}
 use Rattle.solve_report.specs.declared.answer.Answer.TheVariants as answers
 use Rattle.solve_words.specs.declared.command.Command.{Command}
 use Rattle.solve_words.specs.declared.command.Format.{Format}
+use Rattle.solve_words.specs.declared.command.Format.TheVariants.{Dcop as Own}
 use Rattle.solve_words.specs.Command.{answer_to}
 use Rattle.solve_report.specs.declared.answer.Answer.{Answer}
 use Rattle.answer_edge.specs.declared.status.Status.{Status}
 use Rattle.answer_edge.specs.declared.status.Status.TheVariants as statuses
 use Rattle.solve_top.specs.declared.task.Task.{Task}
-use Rattle.solve_top.specs.declared.task.Task.TheVariants.{File, Check, Replay}
+use Rattle.solve_top.specs.declared.task.Task.TheVariants.{File, Check, Replay, Edit}
 use Rattle.solve_top.specs.declared.task.FileTask.{FileTask}
 use Rattle.solve_top.specs.declared.task.FileTask.TheVariants as tasks
-use Rattle.solve_top.specs.Answering.{IsAnswer, IsFileAnswer}
+use Rattle.solve_top.specs.Answering.{IsAnswer, IsFileAnswer, lines_in}
+use Rattle.solve_top.specs.Taken.{AreLinesTaken}
 use Rattle.solve_methods.specs.Dpop.{wide_in}
 use Rattle.problem_solved.specs.Goal.{solved}
 use Rattle.solve_methods.specs.Goal.{TellsRight}
@@ -108,11 +110,19 @@ pub record IsLoggedFor (format : Format) (text : List ℕ) : Type 0 where
   pub log : List LogEvent
   pub is : printed.report.certificate ≡ Some (Log log)
 
--- a text on which a task is served: a problem within its limits, or for `check` a problem and the report that was printed for it, and for `replay` one with a log
+-- the text of a problem in whose tree nothing is too wide, and behind it edit lines none of which is refused
+pub record IsEditedFor (text : List ℕ) : Type 0 where
+  pub parts : Parts
+  pub read : front_read Own text ≡ Ok parts
+  pub fits : HasFitTree parts.declared
+  pub taken : AreLinesTaken fits.file (plain_lines (lines_in (take parts.used text) + 1) (drop parts.used text))
+
+-- a text on which a task is served: a problem within its limits, or for `check` a problem and the report that was printed for it, for `replay` one with a log, and for `edit` edit lines that are not refused
 abbrev pub IsTextFor : Task → List ℕ → Type 0
 IsTextFor (File format task) text = IsProblemFor format task text
 IsTextFor (Check format) text = IsPrintedFor format text
 IsTextFor (Replay format after) text = IsLoggedFor format text
+IsTextFor Edit text = IsEditedFor text
 
 -- words and a text that are accepted, and that can be served
 pub record Accepts (words : List (List ℕ)) (text : List ℕ) : Type 0 where

@@ -17,6 +17,7 @@ use crate::agents::by_search;
 use crate::choosing::by_dpop;
 use crate::crew::Crew;
 use crate::drilling::unread_answer;
+use crate::editing::edits_behind;
 use crate::reaching::by_adopt;
 use crate::replaying::replay_behind;
 use crate::settling::by_auto;
@@ -82,6 +83,7 @@ fn task_answer<R: Threads + Sync, G: Gate>(
         Task::File { format, task } => text_answer(crew, alloc, format, task, bytes),
         Task::Check { format } => report_answer(alloc, format, bytes),
         Task::Replay { format, after } => replay_behind(alloc, format, after, bytes),
+        Task::Edit => edits_behind(crew, alloc, bytes),
     }
 }
 

@@ -10,6 +10,7 @@ mod answering;
 mod choosing;
 mod crew;
 mod drilling;
+mod editing;
 mod law;
 mod logging;
 mod reaching;
@@ -19,5 +20,7 @@ mod task;
 mod top;
 
 pub use answer_edge::{MAX_INPUT, Status};
-pub use law::{auto_answers_are_those_of_dpop, dpop_answers_are_one};
+pub use law::{
+    auto_answers_are_those_of_dpop, dpop_answers_are_one, edit_answers_are_those_of_dpop,
+};
 pub use top::solve;

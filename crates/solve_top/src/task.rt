@@ -15,6 +15,8 @@ pub enum Task {
     Check { format: Format },
     /// Play so many events of the log of such a report again, or all.
     Replay { format: Format, after: Option<u64> },
+    /// Answer the lines of an edit session that stand behind a problem.
+    Edit,
 }
 
 /// What is asked on the file of a problem.
@@ -101,6 +103,7 @@ impl Task {
             Command::Check { format } => Some(Task::Check { format }),
             Command::Replay { after, format } => Some(Task::Replay { format, after }),
             Command::Upgrade { format } => Some(Task::on_file(format, FileTask::Upgrade)),
+            Command::Edit => Some(Task::Edit),
             _ => None,
         }
     }
