@@ -1,2 +1,2 @@
 mod CutLaws
-mod AllowedLaws
+pub mod AllowedLaws

@@ -54,6 +54,13 @@ use Rattle.solve_inputs.proofs.RefusalLaws.{input_told, front_told}
 use Rattle.solve_top.proofs.SameLaws.{one_file, report_in}
 use Rattle.solve_top.proofs.PrintedLaws.{printed_solved, logged_solved}
 use Rattle.solve_top.proofs.EditLaws.{edits_solved, edits_sound}
+use Rattle.pseudotree.proofs.SearchLaws.{depth_first_trees_are_linked}
+use Rattle.cut_laws.proofs.CutSetLaws.{cut_sets_are_one}
+use Rattle.cut_dpop.specs.declared.fault.CutFault.{CutFault}
+use Rattle.cut_dpop.specs.declared.fault.CutFault.TheVariants as faults
+use Rattle.solve_cut.specs.Cut.{refusal_of, IsRefusalAnswer, IsCutAnswerBy}
+use Rattle.solve_cut.specs.Allowed.{IsSolvedReport}
+use Rattle.solve_cut.proofs.AllowedLaws.{allowed-solved}
 
 -- the answer of a task, where words ask for it
 pub IsAnswer-task : (words : List (List ℕ)) (command : Command) (task : Task) (input : Input) (answer : Answer)
@@ -232,6 +239,16 @@ upgraded-solved d (Some bar) (answers.WideTotal cells) is = absurd is
 upgraded-solved d (Some bar) answers.Read is = absurd is
 upgraded-solved d (Some bar) answers.NotYet is = absurd is
 
+-- nor is the answer of a cut
+refusal_sound : (fault : CutFault) → ¬ IsRefusalAnswer fault answers.Read
+refusal_sound (faults.TooMany turns) is = cc is
+refusal_sound (faults.Total cells) is = cc is
+refusal_sound faults.NoMemory is = is
+
+cut_sound : (file : TextFile) (cut : List ℕ) (refusal : Option CutFault) → ¬ IsCutAnswerBy file cut refusal answers.Read
+cut_sound file cut (Some fault) is = refusal_sound fault is
+cut_sound file cut None is = cc is.is
+
 -- an answer to what a text declares is no failed reading
 file-sound : (task : FileTask) (t : Told) → ¬ IsFileAnswer task t answers.Read
 file-sound tasks.Plain t is = is
@@ -239,6 +256,7 @@ file-sound (tasks.Dpop certified) t is = dpop-sound is.file certified (wide_in (
 file-sound (tasks.Adopt error budget certified) t is = is.is
 file-sound (tasks.Auto error budget certified) t is =
     let told = auto-status is.file error budget certified (wide_in (problem_solved is.file)) answers.Read is.is in (ending-told told.0).2 (sym told.1)
+file-sound (tasks.Cut limit) t is = cut_sound is.file is.cut (refusal_of (problem_solved is.file) is.cut) is.is
 file-sound tasks.Tree t is = is.is
 file-sound tasks.Upgrade t is = let s = upgraded-solved t.declared t.bar answers.Read is in cc
 
@@ -353,6 +371,10 @@ ReadFault-answered words before after answer done more = failed-input words befo
 solved-well : (status : Status) (task : Task) → status ≡ Solved → GoesWell status task
 solved-well status task is = subst (λ (s : Status). GoesWell s task) (sym is) tt
 
+-- an answer that is a solved report is solved
+cut-solved : (answer : Answer) → IsSolvedReport answer → status_of answer ≡ Solved
+cut-solved answer is = ap status_of is.is ∙ ap status_of_ending is.solved
+
 -- a task on what a text declares goes well, where it is within its limits
 file-well : (format : Format) (task : FileTask) (t : Told) (answer : Answer) → IsWithinLimits task t.declared → IsFileAnswer task t answer → GoesWell (status_of answer) (File format task)
 file-well format tasks.Plain t (answers.Report report file) few is = solved-well (status_of_ending report.status) (File format tasks.Plain) (ap status_of_ending is.2.status)
@@ -378,6 +400,7 @@ file-well format (tasks.Dpop certified) t answer few is =
     solved-well (status_of answer) (File format (tasks.Dpop certified)) (dpop-solved is.file certified answer (fit-none t.declared few is.file is.whole is.declared) is.is)
 file-well format (tasks.Adopt error budget certified) t answer few is = adopt-well format is.file error budget certified answer is.is
 file-well format (tasks.Auto error budget certified) t answer few is = auto-well format is.file error budget certified answer is.is
+file-well format (tasks.Cut limit) t answer few is = solved-well (status_of answer) (File format (tasks.Cut limit)) (cut-solved answer (allowed-solved cut_sets_are_one depth_first_trees_are_linked t.declared limit answer few.0 few.1 is))
 file-well format tasks.Tree t answer few is = solved-well (status_of answer) (File format tasks.Tree) (tree-solved is.file answer is.is)
 file-well format tasks.Upgrade t answer few is = solved-well (status_of answer) (File format tasks.Upgrade) (upgraded-solved t.declared t.bar answer is)
 

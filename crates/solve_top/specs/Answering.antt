@@ -32,6 +32,7 @@ use Rattle.solve_top.specs.declared.drilling.Drill.{Drill}
 use Rattle.solve_methods.specs.Tree.{AnswersTree}
 use Rattle.solve_check.specs.Checking.{AnswersCheck}
 use Rattle.solve_replay.specs.Replaying.{AnswersReplay}
+use Rattle.solve_cut.specs.Cut.{AnswersCut}
 use Rattle.solve_edit.specs.Editing.{AnswersEdit}
 use Rattle.solve_words.specs.declared.command.Format.TheVariants.{Dcop as Own}
 
@@ -49,6 +50,7 @@ IsFileAnswer tasks.Plain t (answers.Many assignments) = IsTooMany (product t.dec
 IsFileAnswer (tasks.Dpop certified) t answer = AnswersDpop t.declared certified answer
 IsFileAnswer (tasks.Adopt error budget certified) t answer = AnswersAdopt t.declared error budget certified answer
 IsFileAnswer (tasks.Auto error budget certified) t answer = AnswersAuto t.declared error budget certified answer
+IsFileAnswer (tasks.Cut limit) t answer = AnswersCut t.declared limit answer
 IsFileAnswer tasks.Tree t answer = AnswersTree t.declared answer
 IsFileAnswer tasks.Upgrade t answer = IsUpgraded t.declared t.bar answer
 IsFileAnswer task t answer = ⊥

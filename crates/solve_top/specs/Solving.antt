@@ -3,7 +3,7 @@ use Rattle.std.specs.Prelude.{◌≡◌, ℕ, ◌≤◌, ◌⊎◌, List, [], �
 use Rattle.std.specs.List.{All}
 use Rattle.dcop_base.specs.Table.{product}
 use Rattle.dcop_base.specs.Whole.{IsProblem}
-use Rattle.dcop_base.specs.Limits.{amount_limit, assignment_limit, input_limit}
+use Rattle.dcop_base.specs.Limits.{amount_limit, assignment_limit, input_limit, size_limit}
 use Rattle.problem_text.specs.Declarations.{Declared}
 use Rattle.problem_text.specs.File.{TextFile}
 use Rattle.problem_text.specs.Steps.{declared_by}
@@ -30,6 +30,7 @@ use Rattle.solve_top.specs.declared.task.FileTask.{FileTask}
 use Rattle.solve_top.specs.declared.task.FileTask.TheVariants as tasks
 use Rattle.solve_top.specs.Answering.{IsAnswer, IsFileAnswer, lines_in}
 use Rattle.solve_top.specs.Taken.{AreLinesTaken}
+use Rattle.solve_cut.specs.Allowed.{HasAllowedCut}
 use Rattle.solve_methods.specs.Dpop.{wide_in}
 use Rattle.problem_solved.specs.Goal.{solved}
 use Rattle.solve_methods.specs.Goal.{TellsRight}
@@ -63,12 +64,13 @@ pub record HasFitTree (d : Declared) : Type 0 where
   pub declared : declared_by file ≡ d
   pub fits : wide_in (solved file.goal file.problem) ≡ None
 
--- a task is within its limits: plain has no more assignments to try than it tries, and for DPOP the tree is narrow and light
+-- a task is within its limits: plain has no more assignments to try than it tries, for DPOP the tree is narrow and light, and nothing refuses a cut
 abbrev pub IsWithinLimits : FileTask → Declared → Type 0
 IsWithinLimits tasks.Plain d = product d.sizes ≤ assignment_limit
 IsWithinLimits (tasks.Dpop certified) d = HasFitTree d
 IsWithinLimits (tasks.Adopt error budget certified) d = Unit {0}
 IsWithinLimits (tasks.Auto error budget certified) d = Unit {0}
+IsWithinLimits (tasks.Cut limit) d = (size_limit ≤ limit) × HasAllowedCut d limit
 IsWithinLimits tasks.Tree d = Unit {0}
 IsWithinLimits tasks.Upgrade d = Unit {0}
 

@@ -16,6 +16,7 @@ ghost use Rattle.solve_inputs.specs.Fronts.{front_read};
 use crate::agents::by_search;
 use crate::choosing::by_dpop;
 use crate::crew::Crew;
+use crate::cutting::by_cut;
 use crate::drilling::unread_answer;
 use crate::editing::edits_behind;
 use crate::reaching::by_adopt;
@@ -148,6 +149,7 @@ pub(crate) fn file_answer<R: Threads + Sync, G: Gate>(
             };
             by_auto(crew, alloc, file, asked)
         }
+        FileTask::Cut { limit } => by_cut(crew, alloc, file, limit),
         FileTask::Tree => by_search(crew, alloc, file),
         FileTask::Upgrade => Ok(upgrade_answer(file, bar)),
     }

@@ -1,26 +1,21 @@
 //! The answer of `edit`.
 
-ghost use Rattle.std.specs.Prelude.{◌≡◌, ◌+◌, ◌≤◌, length, IfOk};
+ghost use Rattle.std.specs.Prelude.{◌+◌, ◌≤◌, length, IfOk};
 ghost use Rattle.dcop_base.specs.Limits.{input_limit};
-ghost use Rattle.pseudotree.specs.DepthFirst.{dfs};
-ghost use Rattle.pseudotree.specs.Pseudotree.{IsPseudotreeOf};
 ghost use Rattle.problem_text.specs.Steps.{declared_by};
-ghost use Rattle.problem_solved.specs.Goal.{problem_solved};
 ghost use Rattle.solve_inputs.specs.Fronts.{front_read};
 ghost use Rattle.solve_edit.specs.Editing.{AnswersEdit};
 ghost use Rattle.solve_methods.specs.Goal.{TellsRight};
 ghost use Rattle.solve_report.specs.AnswerText.{HasText};
 ghost use Rattle.solve_top.specs.Answering.{IsEditsAnswer};
 
-use crate::agents::find_tree;
+use crate::agents::tree_for;
 use crate::answering::lines_in;
 use crate::crew::Crew;
 use answer_edge::fault_answer;
 use dcop_base::NoMemory;
 use dcop_edge::Gate;
-use problem_solved::ProblemSolved;
 use problem_text::ProblemFile;
-use pseudotree::Tree;
 use solve_edit::edit_answer;
 use solve_inputs::{InputFault, read_front, wcsp_answer};
 use solve_report::Answer;
@@ -66,18 +61,4 @@ fn edits_on<R: Threads + Sync, G: Gate>(
 {
     let tree = tree_for(crew, alloc, &file)?;
     edit_answer(alloc, file, tree, text, before)
-}
-
-/// The depth-first tree of the problem solved for a file, which its token agents find.
-fn tree_for<R: Threads + Sync, G: Gate>(
-    crew: &Crew<R, G>,
-    alloc: Global,
-    file: &ProblemFile,
-) -> Result<Tree, NoMemory>
-    ensures tree { IfOk result (IsPseudotreeOf (problem_solved file.now)) }
-    ensures paths { IfOk result (λ tree. tree.paths ≡ dfs (problem_solved file.now)) }
-{
-    let solved = ProblemSolved::of(alloc, file)?;
-    let found = find_tree(crew, alloc, solved.problem())?;
-    Ok(found.tree)
 }

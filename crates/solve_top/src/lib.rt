@@ -9,6 +9,7 @@ mod agents;
 mod answering;
 mod choosing;
 mod crew;
+mod cutting;
 mod drilling;
 mod editing;
 mod law;
@@ -20,6 +21,7 @@ mod task;
 mod top;
 
 pub use answer_edge::{MAX_INPUT, Status};
+pub use answering::answer_of;
 pub use law::{
     auto_answers_are_those_of_dpop, dpop_answers_are_one, edit_answers_are_those_of_dpop,
 };

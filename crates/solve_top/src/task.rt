@@ -41,6 +41,11 @@ pub enum FileTask {
         budget: u64,
         certified: bool,
     },
+    /// Solve the problem by DPOP on the slices of a cut, so that no joined table has more than
+    /// `limit` cells.
+    Cut {
+        limit: u64,
+    },
     /// Find the depth-first tree of the problem.
     Tree,
     /// Write the problem again in the newest version of its text.
@@ -99,6 +104,13 @@ impl Task {
                     certified,
                 },
             )),
+            Command::Solve {
+                method: Choice::Cut,
+                certificate: false,
+                format,
+                cells: limit,
+                ..
+            } => Some(Task::on_file(format, FileTask::Cut { limit })),
             Command::Tree { format, .. } => Some(Task::on_file(format, FileTask::Tree)),
             Command::Check { format } => Some(Task::Check { format }),
             Command::Replay { after, format } => Some(Task::Replay { format, after }),
@@ -122,7 +134,7 @@ pub(crate) fn workers_of(command: &Command) -> u32
 {
     match command {
         Command::Solve { workers, .. } => (*workers).max(1),
-        Command::Tree { workers, .. } => (*workers).max(1),
+        Command::Tree { workers, .. } | Command::Drill { workers, .. } => (*workers).max(1),
         _ => 1,
     }
 }

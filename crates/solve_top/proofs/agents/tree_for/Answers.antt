@@ -2,7 +2,7 @@ use Rattle.std.proofs.Common.{◌≡◌, subst, ◌∙◌}
 use Rattle.dcop_base.specs.Problem.{Dcop}
 use Rattle.pseudotree.specs.DepthFirst.{dfs}
 use Rattle.pseudotree.specs.Pseudotree.{IsPseudotreeOf}
-use Rattle.solve_top.proofs.editing.tree_for.Goals as goal
+use Rattle.solve_top.proofs.agents.tree_for.Goals as goal
 
 pub returns-clause-tree : goal.returns-clause-tree
 returns-clause-tree g c = subst (λ (p : Dcop). IsPseudotreeOf p c.in_ok-found.found.tree) (c.problem.ensures ∙ c.in_ok-solved.ensures) c.in_ok-found.ensures.tree
