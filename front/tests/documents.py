@@ -3,7 +3,8 @@
 usage: python3 front/tests/documents.py DCOP DCOP_ORDER
 
 DCOP and DCOP_ORDER are the built programs `dcop` and `dcop_order`. A command is a line behind `$ ` in a block of a document; what
-it has to print stands below it, up to the next command or the end of the block, and `..` alone stands for any lines. The
+it has to print stands below it, up to the next command or the end of the block, and `..` alone stands for any lines; a text
+that is given by `<<'EOF'` goes up to that word. The
 commands of a document run one after the other in one folder, in which `examples` and `front` are those of the repository.
 Those that need what the machine has not (Graphviz, toulbar2, PyYAML) are passed over, which is said. Ends with 1 where an
 answer differs, and prints both.
@@ -13,6 +14,7 @@ from __future__ import annotations
 
 import importlib.util
 import os
+import re
 import shutil
 import subprocess
 import sys
@@ -38,12 +40,18 @@ def steps(document: str) -> list[Step]:
     """The commands of a document, in order."""
     found: list[Step] = []
     inside = open_step = False
+    here: str | None = None
     for number, line in enumerate((TOP / document).read_text().splitlines(), 1):
         if line.startswith("```"):
             inside, open_step = not inside, False
+        elif inside and here is not None:
+            found[-1].command += "\n" + line
+            here = None if line == here else here
         elif inside and line.startswith("$ "):
             found.append(Step(f"{document}:{number}", line[2:], []))
             open_step = True
+            mark = re.search(r"<<'(\w+)'", line)
+            here = mark[1] if mark else None
         elif open_step:
             found[-1].expected.append(line)
     return found

@@ -31,6 +31,7 @@ use std::sync::ledger::Ledger;
 /// Contracts see the file as it is now, which agents are touched, and what is kept of each agent.
 #[derive(Debug, Drop)]
 pub struct Session {
+    alloc: Global,
     file: ProblemFile,
     /// The turned problem, for goal max.
     turned: Option<Problem>,
@@ -81,6 +82,7 @@ impl Session {
         let touched = vec![in alloc; true; count]?;
         let kept = nothing_kept(alloc, count)?;
         Ok(Session {
+            alloc,
             file,
             turned,
             top,
@@ -96,7 +98,7 @@ impl Session {
     /// # Errors
     ///
     /// The first fault of [`SetFault`]; the session is unchanged then.
-    pub fn set(&mut self, alloc: Global, table: u64, cell: u64, cost: u64) -> Result<(), SetFault>
+    pub fn set(&mut self, table: u64, cell: u64, cost: u64) -> Result<(), SetFault>
         ensures { let p = self.old.state.file.problem in
             let fault = set_fault p table cell cost in
             let cells = cells_set p.tables table cell cost in
@@ -105,8 +107,8 @@ impl Session {
             ≡ record { state = edited self.old.state table cells; kept = self.old.kept }))
             (λ e. IsFaultOf fault e × (self.new ≡ self.old)) }
     {
-        let cells = set_cells(alloc, &self.file, table, cell, cost)?;
-        self.replace(alloc, table as usize, cells)
+        let cells = set_cells(self.alloc, &self.file, table, cell, cost)?;
+        self.replace(table as usize, cells)
     }
 
     /// Replaces all cells of a table. Tables count from 0 in the order of the file. It takes the
@@ -115,15 +117,15 @@ impl Session {
     /// # Errors
     ///
     /// The first fault of [`SetFault`]; the session is unchanged then.
-    pub fn fill(&mut self, alloc: Global, table: u64, cells: &CellList) -> Result<(), SetFault>
+    pub fn fill(&mut self, table: u64, cells: &CellList) -> Result<(), SetFault>
         ensures { let fault = fill_fault self.old.state.file.problem table cells.now in
             MatchResult result
             (λ _. (fault ≡ None) × (self.new
             ≡ record { state = edited self.old.state table cells.now; kept = self.old.kept }))
             (λ e. IsFaultOf fault e × (self.new ≡ self.old)) }
     {
-        let cells = fill_cells(alloc, &self.file, table, cells)?;
-        self.replace(alloc, table as usize, cells)
+        let cells = fill_cells(self.alloc, &self.file, table, cells)?;
+        self.replace(table as usize, cells)
     }
 
     /// The optimum of the problem as it is now, and how many agents were touched. The tables of
@@ -134,11 +136,7 @@ impl Session {
     ///
     /// [`NoMemory`] where memory was wanted and not had. The problem is unchanged then, the same
     /// agents are touched, and the steps have risen by no more.
-    pub fn answer<L: Ledger>(
-        &mut self,
-        alloc: Global,
-        steps: &mut Steps<L>,
-    ) -> Result<Edited, NoMemory>
+    pub fn answer<L: Ledger>(&mut self, steps: &mut Steps<L>) -> Result<Edited, NoMemory>
         ensures answer { IfOk result (IsAnswerNow self.old.state) }
         ensures answered { OnOk result (self.new.state ≡ answered self.old.state) }
         ensures same { OnErr result (self.new.state ≡ self.old.state) }
@@ -150,7 +148,7 @@ impl Session {
         let problem = solved_of(&self.file, &self.turned);
         problem_is_whole(problem);
         answer_with(
-            alloc,
+            self.alloc,
             &self.file,
             problem,
             &self.tree,
@@ -177,7 +175,7 @@ impl Session {
     }
 
     /// Replaces the cells of a table, and touches the agents on its way.
-    fn replace(&mut self, alloc: Global, table: usize, cells: Vec<u64>) -> Result<(), SetFault>
+    fn replace(&mut self, table: usize, cells: Vec<u64>) -> Result<(), SetFault>
         requires { IsReplacement self.old.state.file.problem.tables table cells.items }
         ensures { let fault = sum_fault self.old.state.file.problem table cells.items in
             MatchResult result
@@ -188,7 +186,7 @@ impl Session {
         edits_leave_others();
         file_is_whole(&self.file);
         let top = replace_cells(
-            alloc,
+            self.alloc,
             &mut self.file,
             &mut self.turned,
             self.top,

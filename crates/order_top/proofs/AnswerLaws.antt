@@ -1,8 +1,13 @@
 -- Which answer belongs to which words and input, and what its status says of the source.
-use Rattle.std.proofs.Common.{◌≡◌, ℕ, ◌<◌, List, Option, Some, Result, Ok, Err, IfOk, ap, subst, arith, refl}
+use Rattle.std.proofs.Common.{◌≡◌, ℕ, ◌<◌, List, Option, Some, Result, Ok, Err, IfOk, sym, ap, subst, arith, refl}
 use Rattle.dcop_edge.specs.Faults.{Rose}
 use Rattle.dcop_base.specs.declared.memory.NoMemory.{NoMemory}
+use Rattle.dcop_base.specs.Whole.{IsProblem}
 use Rattle.problem_text.specs.Declarations.{Declared}
+use Rattle.problem_text.specs.File.{TextFile}
+use Rattle.problem_text.specs.Steps.{declared_by}
+use Rattle.problem_order.specs.Narrowed.{IsNarrowed}
+use Rattle.order_search.specs.Finding.{IsSearched}
 use Rattle.problem_text.specs.Reading.{Fault}
 use Rattle.solve_words.specs.declared.fault.WordFault.{WordFault}
 use Rattle.solve_words.specs.declared.fault.WordFault.TheVariants as words
@@ -18,9 +23,15 @@ use Rattle.order_top.specs.Words.{order_answer_to}
 use Rattle.order_top.specs.Answering.{IsOrdered, IsTextAnswer, IsInputAnswer, IsAskedAnswer}
 use Rattle.order_top.specs.Ordering.{IsAnswered, IsAccepted, GoesWell}
 
+-- a file that was read, in the order that is found, is an answer
+pub ordered-answered : (asked : Asked) (read : Result Declared Fault) (old file : TextFile) → read ≡ Ok (declared_by old) → IsProblem old.problem → IsNarrowed old file → IsSearched old asked.tries asked.seed file
+    → IsTextAnswer asked read (answers.Upgraded file)
+ordered-answered asked read old file told whole narrowed searched =
+    subst (λ (r : Result Declared Fault). IsTextAnswer asked r (answers.Upgraded file)) (sym told) (record { old = old; whole = whole; declared = refl; narrowed = narrowed; searched = searched })
+
 -- the answer to an input, where words are accepted
 pub input-answered : (words : List (List ℕ)) (asked : Asked) (before after : SourceState) (input : Input) (answer : Answer)
-    → Ok asked ≡ order_answer_to words → IsReadFrom input before after → IsInputAnswer input answer → IsAnswered words before after answer
+    → Ok asked ≡ order_answer_to words → IsReadFrom input before after → IsInputAnswer asked input answer → IsAnswered words before after answer
 input-answered words asked before after input answer told read is = record {
   input = input;
   read = read;
@@ -30,24 +41,24 @@ input-answered words asked before after input answer told read is = record {
 -- the same on all bytes that were read, unless memory was wanted
 pub text-answered : (words : List (List ℕ)) (asked : Asked) (before after : SourceState) (bytes slice : List ℕ) (result : Result Answer NoMemory)
     → Ok asked ≡ order_answer_to words → IsReadFrom (Whole bytes) before after → slice ≡ bytes
-    → IfOk result (IsTextAnswer (whole_read slice)) → IfOk result (IsAnswered words before after)
+    → IfOk result (IsTextAnswer asked (whole_read slice)) → IfOk result (IsAnswered words before after)
 text-answered words asked before after bytes slice (Ok answer) told read same is =
-    input-answered words asked before after (Whole bytes) answer told read (subst (λ (t : List ℕ). IsTextAnswer (whole_read t) answer) same is)
+    input-answered words asked before after (Whole bytes) answer told read (subst (λ (t : List ℕ). IsTextAnswer asked (whole_read t) answer) same is)
 text-answered words asked before after bytes slice (Err none) told read same is = tt
 
-text-sound : (read : Result Declared Fault) → ¬ IsTextAnswer read answers.Read
-text-sound (Ok d) is = is
-text-sound (Err fault) is = cc is
+text-sound : (asked : Asked) (read : Result Declared Fault) → ¬ IsTextAnswer asked read answers.Read
+text-sound asked (Ok d) is = is
+text-sound asked (Err fault) is = cc is
 
 -- only a broken input is answered by a failed reading
-input-sound : (input : Input) (answer : Answer) → IsInputAnswer input answer → status_of answer ≡ ReadFault → input ≡ Broken
-input-sound Unread answer is fault = absurd is
-input-sound Broken answer is fault = refl
-input-sound TooLong answer is fault = let s = ap status_of is in cc
-input-sound (Whole bytes) answer is fault = absurd (text-sound (whole_read bytes) (subst (IsTextAnswer (whole_read bytes)) (read-alone answer fault) is))
+input-sound : (asked : Asked) (input : Input) (answer : Answer) → IsInputAnswer asked input answer → status_of answer ≡ ReadFault → input ≡ Broken
+input-sound asked Unread answer is fault = absurd is
+input-sound asked Broken answer is fault = refl
+input-sound asked TooLong answer is fault = let s = ap status_of is in cc
+input-sound asked (Whole bytes) answer is fault = absurd (text-sound asked (whole_read bytes) (subst (IsTextAnswer asked (whole_read bytes)) (read-alone answer fault) is))
 
 asked-sound : (asked : Result Asked WordFault) (input : Input) (answer : Answer) → IsAskedAnswer asked input answer → status_of answer ≡ ReadFault → input ≡ Broken
-asked-sound (Ok asked) input answer is fault = input-sound input answer is fault
+asked-sound (Ok asked) input answer is fault = input-sound asked input answer is fault
 asked-sound (Err (words.Bad at kind)) input answer is fault = let s = ap status_of is.1 in cc
 asked-sound (Err words.NoMemory) input answer is fault = absurd is
 
@@ -76,38 +87,38 @@ pub fault-answered : (words : List (List ℕ)) (before after : SourceState) (ans
 fault-answered words before after answer done more = failed-input words before after done.input answer done.read done.belongs more
 
 -- the text of a file in some order is a good answer
-ordered-well : (d : Declared) (answer : Answer) → IsOrdered d answer → GoesWell (status_of answer)
-ordered-well d (answers.Upgraded file) is = tt
-ordered-well d (answers.UpgradedWcsp bar file) is = absurd is
-ordered-well d (answers.Edits optima file) is = absurd is
-ordered-well d (answers.Report report file) is = absurd is
-ordered-well d (answers.Tree deliveries nodes names) is = absurd is
-ordered-well d (answers.Verdict verdict names) is = absurd is
-ordered-well d (answers.Replay events agents names) is = absurd is
-ordered-well d (answers.Drill summary) is = absurd is
-ordered-well d (answers.Words at kind) is = absurd is
-ordered-well d (answers.ProblemText line kind problem) is = absurd is
-ordered-well d (answers.WcspText line kind problem) is = absurd is
-ordered-well d (answers.ReportText line kind) is = absurd is
-ordered-well d (answers.EditText line kind) is = absurd is
-ordered-well d (answers.Many n) is = absurd is
-ordered-well d (answers.ManyTurns n limit) is = absurd is
-ordered-well d (answers.WideAgent var cells names) is = absurd is
-ordered-well d (answers.WideTotal cells) is = absurd is
-ordered-well d answers.Read is = absurd is
-ordered-well d answers.NotYet is = absurd is
+ordered-well : (asked : Asked) (d : Declared) (answer : Answer) → IsOrdered asked d answer → GoesWell (status_of answer)
+ordered-well asked d (answers.Upgraded file) is = tt
+ordered-well asked d (answers.UpgradedWcsp bar file) is = absurd is
+ordered-well asked d (answers.Edits optima file) is = absurd is
+ordered-well asked d (answers.Report report file) is = absurd is
+ordered-well asked d (answers.Tree deliveries nodes names) is = absurd is
+ordered-well asked d (answers.Verdict verdict names) is = absurd is
+ordered-well asked d (answers.Replay events agents names) is = absurd is
+ordered-well asked d (answers.Drill summary) is = absurd is
+ordered-well asked d (answers.Words at kind) is = absurd is
+ordered-well asked d (answers.ProblemText line kind problem) is = absurd is
+ordered-well asked d (answers.WcspText line kind problem) is = absurd is
+ordered-well asked d (answers.ReportText line kind) is = absurd is
+ordered-well asked d (answers.EditText line kind) is = absurd is
+ordered-well asked d (answers.Many n) is = absurd is
+ordered-well asked d (answers.ManyTurns n limit) is = absurd is
+ordered-well asked d (answers.WideAgent var cells names) is = absurd is
+ordered-well asked d (answers.WideTotal cells) is = absurd is
+ordered-well asked d answers.Read is = absurd is
+ordered-well asked d answers.NotYet is = absurd is
 
 -- all of a text that is told, and accepted, is read and goes well
 input-well : (words : List (List ℕ)) (text : List ℕ) (accepted : IsAccepted words text) (before after : SourceState) (input : Input) (answer : Answer)
-    → before.left ≡ Some text → ¬ Rose before.faults after.faults → IsReadFrom input before after → IsInputAnswer input answer → GoesWell (status_of answer)
+    → before.left ≡ Some text → ¬ Rose before.faults after.faults → IsReadFrom input before after → IsInputAnswer accepted.asked input answer → GoesWell (status_of answer)
 input-well words text accepted before after Unread answer told steady read is = absurd is
 input-well words text accepted before after Broken answer told steady read is = absurd (steady read)
 input-well words text accepted before after TooLong answer told steady read is =
     let more = subst HadMore told read.0 in absurd (omega (arith, more, accepted.short))
 input-well words text accepted before after (Whole bytes) answer told steady read is =
     let all = subst (λ (l : Option (List ℕ)). IsAllOf bytes l after.left) told read.1 in
-    ordered-well accepted.declared answer
-    (subst (λ (r : Result Declared Fault). IsTextAnswer r answer) accepted.read (subst (λ (t : List ℕ). IsTextAnswer (whole_read t) answer) all.0 is))
+    ordered-well accepted.asked accepted.declared answer
+    (subst (λ (r : Result Declared Fault). IsTextAnswer accepted.asked r answer) accepted.read (subst (λ (t : List ℕ). IsTextAnswer accepted.asked (whole_read t) answer) all.0 is))
 
 pub well-answered : (words : List (List ℕ)) (text : List ℕ) (before after : SourceState) (answer : Answer) → IsAnswered words before after answer
     → before.left ≡ Some text → IsAccepted words text → ¬ Rose before.faults after.faults → GoesWell (status_of answer)

@@ -1,2 +1,3 @@
 mod WordLaws
 mod AnswerLaws
+mod OneLaws

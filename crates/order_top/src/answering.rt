@@ -1,6 +1,7 @@
 //! The answer to words and a source.
 
 ghost use Rattle.std.specs.Prelude.{map, IfOk, string_bytes};
+ghost use Rattle.dcop_base.specs.Whole.{IsProblem};
 ghost use Rattle.solve_report.specs.AnswerText.{HasText};
 ghost use Rattle.answer_edge.specs.Input.{source_state};
 ghost use Rattle.answer_edge.specs.Whole.{whole_read};
@@ -9,10 +10,10 @@ ghost use Rattle.order_top.specs.Ordering.{IsAnswered};
 
 use crate::words::{Asked, read_order_words};
 use answer_edge::{ReadEnd, fault_answer, read_all, read_whole, words_answer};
-use dcop_base::NoMemory;
+use dcop_base::{NoMemory, problem_is_whole};
 use dcop_edge::Source;
 use order_search::narrowed;
-use problem_text::{TextFault, TextKind};
+use problem_text::{ProblemFile, TextFault, TextKind};
 use solve_report::Answer;
 use solve_words::WordFault;
 use std::alloc::Global;
@@ -44,14 +45,26 @@ pub(crate) fn answer_of<S: Source>(
 
 /// The answer to all bytes of an input.
 fn text_answer(alloc: Global, asked: Asked, bytes: &[u8]) -> Result<Answer, NoMemory>
-    ensures belongs { IfOk result (IsTextAnswer (whole_read bytes.now)) }
+    ensures belongs { IfOk result (IsTextAnswer asked (whole_read bytes.now)) }
     ensures told { IfOk result HasText }
 {
     match read_whole(alloc, bytes) {
-        Ok(file) => Ok(Answer::Upgraded {
-            file: narrowed(alloc, file, asked.tries, asked.seed)?,
-        }),
+        Ok(file) => {
+            whole_problem(&file);
+            Ok(Answer::Upgraded {
+                file: narrowed(alloc, file, asked.tries, asked.seed)?,
+            })
+        }
         Err(TextFault::Bad { line, kind }) => Ok(fault_answer(line, kind)),
         Err(TextFault::NoMemory) => Err(NoMemory),
     }
+}
+
+/// The problem of every file is whole. One that is read is known to have such a problem, so this does
+/// no more.
+fn whole_problem(file: &ProblemFile)
+    ensures { IsProblem file.now.problem }
+{
+    let problem = &file.problem;
+    problem_is_whole(problem);
 }

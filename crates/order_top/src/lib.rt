@@ -3,8 +3,10 @@
 #![tactic(auto)]
 
 mod answering;
+mod law;
 mod top;
 mod words;
 
 pub use answer_edge::Status;
+pub use law::order_answers_are_one;
 pub use top::order;

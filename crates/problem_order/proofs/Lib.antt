@@ -1,11 +1,12 @@
 mod ReadLaws
 mod ParentLaws
-mod OrderLaws
+pub mod OrderLaws
 mod NameLaws
 mod TableLaws
 mod ProblemLaws
 mod FileLaws
 mod CostLaws
 mod LineLaws
-mod SearchLaws
+pub mod SearchLaws
 mod WidthLaws
+pub mod NarrowLaws

@@ -3,6 +3,7 @@
 
 ghost use Rattle.problem_order.specs.Costs.{ReorderedFilesCostTheSame};
 ghost use Rattle.problem_order.specs.Lines.{ReorderedFilesKeepTheirLines};
+ghost use Rattle.problem_order.specs.Narrowed.{NarrowedFilesAreOne};
 
 /// A file and the same file in another order have the same assignments by names, at the same costs.
 /// So the best sum is the same, for goal min and for goal max.
@@ -14,4 +15,9 @@ pub fn reordered_files_cost_the_same()
 /// variables in that order: it is one function of the file and the order.
 pub fn reordered_files_keep_their_lines()
     ensures { ReorderedFilesKeepTheirLines }
+{}
+
+/// What [`narrower`](crate::narrower) makes of a file by an order is one file.
+pub fn narrowed_files_are_one()
+    ensures { NarrowedFilesAreOne }
 {}

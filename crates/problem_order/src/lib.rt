@@ -14,7 +14,9 @@ mod narrowing;
 mod order;
 mod reordering;
 
-pub use law::{reordered_files_cost_the_same, reordered_files_keep_their_lines};
+pub use law::{
+    narrowed_files_are_one, reordered_files_cost_the_same, reordered_files_keep_their_lines,
+};
 pub use measure::Measure;
 pub use narrowing::narrower;
 pub use order::Order;

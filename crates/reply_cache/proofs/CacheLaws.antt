@@ -7,27 +7,31 @@ use Rattle.lru.proofs.CallerLemmas.{IsPut, Contains-promoted, Contains-put_entri
 use Rattle.reply_cache.specs.Cache.{same_key, AreReplies, missed, misses_of}
 
 -- the reply that is found is that of the key
-pub found_reply : (reply : List ℕ → List ℕ) (key value : List ℕ) (entries : List (List ℕ × List ℕ)) → AreReplies reply entries → lookup (same_key key) entries ≡ Some value → value ≡ reply key
-found_reply reply key value entries are found =
+pub found_reply : (is_reply : List ℕ → List ℕ → Type 0) (key value : List ℕ) (entries : List (List ℕ × List ℕ)) → AreReplies is_reply entries → lookup (same_key key) entries ≡ Some value → is_reply key value
+found_reply is_reply key value entries are found =
     let at = Contains-lookup (same_key key) entries value found in
-    are.each (at.0, value) at.1 ∙ ap reply (sym ((bytes_decides key at.0).0 at.2))
+    subst (λ (k : List ℕ). is_reply k value) (sym ((bytes_decides key at.0).0 at.2)) (are.each (at.0, value) at.1)
 
 -- after a look
-pub looked_replies : (reply : List ℕ → List ℕ) (key : List ℕ) (entries : List (List ℕ × List ℕ)) → AreReplies reply entries → AreReplies reply (promoted (same_key key) entries)
-looked_replies reply key entries are = record { each = λ e in_it. are.each e (Contains-promoted (same_key key) entries e in_it) }
+pub looked_replies : (is_reply : List ℕ → List ℕ → Type 0) (key : List ℕ) (entries : List (List ℕ × List ℕ)) → AreReplies is_reply entries → AreReplies is_reply (promoted (same_key key) entries)
+looked_replies is_reply key entries are = record { each = λ e in_it. are.each e (Contains-promoted (same_key key) entries e in_it) }
 
-put_reply : (reply : List ℕ → List ℕ) (key value : List ℕ) (cache : LruCache (List ℕ) (List ℕ)) (e : List ℕ × List ℕ) → value ≡ reply key → IsPut same_key cache key value e → e.1 ≡ reply e.0
-put_reply reply key value cache e is (same, inl new) = same ∙ is ∙ ap reply (sym new)
-put_reply reply key value cache e is (same, inr old) = same ∙ is ∙ ap reply ((bytes_decides key e.0).0 old.2)
+-- the same reply to the same key
+moved : (is_reply : List ℕ → List ℕ → Type 0) (key key' value value' : List ℕ) → key ≡ key' → value' ≡ value → is_reply key value → is_reply key' value'
+moved is_reply key key' value value' keys values is = subst (λ (k : List ℕ). is_reply k value') keys (subst (λ (v : List ℕ). is_reply key v) (sym values) is)
 
-one_of : (reply : List ℕ → List ℕ) (key value : List ℕ) (cache : LruCache (List ℕ) (List ℕ)) (e : List ℕ × List ℕ) → AreReplies reply cache.entries → value ≡ reply key
-    → Contains cache.entries e ⊎ IsPut same_key cache key value e → e.1 ≡ reply e.0
-one_of reply key value cache e are is (inl old) = are.each e old
-one_of reply key value cache e are is (inr put) = put_reply reply key value cache e is put
+put_reply : (is_reply : List ℕ → List ℕ → Type 0) (key value : List ℕ) (cache : LruCache (List ℕ) (List ℕ)) (e : List ℕ × List ℕ) → is_reply key value → IsPut same_key cache key value e → is_reply e.0 e.1
+put_reply is_reply key value cache e is (same, inl new) = moved is_reply key e.0 value e.1 (sym new) same is
+put_reply is_reply key value cache e is (same, inr old) = moved is_reply key e.0 value e.1 ((bytes_decides key e.0).0 old.2) same is
+
+one_of : (is_reply : List ℕ → List ℕ → Type 0) (key value : List ℕ) (cache : LruCache (List ℕ) (List ℕ)) (e : List ℕ × List ℕ) → AreReplies is_reply cache.entries → is_reply key value
+    → Contains cache.entries e ⊎ IsPut same_key cache key value e → is_reply e.0 e.1
+one_of is_reply key value cache e are is (inl old) = are.each e old
+one_of is_reply key value cache e are is (inr put) = put_reply is_reply key value cache e is put
 
 -- after a reply was kept
-pub kept_replies : (reply : List ℕ → List ℕ) (key value : List ℕ) (cache : LruCache (List ℕ) (List ℕ)) → AreReplies reply cache.entries → value ≡ reply key → AreReplies reply (put_entries same_key cache key value)
-kept_replies reply key value cache are is = record { each = λ e in_it. one_of reply key value cache e are is (Contains-put_entries same_key cache key value e in_it) }
+pub kept_replies : (is_reply : List ℕ → List ℕ → Type 0) (key value : List ℕ) (cache : LruCache (List ℕ) (List ℕ)) → AreReplies is_reply cache.entries → is_reply key value → AreReplies is_reply (put_entries same_key cache key value)
+kept_replies is_reply key value cache are is = record { each = λ e in_it. one_of is_reply key value cache e are is (Contains-put_entries same_key cache key value e in_it) }
 
 -- one more look
 pub misses_of-push : (finds : List Bool) (found : Bool) → misses_of (finds ++ found ∷ []) ≡ misses_of finds + missed found
@@ -47,13 +51,13 @@ misses_more old mid new found was now counted same noted more =
     more ∙ ap (λ (n : ℕ). n + missed found) counted ∙ sym (misses_of-push old found) ∙ ap (λ (xs : List Bool). misses_of (xs ++ found ∷ [])) (sym same) ∙ ap misses_of (sym noted)
 
 -- what a look finds is the reply to its key
-pub reply_found : (reply : List ℕ → List ℕ) (key given : List ℕ) (found : Option (List ℕ)) (entries : List (List ℕ × List ℕ)) → AreReplies reply entries → found ≡ lookup (same_key key) entries → key ≡ given
-    → IfSome found (λ r. r ≡ reply given)
-reply_found reply key given None entries are is same = tt
-reply_found reply key given (Some value) entries are is same = found_reply reply key value entries are (sym is) ∙ ap reply same
+pub reply_found : (is_reply : List ℕ → List ℕ → Type 0) (key given : List ℕ) (found : Option (List ℕ)) (entries : List (List ℕ × List ℕ)) → AreReplies is_reply entries → found ≡ lookup (same_key key) entries → key ≡ given
+    → IfSome found (λ r. is_reply given r)
+reply_found is_reply key given None entries are is same = tt
+reply_found is_reply key given (Some value) entries are is same = subst (λ (k : List ℕ). is_reply k value) same (found_reply is_reply key value entries are (sym is))
 
 -- after a reply was kept, or could not be
-pub kept_either : {X E : Type 0} (reply : List ℕ → List ℕ) (key value : List ℕ) (old new : LruCache (List ℕ) (List ℕ)) (result : Result X E) → AreReplies reply old.entries → value ≡ reply key
-    → OnOk result (new ≡ lru_cache (put_entries same_key old key value) old.cap) → OnErr result (new ≡ old) → AreReplies reply new.entries
-kept_either reply key value old new (Ok x) are is ok err = subst (λ (c : LruCache (List ℕ) (List ℕ)). AreReplies reply c.entries) (sym ok) (kept_replies reply key value old are is)
-kept_either reply key value old new (Err e) are is ok err = subst (λ (c : LruCache (List ℕ) (List ℕ)). AreReplies reply c.entries) (sym err) are
+pub kept_either : {X E : Type 0} (is_reply : List ℕ → List ℕ → Type 0) (key value : List ℕ) (old new : LruCache (List ℕ) (List ℕ)) (result : Result X E) → AreReplies is_reply old.entries → is_reply key value
+    → OnOk result (new ≡ lru_cache (put_entries same_key old key value) old.cap) → OnErr result (new ≡ old) → AreReplies is_reply new.entries
+kept_either is_reply key value old new (Ok x) are is ok err = subst (λ (c : LruCache (List ℕ) (List ℕ)). AreReplies is_reply c.entries) (sym ok) (kept_replies is_reply key value old are is)
+kept_either is_reply key value old new (Err e) are is ok err = subst (λ (c : LruCache (List ℕ) (List ℕ)). AreReplies is_reply c.entries) (sym err) are

@@ -36,8 +36,8 @@ kept_at cache key reply = record {
 }
 
 -- each entry is a key with its reply
-pub record AreReplies (reply : List ℕ → List ℕ) (entries : List (List ℕ × List ℕ)) : Type 0 where
-  pub each : (e : List ℕ × List ℕ) → Contains entries e → e.1 ≡ reply e.0
+pub record AreReplies (is_reply : List ℕ → List ℕ → Type 0) (entries : List (List ℕ × List ℕ)) : Type 0 where
+  pub each : (e : List ℕ × List ℕ) → Contains entries e → is_reply e.0 e.1
 
 -- what a look adds to the misses
 abbrev pub missed : Bool → ℕ

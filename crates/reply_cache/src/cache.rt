@@ -38,7 +38,7 @@ impl<M: Maker, A: Ledger, B: Ledger> Model for ReplyCache<M, A, B> {
 
     ghost view = { λ c. record { kept = c.entries; finds = c.finds.items } };
 
-    ghost invariant = { λ c. AreReplies M.reply c.entries.entries × (c.looks.total ≡ length c.finds.items) × (c.misses.total ≡ misses_of c.finds.items) };
+    ghost invariant = { λ c. AreReplies M.is_reply c.entries.entries × (c.looks.total ≡ length c.finds.items) × (c.misses.total ≡ misses_of c.finds.items) };
 }
 
 impl<M: Maker, A: Ledger, B: Ledger> ReplyCache<M, A, B> {
@@ -83,7 +83,7 @@ impl<M: Maker, A: Ledger, B: Ledger> ReplyCache<M, A, B> {
         requires parts { (0 < share.old.looks.parts) × (0 < share.old.misses.parts) }
         ensures found { IfOk result (λ found. found ≡ reply_at self.old key.now) }
         ensures looked { OnOk result (self.new ≡ looked_at self.old key.now) }
-        ensures reply { IfOk result (λ found. IfSome found (λ reply. reply ≡ M.reply key.now)) }
+        ensures reply { IfOk result (λ found. IfSome found (λ reply. M.is_reply key.now reply)) }
         ensures counted { OnOk result (share.new.looks.amount ≡ share.old.looks.amount + 1) }
         ensures missed { IfOk result (λ found. share.new.misses.amount ≡ share.old.misses.amount + missed (is_some found)) }
         ensures parts { (share.new.looks.parts ≡ share.old.looks.parts) × (share.new.misses.parts ≡ share.old.misses.parts) }
@@ -114,7 +114,7 @@ impl<M: Maker, A: Ledger, B: Ledger> ReplyCache<M, A, B> {
     ///
     /// [`NoMemory`] where memory was wanted and not had; nothing is changed.
     pub fn keep(&mut self, key: Bytes, value: Bytes) -> Result<(), NoMemory>
-        requires reply { value ≡ M.reply key }
+        requires reply { M.is_reply key value }
         requires short { length key ≤ key_limit }
         ensures kept { OnOk result (self.new ≡ kept_at self.old key value) }
         ensures unchanged { OnErr result (self.new ≡ self.old) }

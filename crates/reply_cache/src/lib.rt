@@ -1,6 +1,6 @@
 //! Replies that are made once and kept: what makes them, and the cache that many sessions share.
 //!
-//! A [`Maker`] makes the reply to a key; each type of maker has one reply for each key. A
+//! A [`Maker`] makes the reply to a key; for each type of maker a key has one reply at most. A
 //! [`ReplyCache`] keeps replies, those that were used last, and is shared behind one lock. Whenever
 //! its lock is free, each of its entries is the reply to its key, and what it counted is what the
 //! shares of its users add up to: each look is counted in the [`LookShare`] of the session that

@@ -8,18 +8,18 @@ use std::alloc::Global;
 use std::marker::{Send, Sync};
 use std::thread::Threads;
 
-/// Makes replies to keys. Each type of maker has one reply for each key, of at most [`MAX_REPLY`]
-/// bytes.
+/// Makes replies to keys. Which bytes are a reply to a key is the same for all makers of a type: a
+/// key has one reply at most, of at most [`MAX_REPLY`] bytes.
 ///
 /// [`MAX_REPLY`]: crate::MAX_REPLY
 pub trait Maker: Send + Drop {
-    /// The reply to a key.
-    ghost reply: { List ℕ → List ℕ };
+    /// Whether these bytes are the reply to a key.
+    ghost is_reply: { List ℕ → List ℕ → Type 0 };
 
     /// How often this maker was called.
     ghost calls: { Self → ℕ };
 
-    /// Makes the reply to this key. The call counts, whatever it answers.
+    /// Makes the reply to a key. The call counts, whatever it answers.
     ///
     /// # Errors
     ///
@@ -31,11 +31,18 @@ pub trait Maker: Send + Drop {
         key: &[u8],
     ) -> Result<Bytes, NoMemory>
         requires { calls self.old < 2 ^ 63 }
-        ensures made { IfOk result (λ made. made ≡ reply key.now) }
+        ensures made { IfOk result (λ made. is_reply key.now made) }
         ensures counted { calls self.new ≡ calls self.old + 1 };
 
-    /// No reply is longer.
-    ghost is_short: { (key : List ℕ) → length (reply key) ≤ reply_limit };
+    /// A key has one reply at most. The call does nothing: who needs this law calls it.
+    fn keys_have_one_reply()
+        ensures { (key reply other : List ℕ) → is_reply key reply → is_reply key other → reply ≡ other };
+
+    /// No reply has more than [`MAX_REPLY`] bytes. The call does nothing: who needs this law calls it.
+    ///
+    /// [`MAX_REPLY`]: crate::MAX_REPLY
+    fn replies_are_short()
+        ensures { (key reply : List ℕ) → is_reply key reply → length reply ≤ reply_limit };
 }
 
 /// A maker of which fresh ones are had for the asking.

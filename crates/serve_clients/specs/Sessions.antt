@@ -30,18 +30,18 @@ module _ {S K : Type 0} (left : S → Option (List ℕ)) (reads : S → ℕ) (he
   outside_with c t = outside (left c.0) (reads c.0) (answering (held c.1) (writes c.1) t)
 
   -- a session with a fresh maker ended so
-  abbrev pub WasServed : (List ℕ → List ℕ) → Session S K → Type 0
-  WasServed reply s = HasServed reply s.end (outside_with s.taken (tally 0 0 0)) (outside_with s.given s.tally)
+  abbrev pub WasServed : (List ℕ → List ℕ → Type 0) → Session S K → Type 0
+  WasServed is_reply s = HasServed is_reply s.end (outside_with s.taken (tally 0 0 0)) (outside_with s.given s.tally)
 
   -- each session ended so
-  abbrev pub WereServed : (List ℕ → List ℕ) → List (Session S K) → Type 0
-  WereServed reply [] = Unit {0}
-  WereServed reply (s ∷ ss) = WasServed reply s × WereServed reply ss
+  abbrev pub WereServed : (List ℕ → List ℕ → Type 0) → List (Session S K) → Type 0
+  WereServed is_reply [] = Unit {0}
+  WereServed is_reply (s ∷ ss) = WasServed is_reply s × WereServed is_reply ss
 
   -- a server has served its clients: of so many sessions these are the ends, with so many looks together, and each connection, in the order in which it waited, was given back behind those before
-  pub record HaveServed (reply : List ℕ → List ℕ) (clients : ℕ) (ends : List SessionEnd) (looks : ℕ) (waiting waiting' closed closed' : Option (List (S × K))) : Type 0 where
+  pub record HaveServed (is_reply : List ℕ → List ℕ → Type 0) (clients : ℕ) (ends : List SessionEnd) (looks : ℕ) (waiting waiting' closed closed' : Option (List (S × K))) : Type 0 where
     pub sessions : List (Session S K)
-    pub each : WereServed reply sessions
+    pub each : WereServed is_reply sessions
     pub count : length ends ≡ clients
     pub told : ends ≡ map (λ s. s.end) sessions
     pub looked : looks ≡ total (λ s. s.tally.looks) sessions

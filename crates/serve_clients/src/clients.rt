@@ -57,7 +57,7 @@ pub fn serve_clients<R: Threads + Wait + Sync, L: Listener, M: FreshMaker, G: Ga
     requires clients { (0 < plan.clients) × (plan.clients ≤ peer_limit) }
     requires entries { (0 < plan.entries) × (plan.entries ≤ entry_limit) }
     requires workers { (0 < plan.workers) × (plan.workers ≤ server_limit) }
-    ensures served { IfOk result (λ o. HaveServed L.S.left L.S.faults L.K.held L.K.faults M.reply plan.clients o.ends.items o.looks
+    ensures served { IfOk result (λ o. HaveServed L.S.left L.S.faults L.K.held L.K.faults M.is_reply plan.clients o.ends.items o.looks
         (L.waiting listener.old) (L.waiting listener.new) (L.closed listener.old) (L.closed listener.new)) }
     ensures cause { HasServeCause (L.faults listener.old) (L.faults listener.new) result }
 {
@@ -88,7 +88,7 @@ fn serve_with<
     requires clients { (0 < plan.clients) × (plan.clients ≤ peer_limit) }
     requires entries { (0 < plan.entries) × (plan.entries ≤ entry_limit) }
     requires workers { (0 < plan.workers) × (plan.workers ≤ server_limit) }
-    ensures served { IfOk result (λ o. HaveServed L.S.left L.S.faults L.K.held L.K.faults M.reply plan.clients o.ends.items o.looks
+    ensures served { IfOk result (λ o. HaveServed L.S.left L.S.faults L.K.held L.K.faults M.is_reply plan.clients o.ends.items o.looks
         (L.waiting listener.old) (L.waiting listener.new) (L.closed listener.old) (L.closed listener.new)) }
     ensures cause { HasServeCause (L.faults listener.old) (L.faults listener.new) result }
 {

@@ -15,10 +15,9 @@ pub(crate) struct Okay {
 }
 
 impl Maker for Okay {
-    ghost use Rattle.std.specs.Prelude.{[], ◌∷◌};
-    ghost use Rattle.std.proofs.Common.{arith};
+    ghost use Rattle.std.specs.Prelude.{◌≡◌, [], ◌∷◌};
 
-    ghost reply = { λ _. 111 ∷ 107 ∷ [] };
+    ghost is_reply = { λ _ reply. reply ≡ 111 ∷ 107 ∷ [] };
 
     ghost calls = { λ maker. maker.calls };
 
@@ -32,7 +31,9 @@ impl Maker for Okay {
         Ok(Bytes::from_vec(Vec::from_slice(alloc, b"ok")?))
     }
 
-    ghost is_short = { λ _. Prim.omega arith };
+    fn keys_have_one_reply() {}
+
+    fn replies_are_short() {}
 }
 
 impl FreshMaker for Okay {

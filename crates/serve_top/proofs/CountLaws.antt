@@ -9,25 +9,25 @@ use Rattle.serve_clients.specs.Sessions.{Session, WereServed, HaveServed}
 use Rattle.serve_words.specs.Text.{served_in}
 
 -- a session serves at most its limit
-served_few : (reply : List ℕ → List ℕ) (end : SessionEnd) (before after : Outside) → HasServed reply end before after → served_by end ≤ session_limit
-served_few reply (ends.Closed served) before after h = omega (arith, h.cause.0)
-served_few reply (ends.Cut served) before after h = omega (arith, h.cause.0)
-served_few reply (ends.Long served place) before after h = omega (arith, h.cause.0)
-served_few reply (ends.Limit served) before after h = omega (arith, h.cause.0)
-served_few reply (ends.Read served) before after h = omega (arith, h.cause.0)
-served_few reply (ends.Write served) before after h = omega (arith, h.cause.0)
-served_few reply (ends.Memory served) before after h = omega (arith, h.cause.0)
+served_few : (is_reply : List ℕ → List ℕ → Type 0) (end : SessionEnd) (before after : Outside) → HasServed is_reply end before after → served_by end ≤ session_limit
+served_few is_reply (ends.Closed served) before after h = omega (arith, h.cause.0)
+served_few is_reply (ends.Cut served) before after h = omega (arith, h.cause.0)
+served_few is_reply (ends.Long served place) before after h = omega (arith, h.cause.0)
+served_few is_reply (ends.Limit served) before after h = omega (arith, h.cause.0)
+served_few is_reply (ends.Read served) before after h = omega (arith, h.cause.0)
+served_few is_reply (ends.Write served) before after h = omega (arith, h.cause.0)
+served_few is_reply (ends.Memory served) before after h = omega (arith, h.cause.0)
 
-module _ {S K : Type 0} (left : S → Option (List ℕ)) (reads : S → ℕ) (held : K → Option (List ℕ)) (writes : K → ℕ) (reply : List ℕ → List ℕ) where
-  served_by_all : (ss : List (Session S K)) → WereServed left reads held writes reply ss → served_in (map (λ s. s.end) ss) ≤ session_limit * length ss
+module _ {S K : Type 0} (left : S → Option (List ℕ)) (reads : S → ℕ) (held : K → Option (List ℕ)) (writes : K → ℕ) (is_reply : List ℕ → List ℕ → Type 0) where
+  served_by_all : (ss : List (Session S K)) → WereServed left reads held writes is_reply ss → served_in (map (λ s. s.end) ss) ≤ session_limit * length ss
   served_by_all [] h = omega arith
   served_by_all (s ∷ ss) h =
-      let first = served_few reply s.end _ _ h.0 in
+      let first = served_few is_reply s.end _ _ h.0 in
       let others = served_by_all ss h.1 in
       omega (arith, first, others)
 
   -- sixty-four sessions serve a number of requests that can be told
-  pub served_told : (clients : ℕ) (ends : List SessionEnd) (looks : ℕ) (waiting waiting' closed closed' : Option (List (S × K))) → clients ≤ 64 → HaveServed left reads held writes reply clients ends looks waiting waiting' closed closed'
+  pub served_told : (clients : ℕ) (ends : List SessionEnd) (looks : ℕ) (waiting waiting' closed closed' : Option (List (S × K))) → clients ≤ 64 → HaveServed left reads held writes is_reply clients ends looks waiting waiting' closed closed'
       → served_in ends < 2 ^ 64
   served_told clients ends looks waiting waiting' closed closed' few h =
       let count : length h.sessions ≡ clients = sym (length-map h.sessions (λ s. s.end)) ∙ ap length (sym h.told) ∙ h.count in
@@ -37,7 +37,7 @@ module _ {S K : Type 0} (left : S → Option (List ℕ)) (reads : S → ℕ) (he
 
   -- a listener that was opened first waits with the same connections
   pub opened_first : (clients : ℕ) (ends : List SessionEnd) (looks : ℕ) (waiting waiting₀ waiting' closed closed₀ closed' : Option (List (S × K))) → waiting ≡ waiting₀ → closed ≡ closed₀
-      → HaveServed left reads held writes reply clients ends looks waiting waiting' closed closed' → HaveServed left reads held writes reply clients ends looks waiting₀ waiting' closed₀ closed'
+      → HaveServed left reads held writes is_reply clients ends looks waiting waiting' closed closed' → HaveServed left reads held writes is_reply clients ends looks waiting₀ waiting' closed₀ closed'
   opened_first clients ends looks waiting waiting₀ waiting' closed closed₀ closed' same_waiting same_closed h =
-      subst (λ (w : Option (List (S × K))). HaveServed left reads held writes reply clients ends looks w waiting' closed₀ closed') same_waiting
-      (subst (λ (c : Option (List (S × K))). HaveServed left reads held writes reply clients ends looks waiting waiting' c closed') same_closed h)
+      subst (λ (w : Option (List (S × K))). HaveServed left reads held writes is_reply clients ends looks w waiting' closed₀ closed') same_waiting
+      (subst (λ (c : Option (List (S × K))). HaveServed left reads held writes is_reply clients ends looks waiting waiting' c closed') same_closed h)

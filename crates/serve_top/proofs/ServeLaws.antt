@@ -25,14 +25,14 @@ pub sink_so : (answer : ServeAnswer) (sink sink' : Sinking) (status : ServeStatu
 sink_so answer sink sink' status (inl shown) lt = absurd (let same = shown.3 in omega (arith, lt, same))
 sink_so answer sink sink' status (inr cut) lt = cut.0
 
-module _ {S K : Type 0} (left : S → Option (List ℕ)) (reads : S → ℕ) (held : K → Option (List ℕ)) (writes : K → ℕ) (reply : List ℕ → List ℕ) where
-  refused_by : (read : Result ServeWords Refused) (before after : Listening (S × K)) (answer : ServeAnswer) → IsServeAnswer left reads held writes reply read before after answer → status_of answer ≡ BadWords → IsErr read
+module _ {S K : Type 0} (left : S → Option (List ℕ)) (reads : S → ℕ) (held : K → Option (List ℕ)) (writes : K → ℕ) (is_reply : List ℕ → List ℕ → Type 0) where
+  refused_by : (read : Result ServeWords Refused) (before after : Listening (S × K)) (answer : ServeAnswer) → IsServeAnswer left reads held writes is_reply read before after answer → status_of answer ≡ BadWords → IsErr read
   refused_by (Err r) before after answer h e = refl
   refused_by (Ok asked) before after answers.Link h e = absurd cc
   refused_by (Ok asked) before after (answers.Summary ends looks) h e = absurd cc
   refused_by (Ok asked) before after (answers.Words at kind) h e = absurd h
 
-  link_by : (read : Result ServeWords Refused) (before after : Listening (S × K)) (answer : ServeAnswer) → IsServeAnswer left reads held writes reply read before after answer → status_of answer ≡ LinkFault → Rose before.faults after.faults
+  link_by : (read : Result ServeWords Refused) (before after : Listening (S × K)) (answer : ServeAnswer) → IsServeAnswer left reads held writes is_reply read before after answer → status_of answer ≡ LinkFault → Rose before.faults after.faults
   link_by (Err r) before after answers.Link h e = absurd (let f = h.0 in cc)
   link_by (Err r) before after (answers.Words at kind) h e = absurd cc
   link_by (Err r) before after (answers.Summary ends looks) h e = absurd cc
@@ -40,32 +40,32 @@ module _ {S K : Type 0} (left : S → Option (List ℕ)) (reads : S → ℕ) (he
   link_by (Ok asked) before after (answers.Words at kind) h e = absurd h
   link_by (Ok asked) before after (answers.Summary ends looks) h e = absurd cc
 
-  rose_by : (read : Result ServeWords Refused) (before after : Listening (S × K)) (answer : ServeAnswer) → IsServeAnswer left reads held writes reply read before after answer → before.faults < after.faults → status_of answer ≡ LinkFault
+  rose_by : (read : Result ServeWords Refused) (before after : Listening (S × K)) (answer : ServeAnswer) → IsServeAnswer left reads held writes is_reply read before after answer → before.faults < after.faults → status_of answer ≡ LinkFault
   rose_by (Err r) before after answer h lt = absurd (let same = ap (λ (l : Listening (S × K)). l.faults) h.1 in omega (arith, same, lt))
   rose_by (Ok asked) before after answers.Link h lt = refl
   rose_by (Ok asked) before after (answers.Words at kind) h lt = absurd h
   rose_by (Ok asked) before after (answers.Summary ends looks) h lt = absurd (let same = h.1 in omega (arith, same, lt))
 
-  solved_by : (read : Result ServeWords Refused) (before after : Listening (S × K)) (answer : ServeAnswer) → IsServeAnswer left reads held writes reply read before after answer → IsOk read → ¬ Rose before.faults after.faults → status_of answer ≡ Solved
+  solved_by : (read : Result ServeWords Refused) (before after : Listening (S × K)) (answer : ServeAnswer) → IsServeAnswer left reads held writes is_reply read before after answer → IsOk read → ¬ Rose before.faults after.faults → status_of answer ≡ Solved
   solved_by (Err r) before after answer h accepted quiet = absurd (let a = accepted in cc)
   solved_by (Ok asked) before after answers.Link h accepted quiet = absurd (quiet h.1)
   solved_by (Ok asked) before after (answers.Words at kind) h accepted quiet = absurd h
   solved_by (Ok asked) before after (answers.Summary ends looks) h accepted quiet = refl
 
-  pub refused_so : (words : List (List ℕ)) (l l' : Listening (S × K)) (sink sink' : Sinking) (status : ServeStatus) → HasAnswered left reads held writes reply words l l' sink sink' status → status ≡ BadWords → IsErr (words_read words)
+  pub refused_so : (words : List (List ℕ)) (l l' : Listening (S × K)) (sink sink' : Sinking) (status : ServeStatus) → HasAnswered left reads held writes is_reply words l l' sink sink' status → status ≡ BadWords → IsErr (words_read words)
   refused_so words l l' sink sink' status (answer, belongs, inl shown) e = refused_by (words_read words) l l' answer belongs (sym shown.0 ∙ e)
   refused_so words l l' sink sink' status (answer, belongs, inr cut) e = absurd (let f = sym cut.0 ∙ e in cc)
 
-  pub link_so : (words : List (List ℕ)) (l l' : Listening (S × K)) (sink sink' : Sinking) (status : ServeStatus) → HasAnswered left reads held writes reply words l l' sink sink' status → status ≡ LinkFault → Rose l.faults l'.faults
+  pub link_so : (words : List (List ℕ)) (l l' : Listening (S × K)) (sink sink' : Sinking) (status : ServeStatus) → HasAnswered left reads held writes is_reply words l l' sink sink' status → status ≡ LinkFault → Rose l.faults l'.faults
   link_so words l l' sink sink' status (answer, belongs, inl shown) e = link_by (words_read words) l l' answer belongs (sym shown.0 ∙ e)
   link_so words l l' sink sink' status (answer, belongs, inr cut) e = absurd (let f = sym cut.0 ∙ e in cc)
 
-  listener_so : (words : List (List ℕ)) (l l' : Listening (S × K)) (sink sink' : Sinking) (status : ServeStatus) → HasAnswered left reads held writes reply words l l' sink sink' status → l.faults < l'.faults
+  listener_so : (words : List (List ℕ)) (l l' : Listening (S × K)) (sink sink' : Sinking) (status : ServeStatus) → HasAnswered left reads held writes is_reply words l l' sink sink' status → l.faults < l'.faults
       → (status ≡ LinkFault) ⊎ (status ≡ WriteFault) ⊎ (status ≡ NoMemory)
   listener_so words l l' sink sink' status (answer, belongs, inl shown) lt = inl (shown.0 ∙ rose_by (words_read words) l l' answer belongs lt)
   listener_so words l l' sink sink' status (answer, belongs, inr cut) lt = inr (inl cut.0)
 
-  well_so : (words : List (List ℕ)) (l l' : Listening (S × K)) (sink sink' : Sinking) (status : ServeStatus) → HasAnswered left reads held writes reply words l l' sink sink' status → IsOk (words_read words)
+  well_so : (words : List (List ℕ)) (l l' : Listening (S × K)) (sink sink' : Sinking) (status : ServeStatus) → HasAnswered left reads held writes is_reply words l l' sink sink' status → IsOk (words_read words)
       → ¬ Rose l.faults l'.faults → ¬ Rose sink.faults sink'.faults → (status ≡ Solved) ⊎ (status ≡ NoMemory)
   well_so words l l' sink sink' status (answer, belongs, inl shown) accepted quiet still = inl (shown.0 ∙ solved_by (words_read words) l l' answer belongs accepted quiet)
   well_so words l l' sink sink' status (answer, belongs, inr cut) accepted quiet still = absurd (still cut.3)
@@ -78,29 +78,29 @@ module _ {S K : Type 0} (left : S → Option (List ℕ)) (reads : S → ℕ) (he
   wanted NoMemory = inl refl
   wanted LinkFault = inr (λ e. cc)
 
-  listener_by : (words : List (List ℕ)) (l l' : Listening (S × K)) (sink sink' : Sinking) (status : ServeStatus) → (status ≢ NoMemory → HasAnswered left reads held writes reply words l l' sink sink' status) → l.faults < l'.faults
+  listener_by : (words : List (List ℕ)) (l l' : Listening (S × K)) (sink sink' : Sinking) (status : ServeStatus) → (status ≢ NoMemory → HasAnswered left reads held writes is_reply words l l' sink sink' status) → l.faults < l'.faults
       → (status ≡ NoMemory) ⊎ (status ≢ NoMemory) → (status ≡ LinkFault) ⊎ (status ≡ WriteFault) ⊎ (status ≡ NoMemory)
   listener_by words l l' sink sink' status h lt (inl none) = inr (inr none)
   listener_by words l l' sink sink' status h lt (inr some) = listener_so words l l' sink sink' status (h some) lt
 
-  pub listener_failed : (words : List (List ℕ)) (l l' : Listening (S × K)) (sink sink' : Sinking) (status : ServeStatus) → (status ≢ NoMemory → HasAnswered left reads held writes reply words l l' sink sink' status) → l.faults < l'.faults
+  pub listener_failed : (words : List (List ℕ)) (l l' : Listening (S × K)) (sink sink' : Sinking) (status : ServeStatus) → (status ≢ NoMemory → HasAnswered left reads held writes is_reply words l l' sink sink' status) → l.faults < l'.faults
       → (status ≡ LinkFault) ⊎ (status ≡ WriteFault) ⊎ (status ≡ NoMemory)
   listener_failed words l l' sink sink' status h lt = listener_by words l l' sink sink' status h lt (wanted status)
 
-  sink_by : (words : List (List ℕ)) (l l' : Listening (S × K)) (sink sink' : Sinking) (status : ServeStatus) → (status ≢ NoMemory → HasAnswered left reads held writes reply words l l' sink sink' status) → (status ≡ NoMemory → sink'.faults ≡ sink.faults)
+  sink_by : (words : List (List ℕ)) (l l' : Listening (S × K)) (sink sink' : Sinking) (status : ServeStatus) → (status ≢ NoMemory → HasAnswered left reads held writes is_reply words l l' sink sink' status) → (status ≡ NoMemory → sink'.faults ≡ sink.faults)
       → sink.faults < sink'.faults → (status ≡ NoMemory) ⊎ (status ≢ NoMemory) → status ≡ WriteFault
   sink_by words l l' sink sink' status h same lt (inl none) = absurd (let e = same none in omega (arith, e, lt))
   sink_by words l l' sink sink' status h same lt (inr some) = sink_so (h some).0 sink sink' status (h some).2 lt
 
-  pub sink_failed : (words : List (List ℕ)) (l l' : Listening (S × K)) (sink sink' : Sinking) (status : ServeStatus) → (status ≢ NoMemory → HasAnswered left reads held writes reply words l l' sink sink' status) → (status ≡ NoMemory → sink'.faults ≡ sink.faults)
+  pub sink_failed : (words : List (List ℕ)) (l l' : Listening (S × K)) (sink sink' : Sinking) (status : ServeStatus) → (status ≢ NoMemory → HasAnswered left reads held writes is_reply words l l' sink sink' status) → (status ≡ NoMemory → sink'.faults ≡ sink.faults)
       → sink.faults < sink'.faults → status ≡ WriteFault
   sink_failed words l l' sink sink' status h same lt = sink_by words l l' sink sink' status h same lt (wanted status)
 
-  well_by : (words : List (List ℕ)) (l l' : Listening (S × K)) (sink sink' : Sinking) (status : ServeStatus) → (status ≢ NoMemory → HasAnswered left reads held writes reply words l l' sink sink' status) → IsOk (words_read words)
+  well_by : (words : List (List ℕ)) (l l' : Listening (S × K)) (sink sink' : Sinking) (status : ServeStatus) → (status ≢ NoMemory → HasAnswered left reads held writes is_reply words l l' sink sink' status) → IsOk (words_read words)
       → ¬ Rose l.faults l'.faults → ¬ Rose sink.faults sink'.faults → (status ≡ NoMemory) ⊎ (status ≢ NoMemory) → (status ≡ Solved) ⊎ (status ≡ NoMemory)
   well_by words l l' sink sink' status h accepted quiet still (inl none) = inr none
   well_by words l l' sink sink' status h accepted quiet still (inr some) = well_so words l l' sink sink' status (h some) accepted quiet still
 
-  pub complete : (words : List (List ℕ)) (l l' : Listening (S × K)) (sink sink' : Sinking) (status : ServeStatus) → (status ≢ NoMemory → HasAnswered left reads held writes reply words l l' sink sink' status) → IsOk (words_read words)
+  pub complete : (words : List (List ℕ)) (l l' : Listening (S × K)) (sink sink' : Sinking) (status : ServeStatus) → (status ≢ NoMemory → HasAnswered left reads held writes is_reply words l l' sink sink' status) → IsOk (words_read words)
       → ¬ Rose l.faults l'.faults → ¬ Rose sink.faults sink'.faults → (status ≡ Solved) ⊎ (status ≡ NoMemory)
   complete words l l' sink sink' status h accepted quiet still = well_by words l l' sink sink' status h accepted quiet still (wanted status)

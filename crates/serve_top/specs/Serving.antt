@@ -46,13 +46,13 @@ pub record Sinking : Type 0 where
 abbrev pub sinking : Option (List ℕ) → Bool → ℕ → Sinking
 sinking held finished faults = record { held = held; finished = finished; faults = faults }
 
-module _ {S K : Type 0} (left : S → Option (List ℕ)) (reads : S → ℕ) (held : K → Option (List ℕ)) (writes : K → ℕ) (reply : List ℕ → List ℕ) where
+module _ {S K : Type 0} (left : S → Option (List ℕ)) (reads : S → ℕ) (held : K → Option (List ℕ)) (writes : K → ℕ) (is_reply : List ℕ → List ℕ → Type 0) where
   -- the answer to words: their refusal; or, once they are accepted, that the listener failed, or the sessions of all clients
   abbrev pub IsServeAnswer : Result ServeWords Refused → Listening (S × K) → Listening (S × K) → ServeAnswer → Type 0
   IsServeAnswer (Err refused) before after answer = (answer ≡ answers.Words refused.at refused.kind) × (after ≡ before)
   IsServeAnswer (Ok asked) before after answers.Link = (before.faults ≤ after.faults) × Rose before.faults after.faults
   IsServeAnswer (Ok asked) before after (answers.Summary ends looks) =
-      HaveServed left reads held writes reply asked.clients ends.items looks before.waiting after.waiting before.closed after.closed × (after.faults ≡ before.faults)
+      HaveServed left reads held writes is_reply asked.clients ends.items looks before.waiting after.waiting before.closed after.closed × (after.faults ≡ before.faults)
   IsServeAnswer (Ok asked) before after (answers.Words at kind) = ⊥
 
   -- an answer that belongs to words and what the listener gave
@@ -66,6 +66,6 @@ Shows answer before after status =
     ⊎ ((status ≡ WriteFault) × ((count : ℕ) × (count ≤ length (answer_text answer)) × Adds before.held (take count (answer_text answer)) after.held) × (before.faults ≤ after.faults) × Rose before.faults after.faults)
 
 -- an answer that belongs to words and what the listener gave was shown
-abbrev pub HasAnswered : {S K : Type 0} → (S → Option (List ℕ)) → (S → ℕ) → (K → Option (List ℕ)) → (K → ℕ) → (List ℕ → List ℕ) → List (List ℕ) → Listening (S × K) → Listening (S × K) → Sinking → Sinking → ServeStatus → Type 0
-HasAnswered left reads held writes reply words listener listener' sink sink' status =
-    (answer : ServeAnswer) × AnswersServe left reads held writes reply words listener listener' answer × Shows answer sink sink' status
+abbrev pub HasAnswered : {S K : Type 0} → (S → Option (List ℕ)) → (S → ℕ) → (K → Option (List ℕ)) → (K → ℕ) → (List ℕ → List ℕ → Type 0) → List (List ℕ) → Listening (S × K) → Listening (S × K) → Sinking → Sinking → ServeStatus → Type 0
+HasAnswered left reads held writes is_reply words listener listener' sink sink' status =
+    (answer : ServeAnswer) × AnswersServe left reads held writes is_reply words listener listener' answer × Shows answer sink sink' status

@@ -35,7 +35,7 @@ pub fn serve_all<R: Threads + Wait + Sync, L: Listener, K: Sink, M: FreshMaker, 
     sink: &mut K,
     gate: &G,
 ) -> ServeStatus
-    ensures answered { result ≢ ServeStatus.NoMemory → HasAnswered L.S.left L.S.faults L.K.held L.K.faults M.reply (map string_bytes words.now)
+    ensures answered { result ≢ ServeStatus.NoMemory → HasAnswered L.S.left L.S.faults L.K.held L.K.faults M.is_reply (map string_bytes words.now)
         (listening (L.faults listener.old) (L.waiting listener.old) (L.closed listener.old))
         (listening (L.faults listener.new) (L.waiting listener.new) (L.closed listener.new))
         (sinking (K.held sink.old) (K.finished sink.old) (K.faults sink.old))
@@ -62,7 +62,7 @@ fn answer_all<R: Threads + Wait + Sync, L: Listener, K: Sink, M: FreshMaker, G: 
     sink: &mut K,
     gate: &G,
 ) -> ServeStatus
-    ensures answered { result ≢ ServeStatus.NoMemory → HasAnswered L.S.left L.S.faults L.K.held L.K.faults M.reply (map string_bytes words.now)
+    ensures answered { result ≢ ServeStatus.NoMemory → HasAnswered L.S.left L.S.faults L.K.held L.K.faults M.is_reply (map string_bytes words.now)
         (listening (L.faults listener.old) (L.waiting listener.old) (L.closed listener.old))
         (listening (L.faults listener.new) (L.waiting listener.new) (L.closed listener.new))
         (sinking (K.held sink.old) (K.finished sink.old) (K.faults sink.old))
@@ -83,7 +83,7 @@ fn answer_of<R: Threads + Wait + Sync, L: Listener, M: FreshMaker, G: Gate>(
     listener: &mut L,
     gate: &G,
 ) -> Result<ServeAnswer, NoMemory>
-    ensures belongs { IfOk result (λ answer. AnswersServe L.S.left L.S.faults L.K.held L.K.faults M.reply (map string_bytes words.now)
+    ensures belongs { IfOk result (λ answer. AnswersServe L.S.left L.S.faults L.K.held L.K.faults M.is_reply (map string_bytes words.now)
         (listening (L.faults listener.old) (L.waiting listener.old) (L.closed listener.old))
         (listening (L.faults listener.new) (L.waiting listener.new) (L.closed listener.new)) answer) }
     ensures told { IfOk result HasText }
@@ -106,7 +106,7 @@ fn served<R: Threads + Wait + Sync, L: Listener, M: FreshMaker, G: Gate>(
     gate: &G,
 ) -> Result<ServeAnswer, NoMemory>
     requires { IsInRange asked }
-    ensures belongs { IfOk result (λ answer. IsServeAnswer L.S.left L.S.faults L.K.held L.K.faults M.reply (Ok asked)
+    ensures belongs { IfOk result (λ answer. IsServeAnswer L.S.left L.S.faults L.K.held L.K.faults M.is_reply (Ok asked)
         (listening (L.faults listener.old) (L.waiting listener.old) (L.closed listener.old))
         (listening (L.faults listener.new) (L.waiting listener.new) (L.closed listener.new)) answer) }
     ensures told { IfOk result HasText }

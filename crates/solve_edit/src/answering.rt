@@ -10,6 +10,7 @@ ghost use Rattle.problem_text.specs.Steps.{declared_by};
 ghost use Rattle.problem_solved.specs.Goal.{problem_solved};
 ghost use Rattle.solve_report.specs.AnswerText.{HasText};
 ghost use Rattle.solve_methods.specs.Dpop.{wide_answer};
+ghost use Rattle.solve_methods.specs.Goal.{TellsRight};
 ghost use Rattle.solve_edit.specs.Editing.{AnswersEdit, TellsLines};
 
 use crate::running::run_lines;
@@ -44,6 +45,7 @@ pub fn edit_answer(
     requires paths { tree.paths ≡ dfs (problem_solved file) }
     requires few { before + length text.now ≤ input_limit }
     ensures belongs { IfOk result (AnswersEdit (declared_by file) before text.now) }
+    ensures right { IfOk result TellsRight }
     ensures told { IfOk result HasText }
 {
     counted_answer::<Brand>(alloc, Blank::new(1), file, tree, text, before)
@@ -65,6 +67,7 @@ fn counted_answer<L: Ledger>(
     requires paths { tree.paths ≡ dfs (problem_solved file) }
     requires few { before + length text.now ≤ input_limit }
     ensures belongs { IfOk result (AnswersEdit (declared_by file) before text.now) }
+    ensures right { IfOk result TellsRight }
     ensures told { IfOk result HasText }
 {
     if let Some(wide) = wide_in(alloc, &file, &tree)? {
@@ -106,6 +109,7 @@ fn lines_answer<L: Ledger>(
     requires whole { IsFile session.state.file }
     requires few { before + length text.now ≤ input_limit }
     ensures lines { IfOk result (TellsLines session.state before text.now) }
+    ensures right { IfOk result TellsRight }
     ensures told { IfOk result HasText }
 {
     let mut session = session;
@@ -124,7 +128,8 @@ fn lines_answer<L: Ledger>(
 
 /// The answer where this is too wide in a tree of the variables with these names.
 fn too_wide(wide: Wide, names: Names) -> Answer
-    ensures { result ≡ wide_answer names wide }
+    ensures told { result ≡ wide_answer names wide }
+    ensures right { TellsRight result }
 {
     match wide {
         Wide::Agent { var, cells } => Answer::WideAgent { var, cells, names },

@@ -6,7 +6,6 @@ use dpop_agent::Steps;
 use edit_session::{Session, SetFault};
 use edit_text::{EditKind, EditLine};
 use problem_text::{Edited, LineEnd};
-use std::alloc::Global;
 use std::sync::ledger::Ledger;
 
 /// What was done at a line.
@@ -22,7 +21,6 @@ pub(crate) enum Played {
 
 /// Does what a line says.
 pub(crate) fn play<L: Ledger>(
-    alloc: Global,
     session: &mut Session,
     line: EditLine,
     steps: &mut Steps<L>,
@@ -30,10 +28,10 @@ pub(crate) fn play<L: Ledger>(
     ensures { IsPlayed session.old.state line result session.new.state }
 {
     match line {
-        EditLine::Set { table, cell, cost } => edited(session.set(alloc, table, cell, cost)),
-        EditLine::Fill { table, cells } => edited(session.fill(alloc, table, &cells)),
+        EditLine::Set { table, cell, cost } => edited(session.set(table, cell, cost)),
+        EditLine::Fill { table, cells } => edited(session.fill(table, &cells)),
         EditLine::Answer => {
-            let answer = session.answer(alloc, steps)?;
+            let answer = session.answer(steps)?;
             Ok(Played::Answer(answer))
         }
         EditLine::End => Ok(Played::End),

@@ -34,7 +34,7 @@ fn step<L: Ledger>(
         Err(LineEnd::Fault(kind)) => return Err(Stop::Refused { line: number, kind }),
         Err(LineEnd::NoMemory) => return Err(Stop::NoMemory),
     };
-    match play(alloc, session, line, steps) {
+    match play(session, line, steps) {
         Ok(Played::Edit) => Ok(false),
         Ok(Played::Answer(answer)) => {
             answers.push(answer)?;

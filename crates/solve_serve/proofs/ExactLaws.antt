@@ -6,6 +6,7 @@ use Rattle.std.proofs.lemmas.List.Elements.{All-head, All-tail}
 use Rattle.std.proofs.lemmas.Bool.{le-ltb, ltb-false, lt-leb, le-leb}
 use Rattle.std.proofs.lemmas.Nat.{from_be_bytes-to_be_bytes_4}
 use Rattle.std.specs.Prelude.{ltb, MatchOption, IfSome}
+use Rattle.std.specs.List.{AllZip}
 use Rattle.std.specs.Int.{w32, to_be_bytes, from_be_bytes}
 use Rattle.std.specs.Io.KnownBytes.{prepend_known, IsAtEnd}
 use Rattle.dcop_base.specs.Limits.{count_limit}
@@ -14,7 +15,7 @@ use Rattle.wire_frames.specs.Run.{Splits}
 use Rattle.wire_frames.proofs.StreamLaws.{splits_once}
 use Rattle.solve_serve.specs.Limits.{request_limit, session_limit}
 use Rattle.solve_serve.specs.Session.{Outside, served_by, HasServed}
-use Rattle.solve_serve.specs.Exact.{end_for, EndsExactly, AnswersFirst}
+use Rattle.solve_serve.specs.Exact.{end_for, EndsExactly, AnswersFirst, RepliesAreOne}
 use Rattle.solve_serve.specs.declared.end.SessionEnd.{SessionEnd}
 use Rattle.solve_serve.specs.declared.end.SessionEnd.TheVariants as ends
 
@@ -105,9 +106,9 @@ limit_for : (ps : List (List ℕ)) (rest : List ℕ) (stuck : Bool) → session_
 limit_for ps rest stuck many = rw (le-leb session_limit (length ps) many) refl
 
 -- the whole input, where a session read it to these bytes behind its requests
-whole_input : (reply : List ℕ → List ℕ) (end : SessionEnd) (before after : Outside) (stream : List ℕ) → before.left ≡ Some stream → (h : HasServed reply end before after)
+whole_input : (is_reply : List ℕ → List ℕ → Type 0) (end : SessionEnd) (before after : Outside) (stream : List ℕ) → before.left ≡ Some stream → (h : HasServed is_reply end before after)
     → (left : List ℕ) × (after.left ≡ Some left) × (stream ≡ framed_all h.requests ++ (h.behind ++ left))
-whole_input reply end before after stream is h =
+whole_input is_reply end before after stream is h =
     let t = told stream (framed_all h.requests ++ h.behind) after.left (sym is ∙ h.read) in
     (t.0, t.1, t.2 ∙ append_assoc (framed_all h.requests) h.behind t.0)
 
@@ -117,32 +118,46 @@ none_behind behind left a b = rw (a, b) refl
 none_left : (behind left : List ℕ) → left ≡ [] → behind ++ left ≡ behind
 none_left behind left b = rw b (append-nil behind)
 
-pub ends_exactly : EndsExactly
-ends_exactly reply (ends.Closed served) before after stream payloads rest stuck is split h own =
-    let w = whole_input reply (ends.Closed served) before after stream is h in
+pub ends_exactly : (is_reply : List ℕ → List ℕ → Type 0) → EndsExactly is_reply
+ends_exactly is_reply (ends.Closed served) before after stream payloads rest stuck is split h own =
+    let w = whole_input is_reply (ends.Closed served) before after stream is h in
     let none = none_behind h.behind w.0 h.cause.2 (at_end after.left w.0 w.1 h.cause.3) in
     let here : Splits request_limit stream h.requests [] false = record { whole = subst (λ (x : List ℕ). stream ≡ framed_all h.requests ++ x) none w.2; within = h.within; ends = tt } in
     same_end (ends.Closed served) h.requests payloads [] rest false stuck (closed_for h.requests served h.count h.cause.0) (splits_once request_limit stream h.requests payloads [] rest false stuck (omega arith) here split)
-ends_exactly reply (ends.Cut served) before after stream payloads rest stuck is split h own =
-    let w = whole_input reply (ends.Cut served) before after stream is h in
+ends_exactly is_reply (ends.Cut served) before after stream payloads rest stuck is split h own =
+    let w = whole_input is_reply (ends.Cut served) before after stream is h in
     let none = none_left h.behind w.0 (at_end after.left w.0 w.1 h.cause.4) in
     let here : Splits request_limit stream h.requests h.behind false = record { whole = subst (λ (x : List ℕ). stream ≡ framed_all h.requests ++ x) none w.2; within = h.within; ends = h.cause.3 } in
     same_end (ends.Cut served) h.requests payloads h.behind rest false stuck (cut_for h.requests served h.behind h.count h.cause.0 h.cause.2) (splits_once request_limit stream h.requests payloads h.behind rest false stuck (omega arith) here split)
-ends_exactly reply (ends.Long served place) before after stream payloads rest stuck is split h own =
-    let w = whole_input reply (ends.Long served place) before after stream is h in
+ends_exactly is_reply (ends.Long served place) before after stream payloads rest stuck is split h own =
+    let w = whole_input is_reply (ends.Long served place) before after stream is h in
     let here : Splits request_limit stream h.requests (h.behind ++ w.0) true = record { whole = w.2; within = h.within; ends = long_on request_limit h.behind w.0 h.cause.2 } in
     same_end (ends.Long served place) h.requests payloads (h.behind ++ w.0) rest true stuck (long_for h.requests served place (h.behind ++ w.0) h.count h.cause.0 h.cause.3) (splits_once request_limit stream h.requests payloads (h.behind ++ w.0) rest true stuck (omega arith) here split)
-ends_exactly reply (ends.Limit served) before after stream payloads rest stuck is split h own =
-    let w = whole_input reply (ends.Limit served) before after stream is h in
+ends_exactly is_reply (ends.Limit served) before after stream payloads rest stuck is split h own =
+    let w = whole_input is_reply (ends.Limit served) before after stream is h in
     let front = front_of request_limit h.requests payloads (h.behind ++ w.0) rest stuck (omega arith) h.within split.within split.ends (sym w.2 ∙ split.whole) in
     let many : session_limit ≤ length payloads = omega (arith, h.count, h.cause.0, ap length front.1, length-append h.requests front.0) in
     ap ends.Limit h.cause.0 ∙ limit_for payloads rest stuck many
-ends_exactly reply (ends.Read served) before after stream payloads rest stuck is split h own = cc
-ends_exactly reply (ends.Write served) before after stream payloads rest stuck is split h own = cc
-ends_exactly reply (ends.Memory served) before after stream payloads rest stuck is split h own = cc
+ends_exactly is_reply (ends.Read served) before after stream payloads rest stuck is split h own = cc
+ends_exactly is_reply (ends.Write served) before after stream payloads rest stuck is split h own = cc
+ends_exactly is_reply (ends.Memory served) before after stream payloads rest stuck is split h own = cc
 
-pub answers_first : AnswersFirst
-answers_first reply end before after stream payloads rest stuck is split h =
-    let w = whole_input reply end before after stream is h in
+pub answers_first : (is_reply : List ℕ → List ℕ → Type 0) → AnswersFirst is_reply
+answers_first is_reply end before after stream payloads rest stuck is split h =
+    let w = whole_input is_reply end before after stream is h in
     let front = front_of request_limit h.requests payloads (h.behind ++ w.0) rest stuck (omega arith) h.within split.within split.ends (sym w.2 ∙ split.whole) in
     sym (take_at h.requests front.0 (served_by end) h.count) ∙ ap (take (served_by end)) (sym front.1)
+
+-- the same requests have the same replies
+one_list : (is_reply : List ℕ → List ℕ → Type 0) → ((key reply other : List ℕ) → is_reply key reply → is_reply key other → reply ≡ other)
+    → (keys replies others : List (List ℕ)) → AllZip is_reply keys replies → AllZip is_reply keys others → replies ≡ others
+one_list is_reply one [] [] [] a b = refl
+one_list is_reply one [] [] (o ∷ os) a b = absurd b
+one_list is_reply one [] (r ∷ rs) os a b = absurd a
+one_list is_reply one (k ∷ ks) [] os a b = absurd a
+one_list is_reply one (k ∷ ks) (r ∷ rs) [] a b = absurd b
+one_list is_reply one (k ∷ ks) (r ∷ rs) (o ∷ os) a b = λ i. one k r o a.0 b.0 i ∷ one_list is_reply one ks rs os a.1 b.1 i
+
+pub replies_are_one : (is_reply : List ℕ → List ℕ → Type 0) → ((key reply other : List ℕ) → is_reply key reply → is_reply key other → reply ≡ other) → RepliesAreOne is_reply
+replies_are_one is_reply one end end' before after before' after' h h' same =
+    one_list is_reply one h.requests h.replies h'.replies h.replied (subst (λ (ks : List (List ℕ)). AllZip is_reply ks h'.replies) (sym same) h'.replied)

@@ -1,5 +1,5 @@
 -- Frames, known bytes, and what a sink holds.
-use Rattle.std.proofs.Common.{◌≡◌, ℕ, List, [], ◌∷◌, ◌++◌, All, Option, Some, None, map, refl, sym, ap, ◌∙◌, append_assoc, append-nil}
+use Rattle.std.proofs.Common.{◌≡◌, ℕ, List, [], ◌∷◌, ◌++◌, All, Option, Some, None, refl, sym, ap, ◌∙◌, append_assoc, append-nil}
 use Rattle.std.proofs.lemmas.List.Concat.{flat_map-append}
 use Rattle.std.proofs.lemmas.List.Elements.{All-nil, All-head, All-tail, All-cons}
 use Rattle.std.specs.Io.KnownBytes.{prepend_known}
@@ -26,9 +26,8 @@ pub framed_front : (ps qs : List (List ℕ)) (rest : List ℕ) → framed_all (p
 framed_front ps qs rest = ap (λ (x : List ℕ). x ++ rest) (framed_all-append ps qs) ∙ append_assoc (framed_all ps) (framed_all qs) rest
 
 -- one more reply
-pub framed_replies : (reply : List ℕ → List ℕ) (requests : List (List ℕ)) (request : List ℕ) → framed_all (map reply (requests ++ request ∷ [])) ≡ framed_all (map reply requests) ++ framed (reply request)
-framed_replies reply [] request = append-nil (framed (reply request))
-framed_replies reply (r ∷ rs) request = ap (λ (x : List ℕ). framed (reply r) ++ x) (framed_replies reply rs request) ∙ sym (append_assoc (framed (reply r)) (framed_all (map reply rs)) (framed (reply request)))
+pub framed_push : (replies : List (List ℕ)) (reply : List ℕ) → framed_all (replies ++ reply ∷ []) ≡ framed_all replies ++ framed reply
+framed_push replies reply = framed_all-append replies (reply ∷ []) ∙ ap (λ (x : List ℕ). framed_all replies ++ x) (append-nil (framed reply))
 
 -- what holds of a whole list holds of its front
 pub All-front : (P : List ℕ → Type 0) (xs ys : List (List ℕ)) → All P (xs ++ ys) → All P xs

@@ -39,11 +39,16 @@ pub record Answering : Type 0 where
 abbrev pub answering : Option (List ℕ) → ℕ → Tally → Answering
 answering held faults tally = record { held = held; faults = faults; tally = tally }
 
--- a request was answered: its reply's frame was written; or a prefix of it, and the sink failed; or memory was wanted, and nothing was written
-abbrev pub IsAnswered : List ℕ → Result (Unit {0}) Stop → Answering → Answering → Type 0
-IsAnswered reply (Ok done) before after = Tallies 1 before.tally after.tally × Adds before.held (framed reply) after.held × (after.faults ≡ before.faults)
-IsAnswered reply (Err stops.Write) before after =
-    Tallies 1 before.tally after.tally × ((count : ℕ) × (count ≤ length (framed reply)) × Adds before.held (take count (framed reply)) after.held) × Rose before.faults after.faults
-IsAnswered reply (Err stops.Memory) before after =
-    ((more : ℕ) × (more ≤ 1) × Tallies more before.tally after.tally) × (after.held ≡ before.held) × (after.faults ≡ before.faults)
-IsAnswered reply (Err stop) before after = ⊥
+-- a request was not answered, since memory was wanted: nothing was written
+abbrev pub IsUnanswered : Answering → Answering → Type 0
+IsUnanswered before after = ((more : ℕ) × (more ≤ 1) × Tallies more before.tally after.tally) × (after.held ≡ before.held) × (after.faults ≡ before.faults)
+
+-- a request of which this says whether bytes are its reply was answered: its reply's frame was written; or a prefix of it, and the sink failed; or memory was wanted
+abbrev pub IsAnswered : (List ℕ → Type 0) → Result (Unit {0}) Stop → Answering → Answering → Type 0
+IsAnswered is_reply (Ok done) before after =
+    (reply : List ℕ) × is_reply reply × Tallies 1 before.tally after.tally × Adds before.held (framed reply) after.held × (after.faults ≡ before.faults)
+IsAnswered is_reply (Err stops.Write) before after =
+    (reply : List ℕ) × is_reply reply × Tallies 1 before.tally after.tally
+    × ((count : ℕ) × (count ≤ length (framed reply)) × Adds before.held (take count (framed reply)) after.held) × Rose before.faults after.faults
+IsAnswered is_reply (Err stops.Memory) before after = IsUnanswered before after
+IsAnswered is_reply (Err stop) before after = ⊥

@@ -1,4 +1,4 @@
--- The end of a session is that of its input, and its requests are the first of the input.
+-- The end of a session is that of its input, its requests are the first of the input, and its replies are the only ones.
 use Rattle.std.specs.Prelude.{◌≡◌, ℕ, nat_le, min, Bool, true, false, List, [], ◌∷◌, length, take, Some, if◌then◌else◌}
 use Rattle.dcop_base.specs.Limits.{count_limit}
 use Rattle.wire_frames.specs.Frame.{framed_all}
@@ -31,11 +31,16 @@ end_for payloads rest stuck =
     else end_behind rest (length payloads))
 
 -- where a source tells its bytes, and no fault and no want of memory ends the session, its end is that of the whole input
-abbrev pub EndsExactly : Type 0
-EndsExactly = (reply : List ℕ → List ℕ) (end : SessionEnd) (before after : Outside) (stream : List ℕ) (payloads : List (List ℕ)) (rest : List ℕ) (stuck : Bool)
-    → before.left ≡ Some stream → Splits request_limit stream payloads rest stuck → HasServed reply end before after → is_of_input end ≡ true → end ≡ end_for payloads rest stuck
+abbrev pub EndsExactly : (List ℕ → List ℕ → Type 0) → Type 0
+EndsExactly is_reply = (end : SessionEnd) (before after : Outside) (stream : List ℕ) (payloads : List (List ℕ)) (rest : List ℕ) (stuck : Bool)
+    → before.left ≡ Some stream → Splits request_limit stream payloads rest stuck → HasServed is_reply end before after → is_of_input end ≡ true → end ≡ end_for payloads rest stuck
 
 -- where a source tells its bytes, the requests that were answered are the first payloads of the whole input
-abbrev pub AnswersFirst : Type 0
-AnswersFirst = (reply : List ℕ → List ℕ) (end : SessionEnd) (before after : Outside) (stream : List ℕ) (payloads : List (List ℕ)) (rest : List ℕ) (stuck : Bool)
-    → before.left ≡ Some stream → Splits request_limit stream payloads rest stuck → (h : HasServed reply end before after) → h.requests ≡ take (served_by end) payloads
+abbrev pub AnswersFirst : (List ℕ → List ℕ → Type 0) → Type 0
+AnswersFirst is_reply = (end : SessionEnd) (before after : Outside) (stream : List ℕ) (payloads : List (List ℕ)) (rest : List ℕ) (stuck : Bool)
+    → before.left ≡ Some stream → Splits request_limit stream payloads rest stuck → (h : HasServed is_reply end before after) → h.requests ≡ take (served_by end) payloads
+
+-- two sessions that answered the same requests gave the same replies: so those with a cache are those without one
+abbrev pub RepliesAreOne : (List ℕ → List ℕ → Type 0) → Type 0
+RepliesAreOne is_reply = (end end' : SessionEnd) (before after before' after' : Outside) (h : HasServed is_reply end before after) (h' : HasServed is_reply end' before' after')
+    → h.requests ≡ h'.requests → h.replies ≡ h'.replies

@@ -26,12 +26,12 @@ module _ {S K M A B : Type 0} (left : S → Option (List ℕ)) (reads : S → �
   outside_of p = outside (left p.source) (reads p.source) (answering (held p.sink) (writes p.sink) (tally p.share.looks.amount p.share.misses.amount (made p.maker)))
 
   -- a peer was served: its end is there, and its session ended so
-  pub record IsServed (reply : List ℕ → List ℕ) (before after : Peer S K M A B) : Type 0 where
-    pub ended : IsSomeAnd after.end (λ end. HasServed reply end (outside_of before) (outside_of after))
+  pub record IsServed (is_reply : List ℕ → List ℕ → Type 0) (before after : Peer S K M A B) : Type 0 where
+    pub ended : IsSomeAnd after.end (λ end. HasServed is_reply end (outside_of before) (outside_of after))
     pub look_parts : after.share.looks.parts ≡ before.share.looks.parts
     pub miss_parts : after.share.misses.parts ≡ before.share.misses.parts
 
   -- each peer was served
-  pub record AreServed (reply : List ℕ → List ℕ) (before after : List (Peer S K M A B)) : Type 0 where
+  pub record AreServed (is_reply : List ℕ → List ℕ → Type 0) (before after : List (Peer S K M A B)) : Type 0 where
     pub size : length after ≡ length before
-    pub each : (i : ℕ) (d : Peer S K M A B) → i < length before → IsServed reply (slice_index_or before i d) (slice_index_or after i d)
+    pub each : (i : ℕ) (d : Peer S K M A B) → i < length before → IsServed is_reply (slice_index_or before i d) (slice_index_or after i d)

@@ -1,6 +1,6 @@
 -- A session: what was written, and what it answers to which end.
-use Rattle.std.specs.Prelude.{◌≡◌, ◌≢◌, ℕ, ◌+◌, ◌<◌, ◌≤◌, min, List, [], ◌++◌, map, length, take, Option, Result, Ok, Err}
-use Rattle.std.specs.List.{All}
+use Rattle.std.specs.Prelude.{◌≡◌, ◌≢◌, ℕ, ◌+◌, ◌<◌, ◌≤◌, min, List, [], ◌++◌, length, take, Option, Result, Ok, Err}
+use Rattle.std.specs.List.{All, AllZip}
 use Rattle.std.specs.Io.KnownBytes.{prepend_known, IsAtEnd}
 use Rattle.dcop_base.specs.Limits.{count_limit}
 use Rattle.dcop_edge.specs.Faults.{Rose}
@@ -9,7 +9,7 @@ use Rattle.wire_frames.specs.Frame.{framed, framed_all, IsShort, IsTooLong}
 use Rattle.wire_frames.specs.Reader.{Reader}
 use Rattle.solve_serve.specs.Limits.{request_limit, session_limit}
 use Rattle.solve_serve.specs.Requests.{reading, IsStopped, Gives}
-use Rattle.solve_serve.specs.Answers.{Answering, Tallies, IsAnswered}
+use Rattle.solve_serve.specs.Answers.{Answering, Tallies, IsUnanswered, IsAnswered}
 use Rattle.solve_serve.specs.declared.end.SessionEnd.{SessionEnd}
 use Rattle.solve_serve.specs.declared.end.SessionEnd.TheVariants as ends
 use Rattle.solve_serve.specs.declared.stop.Stop.{Stop}
@@ -42,54 +42,58 @@ pub record IsQuiet (beside : List ℕ) (extra : ℕ) (before after : Outside) : 
   pub same : after.answering.faults ≡ before.answering.faults
 
 -- the first of the requests that were not answered was read whole, and of its reply's frame so much was written
-pub record IsBroken (reply : List ℕ → List ℕ) (behind beside : List ℕ) : Type 0 where
+pub record IsBroken (is_reply : List ℕ → List ℕ → Type 0) (behind beside : List ℕ) : Type 0 where
   pub request : List ℕ
+  pub reply : List ℕ
+  pub is : is_reply request reply
   pub rest : List ℕ
   pub count : ℕ
   pub read : behind ≡ framed request ++ rest
   pub within : length request ≤ request_limit
-  pub most : count ≤ length (framed (reply request))
-  pub written : beside ≡ take count (framed (reply request))
+  pub most : count ≤ length (framed reply)
+  pub written : beside ≡ take count (framed reply)
 
 -- why a session ended so, after these requests, with these bytes read behind them, and these written behind their replies
-abbrev pub IsCause : (List ℕ → List ℕ) → SessionEnd → List (List ℕ) → List ℕ → List ℕ → ℕ → Outside → Outside → Type 0
-IsCause reply (ends.Closed served) requests behind beside extra before after =
+abbrev pub IsCause : (List ℕ → List ℕ → Type 0) → SessionEnd → List (List ℕ) → List ℕ → List ℕ → ℕ → Outside → Outside → Type 0
+IsCause is_reply (ends.Closed served) requests behind beside extra before after =
     (served < session_limit) × IsQuiet beside extra before after × (behind ≡ []) × IsAtEnd after.left × (after.faults ≡ before.faults)
-IsCause reply (ends.Cut served) requests behind beside extra before after =
+IsCause is_reply (ends.Cut served) requests behind beside extra before after =
     (served < session_limit) × IsQuiet beside extra before after × (behind ≢ []) × IsShort request_limit behind × IsAtEnd after.left × (after.faults ≡ before.faults)
-IsCause reply (ends.Long served place) requests behind beside extra before after =
+IsCause is_reply (ends.Long served place) requests behind beside extra before after =
     (served < session_limit) × IsQuiet beside extra before after × IsTooLong request_limit behind × (place ≡ min (length (framed_all requests)) count_limit) × (after.faults ≡ before.faults)
-IsCause reply (ends.Limit served) requests behind beside extra before after =
+IsCause is_reply (ends.Limit served) requests behind beside extra before after =
     (served ≡ session_limit) × IsQuiet beside extra before after × (after.faults ≡ before.faults)
-IsCause reply (ends.Read served) requests behind beside extra before after =
+IsCause is_reply (ends.Read served) requests behind beside extra before after =
     (served < session_limit) × IsQuiet beside extra before after × IsShort request_limit behind × Rose before.faults after.faults
-IsCause reply (ends.Write served) requests behind beside extra before after =
-    (served < session_limit) × IsBroken reply behind beside × (extra ≡ 1) × Rose before.answering.faults after.answering.faults × (after.faults ≡ before.faults)
-IsCause reply (ends.Memory served) requests behind beside extra before after =
+IsCause is_reply (ends.Write served) requests behind beside extra before after =
+    (served < session_limit) × IsBroken is_reply behind beside × (extra ≡ 1) × Rose before.answering.faults after.answering.faults × (after.faults ≡ before.faults)
+IsCause is_reply (ends.Memory served) requests behind beside extra before after =
     (served < session_limit) × (beside ≡ []) × (extra ≤ 1) × (after.answering.faults ≡ before.answering.faults) × (after.faults ≡ before.faults)
 
--- a session ended so: its requests were the first that were read, in order, the frames of their replies were written, and each look that found nothing was a call of the maker
-pub record HasServed (reply : List ℕ → List ℕ) (end : SessionEnd) (before after : Outside) : Type 0 where
+-- a session ended so: its requests were the first that were read, in order, the frames of their replies were written, in order too, and each look that found nothing was a call of the maker
+pub record HasServed (is_reply : List ℕ → List ℕ → Type 0) (end : SessionEnd) (before after : Outside) : Type 0 where
   pub requests : List (List ℕ)
+  pub replies : List (List ℕ)
+  pub replied : AllZip is_reply requests replies
   pub count : length requests ≡ served_by end
   pub within : All (λ request. length request ≤ request_limit) requests
   pub behind : List ℕ
   pub read : before.left ≡ prepend_known (framed_all requests ++ behind) after.left
   pub beside : List ℕ
-  pub written : Adds before.answering.held (framed_all (map reply requests) ++ beside) after.answering.held
+  pub written : Adds before.answering.held (framed_all replies ++ beside) after.answering.held
   pub extra : ℕ
   pub tally : Tallies (served_by end + extra) before.answering.tally after.answering.tally
-  pub cause : IsCause reply end requests behind beside extra before after
+  pub cause : IsCause is_reply end requests behind beside extra before after
 
 -- one turn of a session: the next request was read and answered, or the session stops
-abbrev pub IsTurn : (List ℕ → List ℕ) → Result (Unit {0}) Stop → Reader → Outside → Reader → Outside → Type 0
-IsTurn reply (Ok done) r before r' after =
+abbrev pub IsTurn : (List ℕ → List ℕ → Type 0) → Result (Unit {0}) Stop → Reader → Outside → Reader → Outside → Type 0
+IsTurn is_reply (Ok done) r before r' after =
     (request : List ℕ) × Gives request (reading r before.left before.faults) (reading r' after.left after.faults) × (after.faults ≡ before.faults)
-    × IsAnswered (reply request) (Ok done) before.answering after.answering
-IsTurn reply (Err stops.Write) r before r' after =
+    × IsAnswered (is_reply request) (Ok done) before.answering after.answering
+IsTurn is_reply (Err stops.Write) r before r' after =
     (request : List ℕ) × Gives request (reading r before.left before.faults) (reading r' after.left after.faults) × (after.faults ≡ before.faults)
-    × IsAnswered (reply request) (Err stops.Write) before.answering after.answering
-IsTurn reply (Err stops.Memory) r before r' after =
-    IsStopped stops.Memory (reading r before.left before.faults) (reading r' after.left after.faults) × IsAnswered [] (Err stops.Memory) before.answering after.answering
-IsTurn reply (Err stop) r before r' after =
+    × IsAnswered (is_reply request) (Err stops.Write) before.answering after.answering
+IsTurn is_reply (Err stops.Memory) r before r' after =
+    IsStopped stops.Memory (reading r before.left before.faults) (reading r' after.left after.faults) × IsUnanswered before.answering after.answering
+IsTurn is_reply (Err stop) r before r' after =
     IsStopped stop (reading r before.left before.faults) (reading r' after.left after.faults) × (after.answering ≡ before.answering)

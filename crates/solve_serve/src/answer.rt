@@ -28,7 +28,7 @@ pub(crate) fn answer<R: Threads + Wait + Sync, K: Sink, M: Maker, A: Ledger, B: 
 ) -> Result<(), Stop>
     requires parts { (0 < share.old.looks.parts) × (0 < share.old.misses.parts) }
     requires calls { M.calls maker.old < 2 ^ 63 }
-    ensures answered { IsAnswered (M.reply request.now) result
+    ensures answered { IsAnswered (M.is_reply request.now) result
         (answering (K.held sink.old) (K.faults sink.old) (tally share.old.looks.amount share.old.misses.amount (M.calls maker.old)))
         (answering (K.held sink.new) (K.faults sink.new) (tally share.new.looks.amount share.new.misses.amount (M.calls maker.new))) }
     ensures parts { (share.new.looks.parts ≡ share.old.looks.parts) × (share.new.misses.parts ≡ share.old.misses.parts) }
@@ -53,13 +53,14 @@ fn reply_to<R: Threads + Wait + Sync, M: Maker, A: Ledger, B: Ledger>(
 ) -> Result<Bytes, NoMemory>
     requires parts { (0 < share.old.looks.parts) × (0 < share.old.misses.parts) }
     requires calls { M.calls maker.old < 2 ^ 63 }
-    ensures replied { IfOk result (λ reply. reply ≡ M.reply key.now) }
+    ensures replied { IfOk result (λ reply. M.is_reply key.now reply) }
     ensures short { IfOk result (λ reply. length reply ≤ reply_limit) }
     ensures tally { IsReplied result
         (tally share.old.looks.amount share.old.misses.amount (M.calls maker.old))
         (tally share.new.looks.amount share.new.misses.amount (M.calls maker.new)) }
     ensures parts { (share.new.looks.parts ≡ share.old.looks.parts) × (share.new.misses.parts ≡ share.old.misses.parts) }
 {
+    M::replies_are_short();
     let found = cache.lock(rt).look(share, key)?;
     if let Some(reply) = found {
         return Ok(reply);
@@ -79,7 +80,7 @@ fn keep<R: Wait, M: Maker, A: Ledger, B: Ledger>(
     key: &[u8],
     reply: &Bytes,
 )
-    requires reply { reply.now ≡ M.reply key.now }
+    requires reply { M.is_reply key.now reply.now }
     requires short { length key.now ≤ key_limit }
 {
     let Ok(key) = Vec::from_slice(alloc, key) else {

@@ -3,7 +3,8 @@
 //! [`serve_one`] serves one session over a source, a sink and a maker of replies, with a cache of
 //! replies that many sessions share. Its clause says which requests were read, that what was
 //! written is the frames of their replies, why the session ended, and that the maker was called
-//! just where a look at the cache found nothing: so a reply from the cache is the reply without it.
+//! just where a look at the cache found nothing: so a reply from the cache is the reply without it,
+//! of which there is one for each key ([`replies_are_one`]).
 //! [`serve_peers`] serves many sessions beside each other.
 #![tactic(auto)]
 
@@ -18,7 +19,7 @@ mod stop;
 mod write;
 
 pub use end::SessionEnd;
-pub use law::{answers_first, ends_exactly};
+pub use law::{answers_first, ends_exactly, replies_are_one};
 pub use limit::{MAX_REPLIES, MAX_REQUEST, limits_agree};
 pub use peers::{Peer, PeerList, serve_peers};
 pub use session::serve_one;

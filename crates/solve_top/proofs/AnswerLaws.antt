@@ -23,10 +23,10 @@ use Rattle.solve_report.specs.declared.answer.Answer.TheVariants as answers
 use Rattle.answer_edge.specs.declared.status.Status.{Status}
 use Rattle.answer_edge.specs.declared.status.Status.TheVariants.{Solved, TooWide, ReadFault}
 use Rattle.solve_top.specs.declared.task.Task.{Task}
-use Rattle.solve_top.specs.declared.task.Task.TheVariants.{File, Check, Replay}
+use Rattle.solve_top.specs.declared.task.Task.TheVariants.{File, Check, Replay, Edit}
 use Rattle.solve_top.specs.declared.task.FileTask.{FileTask}
 use Rattle.solve_top.specs.declared.task.FileTask.TheVariants as tasks
-use Rattle.solve_top.specs.Answering.{lines_in, IsUpgraded, IsFileAnswer, IsTextAnswer, IsReportAnswer, IsReplayAnswer, IsTaskAnswer, IsInputAnswer, IsDrillAnswer, IsUnreadAnswer, IsServedAnswer, IsCommandAnswer, IsAnswer}
+use Rattle.solve_top.specs.Answering.{lines_in, IsUpgraded, IsFileAnswer, IsTextAnswer, IsReportAnswer, IsReplayAnswer, IsEditsAnswer, IsTaskAnswer, IsInputAnswer, IsDrillAnswer, IsUnreadAnswer, IsServedAnswer, IsCommandAnswer, IsAnswer}
 use Rattle.solve_methods.specs.Adopt.{IsAdoptAnswer}
 use Rattle.solve_methods.specs.Auto.{IsAutoBy, IsAutoAnswer}
 use Rattle.solve_methods.specs.Drill.{drilled}
@@ -53,6 +53,14 @@ use Rattle.answer_edge.proofs.StatusLaws.{ending-told, read-alone}
 use Rattle.solve_inputs.proofs.RefusalLaws.{input_told, front_told}
 use Rattle.solve_top.proofs.SameLaws.{one_file, report_in}
 use Rattle.solve_top.proofs.PrintedLaws.{printed_solved, logged_solved}
+use Rattle.solve_top.proofs.EditLaws.{edits_solved, edits_sound}
+use Rattle.pseudotree.proofs.SearchLaws.{depth_first_trees_are_linked}
+use Rattle.cut_laws.proofs.CutSetLaws.{cut_sets_are_one}
+use Rattle.cut_dpop.specs.declared.fault.CutFault.{CutFault}
+use Rattle.cut_dpop.specs.declared.fault.CutFault.TheVariants as faults
+use Rattle.solve_cut.specs.Cut.{refusal_of, IsRefusalAnswer, IsCutAnswerBy}
+use Rattle.solve_cut.specs.Allowed.{IsSolvedReport}
+use Rattle.solve_cut.proofs.AllowedLaws.{allowed-solved}
 
 -- the answer of a task, where words ask for it
 pub IsAnswer-task : (words : List (List ℕ)) (command : Command) (task : Task) (input : Input) (answer : Answer)
@@ -115,6 +123,7 @@ tree-solved file (answers.WcspText line kind problem) is = absurd is
 tree-solved file (answers.ReportText line kind) is = absurd is
 tree-solved file (answers.EditText line kind) is = absurd is
 tree-solved file (answers.Many n) is = absurd is
+tree-solved file (answers.ManyTurns n limit) is = absurd is
 tree-solved file (answers.WideAgent var cells names) is = absurd is
 tree-solved file (answers.WideTotal cells) is = absurd is
 tree-solved file answers.Read is = absurd is
@@ -159,6 +168,7 @@ adopt-status file error budget certified (answers.WcspText line kind problem) is
 adopt-status file error budget certified (answers.ReportText line kind) is = absurd is
 adopt-status file error budget certified (answers.EditText line kind) is = absurd is
 adopt-status file error budget certified (answers.Many n) is = absurd is
+adopt-status file error budget certified (answers.ManyTurns n limit) is = absurd is
 adopt-status file error budget certified (answers.WideAgent var cells names) is = absurd is
 adopt-status file error budget certified (answers.WideTotal cells) is = absurd is
 adopt-status file error budget certified answers.Read is = absurd is
@@ -204,6 +214,7 @@ upgraded-solved d None (answers.WcspText line kind problem) is = absurd is
 upgraded-solved d None (answers.ReportText line kind) is = absurd is
 upgraded-solved d None (answers.EditText line kind) is = absurd is
 upgraded-solved d None (answers.Many n) is = absurd is
+upgraded-solved d None (answers.ManyTurns n limit) is = absurd is
 upgraded-solved d None (answers.WideAgent var cells names) is = absurd is
 upgraded-solved d None (answers.WideTotal cells) is = absurd is
 upgraded-solved d None answers.Read is = absurd is
@@ -222,10 +233,21 @@ upgraded-solved d (Some bar) (answers.WcspText line kind problem) is = absurd is
 upgraded-solved d (Some bar) (answers.ReportText line kind) is = absurd is
 upgraded-solved d (Some bar) (answers.EditText line kind) is = absurd is
 upgraded-solved d (Some bar) (answers.Many n) is = absurd is
+upgraded-solved d (Some bar) (answers.ManyTurns n limit) is = absurd is
 upgraded-solved d (Some bar) (answers.WideAgent var cells names) is = absurd is
 upgraded-solved d (Some bar) (answers.WideTotal cells) is = absurd is
 upgraded-solved d (Some bar) answers.Read is = absurd is
 upgraded-solved d (Some bar) answers.NotYet is = absurd is
+
+-- nor is the answer of a cut
+refusal_sound : (fault : CutFault) → ¬ IsRefusalAnswer fault answers.Read
+refusal_sound (faults.TooMany turns) is = cc is
+refusal_sound (faults.Total cells) is = cc is
+refusal_sound faults.NoMemory is = is
+
+cut_sound : (file : TextFile) (cut : List ℕ) (refusal : Option CutFault) → ¬ IsCutAnswerBy file cut refusal answers.Read
+cut_sound file cut (Some fault) is = refusal_sound fault is
+cut_sound file cut None is = cc is.is
 
 -- an answer to what a text declares is no failed reading
 file-sound : (task : FileTask) (t : Told) → ¬ IsFileAnswer task t answers.Read
@@ -234,6 +256,7 @@ file-sound (tasks.Dpop certified) t is = dpop-sound is.file certified (wide_in (
 file-sound (tasks.Adopt error budget certified) t is = is.is
 file-sound (tasks.Auto error budget certified) t is =
     let told = auto-status is.file error budget certified (wide_in (problem_solved is.file)) answers.Read is.is in (ending-told told.0).2 (sym told.1)
+file-sound (tasks.Cut limit) t is = cut_sound is.file is.cut (refusal_of (problem_solved is.file) is.cut) is.is
 file-sound tasks.Tree t is = is.is
 file-sound tasks.Upgrade t is = let s = upgraded-solved t.declared t.bar answers.Read is in cc
 
@@ -269,6 +292,7 @@ task-sound : (task : Task) (bytes : List ℕ) → ¬ IsTaskAnswer task bytes ans
 task-sound (File format task) bytes is = text-sound task (input_read format bytes) (input_told format bytes) is
 task-sound (Check format) bytes is = report-sound bytes (front_read format bytes) (front_told format bytes) is
 task-sound (Replay format after) bytes is = behind-sound bytes after (front_read format bytes) (front_told format bytes) is
+task-sound Edit bytes is = edits_sound bytes (front_read Own bytes) (front_told Own bytes) is
 
 -- only a broken input is answered by a failed reading
 input-sound : (task : Task) (input : Input) (answer : Answer) → IsInputAnswer task input answer → status_of answer ≡ ReadFault → input ≡ Broken
@@ -293,6 +317,7 @@ drilled-status seed (answers.WcspText line kind problem) = refl
 drilled-status seed (answers.ReportText line kind) = refl
 drilled-status seed (answers.EditText line kind) = refl
 drilled-status seed (answers.Many n) = refl
+drilled-status seed (answers.ManyTurns n limit) = refl
 drilled-status seed (answers.WideAgent var cells names) = refl
 drilled-status seed (answers.WideTotal cells) = refl
 drilled-status seed answers.Read = refl
@@ -346,10 +371,15 @@ ReadFault-answered words before after answer done more = failed-input words befo
 solved-well : (status : Status) (task : Task) → status ≡ Solved → GoesWell status task
 solved-well status task is = subst (λ (s : Status). GoesWell s task) (sym is) tt
 
+-- an answer that is a solved report is solved
+cut-solved : (answer : Answer) → IsSolvedReport answer → status_of answer ≡ Solved
+cut-solved answer is = ap status_of is.is ∙ ap status_of_ending is.solved
+
 -- a task on what a text declares goes well, where it is within its limits
 file-well : (format : Format) (task : FileTask) (t : Told) (answer : Answer) → IsWithinLimits task t.declared → IsFileAnswer task t answer → GoesWell (status_of answer) (File format task)
 file-well format tasks.Plain t (answers.Report report file) few is = solved-well (status_of_ending report.status) (File format tasks.Plain) (ap status_of_ending is.2.status)
 file-well format tasks.Plain t (answers.Many n) few is = absurd (omega (arith, few, is.0))
+file-well format tasks.Plain t (answers.ManyTurns n limit) few is = absurd is
 file-well format tasks.Plain t (answers.Tree deliveries nodes names) few is = absurd is
 file-well format tasks.Plain t (answers.Verdict verdict names) few is = absurd is
 file-well format tasks.Plain t (answers.Replay events agents names) few is = absurd is
@@ -370,6 +400,7 @@ file-well format (tasks.Dpop certified) t answer few is =
     solved-well (status_of answer) (File format (tasks.Dpop certified)) (dpop-solved is.file certified answer (fit-none t.declared few is.file is.whole is.declared) is.is)
 file-well format (tasks.Adopt error budget certified) t answer few is = adopt-well format is.file error budget certified answer is.is
 file-well format (tasks.Auto error budget certified) t answer few is = auto-well format is.file error budget certified answer is.is
+file-well format (tasks.Cut limit) t answer few is = solved-well (status_of answer) (File format (tasks.Cut limit)) (cut-solved answer (allowed-solved cut_sets_are_one depth_first_trees_are_linked t.declared limit answer few.0 few.1 is))
 file-well format tasks.Tree t answer few is = solved-well (status_of answer) (File format tasks.Tree) (tree-solved is.file answer is.is)
 file-well format tasks.Upgrade t answer few is = solved-well (status_of answer) (File format tasks.Upgrade) (upgraded-solved t.declared t.bar answer is)
 
@@ -379,6 +410,7 @@ task-well (File format task) text answer fits is =
     file-well format task fits.told answer fits.within (subst (λ (r : Result Told Answer). IsTextAnswer task r answer) fits.read is)
 task-well (Check format) text answer fits is = solved-well (status_of answer) (Check format) (printed_solved format text answer fits is)
 task-well (Replay format after) text answer fits is = solved-well (status_of answer) (Replay format after) (logged_solved format after text answer fits is)
+task-well Edit text answer fits is = solved-well (status_of answer) Edit (edits_solved text answer fits (subst (λ (r : Result Parts Answer). IsEditsAnswer text r answer) fits.read is))
 
 -- all of a text that is told, and accepted, is read and goes well
 input-well : (text : List ℕ) (words : List (List ℕ)) (accepts : Accepts words text) (before after : SourceState) (input : Input) (answer : Answer)

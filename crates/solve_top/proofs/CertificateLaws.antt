@@ -1,5 +1,5 @@
 -- A report that was printed with its certificate fits its file, and holds.
-use Rattle.std.proofs.Common.{◌≡◌, ℕ, ◌<◌, ◌≤◌, Bool, true, false, List, [], ◌∷◌, length, Option, Some, None, IfSome, IsTrue, is_some, refl, sym, subst, arith}
+use Rattle.std.proofs.Common.{◌≡◌, ℕ, ◌<◌, ◌≤◌, Bool, true, false, List, [], ◌∷◌, length, Option, Some, None, IfSome, IsTrue, is_some, refl, sym, ap, subst, arith, ◌∙◌}
 use Rattle.std.specs.List.{All, AllZip}
 use Rattle.std.proofs.lemmas.Bool.{false≢true}
 use Rattle.std.proofs.lemmas.List.Elements.{All-nil, All-cons, All-head, All-tail}
@@ -40,6 +40,9 @@ use Rattle.solve_methods.specs.Auto.{IsAutoBy}
 use Rattle.solve_methods.specs.Certified.{IsCertifiedBy, IsLoggedBy}
 use Rattle.solve_methods.specs.Dpop.{wide_in, wide_answer, IsDpopReport, IsAnswerBy}
 use Rattle.solve_methods.proofs.NamedLaws.{log_named}
+use Rattle.cut_dpop.specs.declared.fault.CutFault.{CutFault}
+use Rattle.cut_dpop.specs.declared.fault.CutFault.TheVariants as faults
+use Rattle.solve_cut.specs.Cut.{refusal_of, IsRefusalAnswer, IsCutAnswerBy}
 use Rattle.solve_inputs.specs.Told.{Told}
 use Rattle.solve_top.specs.declared.task.FileTask.{FileTask}
 use Rattle.solve_top.specs.declared.task.FileTask.TheVariants as tasks
@@ -193,6 +196,20 @@ upgraded_no_report : (d : Declared) (bar : Option ℕ) (report : Report) (file :
 upgraded_no_report d None report file is = is
 upgraded_no_report d (Some bar) report file is = is
 
+-- a report of a cut has no certificate
+no_refusal_report : (fault : CutFault) (report : Report) (file : TextFile) → ¬ IsRefusalAnswer fault (answers.Report report file)
+no_refusal_report (faults.TooMany turns) report file is = cc is
+no_refusal_report (faults.Total cells) report file is = cc is
+no_refusal_report faults.NoMemory report file is = is
+
+no_cut_certificate : (solved : TextFile) (cut : List ℕ) (report : Report) (file : TextFile) (refusal : Option CutFault) → IsCutAnswerBy solved cut refusal (answers.Report report file)
+    → ¬ IsTrue (is_some report.certificate)
+no_cut_certificate solved cut report file (Some fault) is some = no_refusal_report fault report file is
+no_cut_certificate solved cut report file None is some =
+    let told = is.is in
+    let same : report ≡ is.report = cc in
+    some_none report.certificate (ap (λ (r : Report). r.certificate) same ∙ is.form.certificate) some
+
 -- a report that any task prints with a certificate
 pub task_certified : (task : FileTask) (told : Told) (report : Report) (file : TextFile) → IsFileTaskInRange task → IsFileAnswer task told (answers.Report report file) → IsTrue (is_some report.certificate)
     → IsReadable report report.certificate → IsCertified told.declared file report
@@ -203,5 +220,7 @@ task_certified (tasks.Adopt error budget certified) told report file range is so
     by_adopt told.declared report is.file file is.whole is.declared some readable error budget certified range.0 is.is
 task_certified (tasks.Auto error budget certified) told report file range is some readable =
     by_auto told.declared report is.file file is.whole is.declared some readable error budget certified (wide_in (problem_solved is.file)) range.0 is.is
+task_certified (tasks.Cut limit) told report file range is some readable =
+    absurd (no_cut_certificate is.file is.cut report file (refusal_of (problem_solved is.file) is.cut) is.is some)
 task_certified tasks.Tree told report file range is some readable = absurd is.is
 task_certified tasks.Upgrade told report file range is some readable = absurd (upgraded_no_report told.declared told.bar report file is)

@@ -2,6 +2,7 @@ mod BlankLaws
 mod SameLaws
 mod CertificateLaws
 mod PrintedLaws
+mod EditLaws
 mod AnswerLaws
 mod OneLaws
 mod NodeLaws

@@ -1,4 +1,4 @@
--- Of inputs that are read alike DPOP has one answer, and auto has it too where DPOP fits.
+-- Of inputs that are read alike DPOP has one answer, and auto has it too where DPOP fits; an optimum of `edit` is that of DPOP.
 use Rattle.std.proofs.Common.{◌≡◌, ℕ, Bool, Option, None, Result, Ok, Err, sym, subst, ◌∙◌}
 use Rattle.dcop_optimum.specs.TreeOptimum.{FirstOptimaOfTreesAreOne}
 use Rattle.pseudotree.specs.DepthFirst.{DepthFirstTreesAreLinked}
@@ -8,16 +8,18 @@ use Rattle.problem_solved.specs.Goal.{problem_solved}
 use Rattle.solve_methods.specs.Auto.{AnswersAuto, IsAutoBy}
 use Rattle.solve_methods.specs.Dpop.{wide_in, AnswersDpop, IsAnswerBy}
 use Rattle.solve_report.specs.declared.answer.Answer.{Answer}
+use Rattle.solve_report.specs.declared.answer.Answer.TheVariants as answers
 use Rattle.solve_top.specs.declared.task.Task.TheVariants.{File}
 use Rattle.solve_top.specs.declared.task.FileTask.TheVariants as tasks
 use Rattle.solve_top.specs.Answering.{IsTextAnswer, IsInputAnswer}
 use Rattle.answer_edge.specs.Input.{Input, Unread, Broken, TooLong, Whole}
-use Rattle.solve_top.specs.Same.{AreReadAlike, AutoAnswersAreThoseOfDpop, DpopAnswersAreOne, HasFitProblem}
+use Rattle.solve_top.specs.Same.{AreReadAlike, AutoAnswersAreThoseOfDpop, DpopAnswersAreOne, EditAnswersAreThoseOfDpop, HasFitProblem}
 use Rattle.solve_top.specs.Solving.{HasFitTree}
 use Rattle.solve_words.specs.declared.command.Format.{Format}
 use Rattle.solve_inputs.specs.Told.{Told}
 use Rattle.solve_inputs.specs.Inputs.{input_read, declared_in}
 use Rattle.solve_top.proofs.AnswerLaws.{fit-none, IsAnswer-task, task-IsAnswer}
+use Rattle.solve_top.proofs.EditLaws.{same_as_dpop}
 use Rattle.solve_top.proofs.SameLaws.{one_answer}
 
 module _ (optima : FirstOptimaOfTreesAreOne) (trees : DepthFirstTreesAreLinked) (certified : Bool) where
@@ -79,3 +81,9 @@ auto_answers_dpop format certified words words' input answer asks asks' fit is =
     IsAnswer-task words' asks'.command (File format (tasks.Dpop certified)) input answer asks'.asked asks'.served
     (auto_of_input format asks.error asks.budget certified input answer fit
     (task-IsAnswer words asks.command (File format (tasks.Auto asks.error asks.budget certified)) input answer asks.asked asks.served is))
+
+pub edit_answers_dpop : FirstOptimaOfTreesAreOne → DepthFirstTreesAreLinked → EditAnswersAreThoseOfDpop
+edit_answers_dpop optima trees format certified words bytes told report file s answer asks read declares whole is now =
+    same_as_dpop optima trees s answer whole now told.declared certified report file declares
+    (subst (λ (r : Result Told Answer). IsTextAnswer (tasks.Dpop certified) r (answers.Report report file)) read
+    (task-IsAnswer words asks.command (File format (tasks.Dpop certified)) (Whole bytes) (answers.Report report file) asks.asked asks.served is))

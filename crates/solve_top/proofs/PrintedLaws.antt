@@ -66,6 +66,7 @@ read_solved file before report (answers.WcspText line kind problem) is holds = a
 read_solved file before report (answers.ReportText line kind) is holds = absurd is
 read_solved file before report (answers.EditText line kind) is holds = absurd is
 read_solved file before report (answers.Many n) is holds = absurd is
+read_solved file before report (answers.ManyTurns n limit) is holds = absurd is
 read_solved file before report (answers.WideAgent var cells names) is holds = absurd is
 read_solved file before report (answers.WideTotal cells) is holds = absurd is
 read_solved file before report answers.Read is holds = absurd is
@@ -125,6 +126,7 @@ module _ (file : TextFile) (net : Network) (log : List LogEvent) (none : fault_i
   run_replayed (answers.ReportText line kind) is = absurd is
   run_replayed (answers.EditText line kind) is = absurd is
   run_replayed (answers.Many n) is = absurd is
+  run_replayed (answers.ManyTurns n limit) is = absurd is
   run_replayed (answers.WideAgent var cells names) is = absurd is
   run_replayed (answers.WideTotal cells) is = absurd is
   run_replayed answers.Read is = absurd is

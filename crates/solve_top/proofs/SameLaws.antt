@@ -39,6 +39,7 @@ pub report_in : (file : TextFile) (certified : Bool) (answer : Answer) → IsDpo
 report_in file certified (answers.Report report same) is = (report, ap (λ (f : TextFile). answers.Report report f) is.0, is.1)
 report_in file certified (answers.Tree deliveries nodes names) is = absurd is
 report_in file certified (answers.Many n) is = absurd is
+report_in file certified (answers.ManyTurns n limit) is = absurd is
 report_in file certified (answers.WideAgent var cells names) is = absurd is
 report_in file certified (answers.WideTotal cells) is = absurd is
 report_in file certified (answers.Verdict verdict names) is = absurd is

@@ -13,7 +13,7 @@ use Rattle.solve_words.specs.Command.{answer_to}
 use Rattle.solve_report.specs.declared.answer.Answer.{Answer}
 use Rattle.solve_report.specs.declared.answer.Answer.TheVariants as answers
 use Rattle.solve_top.specs.declared.task.Task.{Task}
-use Rattle.solve_top.specs.declared.task.Task.TheVariants.{File, Check, Replay}
+use Rattle.solve_top.specs.declared.task.Task.TheVariants.{File, Check, Replay, Edit}
 use Rattle.solve_top.specs.declared.task.FileTask.{FileTask}
 use Rattle.solve_top.specs.declared.task.FileTask.TheVariants as tasks
 use Rattle.solve_methods.specs.Adopt.{AnswersAdopt}
@@ -32,6 +32,9 @@ use Rattle.solve_top.specs.declared.drilling.Drill.{Drill}
 use Rattle.solve_methods.specs.Tree.{AnswersTree}
 use Rattle.solve_check.specs.Checking.{AnswersCheck}
 use Rattle.solve_replay.specs.Replaying.{AnswersReplay}
+use Rattle.solve_cut.specs.Cut.{AnswersCut}
+use Rattle.solve_edit.specs.Editing.{AnswersEdit}
+use Rattle.solve_words.specs.declared.command.Format.TheVariants.{Dcop as Own}
 
 -- the answer of `upgrade` to what is told: the file in version 2, with the bar of a WCSP text
 abbrev pub IsUpgraded : Declared → Option ℕ → Answer → Type 0
@@ -47,6 +50,7 @@ IsFileAnswer tasks.Plain t (answers.Many assignments) = IsTooMany (product t.dec
 IsFileAnswer (tasks.Dpop certified) t answer = AnswersDpop t.declared certified answer
 IsFileAnswer (tasks.Adopt error budget certified) t answer = AnswersAdopt t.declared error budget certified answer
 IsFileAnswer (tasks.Auto error budget certified) t answer = AnswersAuto t.declared error budget certified answer
+IsFileAnswer (tasks.Cut limit) t answer = AnswersCut t.declared limit answer
 IsFileAnswer tasks.Tree t answer = AnswersTree t.declared answer
 IsFileAnswer tasks.Upgrade t answer = IsUpgraded t.declared t.bar answer
 IsFileAnswer task t answer = ⊥
@@ -70,11 +74,17 @@ abbrev pub IsReplayAnswer : List ℕ → Option ℕ → Result Parts Answer → 
 IsReplayAnswer bytes after (Ok parts) answer = AnswersReplay parts.declared (lines_in (take parts.used bytes)) (drop parts.used bytes) after answer
 IsReplayAnswer bytes after (Err refusal) answer = answer ≡ refusal
 
--- the answer to a task on a text, by the format of its problem: `check` and `replay` read a problem and the report behind it, every other task a problem behind which no further word stands
+-- the answer of `edit` on an input whose problem is read as this: what comes of the edit lines behind the problem's last line
+abbrev pub IsEditsAnswer : List ℕ → Result Parts Answer → Answer → Type 0
+IsEditsAnswer bytes (Ok parts) answer = AnswersEdit parts.declared (lines_in (take parts.used bytes)) (drop parts.used bytes) answer
+IsEditsAnswer bytes (Err refusal) answer = answer ≡ refusal
+
+-- the answer to a task on a text, by the format of its problem: `check` and `replay` read a problem and the report behind it, `edit` a problem and the edit lines behind it, every other task a problem behind which no further word stands
 abbrev pub IsTaskAnswer : Task → List ℕ → Answer → Type 0
 IsTaskAnswer (File format task) bytes answer = IsTextAnswer task (input_read format bytes) answer
 IsTaskAnswer (Check format) bytes answer = IsReportAnswer bytes (front_read format bytes) answer
 IsTaskAnswer (Replay format after) bytes answer = IsReplayAnswer bytes after (front_read format bytes) answer
+IsTaskAnswer Edit bytes answer = IsEditsAnswer bytes (front_read Own bytes) answer
 
 -- the answer to a task on an input
 abbrev pub IsInputAnswer : Task → Input → Answer → Type 0

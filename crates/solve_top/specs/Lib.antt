@@ -1,5 +1,6 @@
 pub mod Served
 pub mod Drilling
 pub mod Answering
+pub mod Taken
 pub mod Solving
 pub mod Same

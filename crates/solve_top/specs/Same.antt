@@ -1,9 +1,16 @@
--- The answer of DPOP is one function of what was read, and so is that of auto where DPOP fits.
+-- The answer of DPOP is one function of what was read, and so is that of auto where DPOP fits; an optimum of `edit` is that of DPOP.
 use Rattle.std.specs.Prelude.{◌≡◌, ℕ, Bool, List, Some, Ok}
 use Rattle.solve_words.specs.declared.command.Command.{Command}
 use Rattle.solve_words.specs.declared.command.Format.{Format}
 use Rattle.solve_words.specs.Command.{answer_to}
 use Rattle.solve_report.specs.declared.answer.Answer.{Answer}
+use Rattle.solve_report.specs.declared.answer.Answer.TheVariants.{Report as Reports}
+use Rattle.dcop_base.specs.Whole.{IsProblem}
+use Rattle.problem_text.specs.File.{TextFile}
+use Rattle.problem_text.specs.Steps.{declared_by}
+use Rattle.problem_text.specs.declared.edited.Edited.{Edited}
+use Rattle.certificate_text.specs.declared.report.Report.{Report}
+use Rattle.edit_session.specs.State.{SessionState, IsAnswerNow}
 use Rattle.solve_top.specs.declared.task.Task.TheVariants.{File}
 use Rattle.solve_top.specs.declared.task.FileTask.TheVariants as tasks
 use Rattle.solve_top.specs.Answering.{IsAnswer}
@@ -46,3 +53,9 @@ HasFitProblem format input = ⊥
 abbrev pub AutoAnswersAreThoseOfDpop : Type 0
 AutoAnswersAreThoseOfDpop = (format : Format) (certified : Bool) (words words' : List (List ℕ)) (input : Input) (answer : Answer) → AskForAuto format certified words → AskForDpop format certified words' → HasFitProblem format input
     → IsAnswer words input answer → IsAnswer words' input answer
+
+-- an optimum of a session has the values and the cost that `solve --method dpop` reports of a text which declares the problem as it is now, with a certificate or without
+abbrev pub EditAnswersAreThoseOfDpop : Type 0
+EditAnswersAreThoseOfDpop = (format : Format) (certified : Bool) (words : List (List ℕ)) (bytes : List ℕ) (told : Told) (report : Report) (file : TextFile) (s : SessionState) (answer : Edited)
+    → AskForDpop format certified words → input_read format bytes ≡ Ok told → told.declared ≡ declared_by s.file → IsProblem s.file.problem
+    → IsAnswer words (Whole bytes) (Reports report file) → IsAnswerNow s answer → (report.values ≡ answer.values) × (report.cost ≡ answer.cost)

@@ -1,30 +1,33 @@
 -- The commands that are served.
 use Rattle.std.specs.Prelude.{◌≤◌, Option, Some, None, ◌==◌, if◌then◌else◌}
-use Rattle.dcop_base.specs.Limits.{amount_limit, budget_limit}
+use Rattle.dcop_base.specs.Limits.{amount_limit, budget_limit, joined_limit, size_limit}
 use Rattle.solve_words.specs.declared.command.Command.{Command}
-use Rattle.solve_words.specs.declared.command.Command.TheVariants.{Solve, Tree, Check, Replay, Upgrade}
-use Rattle.solve_words.specs.declared.command.Choice.TheVariants.{Plain, Dpop, Adopt, Auto}
+use Rattle.solve_words.specs.declared.command.Command.TheVariants.{Solve, Tree, Check, Replay, Upgrade, Edit}
+use Rattle.solve_words.specs.declared.command.Choice.TheVariants.{Plain, Dpop, Adopt, Auto, Cut}
 use Rattle.solve_top.specs.declared.task.Task.{Task}
-use Rattle.solve_top.specs.declared.task.Task.TheVariants.{File, Check as CheckReport, Replay as ReplayReport}
+use Rattle.solve_top.specs.declared.task.Task.TheVariants.{File, Check as CheckReport, Replay as ReplayReport, Edit as EditLines}
 use Rattle.solve_top.specs.declared.task.FileTask.{FileTask}
 use Rattle.solve_top.specs.declared.task.FileTask.TheVariants as tasks
 
--- what a command asks for, where it is served: `solve --method plain` and `tree` with any number of workers, `solve --method dpop`, `solve --method adopt` and `solve --method auto` on one node, `check`, `replay` and `upgrade`, all of a problem in either format
+-- what a command asks for, where it is served: `solve --method plain` and `tree` with any number of workers, `solve --method dpop`, `solve --method adopt` and `solve --method auto` on one node, `solve --method cut` without a certificate, `check`, `replay` and `upgrade`, all of a problem in either format, and `edit`
 abbrev pub task_of : Command → Option Task
 task_of (Solve Plain workers error budget nodes certificate format cells) = Some (File format tasks.Plain)
 task_of (Solve Dpop workers error budget nodes certificate format cells) = if nodes == 1 then Some (File format (tasks.Dpop certificate)) else None
 task_of (Solve Adopt workers error budget nodes certificate format cells) = if nodes == 1 then Some (File format (tasks.Adopt error budget certificate)) else None
 task_of (Solve Auto workers error budget nodes certificate format cells) = if nodes == 1 then Some (File format (tasks.Auto error budget certificate)) else None
+task_of (Solve Cut workers error budget nodes certificate format cells) = if certificate then None else Some (File format (tasks.Cut cells))
 task_of (Tree workers format) = Some (File format tasks.Tree)
 task_of (Check format) = Some (CheckReport format)
 task_of (Replay after format) = Some (ReplayReport format after)
 task_of (Upgrade format) = Some (File format tasks.Upgrade)
+task_of Edit = Some EditLines
 task_of _ = None
 
--- the error and the budget of ADOPT and of auto are no greater than its options take
+-- the error and the budget of ADOPT and of auto are no greater than their options take, and the limit of a cut is such as its option takes: no variable has more values
 abbrev pub IsFileTaskInRange : FileTask → Type 0
 IsFileTaskInRange (tasks.Adopt error budget certified) = (error ≤ amount_limit) × (budget ≤ budget_limit)
 IsFileTaskInRange (tasks.Auto error budget certified) = (error ≤ amount_limit) × (budget ≤ budget_limit)
+IsFileTaskInRange (tasks.Cut limit) = (size_limit ≤ limit) × (limit ≤ joined_limit)
 IsFileTaskInRange _ = Unit {0}
 
 -- a task whose numbers are in their range

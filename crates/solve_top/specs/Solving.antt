@@ -1,9 +1,9 @@
 -- What a top call does: it answers, and shows its answer.
-use Rattle.std.specs.Prelude.{◌≡◌, ℕ, ◌≤◌, ◌⊎◌, List, [], ◌∷◌, ◌++◌, length, drop, Option, Some, None, Ok, IsTrue, is_some}
+use Rattle.std.specs.Prelude.{◌≡◌, ℕ, ◌≤◌, ◌⊎◌, List, [], ◌∷◌, ◌++◌, length, take, drop, ◌+◌, Option, Some, None, Ok, IsTrue, is_some}
 use Rattle.std.specs.List.{All}
 use Rattle.dcop_base.specs.Table.{product}
 use Rattle.dcop_base.specs.Whole.{IsProblem}
-use Rattle.dcop_base.specs.Limits.{amount_limit, assignment_limit, input_limit}
+use Rattle.dcop_base.specs.Limits.{amount_limit, assignment_limit, input_limit, size_limit}
 use Rattle.problem_text.specs.Declarations.{Declared}
 use Rattle.problem_text.specs.File.{TextFile}
 use Rattle.problem_text.specs.Steps.{declared_by}
@@ -19,15 +19,18 @@ use Rattle.certificate_text.specs.ReportText.{report_text}
 use Rattle.solve_report.specs.declared.answer.Answer.TheVariants as answers
 use Rattle.solve_words.specs.declared.command.Command.{Command}
 use Rattle.solve_words.specs.declared.command.Format.{Format}
+use Rattle.solve_words.specs.declared.command.Format.TheVariants.{Dcop as Own}
 use Rattle.solve_words.specs.Command.{answer_to}
 use Rattle.solve_report.specs.declared.answer.Answer.{Answer}
 use Rattle.answer_edge.specs.declared.status.Status.{Status}
 use Rattle.answer_edge.specs.declared.status.Status.TheVariants as statuses
 use Rattle.solve_top.specs.declared.task.Task.{Task}
-use Rattle.solve_top.specs.declared.task.Task.TheVariants.{File, Check, Replay}
+use Rattle.solve_top.specs.declared.task.Task.TheVariants.{File, Check, Replay, Edit}
 use Rattle.solve_top.specs.declared.task.FileTask.{FileTask}
 use Rattle.solve_top.specs.declared.task.FileTask.TheVariants as tasks
-use Rattle.solve_top.specs.Answering.{IsAnswer, IsFileAnswer}
+use Rattle.solve_top.specs.Answering.{IsAnswer, IsFileAnswer, lines_in}
+use Rattle.solve_top.specs.Taken.{AreLinesTaken}
+use Rattle.solve_cut.specs.Allowed.{HasAllowedCut}
 use Rattle.solve_methods.specs.Dpop.{wide_in}
 use Rattle.problem_solved.specs.Goal.{solved}
 use Rattle.solve_methods.specs.Goal.{TellsRight}
@@ -61,12 +64,13 @@ pub record HasFitTree (d : Declared) : Type 0 where
   pub declared : declared_by file ≡ d
   pub fits : wide_in (solved file.goal file.problem) ≡ None
 
--- a task is within its limits: plain has no more assignments to try than it tries, and for DPOP the tree is narrow and light
+-- a task is within its limits: plain has no more assignments to try than it tries, for DPOP the tree is narrow and light, and nothing refuses a cut
 abbrev pub IsWithinLimits : FileTask → Declared → Type 0
 IsWithinLimits tasks.Plain d = product d.sizes ≤ assignment_limit
 IsWithinLimits (tasks.Dpop certified) d = HasFitTree d
 IsWithinLimits (tasks.Adopt error budget certified) d = Unit {0}
 IsWithinLimits (tasks.Auto error budget certified) d = Unit {0}
+IsWithinLimits (tasks.Cut limit) d = (size_limit ≤ limit) × HasAllowedCut d limit
 IsWithinLimits tasks.Tree d = Unit {0}
 IsWithinLimits tasks.Upgrade d = Unit {0}
 
@@ -108,11 +112,19 @@ pub record IsLoggedFor (format : Format) (text : List ℕ) : Type 0 where
   pub log : List LogEvent
   pub is : printed.report.certificate ≡ Some (Log log)
 
--- a text on which a task is served: a problem within its limits, or for `check` a problem and the report that was printed for it, and for `replay` one with a log
+-- the text of a problem in whose tree nothing is too wide, and behind it edit lines none of which is refused
+pub record IsEditedFor (text : List ℕ) : Type 0 where
+  pub parts : Parts
+  pub read : front_read Own text ≡ Ok parts
+  pub fits : HasFitTree parts.declared
+  pub taken : AreLinesTaken fits.file (plain_lines (lines_in (take parts.used text) + 1) (drop parts.used text))
+
+-- a text on which a task is served: a problem within its limits, or for `check` a problem and the report that was printed for it, for `replay` one with a log, and for `edit` edit lines that are not refused
 abbrev pub IsTextFor : Task → List ℕ → Type 0
 IsTextFor (File format task) text = IsProblemFor format task text
 IsTextFor (Check format) text = IsPrintedFor format text
 IsTextFor (Replay format after) text = IsLoggedFor format text
+IsTextFor Edit text = IsEditedFor text
 
 -- words and a text that are accepted, and that can be served
 pub record Accepts (words : List (List ℕ)) (text : List ℕ) : Type 0 where

@@ -4,7 +4,10 @@ ghost use Rattle.std.specs.Prelude.{◌≡◌, ◌≤◌, IfOk};
 ghost use Rattle.dcop_base.specs.Limits.{budget_limit};
 ghost use Rattle.agent_links.specs.Ready.{IsNewCell};
 ghost use Rattle.delivery_core.specs.Agents.{IsStartFor, agents_of};
+ghost use Rattle.problem_solved.specs.Goal.{problem_solved};
 ghost use Rattle.problem_text.specs.Steps.{declared_by};
+ghost use Rattle.pseudotree.specs.DepthFirst.{dfs};
+ghost use Rattle.pseudotree.specs.Pseudotree.{IsPseudotreeOf};
 ghost use Rattle.solve_report.specs.AnswerText.{HasText};
 ghost use Rattle.tree_search.specs.Found.{IsFound};
 ghost use Rattle.solve_methods.specs.Goal.{TellsRight};
@@ -22,8 +25,10 @@ use agent_workers::run;
 use dcop_base::{NoMemory, Problem, problem_is_whole};
 use dcop_edge::Gate;
 use delivery_core::Start;
+use problem_solved::ProblemSolved;
 use problem_text::ProblemFile;
 use protocol_steps::Outcome;
+use pseudotree::Tree;
 use run_log::merged_stamps_are_right;
 use solve_methods::{Logged, tree_answer};
 use solve_report::Answer;
@@ -116,6 +121,20 @@ pub(crate) fn find_tree<R: Threads + Sync, G: Gate>(
     let budget = search_deliveries(problem);
     let outcome = run_agents(crew, alloc, problem, &Start::Token, budget)?;
     tree_found(alloc, problem, &outcome)
+}
+
+/// The depth-first tree of the problem solved for a file, which its token agents find.
+pub(crate) fn tree_for<R: Threads + Sync, G: Gate>(
+    crew: &Crew<R, G>,
+    alloc: Global,
+    file: &ProblemFile,
+) -> Result<Tree, NoMemory>
+    ensures tree { IfOk result (IsPseudotreeOf (problem_solved file.now)) }
+    ensures paths { IfOk result (λ tree. tree.paths ≡ dfs (problem_solved file.now)) }
+{
+    let solved = ProblemSolved::of(alloc, file)?;
+    let found = find_tree(crew, alloc, solved.problem())?;
+    Ok(found.tree)
 }
 
 /// The answer of `tree` on a file.

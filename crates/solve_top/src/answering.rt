@@ -16,7 +16,9 @@ ghost use Rattle.solve_inputs.specs.Fronts.{front_read};
 use crate::agents::by_search;
 use crate::choosing::by_dpop;
 use crate::crew::Crew;
+use crate::cutting::by_cut;
 use crate::drilling::unread_answer;
+use crate::editing::edits_behind;
 use crate::reaching::by_adopt;
 use crate::replaying::replay_behind;
 use crate::settling::by_auto;
@@ -82,6 +84,7 @@ fn task_answer<R: Threads + Sync, G: Gate>(
         Task::File { format, task } => text_answer(crew, alloc, format, task, bytes),
         Task::Check { format } => report_answer(alloc, format, bytes),
         Task::Replay { format, after } => replay_behind(alloc, format, after, bytes),
+        Task::Edit => edits_behind(crew, alloc, bytes),
     }
 }
 
@@ -146,6 +149,7 @@ pub(crate) fn file_answer<R: Threads + Sync, G: Gate>(
             };
             by_auto(crew, alloc, file, asked)
         }
+        FileTask::Cut { limit } => by_cut(crew, alloc, file, limit),
         FileTask::Tree => by_search(crew, alloc, file),
         FileTask::Upgrade => Ok(upgrade_answer(file, bar)),
     }

@@ -1,6 +1,6 @@
-//! The laws of the answers of DPOP and auto.
+//! The laws of the answers of DPOP, auto and `edit`.
 
-ghost use Rattle.solve_top.specs.Same.{AutoAnswersAreThoseOfDpop, DpopAnswersAreOne};
+ghost use Rattle.solve_top.specs.Same.{AutoAnswersAreThoseOfDpop, DpopAnswersAreOne, EditAnswersAreThoseOfDpop};
 
 use dcop_optimum::first_optima_of_trees_are_one;
 use pseudotree::depth_first_trees_are_linked;
@@ -24,3 +24,14 @@ pub fn dpop_answers_are_one()
 pub fn auto_answers_are_those_of_dpop()
     ensures { AutoAnswersAreThoseOfDpop }
 {}
+
+/// An optimum that `edit` answers has the values and the cost that `solve --method dpop` reports of a
+/// text which declares the problem as it is then, for either goal.
+///
+/// It is the contract of a call that does nothing: who needs the law calls it.
+pub fn edit_answers_are_those_of_dpop()
+    ensures { EditAnswersAreThoseOfDpop }
+{
+    first_optima_of_trees_are_one();
+    depth_first_trees_are_linked();
+}

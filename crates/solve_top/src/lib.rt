@@ -9,7 +9,9 @@ mod agents;
 mod answering;
 mod choosing;
 mod crew;
+mod cutting;
 mod drilling;
+mod editing;
 mod law;
 mod logging;
 mod reaching;
@@ -19,5 +21,8 @@ mod task;
 mod top;
 
 pub use answer_edge::{MAX_INPUT, Status};
-pub use law::{auto_answers_are_those_of_dpop, dpop_answers_are_one};
+pub use answering::answer_of;
+pub use law::{
+    auto_answers_are_those_of_dpop, dpop_answers_are_one, edit_answers_are_those_of_dpop,
+};
 pub use top::solve;

@@ -15,6 +15,8 @@ pub enum Task {
     Check { format: Format },
     /// Play so many events of the log of such a report again, or all.
     Replay { format: Format, after: Option<u64> },
+    /// Answer the lines of an edit session that stand behind a problem.
+    Edit,
 }
 
 /// What is asked on the file of a problem.
@@ -38,6 +40,11 @@ pub enum FileTask {
         error: u64,
         budget: u64,
         certified: bool,
+    },
+    /// Solve the problem by DPOP on the slices of a cut, so that no joined table has more than
+    /// `limit` cells.
+    Cut {
+        limit: u64,
     },
     /// Find the depth-first tree of the problem.
     Tree,
@@ -97,10 +104,18 @@ impl Task {
                     certified,
                 },
             )),
+            Command::Solve {
+                method: Choice::Cut,
+                certificate: false,
+                format,
+                cells: limit,
+                ..
+            } => Some(Task::on_file(format, FileTask::Cut { limit })),
             Command::Tree { format, .. } => Some(Task::on_file(format, FileTask::Tree)),
             Command::Check { format } => Some(Task::Check { format }),
             Command::Replay { after, format } => Some(Task::Replay { format, after }),
             Command::Upgrade { format } => Some(Task::on_file(format, FileTask::Upgrade)),
+            Command::Edit => Some(Task::Edit),
             _ => None,
         }
     }
@@ -119,7 +134,7 @@ pub(crate) fn workers_of(command: &Command) -> u32
 {
     match command {
         Command::Solve { workers, .. } => (*workers).max(1),
-        Command::Tree { workers, .. } => (*workers).max(1),
+        Command::Tree { workers, .. } | Command::Drill { workers, .. } => (*workers).max(1),
         _ => 1,
     }
 }

@@ -33,7 +33,9 @@ use std::time::Clock;
 /// reads these too, plays the report's log as far as it is asked to, and writes what each agent has
 /// come to there. `tree` reads a problem and writes the tree over which its agents work, and
 /// `upgrade` reads a problem and writes it in the newest version of its text. With `--format wcsp`
-/// all of these but `drill` read a WCSP text as their problem.
+/// all of these but `drill` read a WCSP text as their problem. `edit` reads a problem and edit lines
+/// behind it, and writes the optimum of the problem as it is at each line that asks for it: the
+/// values and the cost that DPOP gives.
 /// Refusals are written to the sink too.
 ///
 /// [`Status::ReadFault`] and [`Status::WriteFault`] come only where the source or the sink failed

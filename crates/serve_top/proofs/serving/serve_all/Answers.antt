@@ -11,7 +11,7 @@ returns-clause-refused g c =
     let sink = sinking (g.K.Sink.held c.args.sink.now) (g.K.Sink.finished c.args.sink.now) (g.K.Sink.faults c.args.sink.now) in
     let sink' = sinking (g.K.Sink.held c.answer_all.new.sink) (g.K.Sink.finished c.answer_all.new.sink) (g.K.Sink.faults c.answer_all.new.sink) in
     let h = c.answer_all.ensures.answered in
-    λ e. refused_so g.L.S.Source.left g.L.S.Source.faults g.L.K.Sink.held g.L.K.Sink.faults g.M.Maker.reply words l l' sink sink' c.answer_all.result (h (λ n. let f = n in cc)) e
+    λ e. refused_so g.L.S.Source.left g.L.S.Source.faults g.L.K.Sink.held g.L.K.Sink.faults g.M.Maker.is_reply words l l' sink sink' c.answer_all.result (h (λ n. let f = n in cc)) e
 
 pub returns-clause-link_fault : goal.returns-clause-link_fault
 returns-clause-link_fault g c =
@@ -21,7 +21,7 @@ returns-clause-link_fault g c =
     let sink = sinking (g.K.Sink.held c.args.sink.now) (g.K.Sink.finished c.args.sink.now) (g.K.Sink.faults c.args.sink.now) in
     let sink' = sinking (g.K.Sink.held c.answer_all.new.sink) (g.K.Sink.finished c.answer_all.new.sink) (g.K.Sink.faults c.answer_all.new.sink) in
     let h = c.answer_all.ensures.answered in
-    λ e. link_so g.L.S.Source.left g.L.S.Source.faults g.L.K.Sink.held g.L.K.Sink.faults g.M.Maker.reply words l l' sink sink' c.answer_all.result (h (λ n. let f = n in cc)) e
+    λ e. link_so g.L.S.Source.left g.L.S.Source.faults g.L.K.Sink.held g.L.K.Sink.faults g.M.Maker.is_reply words l l' sink sink' c.answer_all.result (h (λ n. let f = n in cc)) e
 
 pub returns-clause-write_fault : goal.returns-clause-write_fault
 returns-clause-write_fault g c =
@@ -41,7 +41,7 @@ returns-clause-listener_failed g c =
     let sink = sinking (g.K.Sink.held c.args.sink.now) (g.K.Sink.finished c.args.sink.now) (g.K.Sink.faults c.args.sink.now) in
     let sink' = sinking (g.K.Sink.held c.answer_all.new.sink) (g.K.Sink.finished c.answer_all.new.sink) (g.K.Sink.faults c.answer_all.new.sink) in
     let h = c.answer_all.ensures.answered in
-    λ lt. listener_failed g.L.S.Source.left g.L.S.Source.faults g.L.K.Sink.held g.L.K.Sink.faults g.M.Maker.reply words l l' sink sink' c.answer_all.result h lt
+    λ lt. listener_failed g.L.S.Source.left g.L.S.Source.faults g.L.K.Sink.held g.L.K.Sink.faults g.M.Maker.is_reply words l l' sink sink' c.answer_all.result h lt
 
 pub returns-clause-sink_failed : goal.returns-clause-sink_failed
 returns-clause-sink_failed g c =
@@ -51,7 +51,7 @@ returns-clause-sink_failed g c =
     let sink = sinking (g.K.Sink.held c.args.sink.now) (g.K.Sink.finished c.args.sink.now) (g.K.Sink.faults c.args.sink.now) in
     let sink' = sinking (g.K.Sink.held c.answer_all.new.sink) (g.K.Sink.finished c.answer_all.new.sink) (g.K.Sink.faults c.answer_all.new.sink) in
     let h = c.answer_all.ensures.answered in
-    λ lt. sink_failed g.L.S.Source.left g.L.S.Source.faults g.L.K.Sink.held g.L.K.Sink.faults g.M.Maker.reply words l l' sink sink' c.answer_all.result h (λ n. ap (λ s. g.K.Sink.faults s) (c.answer_all.ensures.unwritten n)) lt
+    λ lt. sink_failed g.L.S.Source.left g.L.S.Source.faults g.L.K.Sink.held g.L.K.Sink.faults g.M.Maker.is_reply words l l' sink sink' c.answer_all.result h (λ n. ap (λ s. g.K.Sink.faults s) (c.answer_all.ensures.unwritten n)) lt
 
 pub returns-clause-complete : goal.returns-clause-complete
 returns-clause-complete g c =
@@ -61,4 +61,4 @@ returns-clause-complete g c =
     let sink = sinking (g.K.Sink.held c.args.sink.now) (g.K.Sink.finished c.args.sink.now) (g.K.Sink.faults c.args.sink.now) in
     let sink' = sinking (g.K.Sink.held c.answer_all.new.sink) (g.K.Sink.finished c.answer_all.new.sink) (g.K.Sink.faults c.answer_all.new.sink) in
     let h = c.answer_all.ensures.answered in
-    λ accepted quiet still. complete g.L.S.Source.left g.L.S.Source.faults g.L.K.Sink.held g.L.K.Sink.faults g.M.Maker.reply words l l' sink sink' c.answer_all.result h accepted quiet still
+    λ accepted quiet still. complete g.L.S.Source.left g.L.S.Source.faults g.L.K.Sink.held g.L.K.Sink.faults g.M.Maker.is_reply words l l' sink sink' c.answer_all.result h accepted quiet still

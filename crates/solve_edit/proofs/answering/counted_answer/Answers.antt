@@ -9,5 +9,5 @@ use Rattle.solve_edit.proofs.answering.counted_answer.Goals as goal
 pub returns-in-Some-clause-told : goal.returns-in-Some-clause-told
 returns-in-Some-clause-told g c =
     let wide : wide_in (problem_solved c.args.file) ≡ Some c.in-Some.wide = subst (λ (ps : List _). wide_of (problem_solved c.args.file) ps ≡ Some c.in-Some.wide) c.requires.paths (sym c.in_ok-wide.ensures ∙ c.in-Some.is) in
-    rw c.too_wide.ensures (wide_told c.file.inside.goal c.file.inside.problem c.file.inside.names c.file.invariant.named c.in-Some.wide
+    rw c.too_wide.ensures.told (wide_told c.file.inside.goal c.file.inside.problem c.file.inside.names c.file.invariant.named c.in-Some.wide
     (subst (λ (f : TextFile). wide_in (solved f.goal f.problem) ≡ Some c.in-Some.wide) (sym c.file.view_is) wide))

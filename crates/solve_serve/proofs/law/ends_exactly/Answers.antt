@@ -2,4 +2,4 @@ use Rattle.solve_serve.proofs.ExactLaws as found
 use Rattle.solve_serve.proofs.law.ends_exactly.Goals as goal
 
 pub returns : goal.returns
-returns c = found.ends_exactly
+returns g c = found.ends_exactly g.M.Maker.is_reply

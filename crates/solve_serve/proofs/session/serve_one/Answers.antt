@@ -10,14 +10,14 @@ returns-in-Err-clause-served g c =
     let before = outside (g.S.Source.left c.args.source.now) (g.S.Source.faults c.args.source.now) (answering (g.K.Sink.held c.args.sink.now) (g.K.Sink.faults c.args.sink.now) (tally c.args.share.now.looks.amount c.args.share.now.misses.amount (g.M.Maker.calls c.args.maker.now))) in
     let now = outside (g.S.Source.left c.loop-served.source) (g.S.Source.faults c.loop-served.source) (answering (g.K.Sink.held c.loop-served.sink) (g.K.Sink.faults c.loop-served.sink) (tally c.loop-served.share.looks.amount c.loop-served.share.misses.amount (g.M.Maker.calls c.loop-served.maker))) in
     let after = outside (g.S.Source.left c.turn.new.source) (g.S.Source.faults c.turn.new.source) (answering (g.K.Sink.held c.turn.new.sink) (g.K.Sink.faults c.turn.new.sink) (tally c.turn.new.share.looks.amount c.turn.new.share.misses.amount (g.M.Maker.calls c.turn.new.maker))) in
-    rw c.end.ensures (so_far_end g.M.Maker.reply c.in-Err.stop before c.loop-served.reader now c.loop-served.served c.turn.new.reader after c.loop-served-test.true c.loop-served.invariant.0 c.in-Err.ensures.turn)
+    rw c.end.ensures (so_far_end g.M.Maker.is_reply c.in-Err.stop before c.loop-served.reader now c.loop-served.served c.turn.new.reader after c.loop-served-test.true c.loop-served.invariant.0 c.in-Err.ensures.turn)
 
 pub loop-served-preserved : goal.loop-served-preserved
 loop-served-preserved g c =
     let before = outside (g.S.Source.left c.args.source.now) (g.S.Source.faults c.args.source.now) (answering (g.K.Sink.held c.args.sink.now) (g.K.Sink.faults c.args.sink.now) (tally c.args.share.now.looks.amount c.args.share.now.misses.amount (g.M.Maker.calls c.args.maker.now))) in
     let now = outside (g.S.Source.left c.loop-served.source) (g.S.Source.faults c.loop-served.source) (answering (g.K.Sink.held c.loop-served.sink) (g.K.Sink.faults c.loop-served.sink) (tally c.loop-served.share.looks.amount c.loop-served.share.misses.amount (g.M.Maker.calls c.loop-served.maker))) in
     let after = outside (g.S.Source.left c.turn.new.source) (g.S.Source.faults c.turn.new.source) (answering (g.K.Sink.held c.turn.new.sink) (g.K.Sink.faults c.turn.new.sink) (tally c.turn.new.share.looks.amount c.turn.new.share.misses.amount (g.M.Maker.calls c.turn.new.maker))) in (
-      so_far_more g.M.Maker.reply before c.loop-served.reader now c.loop-served.served c.turn.new.reader after c.loop-served.invariant.0 c.in-Ok.ensures.turn,
+      so_far_more g.M.Maker.is_reply before c.loop-served.reader now c.loop-served.served c.turn.new.reader after c.loop-served.invariant.0 c.in-Ok.ensures.turn,
       c.in-Ok.ensures.place,
       c.turn.ensures.parts.0 ∙ c.loop-served.invariant.2,
       c.turn.ensures.parts.1 ∙ c.loop-served.invariant.3,
@@ -28,4 +28,4 @@ returns-clause-served g c =
     let before = outside (g.S.Source.left c.args.source.now) (g.S.Source.faults c.args.source.now) (answering (g.K.Sink.held c.args.sink.now) (g.K.Sink.faults c.args.sink.now) (tally c.args.share.now.looks.amount c.args.share.now.misses.amount (g.M.Maker.calls c.args.maker.now))) in
     let now = outside (g.S.Source.left c.loop-served.source) (g.S.Source.faults c.loop-served.source) (answering (g.K.Sink.held c.loop-served.sink) (g.K.Sink.faults c.loop-served.sink) (tally c.loop-served.share.looks.amount c.loop-served.share.misses.amount (g.M.Maker.calls c.loop-served.maker))) in
     let last : c.loop-served.served ≡ session_limit = omega (arith, c.loop-served-test.false, c.loop-served.auto.served-end) in
-    so_far_limit g.M.Maker.reply before c.loop-served.reader now (subst (λ (n : ℕ). SoFar g.M.Maker.reply before c.loop-served.reader now n) last c.loop-served.invariant.0)
+    so_far_limit g.M.Maker.is_reply before c.loop-served.reader now (subst (λ (n : ℕ). SoFar g.M.Maker.is_reply before c.loop-served.reader now n) last c.loop-served.invariant.0)

@@ -7,7 +7,7 @@ use Rattle.solve_serve.proofs.session.serve_one.Given as goal
 
 abbrev pub invariant-loop-served : goal.invariant-loop-served
 invariant-loop-served g l =
-    SoFar g.M.Maker.reply
+    SoFar g.M.Maker.is_reply
     (outside (g.S.Source.left l.fn.source) (g.S.Source.faults l.fn.source) (answering (g.K.Sink.held l.fn.sink) (g.K.Sink.faults l.fn.sink) (tally l.fn.share.looks.amount l.fn.share.misses.amount (g.M.Maker.calls l.fn.maker))))
     l.reader
     (outside (g.S.Source.left l.source) (g.S.Source.faults l.source) (answering (g.K.Sink.held l.sink) (g.K.Sink.faults l.sink) (tally l.share.looks.amount l.share.misses.amount (g.M.Maker.calls l.maker))))

@@ -5,7 +5,7 @@ use Rattle.solve_serve.proofs.session.turn.Goals as goal
 
 pub returns-clause-turn : goal.returns-clause-turn
 returns-clause-turn g c =
-    turn_answered g.M.Maker.reply c.in_ok-request.request c.answer.result c.args.reader.now
+    turn_answered g.M.Maker.is_reply c.in_ok-request.request c.answer.result c.args.reader.now
     (outside (g.S.Source.left c.args.source.now) (g.S.Source.faults c.args.source.now) (answering (g.K.Sink.held c.args.sink.now) (g.K.Sink.faults c.args.sink.now) (tally c.args.share.now.looks.amount c.args.share.now.misses.amount (g.M.Maker.calls c.args.maker.now))))
     c.next_request.new.reader (g.S.Source.left c.next_request.new.source) (g.S.Source.faults c.next_request.new.source)
     (answering (g.K.Sink.held c.answer.new.sink) (g.K.Sink.faults c.answer.new.sink) (tally c.answer.new.share.looks.amount c.answer.new.share.misses.amount (g.M.Maker.calls c.answer.new.maker)))

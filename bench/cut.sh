@@ -1,0 +1,98 @@
+#!/usr/bin/env bash
+# How long `solve --method cut` takes where DPOP is too wide, beside the same turns in plain Rust and, where the
+# machine has it, toulbar2.
+#
+# usage: bench/cut.sh PROGRAM
+# PROGRAM is the built program `dcop`; `rustc` builds the plain one from bench/cut/plain.rs. The files are
+# examples/crowded.dcop and the first 20 problems that `drill` makes from the numbers 0, 1 and so on, with 24
+# variables of size 4 and degree 3, in whose tree DPOP is too wide; a few lines of Python write them as text. For
+# each of three limits of cells: the best of three runs of each whole command, and the ratio of the plain program's
+# time to ours, above 1 we are faster; for the 20 problems the sum of all times. Both programs must print the same
+# bytes, and `drill` the same cost. A problem with too many turns at a limit is refused by both, and only counted.
+set -eu
+program=${1:?usage: bench/cut.sh PROGRAM}
+. "$(dirname "$0")/common.sh"
+rustc -O --edition 2021 -o "$folder/plain" "$top/bench/cut/plain.rs"
+python3 - "$program" "$folder" "$top/examples/crowded.dcop" <<'PY'
+import os, re, shutil, subprocess, sys
+from timing import best, once
+program, folder, crowded = sys.argv[1:]
+count, size, degree, top = 24, 4, 3, 100
+most_cells, limits = 1048576, (1048576, 16384, 1024)
+def words(state):
+    mask = (1 << 64) - 1
+    while True:
+        state = (state + 0x9E3779B97F4A7C15) & mask
+        z = state
+        z = ((z ^ (z >> 30)) * 0xBF58476D1CE4E5B9) & mask
+        z = ((z ^ (z >> 27)) * 0x94D049BB133111EB) & mask
+        yield z ^ (z >> 31)
+def write_made(seed, path):
+    stream = words(seed)
+    tables = []
+    for i in range(1, count):
+        for _ in range(min(i, degree)):
+            partner = next(stream) % i
+            tables.append((partner, i, [next(stream) % (top + 1) for _ in range(size * size)]))
+    with open(path, "w") as out:
+        out.write("dcop 1\n" + "".join(f"var v{i} {size}\n" for i in range(count)))
+        for i, j, cells in tables:
+            out.write(f"table v{i} v{j} : {' '.join(map(str, cells))}\n")
+        out.write("end\n")
+    with open(f"{path}.wcsp", "w") as out:
+        hard = sum(max(cells) for _, _, cells in tables) + 1
+        out.write(f"made {count} {size} {len(tables)} {hard}\n{' '.join([str(size)] * count)}\n")
+        for i, j, cells in tables:
+            out.write(f"2 {i} {j} 0 {len(cells)}\n")
+            out.write("".join(f"{place // size} {place % size} {cell}\n" for place, cell in enumerate(cells)))
+def asked_of_plain(path, limit, asked):
+    return int(once([f"{folder}/plain", str(limit), asked], path)[3])
+def cost_in(answer):
+    return int(re.search(rb"^cost (\d+)$", answer, re.M)[1])
+def timed(path, limit):
+    """The times of the two programs, and the answer; None where it is refused."""
+    if asked_of_plain(path, limit, "turns") > 65536:
+        ours, plain = (once(words, path) for words in commands(limit))
+        assert ours[1] == 11 and ours[3] == plain[3], (path, limit, ours[3], plain[3])
+        return None
+    (ours, memory, answer), (plain, _, expected) = (best(words, path, runs=3) for words in commands(limit))
+    assert answer == expected, (path, limit, answer[:200], expected[:200])
+    return ours, plain, memory, answer
+def commands(limit):
+    return [program, "solve", "--method", "cut", "--cells", str(limit)], [f"{folder}/plain", str(limit)]
+made, seed = {}, 0
+while len(made) < 20:
+    path = f"{folder}/made{seed}"
+    write_made(seed, path)
+    if asked_of_plain(path, most_cells, "widest") > most_cells:
+        assert once([program, "solve", "--method", "dpop"], path)[1] == 4, seed
+        made[seed] = path
+    seed += 1
+print(f"{os.path.basename(crowded)}:")
+for limit in limits:
+    ours, plain, memory, answer = timed(crowded, limit)
+    turns = asked_of_plain(crowded, limit, "turns")
+    print(f"  {limit:,} cells, {turns:,} turns: {ours:.4f} s with {memory:.0f} MB, plain {plain:.4f} s, ratio {plain / ours:.2f}")
+print(f"{len(made)} problems of drill, {count} variables of size {size} and degree {degree}, up to the number {max(made)}:")
+costs = {}
+for limit in limits:
+    runs = {seed: timed(path, limit) for seed, path in made.items()}
+    done = {seed: run for seed, run in runs.items() if run}
+    turns = sum(asked_of_plain(made[seed], limit, "turns") for seed in done)
+    ours, plain = (sum(run[at] for run in done.values()) for at in (0, 1))
+    for seed, run in done.items():
+        assert costs.setdefault(seed, cost_in(run[3])) == cost_in(run[3]), (seed, limit)
+    print(f"  {limit:,} cells: {len(done)} solved in {turns:,} turns, {len(made) - len(done)} with too many turns")
+    print(f"    {ours:.3f} s with at most {max(run[2] for run in done.values()):.0f} MB, plain {plain:.3f} s, ratio {plain / ours:.2f}")
+numbers = ["--vars", str(count), "--size", str(size), "--degree", str(degree), "--top", str(top)]
+for seed, cost in costs.items():
+    _, status, _, summary = once([program, "drill", "--seed", str(seed), *numbers, "--method", "cut"], os.devnull)
+    assert status == 0 and cost_in(summary) == cost, (seed, cost, summary)
+if shutil.which("toulbar2"):
+    spent = 0
+    for seed, path in made.items():
+        took, _, _, told = once(["toulbar2", f"{path}.wcsp"], os.devnull)
+        assert int(re.search(rb"^Optimum: (\d+) ", told, re.M)[1]) == costs[seed], (seed, costs[seed], told[-200:])
+        spent += took
+    print(f"  toulbar2 on the same problems as wcsp, with the same optima: {spent:.3f} s")
+PY

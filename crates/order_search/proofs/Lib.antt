@@ -1,0 +1,4 @@
+mod FoldLaws
+mod WordLaws
+mod SearchLaws
+mod FoundLaws

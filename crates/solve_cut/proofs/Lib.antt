@@ -1,0 +1,2 @@
+mod CutLaws
+pub mod AllowedLaws

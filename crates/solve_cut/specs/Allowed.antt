@@ -1,0 +1,33 @@
+-- Cuts that nothing refuses.
+use Rattle.std.specs.Prelude.{◌≡◌, ℕ, ◌≤◌, List, None}
+use Rattle.dcop_base.specs.Limits.{size_limit}
+use Rattle.dcop_base.specs.Whole.{IsProblem}
+use Rattle.problem_text.specs.File.{TextFile}
+use Rattle.problem_text.specs.Declarations.{Declared}
+use Rattle.problem_text.specs.Steps.{declared_by}
+use Rattle.certificate_text.specs.declared.report.Report.{Report}
+use Rattle.certificate_text.specs.declared.report.Ending.TheVariants.{Solved}
+use Rattle.problem_solved.specs.Goal.{problem_solved}
+use Rattle.solve_report.specs.declared.answer.Answer.{Answer}
+use Rattle.solve_report.specs.declared.answer.Answer.TheVariants as answers
+use Rattle.solve_cut.specs.Cut.{IsCutOf, refusal_of, AnswersCut}
+
+-- nothing refuses the cut, with this limit of cells, of the file of a text that declares this
+pub record HasAllowedCut (d : Declared) (limit : ℕ) : Type 0 where
+  pub file : TextFile
+  pub whole : IsProblem file.problem
+  pub declared : declared_by file ≡ d
+  pub cut : List ℕ
+  pub is_cut : IsCutOf (problem_solved file) limit cut
+  pub allowed : refusal_of (problem_solved file) cut ≡ None
+
+-- an answer is a solved report
+pub record IsSolvedReport (answer : Answer) : Type 0 where
+  pub report : Report
+  pub file : TextFile
+  pub is : answer ≡ answers.Report report file
+  pub solved : report.status ≡ Solved
+
+-- where nothing refuses the cut, the answer of the method cut is a solved report
+abbrev pub AllowedCutsAreSolved : Type 0
+AllowedCutsAreSolved = (d : Declared) (limit : ℕ) (answer : Answer) → size_limit ≤ limit → HasAllowedCut d limit → AnswersCut d limit answer → IsSolvedReport answer

@@ -1,0 +1,87 @@
+-- What the method cut gives on a file.
+use Rattle.std.specs.Prelude.{◌≡◌, ℕ, ◌*◌, false, List, Option, Some, None, Result, Ok, Err}
+use Rattle.dcop_base.specs.Problem.{Dcop, IsAssignment, cost}
+use Rattle.dcop_base.specs.Whole.{IsProblem}
+use Rattle.pseudotree.specs.DepthFirst.{dfs}
+use Rattle.cut_laws.specs.CutSet.{IsCutSet}
+use Rattle.cut_laws.specs.Kept.{IsCutAnswer}
+use Rattle.cut_laws.specs.Turns.{turn_count}
+use Rattle.cut_dpop.specs.End.{IsCutEnd, IsRefused}
+use Rattle.cut_dpop.specs.Refusal.{turn_limit, refusal}
+use Rattle.cut_dpop.specs.Start.{turn_deliveries}
+use Rattle.cut_dpop.specs.declared.run.CutEnd.{CutEnd}
+use Rattle.cut_dpop.specs.declared.fault.CutFault.{CutFault}
+use Rattle.cut_dpop.specs.declared.fault.CutFault.TheVariants as faults
+use Rattle.problem_text.specs.File.{TextFile}
+use Rattle.problem_text.specs.Declarations.{Declared}
+use Rattle.problem_text.specs.Steps.{declared_by}
+use Rattle.certificate_text.specs.declared.report.Report.{Report}
+use Rattle.certificate_text.specs.declared.report.Ending.TheVariants.{Solved}
+use Rattle.certificate_text.specs.declared.report.Method.TheVariants.{Cut}
+use Rattle.problem_solved.specs.Goal.{problem_solved, IsBestSum}
+use Rattle.solve_report.specs.declared.answer.Answer.{Answer}
+use Rattle.solve_report.specs.declared.answer.Answer.TheVariants as answers
+
+-- the variables that are cut so that no joined table on the depth-first tree of a problem has more cells than a limit
+abbrev pub IsCutOf : Dcop → ℕ → List ℕ → Type 0
+IsCutOf p limit cut = IsCutSet p (dfs p) limit cut
+
+-- why a cut of a problem on its depth-first tree is refused, if it is; no tables are kept
+abbrev pub refusal_of : Dcop → List ℕ → Option CutFault
+refusal_of p cut = refusal p (dfs p) cut false
+
+-- values of a problem are those of the first turn of least cost, on its depth-first tree
+abbrev pub AreOfFirstTurn : Dcop → List ℕ → List ℕ → Type 0
+AreOfFirstTurn p cut values = (least : ℕ) × IsCutAnswer p (dfs p) cut least values
+
+-- a report of a cut on a file: its values are those of the first turn of least cost of the problem solved, its deliveries are those of all turns, and its cost is that of its values in the file's problem, which is the best sum, and is lower and upper too
+pub record IsCutReport (file : TextFile) (cut : List ℕ) (report : Report) : Type 0 where
+  pub status : report.status ≡ Solved
+  pub method : report.method ≡ Cut
+  pub goal : report.goal ≡ file.goal
+  pub error : report.error ≡ 0
+  pub deliveries : report.deliveries ≡ turn_count file.problem cut * turn_deliveries file.problem
+  pub first : AreOfFirstTurn (problem_solved file) cut report.values
+  pub cost : report.cost ≡ cost file.problem report.values
+  pub best : IsBestSum file.goal file.problem report.cost
+  pub lower : report.lower ≡ report.cost
+  pub upper : report.upper ≡ report.cost
+  pub certificate : report.certificate ≡ None
+
+-- an answer with such a report, beside its file
+pub record IsCutSolved (file : TextFile) (cut : List ℕ) (answer : Answer) : Type 0 where
+  pub report : Report
+  pub is : answer ≡ answers.Report report file
+  pub form : IsCutReport file cut report
+
+-- the answer where a cut is refused for this; want of memory has none
+abbrev pub IsRefusalAnswer : CutFault → Answer → Type 0
+IsRefusalAnswer (faults.TooMany turns) answer = answer ≡ answers.ManyTurns turns turn_limit
+IsRefusalAnswer (faults.Total cells) answer = answer ≡ answers.WideTotal cells
+IsRefusalAnswer faults.NoMemory answer = ⊥
+
+-- the answer of a cut on a file, which this refuses, or nothing
+abbrev pub IsCutAnswerBy : TextFile → List ℕ → Option CutFault → Answer → Type 0
+IsCutAnswerBy file cut (Some fault) answer = IsRefusalAnswer fault answer
+IsCutAnswerBy file cut None answer = IsCutSolved file cut answer
+
+-- the answer of the method cut on a text that declares this, with this limit of cells: what refuses the cut of the problem solved for its file, whose joints follow from the tables, else a report
+pub record AnswersCut (d : Declared) (limit : ℕ) (answer : Answer) : Type 0 where
+  pub file : TextFile
+  pub whole : IsProblem file.problem
+  pub declared : declared_by file ≡ d
+  pub cut : List ℕ
+  pub is_cut : IsCutOf (problem_solved file) limit cut
+  pub is : IsCutAnswerBy file cut (refusal_of (problem_solved file) cut) answer
+
+-- what a cut of a problem on its depth-first tree comes to: its end, or what refuses it; want of memory may come at any
+abbrev pub GivesCut : Dcop → ℕ → Result CutEnd CutFault → Type 0
+GivesCut p limit (Ok end) = IsCutEnd p (dfs p) limit false end
+GivesCut p limit (Err fault) = IsRefused p (dfs p) limit false fault
+
+-- what a cut of the problem solved came to, seen from the file's own problem: an assignment whose cost is the best sum
+pub record IsBestCut (file : TextFile) (end : CutEnd) : Type 0 where
+  pub deliveries : end.deliveries ≡ turn_count file.problem end.cut * turn_deliveries file.problem
+  pub first : AreOfFirstTurn (problem_solved file) end.cut end.values
+  pub assignment : IsAssignment file.problem end.values
+  pub best : IsBestSum file.goal file.problem (cost file.problem end.values)

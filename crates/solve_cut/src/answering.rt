@@ -1,0 +1,117 @@
+//! The answer of the method cut, from what a cut came to.
+
+ghost use Rattle.std.specs.Prelude.{◌≡◌, ◌<◌, ◌≤◌, IfOk};
+ghost use Rattle.dcop_base.specs.Limits.{joined_limit, size_limit};
+ghost use Rattle.certificate_text.specs.Named.{CanTell};
+ghost use Rattle.pseudotree.specs.DepthFirst.{dfs};
+ghost use Rattle.pseudotree.specs.Pseudotree.{IsPseudotreeOf};
+ghost use Rattle.problem_solved.specs.Goal.{problem_solved};
+ghost use Rattle.problem_text.specs.Steps.{declared_by};
+ghost use Rattle.solve_methods.specs.Goal.{TellsRight};
+ghost use Rattle.solve_report.specs.AnswerText.{HasText};
+ghost use Rattle.solve_cut.specs.Cut.{AnswersCut, GivesCut, IsBestCut, IsCutReport, IsRefusalAnswer};
+
+use crate::cutting::cut_for;
+use certificate_text::{Ending, Method, Report};
+use cut_dpop::{CutEnd, CutFault, MAX_TURNS};
+use cut_laws::{cut_answers_are_optimal, cut_sets_are_one};
+use dcop_base::{NoMemory, cost_of, problem_is_whole};
+use dcop_edge::Gate;
+use problem_text::ProblemFile;
+use pseudotree::{Tree, depth_first_trees_are_linked};
+use solve_report::Answer;
+use std::alloc::Global;
+use std::thread::Threads;
+
+/// The answer of the method cut on a file, from the depth-first tree of the problem solved for it: a
+/// report, or that the cut has too many turns or sends too many cells in one. No joined table of any
+/// turn has more than `limit` cells. So many workers run the agents, and each visit of an agent
+/// passes the gate.
+///
+/// # Errors
+///
+/// [`NoMemory`] where memory was wanted and not had.
+pub fn cut_answer<R: Threads + Sync, G: Gate>(
+    rt: &R,
+    alloc: Global,
+    file: ProblemFile,
+    tree: Tree,
+    limit: u64,
+    workers: u32,
+    gate: &G,
+) -> Result<Answer, NoMemory>
+    requires tree { IsPseudotreeOf (problem_solved file) tree }
+    requires paths { tree.paths ≡ dfs (problem_solved file) }
+    requires least { size_limit ≤ limit }
+    requires most { limit ≤ joined_limit }
+    requires workers { 0 < workers }
+    ensures belongs { IfOk result (AnswersCut (declared_by file) limit) }
+    ensures right { IfOk result TellsRight }
+    ensures told { IfOk result HasText }
+{
+    let cut = cut_for(rt, alloc, &file, &tree, limit, workers, gate);
+    answer_of(file, limit, cut)
+}
+
+/// The answer that tells what a cut of the problem solved for a file came to.
+fn answer_of(
+    file: ProblemFile,
+    limit: u64,
+    cut: Result<CutEnd, CutFault>,
+) -> Result<Answer, NoMemory>
+    requires least { size_limit ≤ limit }
+    requires cut { GivesCut (problem_solved file) limit cut }
+    ensures belongs { IfOk result (AnswersCut (declared_by file) limit) }
+    ensures right { IfOk result TellsRight }
+    ensures told { IfOk result HasText }
+{
+    cut_answers_are_optimal();
+    cut_sets_are_one();
+    depth_first_trees_are_linked();
+    problem_is_whole(&file.problem);
+    match cut {
+        Ok(end) => Ok(Answer::Report {
+            report: cut_report(&file, end),
+            file,
+        }),
+        Err(fault) => refusal_answer(fault),
+    }
+}
+
+/// The answer where a cut is refused.
+fn refusal_answer(fault: CutFault) -> Result<Answer, NoMemory>
+    ensures belongs { IfOk result (IsRefusalAnswer fault) }
+    ensures right { IfOk result TellsRight }
+    ensures told { IfOk result HasText }
+{
+    match fault {
+        CutFault::TooMany { turns } => Ok(Answer::ManyTurns {
+            turns,
+            limit: MAX_TURNS,
+        }),
+        CutFault::Total { cells } => Ok(Answer::WideTotal { cells }),
+        CutFault::NoMemory => Err(NoMemory),
+    }
+}
+
+/// The report of what a cut came to.
+fn cut_report(file: &ProblemFile, end: CutEnd) -> Report
+    requires { IsBestCut file.now end }
+    ensures form { IsCutReport file.now end.cut result }
+    ensures values { result.values ≡ end.values }
+    ensures told { CanTell result file.now }
+{
+    let cost = cost_of(&file.problem, end.values.as_slice());
+    Report {
+        status: Ending::Solved,
+        method: Method::Cut,
+        goal: file.goal,
+        error: 0,
+        deliveries: end.deliveries,
+        cost,
+        lower: cost,
+        upper: cost,
+        values: end.values,
+        certificate: None,
+    }
+}

@@ -1,0 +1,9 @@
+mod OrderLaws
+mod PlanLaws
+mod DrainLaws
+mod FeedLaws
+mod KeptLaws
+mod WeaveLaws
+mod ExchangeLaws
+mod OverLaws
+mod RunLaws

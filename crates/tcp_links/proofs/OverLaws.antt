@@ -1,0 +1,299 @@
+-- Playing cells over a plan of nodes, round by round.
+use Rattle.std.proofs.Common.{◌≡◌, ℕ, ◌+◌, ◌*◌, ◌<◌, ◌≤◌, false, Result, Ok, Err, Option, Some, None, List, [], ◌∷◌, ◌++◌, length, refl, sym, ap, subst, ◌∙◌, inl, inr, arith}
+use Rattle.std.specs.Prelude.{OnOk, IfErr, IsErrAnd}
+use Rattle.std.specs.List.{Contains}
+use Rattle.std.specs.declared.dyn_box.DynBox.{DynBox}
+use Rattle.std.specs.declared.alloc.Global.{Global}
+use Rattle.std.proofs.Math.Nat.{mul-le-mul_right}
+use Rattle.std.proofs.lemmas.List.{length-map, length-append}
+use Rattle.std.proofs.lemmas.List.Elements.{All-nil}
+use Rattle.dcop_base.specs.Limits.{variable_limit, budget_limit}
+use Rattle.protocol_steps.specs.declared.run_end.RunEnd.{RunEnd}
+use Rattle.protocol_steps.specs.View.{View}
+use Rattle.worker_runs.specs.Cells.{CellState, peers, EachAre}
+use Rattle.worker_runs.specs.Visits.{IsFrom, IsQuiet}
+use Rattle.worker_runs.specs.CellRounds.{total}
+use Rattle.worker_runs.specs.CellRuns.{all_ended}
+use Rattle.worker_runs.specs.NodeRounds.{home, IsPartRound}
+use Rattle.worker_runs.specs.StampCounts.{IsMoved}
+use Rattle.worker_runs.proofs.LaneLaws.{grown_none}
+use Rattle.worker_runs.proofs.EachLaws.{each_long}
+use Rattle.worker_runs.proofs.VisitLaws.{totals_add}
+use Rattle.node_runs.specs.Wires.{Wire}
+use Rattle.node_runs.specs.Exchanges.{IsExchange}
+use Rattle.node_runs.specs.NodeRounds.{IsNodeRound, AreNodeRounds, ArePlayedOver}
+use Rattle.node_runs.specs.NodeStamps.{HasOnlyTaken}
+use Rattle.node_runs.proofs.RoundLaws.{node_rounds_push}
+use Rattle.agent_cells.specs.declared.cell.Cell.{Cell}
+use Rattle.agent_cells.specs.declared.fault.VisitFault.TheVariants.{StampEnd}
+use Rattle.agent_cells.specs.State.{state_of, fault_in, tails_in, heads_in}
+use Rattle.agent_workers.specs.Joined.{states_of, EachIs, EachBecomes, IsSameCell, IsJoined}
+use Rattle.agent_workers.specs.Settled.{StaysQuiet}
+use Rattle.agent_workers.specs.Turns.{sprint_limit, SomeFailed}
+use Rattle.agent_workers.specs.Broken.{StandsOrEnds, AreBrokenOff}
+use Rattle.agent_workers.specs.Run.{AreBusy, AreDue}
+use Rattle.agent_workers.proofs.JoinLaws.{stood, sent_peers, taken_peers, quiet_same, joined_still}
+use Rattle.tcp_links.specs.declared.fault.Difference.TheVariants.{Message, Bytes}
+use Rattle.tcp_links.specs.declared.fault.NodeFault.{NodeFault}
+use Rattle.tcp_links.specs.declared.fault.NodeFault.TheVariants.{Failed, Differs, NoMemory}
+use Rattle.tcp_links.specs.declared.plan.InnerEnds.{InnerEnds}
+use Rattle.tcp_links.specs.declared.plan.NodePlan.{NodePlan}
+use Rattle.tcp_links.specs.Faults.{HasNodeCause}
+use Rattle.tcp_links.specs.Woven.{AreWoven}
+use Rattle.tcp_links.specs.Over.{IsDrainedOf, IsPlanOver, HasExchanged, HasPassedOther, IsExchangeFault, ArePlayedSo, IsIdleOver, ArePlayedOutOver, HasBrokenOver, HasRoundOver, HasBrokenRound, ArePlayedTo}
+use Rattle.tcp_links.specs.Ends.{AreThere, HasOtherByte, IsFaultOver}
+use Rattle.tcp_links.proofs.DrainLaws.{tail_still, head_none}
+use Rattle.tcp_links.proofs.FeedLaws.{heads_still}
+
+-- a fault that is passed on
+pub err_on : {T : Type 0} (r : Result T NodeFault) (e : NodeFault) (P : NodeFault → Type 0) → IsErrAnd r (λ x. x ≡ e) → P e → IfErr r P
+err_on (Ok x) e P h p = tt
+err_on (Err x) e P h p = subst P (sym h) p
+
+pub nothing_on : {T : Type 0} (r : Result T NodeFault) (e : NodeFault) (P : Type 0) → IsErrAnd r (λ x. x ≡ e) → OnOk r P
+nothing_on (Ok x) e P h = absurd h
+nothing_on (Err x) e P h = tt
+
+-- the cause of a fault, whatever was asked for
+same_cause : (S T : Type 0) (old new : ℕ) (e : NodeFault) → HasNodeCause {T = S} old new (Err e) → HasNodeCause {T = T} old new (Err e)
+same_cause S T old new Failed h = h
+same_cause S T old new (Differs d) h = h
+same_cause S T old new NoMemory h = h
+
+-- and behind calls that left the count as it was
+pub cause_on : {T : Type 0} (S : Type 0) (first old new : ℕ) (r : Result T NodeFault) (e : NodeFault) → old ≡ first → IsErrAnd r (λ x. x ≡ e) → HasNodeCause {T = S} old new (Err e) → HasNodeCause first new r
+cause_on S first old new (Ok x) e same h cause = absurd h
+cause_on {T = T} S first old new (Err x) e same h cause =
+    subst (λ (f : NodeFault). HasNodeCause {T = T} first new (Err f)) (sym h) (subst (λ (n : ℕ). HasNodeCause {T = T} n new (Err e)) same (same_cause S T old new e cause))
+
+-- one round more
+busy_push : (node : ℕ → ℕ) (budget : ℕ) (begun : List Wire) (a : List CellState) (rounds : List (List CellState)) (wires : List Wire) (b c : List CellState)
+    → AreNodeRounds node budget begun a rounds wires b → AreBusy a rounds → all_ended b ≡ false → total b < total c → AreBusy a (rounds ++ c ∷ [])
+busy_push node budget begun a [] wires b c are busy awake more = subst (λ (cells : List CellState). AreBusy cells (c ∷ [])) (sym are.1) (awake, more, tt)
+busy_push node budget begun a (next ∷ rounds) wires b c are busy awake more = (busy.0, busy.1, busy_push node budget are.1.0 next rounds wires b c are.1.2 busy.2 awake more)
+
+due_push : (node : ℕ → ℕ) (budget : ℕ) (begun : List Wire) (a : List CellState) (rounds : List (List CellState)) (wires : List Wire) (b c : List CellState)
+    → AreNodeRounds node budget begun a rounds wires b → AreBusy a rounds → all_ended b ≡ false → AreDue a (rounds ++ c ∷ [])
+due_push node budget begun a [] wires b c are busy awake = subst (λ (cells : List CellState). AreDue cells (c ∷ [])) (sym are.1) (awake, (λ some. absurd (some refl)), tt)
+due_push node budget begun a (next ∷ rounds) wires b c are busy awake = (busy.0, (λ _. busy.1), due_push node budget are.1.0 next rounds wires b c are.1.2 busy.2 awake)
+
+due_busy : (a : List CellState) (rounds : List (List CellState)) → AreBusy a rounds → AreDue a rounds
+due_busy a [] busy = tt
+due_busy a (next ∷ rounds) busy = (busy.0, (λ _. busy.1), due_busy next rounds busy.2)
+
+pub none_over : (node : ℕ → ℕ) (budget : ℕ) (wires : List Wire) (cells : List CellState) → ArePlayedSo node budget AreBusy 0 wires cells wires cells
+none_over node budget wires cells = record { rounds = []; are = (refl, refl); such = tt; counted = refl }
+
+pub all_over : (node : ℕ → ℕ) (budget count : ℕ) (begun : List Wire) (started : List CellState) (wires : List Wire) (now : List CellState)
+    → ArePlayedSo node budget AreBusy count begun started wires now → ArePlayedSo node budget AreDue count begun started wires now
+all_over node budget count begun started wires now p = record { rounds = p.rounds; are = p.are; such = due_busy started p.rounds p.such; counted = p.counted }
+
+pub plainly_over : (node : ℕ → ℕ) (budget count : ℕ) (Such : List CellState → List (List CellState) → Type 0) (begun : List Wire) (started : List CellState) (wires : List Wire) (now : List CellState)
+    → ArePlayedSo node budget Such count begun started wires now → ArePlayedOver node budget begun started wires now
+plainly_over node budget count Such begun started wires now p = record { rounds = p.rounds; are = p.are }
+
+module _ {X : Type 0} {F : X → Type 0} (M : DynBox X Global F → View) where
+  -- links stay woven with cells that keep theirs
+  pub woven_still : (nodes agents : ℕ) (ws : List Wire) (es : List InnerEnds) (before after : List (Cell X F)) → AreWoven M nodes agents ws es before → EachBecomes IsSameCell before after
+      → AreWoven M nodes agents ws es after
+  woven_still nodes agents ws es before after w s = record {
+    size = s.size ∙ w.size;
+    ends = w.ends;
+    between = w.between;
+    apart = w.apart;
+    woven = λ k v e from to at_v at_e f t.
+        let a = stood M IsSameCell before after s v.sender from f in
+        let b = stood M IsSameCell before after s v.receiver to t in
+        let old = w.woven k v e a.0 b.0 at_v at_e a.1 b.1 in
+        record {
+          drains = tail_still (tails_in a.0) (tails_in from) v.receiver e.drain e.drain old.drains a.2.links.tails (head_none e.drain);
+          feeds = heads_still (heads_in b.0) (heads_in to) v.sender e.feed old.feeds b.2.links.heads;
+          sends = subst (λ (ns : List ℕ). Contains ns v.receiver) (sym (sent_peers M a.0 from a.2)) old.sends;
+          takes = subst (λ (ns : List ℕ). Contains ns v.sender) (sym (taken_peers M b.0 to b.2)) old.takes;
+          kept = old.kept;
+        };
+    every = λ i j from f has apart.
+        let a = stood M IsSameCell before after s i from f in
+        w.every i j a.0 a.1 (subst (λ (ns : List ℕ). Contains ns j) (sent_peers M a.0 from a.2) has) apart;
+  }
+
+  -- cells that stay quiet have not failed
+  pub fine_quiet : (before after : List (Cell X F)) → EachBecomes (StaysQuiet M) before after → EachIs (λ c. fault_in c ≡ None) before → EachIs (λ c. fault_in c ≡ None) after
+  fine_quiet before after q fine = record { each = λ i b is. let a = stood M (StaysQuiet M) before after q i b is in a.2.fault ∙ fine.each i a.0 a.1 }
+
+  pub joined_quiet : (nodes : ℕ) (before after : List (Cell X F)) → IsJoined M nodes before → EachBecomes (StaysQuiet M) before after → IsJoined M nodes after
+  joined_quiet nodes before after j q = joined_still M nodes before after j (quiet_same M before after q)
+
+  only_taken : (s : CellState) (c : Cell X F) → StandsOrEnds M s c → HasOnlyTaken s (state_of M c)
+  only_taken s c (inl e) = record {
+    gains = [];
+    senders = All-nil (IsFrom (peers s.taken));
+    taken = ap (λ (t : CellState). t.taken) e.0 ∙ sym (grown_none s.taken);
+    sent = ap (λ (t : CellState). t.sent) e.0;
+  }
+  only_taken s c (inr r) = record { gains = r.gains; senders = r.senders; taken = r.taken; sent = r.sent }
+
+  each_only : (ss : List CellState) (cells : List (Cell X F)) → EachAre (StandsOrEnds M) ss cells → EachAre HasOnlyTaken ss (states_of M cells)
+  each_only [] [] h = tt
+  each_only [] (c ∷ cells) h = absurd h
+  each_only (s ∷ ss) [] h = absurd h
+  each_only (s ∷ ss) (c ∷ cells) h = (only_taken s c h.0, each_only ss cells h.1)
+
+  -- playing that has ended, as it is told
+  pub ended_to : (node : ℕ → ℕ) (budget : ℕ) (begun : List Wire) (started : List CellState) (wires : List Wire) (now : List (Cell X F)) (count rounds : ℕ) (answer : RunEnd) (end : Option RunEnd)
+      → (rounds ≡ count) × (end ≡ Some answer) → ArePlayedOutOver node budget count begun started wires (states_of M now) answer → ArePlayedTo M node budget begun started wires now rounds end
+  ended_to node budget begun started wires now count rounds answer end is p =
+      subst (λ (e : Option RunEnd). ArePlayedTo M node budget begun started wires now rounds e) (sym is.1)
+      (subst (λ (n : ℕ). ArePlayedOutOver node budget n begun started wires (states_of M now) answer) (sym is.0) p)
+
+  pub broken_to : (node : ℕ → ℕ) (budget : ℕ) (begun : List Wire) (started : List CellState) (wires : List Wire) (now : List (Cell X F)) (count rounds : ℕ) (end : Option RunEnd)
+      → (rounds ≡ count) × (end ≡ None) → HasBrokenOver M node budget count begun started wires now → ArePlayedTo M node budget begun started wires now rounds end
+  broken_to node budget begun started wires now count rounds end is b =
+      subst (λ (e : Option RunEnd). ArePlayedTo M node budget begun started wires now rounds e) (sym is.1)
+      (subst (λ (n : ℕ). HasBrokenOver M node budget n begun started wires now) (sym is.0) b)
+
+  module _ {W : Type 0} where
+    pub over_self : (p q : NodePlan W) (cells : List (Cell X F)) → IsPlanOver M p q cells → IsPlanOver M q q cells
+    over_self p q cells o = record { plan = o.plan; nodes = refl; agents = refl; woven = o.woven }
+
+    pub over_then : (p q r : NodePlan W) (now next : List (Cell X F)) → IsPlanOver M p q now → IsPlanOver M q r next → IsPlanOver M p r next
+    over_then p q r now next o n = record { plan = n.plan; nodes = n.nodes ∙ o.nodes; agents = n.agents ∙ o.agents; woven = n.woven }
+
+    pub over_still : (p q : NodePlan W) (before after : List (Cell X F)) → IsPlanOver M p q before → EachBecomes IsSameCell before after → IsPlanOver M p q after
+    over_still p q before after o s = record { plan = o.plan; nodes = o.nodes; agents = o.agents; woven = woven_still q.nodes q.agents q.kept.items q.ends.items before after o.woven s }
+
+    -- cells joined by as many nodes
+    pub joined_over : (p q : NodePlan W) (cells : List (Cell X F)) → q.nodes ≡ p.nodes → IsJoined M p.nodes cells → IsJoined M q.nodes cells
+    joined_over p q cells same j = subst (λ (n : ℕ). IsJoined M n cells) (sym same) j
+
+    pub joined_back : (p q : NodePlan W) (cells : List (Cell X F)) → q.nodes ≡ p.nodes → IsJoined M q.nodes cells → IsJoined M p.nodes cells
+    joined_back p q cells same j = subst (λ (n : ℕ). IsJoined M n cells) same j
+
+    -- what tells of the nodes of one plan tells of those of another with as many
+    as_there : (P : (ℕ → ℕ) → Type 0) (p q : NodePlan W) (cells : List (Cell X F)) → IsPlanOver M p q cells → P (home q.nodes q.agents) → P (home p.nodes p.agents)
+    as_there P p q cells o h = subst (λ (n : ℕ). P (home n p.agents)) o.nodes (subst (λ (n : ℕ). P (home q.nodes n)) o.agents h)
+
+    -- a round, by its exchange and what was played behind it
+    pub round_made : (before after : NodePlan W) (cells ready now : List (Cell X F)) (count : ℕ) → HasExchanged M before cells after ready → EachBecomes (StaysQuiet M) cells ready
+        → IsPartRound (home after.nodes (length ready)) (states_of M ready) (states_of M now) → total (states_of M now) ≡ total (states_of M ready) + count → count ≤ length ready * sprint_limit
+        → EachIs (λ c. fault_in c ≡ None) now → HasRoundOver M before cells after now count
+    round_made before after cells ready now count x quiet round counted most fine =
+        let size : length ready ≡ after.agents = x.over.woven.size in
+        let still : total (states_of M ready) ≡ total (states_of M cells) = totals_add.quiet (states_of M cells) (states_of M ready) x.exchange.quiet in
+        let long : length ready ≡ length cells = quiet.size in
+        record {
+          round = record {
+            ready = states_of M ready;
+            exchange = x.exchange;
+            round = as_there (λ node. IsPartRound node (states_of M ready) (states_of M now)) before after ready x.over
+                (subst (λ (n : ℕ). IsPartRound (home after.nodes n) (states_of M ready) (states_of M now)) size round);
+          };
+          counted = omega (arith, counted, still);
+          most = omega (arith, most, long);
+          fine = fine;
+        }
+
+    pub broken_made : (before after : NodePlan W) (cells ready now : List (Cell X F)) → HasExchanged M before cells after ready → AreBrokenOff M IsMoved sprint_limit (states_of M ready) now → SomeFailed StampEnd now
+        → HasBrokenRound M before cells after now
+    broken_made before after cells ready now x b failed =
+        record { ready = states_of M ready; exchange = x.exchange; stood = b.stood; moved = b.gone; most = b.most; came = b.came; failed = failed }
+
+    -- a byte that an exchange finds to differ, behind these rounds
+    pub byte_over : (budget round : ℕ) (begun : List Wire) (started : List CellState) (p q : NodePlan W) (cells : List (Cell X F)) (behind from_node to_node place : ℕ) (sent taken : Option ℕ) → IsPlanOver M p q cells
+        → AreThere (home p.nodes p.agents) budget begun started q.kept.items (states_of M cells) round → HasPassedOther M round q cells (Bytes behind from_node to_node place sent taken)
+        → HasOtherByte (home p.nodes p.agents) budget begun started behind from_node to_node place sent taken
+    byte_over budget round begun started p q cells behind from_node to_node place sent taken o at f =
+        subst (λ (n : ℕ). HasOtherByte (home p.nodes p.agents) budget begun started n from_node to_node place sent taken) (sym f.fault.0)
+        (record {
+          wires = q.kept.items;
+          now = states_of M cells;
+          there = at;
+          passings = f.passings;
+          drained = as_there (λ node. EachAre (IsDrainedOf node (states_of M cells)) q.kept.items f.passings) p q cells o f.drained;
+          other = f.fault.1;
+        })
+
+    module _ (budget count : ℕ) (begun : List Wire) (started : List CellState) (p q : NodePlan W) (now : List (Cell X F)) (o : IsPlanOver M p q now)
+        (played : ArePlayedSo (home p.nodes p.agents) budget AreBusy count begun started q.kept.items (states_of M now)) where
+      abbrev node : ℕ → ℕ
+      node = home p.nodes p.agents
+
+      abbrev pub busy_over : ArePlayedOver node budget begun started q.kept.items (states_of M now)
+      busy_over = record { rounds = played.rounds; are = played.are }
+
+      -- a fault that an exchange finds behind these rounds
+      pub fault_over : (e : NodeFault) → IsExchangeFault M count q now e → IsFaultOver node budget begun started e
+      fault_over Failed f = tt
+      fault_over (Differs (Message from to at sent taken)) f = f.fault
+      fault_over (Differs (Bytes behind from_node to_node place sent taken)) f =
+          byte_over budget count begun started p q now behind from_node to_node place sent taken o (inl (busy_over, played.counted)) f
+      fault_over NoMemory f = tt
+
+      module _ (n : ℕ) (is : n ≡ total (states_of M now)) (less : n < budget) where
+        -- one round more
+        module _ (r : NodePlan W) (next : List (Cell X F)) (taken : ℕ) (made : HasRoundOver M q now r next taken) (awake : all_ended (states_of M now) ≡ false) where
+          round_in : IsNodeRound node q.kept.items r.kept.items (states_of M now) (states_of M next)
+          round_in = as_there (λ place. IsNodeRound place q.kept.items r.kept.items (states_of M now) (states_of M next)) p q now o made.round
+
+          rounds_on : AreNodeRounds node budget begun started (played.rounds ++ states_of M next ∷ []) r.kept.items (states_of M next)
+          rounds_on = node_rounds_push node budget begun started played.rounds q.kept.items (states_of M now) r.kept.items (states_of M next) played.are (omega (arith, is, less)) round_in
+
+          counted_on : length (played.rounds ++ states_of M next ∷ []) ≡ count + 1
+          counted_on = length-append played.rounds (states_of M next ∷ []) ∙ ap (λ (k : ℕ). k + 1) played.counted
+
+          pub due_on : ArePlayedSo node budget AreDue (count + 1) begun started r.kept.items (states_of M next)
+          due_on = record {
+            rounds = played.rounds ++ states_of M next ∷ [];
+            are = rounds_on;
+            such = due_push node budget begun started played.rounds q.kept.items (states_of M now) (states_of M next) played.are played.such awake;
+            counted = counted_on;
+          }
+
+          pub busy_on : 0 < taken → ArePlayedSo node budget AreBusy (count + 1) begun started r.kept.items (states_of M next)
+          busy_on some =
+              let more = made.counted in
+              record {
+                rounds = played.rounds ++ states_of M next ∷ [];
+                are = rounds_on;
+                such = busy_push node budget begun started played.rounds q.kept.items (states_of M now) (states_of M next) played.are played.such awake (omega (arith, more, some));
+                counted = counted_on;
+              }
+
+          pub idle_on : taken ≡ 0 → IsIdleOver node budget begun started r.kept.items (states_of M next)
+          idle_on none =
+              let more = made.counted in
+              record {
+                before = states_of M now;
+                passed = q.kept.items;
+                played = busy_over;
+                less = omega (arith, is, less);
+                round = round_in;
+                none = omega (arith, more, none);
+              }
+
+        -- a round that was broken off came last
+        pub broken_on : (r : NodePlan W) (next : List (Cell X F)) → budget ≤ budget_limit → length now ≤ variable_limit → HasBrokenRound M q now r next
+            → HasBrokenOver M node budget (count + 1) begun started r.kept.items next
+        broken_on r next within size b =
+            let exchange = as_there (λ place. IsExchange place q.kept.items r.kept.items (states_of M now) b.ready) p q now o b.exchange in
+            let still : total b.ready ≡ total (states_of M now) = totals_add.quiet (states_of M now) b.ready exchange.quiet in
+            let long : length (states_of M now) ≡ length b.ready = each_long IsQuiet (states_of M now) b.ready exchange.quiet in
+            let longer : length (states_of M now) ≡ length now = length-map now (state_of M) in
+            let bound = mul-le-mul_right sprint_limit (let le : length b.ready ≤ variable_limit = omega (arith, long, longer, size) in le) in
+            let most = b.most in
+            record {
+              stood = b.stood;
+              broken = record {
+                before = states_of M now;
+                passed = q.kept.items;
+                played = busy_over;
+                ready = b.ready;
+                exchange = exchange;
+                moved = b.moved;
+                taken = each_only b.stood next b.came;
+              };
+              counted = ap (λ (k : ℕ). k + 1) played.counted;
+              came = b.came;
+              few = omega (arith, bound, most, still, is, less, within);
+              failed = b.failed;
+            }

@@ -1,0 +1,291 @@
+-- A run of nodes, by its start, its rounds and its end.
+use Rattle.std.proofs.Common.{◌≡◌, ℕ, zero, suc, ◌&&◌, Bool, Option, Some, None, List, [], ◌∷◌, map, length, get_or, slice_get, refl, sym, ap, ap₂, subst, ◌∙◌, inl, inr, arith}
+use Rattle.std.specs.List.{All, Contains, flat_map}
+use Rattle.std.specs.declared.dyn_box.DynBox.{DynBox}
+use Rattle.std.specs.declared.alloc.Global.{Global}
+use Rattle.std.proofs.lemmas.Option.{none-some, same_Some, slice_get_within, slice_get-get_or, get_or_from_slice_get}
+use Rattle.std.proofs.lemmas.List.{length-map}
+use Rattle.std.proofs.lemmas.List.Elements.{All-nil}
+use Rattle.protocol_steps.specs.declared.message.Message.{Message as Sent}
+use Rattle.protocol_steps.specs.declared.run_end.RunEnd.{RunEnd}
+use Rattle.protocol_steps.specs.declared.run_end.RunEnd.TheVariants.{AllEnded, Spent, Still}
+use Rattle.protocol_steps.specs.View.{View, ended_of}
+use Rattle.worker_runs.specs.Cells.{CellState, IsWired, EachAre}
+use Rattle.worker_runs.specs.Visits.{IsStarted, IsQuiet}
+use Rattle.worker_runs.specs.CellRounds.{AreStarted, total}
+use Rattle.worker_runs.specs.CellRuns.{all_ended, MakesARun}
+use Rattle.worker_runs.specs.NodeRounds.{home}
+use Rattle.worker_runs.proofs.EachLaws.{there, each_back}
+use Rattle.worker_runs.proofs.VisitLaws.{totals_add}
+use Rattle.node_runs.specs.Wires.{Passage, Wire, IsSame, HasHeld, HaveHeld}
+use Rattle.node_runs.specs.Exchanges.{IsExchange}
+use Rattle.node_runs.specs.NodeRounds.{IsNodeEnd}
+use Rattle.node_runs.specs.NodeRuns.{IsAsInOneNode}
+use Rattle.node_runs.proofs.RunLaws.{nodes_are_one, played_nodes_make_runs}
+use Rattle.node_runs.proofs.StampLaws.{node_stamps_are_few}
+use Rattle.kept_wires.specs.Differences.{Differs as DifferKept}
+use Rattle.agent_cells.specs.declared.cell.Cell.{Cell}
+use Rattle.agent_cells.specs.declared.fault.VisitFault.TheVariants.{StampEnd}
+use Rattle.agent_cells.specs.State.{state_of}
+use Rattle.agent_workers.specs.Joined.{states_of, EachBecomes, IsSameCell, IsJoined}
+use Rattle.agent_workers.specs.Settled.{HaveSettled}
+use Rattle.agent_workers.specs.Broken.{StandsOrEnds}
+use Rattle.agent_workers.specs.Run.{views_of, HasStarted, AreDulyPlayed}
+use Rattle.agent_workers.proofs.ListLaws.{map_back, each_are}
+use Rattle.agent_workers.proofs.JoinLaws.{joined_still}
+use Rattle.agent_workers.proofs.SettleLaws.{settling}
+use Rattle.agent_workers.proofs.RunLaws.{none_taken}
+use Rattle.tcp_links.specs.declared.fault.Difference.{Difference}
+use Rattle.tcp_links.specs.declared.fault.Difference.TheVariants.{Message, Bytes}
+use Rattle.tcp_links.specs.declared.fault.NodeFault.{NodeFault}
+use Rattle.tcp_links.specs.declared.fault.NodeFault.TheVariants.{Failed, Differs, NoMemory}
+use Rattle.tcp_links.specs.declared.plan.NodePlan.{NodePlan}
+use Rattle.tcp_links.specs.Plans.{IsPlan, IsNewPlan}
+use Rattle.tcp_links.specs.Linked.{AreLinkedOver}
+use Rattle.tcp_links.specs.Woven.{AreWoven}
+use Rattle.tcp_links.specs.Over.{IsPlanOver, HasExchanged, IsExchangeFault, ArePlayedOutOver, HasBrokenOver, ArePlayedTo}
+use Rattle.tcp_links.specs.Ends.{AreThere, IsFaultOver, HasHeldOver, HasDifference, DiffersOver}
+use Rattle.tcp_links.proofs.OverLaws.{over_still, byte_over}
+
+-- what stands at a place of a list that is so throughout
+all_at : {A : Type 0} (P : A → Type 0) (xs : List A) (i : ℕ) (x : A) → All P xs → slice_get xs i ≡ Some x → P x
+all_at P xs i x all is = subst P (get_or_from_slice_get xs i x x is) (all i x (slice_get_within xs i x is))
+
+map_at : {A B : Type 0} (f : A → B) (xs : List A) (i : ℕ) (x : A) → slice_get xs i ≡ Some x → slice_get (map f xs) i ≡ Some (f x)
+map_at f [] i x e = absurd (none-some x e)
+map_at f (y ∷ xs) zero x e = ap (λ (z : _). Some (f z)) (same_Some y x e)
+map_at f (y ∷ xs) (suc i) x e = map_at f xs i x e
+
+-- what is told of the same links
+pub held_in : (vs ws : List Wire) → vs ≡ ws → HaveHeld vs → HaveHeld ws
+held_in vs ws same held = subst HaveHeld same held
+
+pub differs_in : (vs ws : List Wire) (from to at : ℕ) (sent taken : Option (ℕ × Sent)) → vs ≡ ws → DifferKept vs from to at sent taken → DifferKept ws from to at sent taken
+differs_in vs ws from to at sent taken same d = subst (λ (xs : List Wire). DifferKept xs from to at sent taken) same d
+
+-- links that have held do not differ
+pub never_differ : (ws : List Wire) (from to at : ℕ) (sent taken : Option (ℕ × Sent)) → HaveHeld ws → DifferKept ws from to at sent taken → ⊥
+never_differ ws from to at sent taken held d =
+    let first = d.first.first in
+    let on : HasHeld d.first.wire = all_at HasHeld ws d.link d.first.wire held d.first.is in
+    let same : IsSame first.passage = all_at IsSame d.first.wire.passages d.number first.passage on first.is in
+    first.differ.differ (ap (λ (es : List (ℕ × Sent)). slice_get es d.place) same)
+
+-- cells that stay quiet end as they ended
+still_ended : (now last : List CellState) → EachAre IsQuiet now last → all_ended last ≡ all_ended now
+still_ended [] [] q = refl
+still_ended [] (y ∷ ys) q = absurd q
+still_ended (x ∷ xs) [] q = absurd q
+still_ended (x ∷ xs) (y ∷ ys) q = ap₂ (λ (v : View) (b : Bool). ended_of v && b) q.0.viewed (still_ended xs ys q.1)
+
+-- playing that came to its end, with an exchange more and every link inside a node settled once more, where each exchange took just what it sent
+module _ (node : ℕ → ℕ) (budget count : ℕ) (made : List View) (begun wires more : List Wire) (started now last : List CellState) (starts : AreStarted made started)
+    (end : IsNodeEnd node wires more now last) (held : HaveHeld more) where
+  pub duly_over : (answer : RunEnd) → ArePlayedOutOver node budget count begun started wires now answer → AreDulyPlayed budget made last
+  duly_over answer p =
+      let one : IsAsInOneNode budget started now last p.played.rounds = nodes_are_one node budget started now last p.played.rounds begun wires more p.played.are end held in
+      record {
+        started = started;
+        played = now;
+        starts = starts;
+        rounds = record { rounds = p.played.rounds; are = one.rounds_are; such = p.played.such };
+        quiet = one.quiet;
+        settled = one.settled;
+      }
+
+  pub run_over : (answer : RunEnd) → ArePlayedOutOver node budget count begun started wires now answer → MakesARun budget made last answer
+  run_over (AllEnded n) p =
+      let one : IsAsInOneNode budget started now last p.played.rounds = nodes_are_one node budget started now last p.played.rounds begun wires more p.played.are end held in
+      let still = totals_add.quiet now last one.quiet in
+      played_nodes_make_runs.ends node budget made begun wires more started now last (AllEnded n) starts (record { rounds = p.played.rounds; are = p.played.are }) end held
+      (p.stopped.0 ∙ sym still, still_ended now last one.quiet ∙ p.stopped.1)
+  run_over (Spent n) p =
+      let one : IsAsInOneNode budget started now last p.played.rounds = nodes_are_one node budget started now last p.played.rounds begun wires more p.played.are end held in
+      let still = totals_add.quiet now last one.quiet in
+      let spent = p.stopped.2 in
+      played_nodes_make_runs.ends node budget made begun wires more started now last (Spent n) starts (record { rounds = p.played.rounds; are = p.played.are }) end held
+      (p.stopped.0 ∙ sym still, still_ended now last one.quiet ∙ p.stopped.1, omega (arith, still, spent))
+  run_over (Still n) p =
+      let one : IsAsInOneNode budget started now last p.played.rounds = nodes_are_one node budget started now last p.played.rounds begun wires more p.played.are end held in
+      let still = totals_add.quiet now last one.quiet in
+      let idle = p.stopped.2 in
+      subst (λ (k : ℕ). MakesARun budget made last (Still k)) (still ∙ sym p.stopped.0)
+      (played_nodes_make_runs.rests node budget made begun idle.passed wires more started idle.before now last starts idle.played idle.less idle.round idle.none end held
+      (still_ended now last one.quiet ∙ p.stopped.1))
+
+module _ {X : Type 0} {F : X → Type 0} (M : DynBox X Global F → View) where
+  same_started : (before after : List (Cell X F)) → EachBecomes (HasStarted M) before after → EachBecomes IsSameCell before after
+  same_started before after s = record { size = s.size; each = λ i a b e f. (s.each i a b e f).same }
+
+  -- what has started, as plain values
+  pub starts_over : (nodes : ℕ) (before after : List (Cell X F)) → IsJoined M nodes before → EachBecomes (HasStarted M) before after → AreStarted (views_of M before) (states_of M after)
+  starts_over nodes before after j s =
+      let joined = joined_still M nodes before after j (same_started before after s) in
+      record {
+        started = each_are IsStarted (λ c. (state_of M c).view) (state_of M) before after s.size (λ i a b e f. (s.each i a b e f).started);
+        wired = λ i c e.
+            let x = map_back (state_of M) after i c e in
+            subst (λ (n : ℕ). IsWired n i c) (sym (length-map after (state_of M))) (subst (λ (y : CellState). IsWired (length after) i y) x.2 (joined.wired i x.0 x.1));
+      }
+
+  pub joined_start : (nodes : ℕ) (before after : List (Cell X F)) → IsJoined M nodes before → EachBecomes (HasStarted M) before after → IsJoined M nodes after
+  joined_start nodes before after j s = joined_still M nodes before after j (same_started before after s)
+
+  pub none_start : (nodes : ℕ) (before after : List (Cell X F)) → IsJoined M nodes before → EachBecomes (HasStarted M) before after → total (states_of M after) ≡ 0
+  none_start nodes before after j s = none_taken (views_of M before) (states_of M after) (starts_over nodes before after j s).started
+
+  -- cells that were played to so many rounds
+  there_to : (node : ℕ → ℕ) (budget : ℕ) (begun : List Wire) (started : List CellState) (wires : List Wire) (now : List (Cell X F)) (rounds : ℕ) (end : Option RunEnd)
+      → ArePlayedTo M node budget begun started wires now rounds end → AreThere node budget begun started wires (states_of M now) rounds
+  there_to node budget begun started wires now rounds (Some answer) p = inl (record { rounds = p.played.rounds; are = p.played.are }, p.played.counted)
+  there_to node budget begun started wires now rounds None b = inr (b.stood, b.broken, b.counted)
+
+  -- no run breaks off where stamps end
+  pub never_breaks : (node : ℕ → ℕ) (budget count : ℕ) (made : List View) (begun wires more : List Wire) (started : List CellState) (now : List (Cell X F)) (last : List CellState) → AreStarted made started
+      → HasBrokenOver M node budget count begun started wires now → IsNodeEnd node wires more (states_of M now) last → HaveHeld more → ⊥
+  never_breaks node budget count made begun wires more started now last starts b end held =
+      let f = b.failed in
+      let s = each_back (StandsOrEnds M) b.stood now b.came f.place f.cell f.at in
+      elim s.2 [
+        | inl fine ↦ none-some StampEnd (sym (sym f.is ∙ fine.1))
+        | inr r ↦
+            let low = node_stamps_are_few node budget made begun wires more started b.stood (states_of M now) last starts b.broken end held f.place s.0 (state_of M f.cell) r.gains s.1
+            (map_at (state_of M) now f.place f.cell f.at) r.senders r.taken in
+            let most = low.1 in
+            let is = r.last in
+            let few = b.few in
+            omega (arith, most, is, few)
+      ]
+
+  module _ {W : Type 0} where
+    linked : (p : NodePlan W) (cells : List (Cell X F)) → IsPlan p → AreLinkedOver M p cells → IsJoined M p.nodes cells → AreWoven M p.nodes p.agents p.kept.items p.ends.items cells
+    linked p cells plan l j = record {
+      size = l.size;
+      ends = plan.ends;
+      between = plan.between;
+      apart = plan.apart;
+      woven = λ k w e from to at_w at_e f t.
+          let on = l.leads k w e from to at_w at_e f t in
+          let peer = l.peers_are k w from at_w f in
+          let wired = j.wired w.sender from f in
+          record {
+            drains = on.drains;
+            feeds = on.feeds;
+            sends = peer;
+            takes = j.back w.sender w.receiver from to f t (subst (λ (ns : List ℕ). Contains ns w.receiver) wired.both peer);
+            kept = record {
+              drained = ap (λ (ps : List Passage). flat_map (λ (x : Passage). x.drained) ps) on.unpassed ∙ sym on.untaken;
+              arrived = ap (λ (ps : List Passage). flat_map (λ (x : Passage). x.arrived) ps) on.unpassed ∙ sym on.unsent;
+            };
+          };
+      every = l.every;
+    }
+
+    -- cells that have started are woven with a plan over which they lead
+    pub over_start : (p : NodePlan W) (before after : List (Cell X F)) → IsPlan p → AreLinkedOver M p before → IsJoined M p.nodes before → EachBecomes (HasStarted M) before after → IsPlanOver M p p after
+    over_start p before after plan l j s =
+        over_still M p p before after (record { plan = plan; nodes = refl; agents = refl; woven = linked p before plan l j }) (same_started before after s)
+
+    -- and their links, on which nothing has passed, have held
+    pub held_start : (p : NodePlan W) (cells : List (Cell X F)) → IsPlan p → AreLinkedOver M p cells → HaveHeld p.kept.items
+    held_start p cells plan l = λ i d lt.
+        let w : Wire = get_or p.kept.items i d in
+        let at_w : slice_get p.kept.items i ≡ Some w = slice_get-get_or p.kept.items i d lt in
+        let between = plan.between i d lt in
+        let from_in = between.sender in
+        let to_in = between.receiver in
+        let size = l.size in
+        let alike = plan.ends in
+        let e = there p.ends.items i (omega (arith, lt, alike)) in
+        let from = there cells w.sender (omega (arith, from_in, size)) in
+        let to = there cells w.receiver (omega (arith, to_in, size)) in
+        let on = l.leads i w e.0 from.0 to.0 at_w e.1 from.1 to.1 in
+        subst (λ (ps : List Passage). All IsSame ps) (sym on.unpassed) (All-nil IsSame)
+
+    -- the last exchange of a run, with every link inside a node settled behind it
+    pub end_made : (p q r : NodePlan W) (now ready last : List (Cell X F)) → IsPlanOver M p q now → HasExchanged M q now r ready → HaveSettled M (home r.nodes (length ready)) (length ready) ready last
+        → IsNodeEnd (home p.nodes p.agents) q.kept.items r.kept.items (states_of M now) (states_of M last)
+    end_made p q r now ready last o x s =
+        let nodes : r.nodes ≡ p.nodes = x.over.nodes ∙ o.nodes in
+        let agents : length ready ≡ p.agents = x.over.woven.size ∙ x.over.agents ∙ o.agents in
+        record {
+          ready = states_of M ready;
+          exchange = subst (λ (n : ℕ). IsExchange (home n p.agents) q.kept.items r.kept.items (states_of M now) (states_of M ready)) o.nodes
+              (subst (λ (n : ℕ). IsExchange (home q.nodes n) q.kept.items r.kept.items (states_of M now) (states_of M ready)) o.agents x.exchange);
+          settling = settling M (home p.nodes p.agents) ready last
+              (subst (λ (n : ℕ). HaveSettled M (home n p.agents) (length ready) ready last) nodes (subst (λ (n : ℕ). HaveSettled M (home r.nodes n) (length ready) ready last) agents s));
+        }
+
+    -- what was new over a plan of as many nodes and agents
+    pub new_over : (p q r s : NodePlan W) (now ready : List (Cell X F)) → IsPlanOver M p q now → IsPlanOver M q r ready → IsNewPlan r.agents r.nodes s → IsNewPlan p.agents p.nodes s
+    new_over p q r s now ready o x n = record { plan = n.plan; agents_are = n.agents_are ∙ x.agents ∙ o.agents; nodes_are = n.nodes_are ∙ x.nodes ∙ o.nodes; no_link = n.no_link }
+
+    -- a fault that playing came to
+    pub differs_played : (budget : ℕ) (made : List View) (started last : List CellState) (p : NodePlan W) (e : NodeFault) → AreStarted made started → IsFaultOver (home p.nodes p.agents) budget p.kept.items started e
+        → DiffersOver budget made p last e
+    differs_played budget made started last p Failed starts f = tt
+    differs_played budget made started last p (Differs (Message from to at sent taken)) starts f = absurd f
+    differs_played budget made started last p (Differs (Bytes round from_node to_node place sent taken)) starts f = record { started = started; starts = starts; right = f }
+    differs_played budget made started last p NoMemory starts f = tt
+
+    -- what came of playing cells that have started
+    module _ (budget rounds : ℕ) (made : List View) (started : List CellState) (p q : NodePlan W) (now : List (Cell X F)) (end : Option RunEnd) (starts : AreStarted made started) (o : IsPlanOver M p q now)
+        (played : ArePlayedTo M (home p.nodes p.agents) budget p.kept.items started q.kept.items now rounds end) where
+      abbrev node : ℕ → ℕ
+      node = home p.nodes p.agents
+
+      played_there : AreThere node budget p.kept.items started q.kept.items (states_of M now) rounds
+      played_there = there_to node budget p.kept.items started q.kept.items now rounds end played
+
+      -- a fault that the last exchange came to
+      pub differs_last : (last : List CellState) (e : NodeFault) → IsExchangeFault M rounds q now e → DiffersOver budget made p last e
+      differs_last last Failed f = tt
+      differs_last last (Differs (Message from to at sent taken)) f = absurd f.fault
+      differs_last last (Differs (Bytes behind from_node to_node place sent taken)) f =
+          record { started = started; starts = starts; right = byte_over M budget rounds p.kept.items started p q now behind from_node to_node place sent taken o played_there f }
+      differs_last last NoMemory f = tt
+
+      module _ (r : NodePlan W) (ready settled : List (Cell X F)) (x : HasExchanged M q now r ready) (s : HaveSettled M (home r.nodes (length ready)) (length ready) ready settled) where
+        abbrev last : List CellState
+        last = states_of M settled
+
+        last_end : IsNodeEnd node q.kept.items r.kept.items (states_of M now) last
+        last_end = end_made p q r now ready settled o x s
+
+        -- a difference between what was sent and what was taken
+        pub differs_kept : (d : Difference) (from to at : ℕ) (sent taken : Option (ℕ × Sent)) → d ≡ Message from to at sent taken → DifferKept r.kept.items from to at sent taken → HasDifference budget made p last d
+        differs_kept d from to at sent taken is differs =
+            subst (λ (e : Difference). HasDifference budget made p last e) (sym is)
+            (record {
+              started = started;
+              starts = starts;
+              right = record { count = rounds; wires = q.kept.items; now = states_of M now; there = played_there; passed = r.kept.items; end = last_end; differs = differs };
+            })
+
+        module _ (held : HaveHeld r.kept.items) where
+          pub no_break : end ≡ None → ⊥
+          no_break is =
+              never_breaks node budget rounds made p.kept.items q.kept.items r.kept.items started now last starts
+              (subst (λ (a : Option RunEnd). ArePlayedTo M node budget p.kept.items started q.kept.items now rounds a) is played) last_end held
+
+          module _ (answer : RunEnd) (is : end ≡ Some answer) where
+            out : ArePlayedOutOver node budget rounds p.kept.items started q.kept.items (states_of M now) answer
+            out = subst (λ (a : Option RunEnd). ArePlayedTo M node budget p.kept.items started q.kept.items now rounds a) is played
+
+            pub last_run : MakesARun budget made last answer
+            last_run = run_over node budget rounds made p.kept.items q.kept.items r.kept.items started (states_of M now) last starts last_end held answer out
+
+            pub last_duly : AreDulyPlayed budget made last
+            last_duly = duly_over node budget rounds made p.kept.items q.kept.items r.kept.items started (states_of M now) last starts last_end held answer out
+
+            pub last_held : HasHeldOver budget made p last
+            last_held = record {
+              started = started;
+              starts = starts;
+              wires = q.kept.items;
+              now = states_of M now;
+              played = record { rounds = out.played.rounds; are = out.played.are };
+              passed = r.kept.items;
+              end = last_end;
+              held = held;
+            }

@@ -1,0 +1,74 @@
+use Rattle.std.proofs.Common.{◌∙◌, refl, sym, subst}
+use Rattle.worker_runs.specs.Cells.{EachAre}
+use Rattle.worker_runs.specs.NodeRounds.{home}
+use Rattle.worker_runs.proofs.EachLaws.{each_long}
+use Rattle.node_runs.specs.Wires.{HaveHeld}
+use Rattle.agent_cells.proofs.CellLaws.{written}
+use Rattle.agent_workers.proofs.JoinLaws.{each_stays_then}
+use Rattle.node_letters.specs.Passings.{SamePassing, AreAcross, NothingCame}
+use Rattle.letter_wires.specs.Faults.{IsByteFault}
+use Rattle.tcp_links.specs.Faults.{IsNoDifference}
+use Rattle.tcp_links.specs.Over.{IsExchangeFault}
+use Rattle.tcp_links.proofs.ExchangeLaws.{twice_written, no_difference, nothing_came, are_across, can_feed, fault_on, woven_on, exchange_on, held_on, has_exchanged, woven_slices, drained_slices, can_feed_slices, fed_slices}
+use Rattle.tcp_links.proofs.exchange.exchange.Goals as goal
+
+pub drain_all-requires-clause-woven : goal.drain_all-requires-clause-woven
+drain_all-requires-clause-woven g c =
+    woven_slices (λ b. (goal.Machine-dyn g (b.vtable, b.value)).meaning b.value) c.args.plan.now.nodes c.args.plan.now.agents c.args.cells.now c.args.plan.now.kept.items c.as_slice.result.now c.args.plan.now.ends.items c.as_mut_slice.result.now c.as_slice.ensures.value c.as_mut_slice.ensures.value c.requires.woven
+
+pub pass_all-requires-clause-across : goal.pass_all-requires-clause-across
+pass_all-requires-clause-across g c κs within =
+    let drained = drained_slices (λ b. (goal.Machine-dyn g (b.vtable, b.value)).meaning b.value) (home c.args.plan.now.nodes c.args.plan.now.agents) c.args.cells.now c.args.plan.now.kept.items c.as_slice.result.now c.args.plan.now.ends.items c.as_mut_slice.result.now c.drain_all.new.ends c.in_ok-passings.passings.items c.as_slice.ensures.value c.as_mut_slice.ensures.value c.in_ok-passings.ensures.drained in
+    subst (AreAcross c.args.plan.now.nodes) (sym c.as_mut_slice-2.ensures.value) (are_across (λ b. (goal.Machine-dyn g (b.vtable, b.value)).meaning b.value) c.args.plan.now.nodes c.args.plan.now.agents c.args.plan.now.kept.items c.args.plan.now.ends.items c.drain_all.new.ends c.args.cells.now c.drain_all.new.cells c.in_ok-passings.passings.items c.requires.woven c.drain_all.ensures.quiet drained c.requires.plan.nodes.0)
+
+pub returns-in-Err-clause-differs : goal.returns-in-Err-clause-differs
+returns-in-Err-clause-differs g c =
+    let drained = drained_slices (λ b. (goal.Machine-dyn g (b.vtable, b.value)).meaning b.value) (home c.args.plan.now.nodes c.args.plan.now.agents) c.args.cells.now c.args.plan.now.kept.items c.as_slice.result.now c.args.plan.now.ends.items c.as_mut_slice.result.now c.drain_all.new.ends c.in_ok-passings.passings.items c.as_slice.ensures.value c.as_mut_slice.ensures.value c.in_ok-passings.ensures.drained in
+    subst (IsExchangeFault (λ b. (goal.Machine-dyn g (b.vtable, b.value)).meaning b.value) c.args.round c.args.plan.now c.args.cells.now) (sym c.node_fault.ensures)
+    (fault_on (λ b. (goal.Machine-dyn g (b.vtable, b.value)).meaning b.value) c.args.plan.now.nodes c.args.plan.now.agents c.args.plan.now.kept.items c.args.plan.now.ends.items c.drain_all.new.ends c.args.cells.now c.drain_all.new.cells c.in_ok-passings.passings.items c.requires.woven c.drain_all.ensures.quiet drained c.args.round c.args.plan.now c.in-Err.fault refl refl refl (subst (λ ps. IsByteFault ps c.in-Err.fault) c.as_mut_slice-2.ensures.value c.in-Err.ensures.differs))
+
+pub returns-in-Err-clause-honest : goal.returns-in-Err-clause-honest
+returns-in-Err-clause-honest g c =
+    λ honest.
+    let drained = drained_slices (λ b. (goal.Machine-dyn g (b.vtable, b.value)).meaning b.value) (home c.args.plan.now.nodes c.args.plan.now.agents) c.args.cells.now c.args.plan.now.kept.items c.as_slice.result.now c.args.plan.now.ends.items c.as_mut_slice.result.now c.drain_all.new.ends c.in_ok-passings.passings.items c.as_slice.ensures.value c.as_mut_slice.ensures.value c.in_ok-passings.ensures.drained in
+    let none = subst NothingCame (sym c.as_mut_slice-2.ensures.value) (nothing_came (λ b. (goal.Machine-dyn g (b.vtable, b.value)).meaning b.value) c.args.plan.now.nodes c.args.plan.now.agents c.args.plan.now.kept.items c.args.plan.now.ends.items c.drain_all.new.ends c.args.cells.now c.drain_all.new.cells c.in_ok-passings.passings.items c.requires.woven c.drain_all.ensures.quiet drained) in
+    (tt, subst IsNoDifference (sym c.node_fault.ensures) (no_difference c.args.round c.in-Err.fault (c.in-Err.ensures.honest honest none).1))
+
+pub feed_all-requires-clause-can : goal.feed_all-requires-clause-can
+feed_all-requires-clause-can g c =
+    let drained = drained_slices (λ b. (goal.Machine-dyn g (b.vtable, b.value)).meaning b.value) (home c.args.plan.now.nodes c.args.plan.now.agents) c.args.cells.now c.args.plan.now.kept.items c.as_slice.result.now c.args.plan.now.ends.items c.as_mut_slice.result.now c.drain_all.new.ends c.in_ok-passings.passings.items c.as_slice.ensures.value c.as_mut_slice.ensures.value c.in_ok-passings.ensures.drained in
+    let ends = written _ c.args.plan.now.ends.items c.drain_all.new.ends c.as_mut_slice.result.now c.args.plan.now.ends.ok.0 c.in_ok-passings.ensures.drained.size c.as_mut_slice.ensures.value in
+    can_feed_slices (λ b. (goal.Machine-dyn g (b.vtable, b.value)).meaning b.value) c.drain_all.new.cells c.args.plan.now.kept.items c.as_mut_slice-3.result.now c.drain_all.new.ends c.as_mut_slice-4.result.now c.as_mut_slice-3.ensures.value (c.as_mut_slice-4.ensures.value ∙ ends) (can_feed (λ b. (goal.Machine-dyn g (b.vtable, b.value)).meaning b.value) c.args.plan.now.nodes c.args.plan.now.agents c.args.plan.now.kept.items c.args.plan.now.ends.items c.drain_all.new.ends c.args.cells.now c.drain_all.new.cells c.in_ok-passings.passings.items c.requires.woven c.drain_all.ensures.quiet drained c.requires.sound)
+
+pub returns-in_err-feed_all-clause-quiet : goal.returns-in_err-feed_all-clause-quiet
+returns-in_err-feed_all-clause-quiet g c =
+    each_stays_then (λ b. (goal.Machine-dyn g (b.vtable, b.value)).meaning b.value) c.args.cells.now c.drain_all.new.cells c.feed_all.new.cells c.drain_all.ensures.quiet c.feed_all.ensures.quiet
+
+pub returns-clause-quiet : goal.returns-clause-quiet
+returns-clause-quiet g c =
+    each_stays_then (λ b. (goal.Machine-dyn g (b.vtable, b.value)).meaning b.value) c.args.cells.now c.drain_all.new.cells c.feed_all.new.cells c.drain_all.ensures.quiet c.feed_all.ensures.quiet
+
+pub returns-clause-exchanged : goal.returns-clause-exchanged
+returns-clause-exchanged g c =
+    let drained = drained_slices (λ b. (goal.Machine-dyn g (b.vtable, b.value)).meaning b.value) (home c.args.plan.now.nodes c.args.plan.now.agents) c.args.cells.now c.args.plan.now.kept.items c.as_slice.result.now c.args.plan.now.ends.items c.as_mut_slice.result.now c.drain_all.new.ends c.in_ok-passings.passings.items c.as_slice.ensures.value c.as_mut_slice.ensures.value c.in_ok-passings.ensures.drained in
+    let same : EachAre SamePassing c.in_ok-passings.passings.items c.pass_all.new.passings = subst (λ ps. EachAre SamePassing ps c.pass_all.new.passings) c.as_mut_slice-2.ensures.value c.pass_all.ensures.same in
+    let ends = written _ c.args.plan.now.ends.items c.drain_all.new.ends c.as_mut_slice.result.now c.args.plan.now.ends.ok.0 c.in_ok-passings.ensures.drained.size c.as_mut_slice.ensures.value in
+    let passed = written _ c.in_ok-passings.passings.items c.pass_all.new.passings c.as_mut_slice-2.result.now c.in_ok-passings.passings.ok.0 (sym (each_long SamePassing c.as_mut_slice-2.result.now c.pass_all.new.passings c.pass_all.ensures.same)) c.as_mut_slice-2.ensures.value in
+    let fed = fed_slices (λ b. (goal.Machine-dyn g (b.vtable, b.value)).meaning b.value) c.feed_all.new.cells c.args.plan.now.kept.items c.as_mut_slice-3.result.now c.feed_all.new.kept c.drain_all.new.ends c.as_mut_slice-4.result.now c.feed_all.new.ends c.pass_all.new.passings c.as_mut_slice-5.result.now c.as_mut_slice-3.ensures.value (c.as_mut_slice-4.ensures.value ∙ ends) (c.as_mut_slice-5.ensures.value ∙ passed) c.in_ok-feed_all.ensures.fed in
+    let kept = written _ c.args.plan.now.kept.items c.feed_all.new.kept c.as_mut_slice-3.result.now c.args.plan.now.kept.ok.0 c.feed_all.ensures.sizes.0 c.as_mut_slice-3.ensures.value in
+    has_exchanged (λ b. (goal.Machine-dyn g (b.vtable, b.value)).meaning b.value) c.args.plan.now _ c.args.cells.now c.feed_all.new.cells c.feed_all.new.kept c.feed_all.new.ends c.requires.plan refl refl c.in_default.ensures.wires kept
+    (twice_written _ c.args.plan.now.ends.items c.drain_all.new.ends c.as_mut_slice.result.now c.feed_all.new.ends c.as_mut_slice-4.result.now c.args.plan.now.ends.ok.0 c.in_ok-passings.ensures.drained.size c.as_mut_slice.ensures.value c.feed_all.ensures.sizes.1 c.as_mut_slice-4.ensures.value)
+    (woven_on (λ b. (goal.Machine-dyn g (b.vtable, b.value)).meaning b.value) c.args.plan.now.nodes c.args.plan.now.agents c.args.plan.now.kept.items c.args.plan.now.ends.items c.drain_all.new.ends c.args.cells.now c.drain_all.new.cells c.in_ok-passings.passings.items c.requires.woven c.drain_all.ensures.quiet drained c.pass_all.new.passings c.feed_all.new.kept c.feed_all.new.ends c.feed_all.new.cells same c.feed_all.ensures.quiet fed) (exchange_on (λ b. (goal.Machine-dyn g (b.vtable, b.value)).meaning b.value) c.args.plan.now.nodes c.args.plan.now.agents c.args.plan.now.kept.items c.args.plan.now.ends.items c.drain_all.new.ends c.args.cells.now c.drain_all.new.cells c.in_ok-passings.passings.items c.requires.woven c.drain_all.ensures.quiet drained c.pass_all.new.passings c.feed_all.new.kept c.feed_all.new.ends c.feed_all.new.cells same c.feed_all.ensures.quiet fed c.requires.joined)
+
+pub returns-clause-honest : goal.returns-clause-honest
+returns-clause-honest g c =
+    λ honest.
+    let drained = drained_slices (λ b. (goal.Machine-dyn g (b.vtable, b.value)).meaning b.value) (home c.args.plan.now.nodes c.args.plan.now.agents) c.args.cells.now c.args.plan.now.kept.items c.as_slice.result.now c.args.plan.now.ends.items c.as_mut_slice.result.now c.drain_all.new.ends c.in_ok-passings.passings.items c.as_slice.ensures.value c.as_mut_slice.ensures.value c.in_ok-passings.ensures.drained in
+    let same : EachAre SamePassing c.in_ok-passings.passings.items c.pass_all.new.passings = subst (λ ps. EachAre SamePassing ps c.pass_all.new.passings) c.as_mut_slice-2.ensures.value c.pass_all.ensures.same in
+    let ends = written _ c.args.plan.now.ends.items c.drain_all.new.ends c.as_mut_slice.result.now c.args.plan.now.ends.ok.0 c.in_ok-passings.ensures.drained.size c.as_mut_slice.ensures.value in
+    let passed = written _ c.in_ok-passings.passings.items c.pass_all.new.passings c.as_mut_slice-2.result.now c.in_ok-passings.passings.ok.0 (sym (each_long SamePassing c.as_mut_slice-2.result.now c.pass_all.new.passings c.pass_all.ensures.same)) c.as_mut_slice-2.ensures.value in
+    let fed = fed_slices (λ b. (goal.Machine-dyn g (b.vtable, b.value)).meaning b.value) c.feed_all.new.cells c.args.plan.now.kept.items c.as_mut_slice-3.result.now c.feed_all.new.kept c.drain_all.new.ends c.as_mut_slice-4.result.now c.feed_all.new.ends c.pass_all.new.passings c.as_mut_slice-5.result.now c.as_mut_slice-3.ensures.value (c.as_mut_slice-4.ensures.value ∙ ends) (c.as_mut_slice-5.ensures.value ∙ passed) c.in_ok-feed_all.ensures.fed in
+    let kept = written _ c.args.plan.now.kept.items c.feed_all.new.kept c.as_mut_slice-3.result.now c.args.plan.now.kept.ok.0 c.feed_all.ensures.sizes.0 c.as_mut_slice-3.ensures.value in
+    let none = subst NothingCame (sym c.as_mut_slice-2.ensures.value) (nothing_came (λ b. (goal.Machine-dyn g (b.vtable, b.value)).meaning b.value) c.args.plan.now.nodes c.args.plan.now.agents c.args.plan.now.kept.items c.args.plan.now.ends.items c.drain_all.new.ends c.args.cells.now c.drain_all.new.cells c.in_ok-passings.passings.items c.requires.woven c.drain_all.ensures.quiet drained) in
+    let came = c.in_default.ensures.honest honest none in
+    ((came.0.0, λ held. subst HaveHeld (sym kept) (held_on (λ b. (goal.Machine-dyn g (b.vtable, b.value)).meaning b.value) c.args.plan.now.nodes c.args.plan.now.agents c.args.plan.now.kept.items c.args.plan.now.ends.items c.drain_all.new.ends c.args.cells.now c.drain_all.new.cells c.in_ok-passings.passings.items c.requires.woven c.drain_all.ensures.quiet drained c.pass_all.new.passings c.feed_all.new.kept c.feed_all.new.ends c.feed_all.new.cells same c.feed_all.ensures.quiet fed came.0.1 held)), tt)

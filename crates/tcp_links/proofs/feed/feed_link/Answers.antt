@@ -1,0 +1,12 @@
+use Rattle.agent_cells.specs.State.{heads_in}
+use Rattle.agent_workers.proofs.CellLaws.{known_others}
+use Rattle.tcp_links.proofs.FeedLaws.{cell_waits}
+use Rattle.tcp_links.proofs.feed.feed_link.Goals as goal
+
+pub returns-clause-others : goal.returns-clause-others
+returns-clause-others g c = λ j ne. let e = c.settle_head.ensures in known_others c.args.from j (heads_in c.args.cell.now) (heads_in c.settle_head.new.self) ne e.heads.same e.heads.others
+
+pub returns-clause-waits : goal.returns-clause-waits
+returns-clause-waits g c =
+    let e = c.settle_head.ensures in
+    cell_waits (λ b. (goal.Machine-dyn g (b.vtable, b.value)).meaning b.value) c.args.cell.now c.settle_head.new.self c.args.from c.settle_head.result c.settle_head.new.tail e.cell e.quiet c.requires.peer e.settled

@@ -1,0 +1,197 @@
+use Rattle.std.proofs.Common.{ℕ, ◌+◌, ◌∙◌, Option, refl, sym, subst, arith}
+use Rattle.worker_runs.specs.NodeRounds.{home}
+use Rattle.agent_workers.specs.Joined.{states_of}
+use Rattle.agent_workers.proofs.RunLaws.{ended_states}
+use Rattle.tcp_links.specs.Faults.{IsNoDifference}
+use Rattle.tcp_links.specs.Over.{IsRoundOver}
+use Rattle.tcp_links.specs.Ends.{IsFaultOver}
+use Rattle.tcp_links.proofs.OverLaws.{err_on, nothing_on, cause_on, joined_over, joined_back, over_self, over_then, none_over, all_over, ended_to, broken_to, fault_over, due_on, busy_on, idle_on, broken_on}
+use Rattle.tcp_links.proofs.over.play_over.Goals as goal
+
+pub loop-round-init : goal.loop-round-init
+loop-round-init g c = record {
+  shared = c.requires.workers;
+  size = refl;
+  joined = c.requires.joined;
+  begun = c.requires.begun;
+  fine = c.requires.fine;
+  over = c.requires.over;
+  played = none_over (home c.args.plan.now.nodes c.args.plan.now.agents) c.args.budget c.args.plan.now.kept.items (states_of (λ b. (goal.Machine-dyn g (b.vtable, b.value)).meaning b.value) c.args.cells.now);
+  deliveries = sym c.requires.none;
+  progress = omega arith;
+  most = omega arith;
+  within = λ lt. lt;
+  awake = ended_states (λ b. (goal.Machine-dyn g (b.vtable, b.value)).meaning b.value) c.args.cells.now ∙ sym c.if-all_ended.ensures;
+  faults = refl;
+  dialer = λ d. d;
+  honest = λ h held. h;
+  held = λ h held. held;
+}
+
+pub returns-then-all_ended-clause-over : goal.returns-then-all_ended-clause-over
+returns-then-all_ended-clause-over g c = c.requires.over
+
+pub returns-then-all_ended-clause-played : goal.returns-then-all_ended-clause-played
+returns-then-all_ended-clause-played g c = ended_to (λ b. (goal.Machine-dyn g (b.vtable, b.value)).meaning b.value) (home c.args.plan.now.nodes c.args.plan.now.agents) c.args.budget c.args.plan.now.kept.items (states_of (λ b. (goal.Machine-dyn g (b.vtable, b.value)).meaning b.value) c.args.cells.now) c.args.plan.now.kept.items c.args.cells.now 0 _ _ _ c.ended.ensures (record {
+  played = all_over (home c.args.plan.now.nodes c.args.plan.now.agents) c.args.budget 0 c.args.plan.now.kept.items (states_of (λ b. (goal.Machine-dyn g (b.vtable, b.value)).meaning b.value) c.args.cells.now) c.args.plan.now.kept.items (states_of (λ b. (goal.Machine-dyn g (b.vtable, b.value)).meaning b.value) c.args.cells.now) (none_over (home c.args.plan.now.nodes c.args.plan.now.agents) c.args.budget c.args.plan.now.kept.items (states_of (λ b. (goal.Machine-dyn g (b.vtable, b.value)).meaning b.value) c.args.cells.now));
+  stopped = (sym c.requires.none, ended_states (λ b. (goal.Machine-dyn g (b.vtable, b.value)).meaning b.value) c.args.cells.now ∙ sym c.if-all_ended.ensures);
+})
+
+pub returns-then-all_ended-clause-honest : goal.returns-then-all_ended-clause-honest
+returns-then-all_ended-clause-honest g c = λ h held. ((h, held), tt)
+
+pub round_over-requires-clause-over : goal.round_over-requires-clause-over
+round_over-requires-clause-over g c κs within = over_self (λ b. (goal.Machine-dyn g (b.vtable, b.value)).meaning b.value) c.args.plan.now c.loop-round.plan c.loop-round.cells c.loop-round.invariant.over
+
+pub round_over-requires-clause-joined : goal.round_over-requires-clause-joined
+round_over-requires-clause-joined g c κs within = joined_over (λ b. (goal.Machine-dyn g (b.vtable, b.value)).meaning b.value) c.args.plan.now c.loop-round.plan c.loop-round.cells c.loop-round.invariant.over.nodes c.loop-round.invariant.joined
+
+pub returns-in_err-taken-clause-size : goal.returns-in_err-taken-clause-size
+returns-in_err-taken-clause-size g c = c.round_over.ensures.size ∙ c.loop-round.invariant.size
+
+pub returns-in_err-taken-clause-joined : goal.returns-in_err-taken-clause-joined
+returns-in_err-taken-clause-joined g c = joined_back (λ b. (goal.Machine-dyn g (b.vtable, b.value)).meaning b.value) c.args.plan.now c.loop-round.plan c.round_over.new.cells c.loop-round.invariant.over.nodes c.round_over.ensures.joined
+
+pub returns-in_err-taken-clause-cause : goal.returns-in_err-taken-clause-cause
+returns-in_err-taken-clause-cause g c = cause_on (Option ℕ) _ _ _ c.from_residual.result _ c.loop-round.invariant.faults c.from_residual.ensures.1 c.in_err-taken.ensures.cause
+
+pub returns-in_err-taken-clause-dialer : goal.returns-in_err-taken-clause-dialer
+returns-in_err-taken-clause-dialer g c = λ d. c.round_over.ensures.dialer (c.loop-round.invariant.dialer d)
+
+pub returns-in_err-taken-clause-differs : goal.returns-in_err-taken-clause-differs
+returns-in_err-taken-clause-differs g c = err_on c.from_residual.result _ (IsFaultOver (home c.args.plan.now.nodes c.args.plan.now.agents) c.args.budget c.args.plan.now.kept.items (states_of (λ b. (goal.Machine-dyn g (b.vtable, b.value)).meaning b.value) c.args.cells.now)) c.from_residual.ensures.1 (fault_over (λ b. (goal.Machine-dyn g (b.vtable, b.value)).meaning b.value) c.args.budget c.loop-round.round c.args.plan.now.kept.items (states_of (λ b. (goal.Machine-dyn g (b.vtable, b.value)).meaning b.value) c.args.cells.now) c.args.plan.now c.loop-round.plan c.loop-round.cells c.loop-round.invariant.over c.loop-round.invariant.played _ c.in_err-taken.ensures.differs)
+
+pub returns-in_err-taken-clause-honest : goal.returns-in_err-taken-clause-honest
+returns-in_err-taken-clause-honest g c = λ h held. (nothing_on c.from_residual.result _ _ c.from_residual.ensures.1, err_on c.from_residual.result _ IsNoDifference c.from_residual.ensures.1 (c.in_err-taken.ensures.honest (c.loop-round.invariant.honest h held)).1)
+
+pub returns-in_default-clause-size : goal.returns-in_default-clause-size
+returns-in_default-clause-size g c = c.round_over.ensures.size ∙ c.loop-round.invariant.size
+
+pub returns-in_default-clause-joined : goal.returns-in_default-clause-joined
+returns-in_default-clause-joined g c = joined_back (λ b. (goal.Machine-dyn g (b.vtable, b.value)).meaning b.value) c.args.plan.now c.loop-round.plan c.round_over.new.cells c.loop-round.invariant.over.nodes c.round_over.ensures.joined
+
+pub returns-in_default-clause-over : goal.returns-in_default-clause-over
+returns-in_default-clause-over g c = over_then (λ b. (goal.Machine-dyn g (b.vtable, b.value)).meaning b.value) c.args.plan.now c.loop-round.plan c.round_over.new.plan c.loop-round.cells c.round_over.new.cells c.loop-round.invariant.over c.in_ok-taken.ensures.over
+
+pub returns-in_default-clause-cause : goal.returns-in_default-clause-cause
+returns-in_default-clause-cause g c = c.in_ok-taken.ensures.cause ∙ c.loop-round.invariant.faults
+
+pub returns-in_default-clause-dialer : goal.returns-in_default-clause-dialer
+returns-in_default-clause-dialer g c = λ d. c.round_over.ensures.dialer (c.loop-round.invariant.dialer d)
+
+pub returns-in_default-clause-honest : goal.returns-in_default-clause-honest
+returns-in_default-clause-honest g c = λ h held. let on = (c.in_ok-taken.ensures.honest (c.loop-round.invariant.honest h held)).0 in ((on.0, on.1 (c.loop-round.invariant.held h held)), tt)
+
+pub returns-in_default-clause-played : goal.returns-in_default-clause-played
+returns-in_default-clause-played g c = broken_to (λ b. (goal.Machine-dyn g (b.vtable, b.value)).meaning b.value) (home c.args.plan.now.nodes c.args.plan.now.agents) c.args.budget c.args.plan.now.kept.items (states_of (λ b. (goal.Machine-dyn g (b.vtable, b.value)).meaning b.value) c.args.cells.now) c.round_over.new.plan.kept.items c.round_over.new.cells (c.loop-round.round + 1) _ _ c.broken.ensures (broken_on (λ b. (goal.Machine-dyn g (b.vtable, b.value)).meaning b.value) c.args.budget c.loop-round.round c.args.plan.now.kept.items (states_of (λ b. (goal.Machine-dyn g (b.vtable, b.value)).meaning b.value) c.args.cells.now) c.args.plan.now c.loop-round.plan c.loop-round.cells c.loop-round.invariant.over c.loop-round.invariant.played c.loop-round.deliveries c.loop-round.invariant.deliveries (c.loop-round.invariant.within c.loop-round-test.true) c.round_over.new.plan c.round_over.new.cells c.requires.budget c.loop-round.invariant.joined.few (subst (λ o. IsRoundOver (λ b. (goal.Machine-dyn g (b.vtable, b.value)).meaning b.value) c.loop-round.plan c.loop-round.cells c.round_over.new.plan c.round_over.new.cells o) c.in_default.is c.in_ok-taken.ensures.round))
+
+pub returns-then-all_ended-2-clause-size : goal.returns-then-all_ended-2-clause-size
+returns-then-all_ended-2-clause-size g c = c.round_over.ensures.size ∙ c.loop-round.invariant.size
+
+pub returns-then-all_ended-2-clause-joined : goal.returns-then-all_ended-2-clause-joined
+returns-then-all_ended-2-clause-joined g c = joined_back (λ b. (goal.Machine-dyn g (b.vtable, b.value)).meaning b.value) c.args.plan.now c.loop-round.plan c.round_over.new.cells c.loop-round.invariant.over.nodes c.round_over.ensures.joined
+
+pub returns-then-all_ended-2-clause-over : goal.returns-then-all_ended-2-clause-over
+returns-then-all_ended-2-clause-over g c = over_then (λ b. (goal.Machine-dyn g (b.vtable, b.value)).meaning b.value) c.args.plan.now c.loop-round.plan c.round_over.new.plan c.loop-round.cells c.round_over.new.cells c.loop-round.invariant.over c.in_ok-taken.ensures.over
+
+pub returns-then-all_ended-2-clause-cause : goal.returns-then-all_ended-2-clause-cause
+returns-then-all_ended-2-clause-cause g c = c.in_ok-taken.ensures.cause ∙ c.loop-round.invariant.faults
+
+pub returns-then-all_ended-2-clause-dialer : goal.returns-then-all_ended-2-clause-dialer
+returns-then-all_ended-2-clause-dialer g c = λ d. c.round_over.ensures.dialer (c.loop-round.invariant.dialer d)
+
+pub returns-then-all_ended-2-clause-honest : goal.returns-then-all_ended-2-clause-honest
+returns-then-all_ended-2-clause-honest g c = λ h held. let on = (c.in_ok-taken.ensures.honest (c.loop-round.invariant.honest h held)).0 in ((on.0, on.1 (c.loop-round.invariant.held h held)), tt)
+
+pub returns-then-all_ended-2-clause-played : goal.returns-then-all_ended-2-clause-played
+returns-then-all_ended-2-clause-played g c = let was = c.loop-round.invariant.deliveries in let made = (subst (λ o. IsRoundOver (λ b. (goal.Machine-dyn g (b.vtable, b.value)).meaning b.value) c.loop-round.plan c.loop-round.cells c.round_over.new.plan c.round_over.new.cells o) c.in-Some.is c.in_ok-taken.ensures.round) in let more = made.counted in
+    ended_to (λ b. (goal.Machine-dyn g (b.vtable, b.value)).meaning b.value) (home c.args.plan.now.nodes c.args.plan.now.agents) c.args.budget c.args.plan.now.kept.items (states_of (λ b. (goal.Machine-dyn g (b.vtable, b.value)).meaning b.value) c.args.cells.now) c.round_over.new.plan.kept.items c.round_over.new.cells (c.loop-round.round + 1) _ _ _ c.ended-then-all_ended-2.ensures (record { played = (due_on (λ b. (goal.Machine-dyn g (b.vtable, b.value)).meaning b.value) c.args.budget c.loop-round.round c.args.plan.now.kept.items (states_of (λ b. (goal.Machine-dyn g (b.vtable, b.value)).meaning b.value) c.args.cells.now) c.args.plan.now c.loop-round.plan c.loop-round.cells c.loop-round.invariant.over c.loop-round.invariant.played c.loop-round.deliveries c.loop-round.invariant.deliveries (c.loop-round.invariant.within c.loop-round-test.true) c.round_over.new.plan c.round_over.new.cells c.in-Some.taken (subst (λ o. IsRoundOver (λ b. (goal.Machine-dyn g (b.vtable, b.value)).meaning b.value) c.loop-round.plan c.loop-round.cells c.round_over.new.plan c.round_over.new.cells o) c.in-Some.is c.in_ok-taken.ensures.round) c.loop-round.invariant.awake); stopped = (omega (arith, was, more), ended_states (λ b. (goal.Machine-dyn g (b.vtable, b.value)).meaning b.value) c.round_over.new.cells ∙ sym c.if-all_ended-2.ensures) })
+
+pub returns-then-deliveries-budget-clause-size : goal.returns-then-deliveries-budget-clause-size
+returns-then-deliveries-budget-clause-size g c = c.round_over.ensures.size ∙ c.loop-round.invariant.size
+
+pub returns-then-deliveries-budget-clause-joined : goal.returns-then-deliveries-budget-clause-joined
+returns-then-deliveries-budget-clause-joined g c = joined_back (λ b. (goal.Machine-dyn g (b.vtable, b.value)).meaning b.value) c.args.plan.now c.loop-round.plan c.round_over.new.cells c.loop-round.invariant.over.nodes c.round_over.ensures.joined
+
+pub returns-then-deliveries-budget-clause-over : goal.returns-then-deliveries-budget-clause-over
+returns-then-deliveries-budget-clause-over g c = over_then (λ b. (goal.Machine-dyn g (b.vtable, b.value)).meaning b.value) c.args.plan.now c.loop-round.plan c.round_over.new.plan c.loop-round.cells c.round_over.new.cells c.loop-round.invariant.over c.in_ok-taken.ensures.over
+
+pub returns-then-deliveries-budget-clause-cause : goal.returns-then-deliveries-budget-clause-cause
+returns-then-deliveries-budget-clause-cause g c = c.in_ok-taken.ensures.cause ∙ c.loop-round.invariant.faults
+
+pub returns-then-deliveries-budget-clause-dialer : goal.returns-then-deliveries-budget-clause-dialer
+returns-then-deliveries-budget-clause-dialer g c = λ d. c.round_over.ensures.dialer (c.loop-round.invariant.dialer d)
+
+pub returns-then-deliveries-budget-clause-honest : goal.returns-then-deliveries-budget-clause-honest
+returns-then-deliveries-budget-clause-honest g c = λ h held. let on = (c.in_ok-taken.ensures.honest (c.loop-round.invariant.honest h held)).0 in ((on.0, on.1 (c.loop-round.invariant.held h held)), tt)
+
+pub returns-then-deliveries-budget-clause-played : goal.returns-then-deliveries-budget-clause-played
+returns-then-deliveries-budget-clause-played g c = let was = c.loop-round.invariant.deliveries in let made = (subst (λ o. IsRoundOver (λ b. (goal.Machine-dyn g (b.vtable, b.value)).meaning b.value) c.loop-round.plan c.loop-round.cells c.round_over.new.plan c.round_over.new.cells o) c.in-Some.is c.in_ok-taken.ensures.round) in let more = made.counted in
+    ended_to (λ b. (goal.Machine-dyn g (b.vtable, b.value)).meaning b.value) (home c.args.plan.now.nodes c.args.plan.now.agents) c.args.budget c.args.plan.now.kept.items (states_of (λ b. (goal.Machine-dyn g (b.vtable, b.value)).meaning b.value) c.args.cells.now) c.round_over.new.plan.kept.items c.round_over.new.cells (c.loop-round.round + 1) _ _ _ c.ended-then-deliveries-budget.ensures (record { played = (due_on (λ b. (goal.Machine-dyn g (b.vtable, b.value)).meaning b.value) c.args.budget c.loop-round.round c.args.plan.now.kept.items (states_of (λ b. (goal.Machine-dyn g (b.vtable, b.value)).meaning b.value) c.args.cells.now) c.args.plan.now c.loop-round.plan c.loop-round.cells c.loop-round.invariant.over c.loop-round.invariant.played c.loop-round.deliveries c.loop-round.invariant.deliveries (c.loop-round.invariant.within c.loop-round-test.true) c.round_over.new.plan c.round_over.new.cells c.in-Some.taken (subst (λ o. IsRoundOver (λ b. (goal.Machine-dyn g (b.vtable, b.value)).meaning b.value) c.loop-round.plan c.loop-round.cells c.round_over.new.plan c.round_over.new.cells o) c.in-Some.is c.in_ok-taken.ensures.round) c.loop-round.invariant.awake); stopped = (omega (arith, was, more), ended_states (λ b. (goal.Machine-dyn g (b.vtable, b.value)).meaning b.value) c.round_over.new.cells ∙ sym c.if-all_ended-2.ensures, (let spent = c.if-deliveries-budget.true in omega (arith, was, more, spent))) })
+
+pub returns-then-taken-eq0-clause-size : goal.returns-then-taken-eq0-clause-size
+returns-then-taken-eq0-clause-size g c = c.round_over.ensures.size ∙ c.loop-round.invariant.size
+
+pub returns-then-taken-eq0-clause-joined : goal.returns-then-taken-eq0-clause-joined
+returns-then-taken-eq0-clause-joined g c = joined_back (λ b. (goal.Machine-dyn g (b.vtable, b.value)).meaning b.value) c.args.plan.now c.loop-round.plan c.round_over.new.cells c.loop-round.invariant.over.nodes c.round_over.ensures.joined
+
+pub returns-then-taken-eq0-clause-over : goal.returns-then-taken-eq0-clause-over
+returns-then-taken-eq0-clause-over g c = over_then (λ b. (goal.Machine-dyn g (b.vtable, b.value)).meaning b.value) c.args.plan.now c.loop-round.plan c.round_over.new.plan c.loop-round.cells c.round_over.new.cells c.loop-round.invariant.over c.in_ok-taken.ensures.over
+
+pub returns-then-taken-eq0-clause-cause : goal.returns-then-taken-eq0-clause-cause
+returns-then-taken-eq0-clause-cause g c = c.in_ok-taken.ensures.cause ∙ c.loop-round.invariant.faults
+
+pub returns-then-taken-eq0-clause-dialer : goal.returns-then-taken-eq0-clause-dialer
+returns-then-taken-eq0-clause-dialer g c = λ d. c.round_over.ensures.dialer (c.loop-round.invariant.dialer d)
+
+pub returns-then-taken-eq0-clause-honest : goal.returns-then-taken-eq0-clause-honest
+returns-then-taken-eq0-clause-honest g c = λ h held. let on = (c.in_ok-taken.ensures.honest (c.loop-round.invariant.honest h held)).0 in ((on.0, on.1 (c.loop-round.invariant.held h held)), tt)
+
+pub returns-then-taken-eq0-clause-played : goal.returns-then-taken-eq0-clause-played
+returns-then-taken-eq0-clause-played g c = let was = c.loop-round.invariant.deliveries in let made = (subst (λ o. IsRoundOver (λ b. (goal.Machine-dyn g (b.vtable, b.value)).meaning b.value) c.loop-round.plan c.loop-round.cells c.round_over.new.plan c.round_over.new.cells o) c.in-Some.is c.in_ok-taken.ensures.round) in let more = made.counted in
+    ended_to (λ b. (goal.Machine-dyn g (b.vtable, b.value)).meaning b.value) (home c.args.plan.now.nodes c.args.plan.now.agents) c.args.budget c.args.plan.now.kept.items (states_of (λ b. (goal.Machine-dyn g (b.vtable, b.value)).meaning b.value) c.args.cells.now) c.round_over.new.plan.kept.items c.round_over.new.cells (c.loop-round.round + 1) _ _ _ c.ended-then-taken-eq0.ensures (record { played = (due_on (λ b. (goal.Machine-dyn g (b.vtable, b.value)).meaning b.value) c.args.budget c.loop-round.round c.args.plan.now.kept.items (states_of (λ b. (goal.Machine-dyn g (b.vtable, b.value)).meaning b.value) c.args.cells.now) c.args.plan.now c.loop-round.plan c.loop-round.cells c.loop-round.invariant.over c.loop-round.invariant.played c.loop-round.deliveries c.loop-round.invariant.deliveries (c.loop-round.invariant.within c.loop-round-test.true) c.round_over.new.plan c.round_over.new.cells c.in-Some.taken (subst (λ o. IsRoundOver (λ b. (goal.Machine-dyn g (b.vtable, b.value)).meaning b.value) c.loop-round.plan c.loop-round.cells c.round_over.new.plan c.round_over.new.cells o) c.in-Some.is c.in_ok-taken.ensures.round) c.loop-round.invariant.awake); stopped = (omega (arith, was, more), ended_states (λ b. (goal.Machine-dyn g (b.vtable, b.value)).meaning b.value) c.round_over.new.cells ∙ sym c.if-all_ended-2.ensures, idle_on (λ b. (goal.Machine-dyn g (b.vtable, b.value)).meaning b.value) c.args.budget c.loop-round.round c.args.plan.now.kept.items (states_of (λ b. (goal.Machine-dyn g (b.vtable, b.value)).meaning b.value) c.args.cells.now) c.args.plan.now c.loop-round.plan c.loop-round.cells c.loop-round.invariant.over c.loop-round.invariant.played c.loop-round.deliveries c.loop-round.invariant.deliveries (c.loop-round.invariant.within c.loop-round-test.true) c.round_over.new.plan c.round_over.new.cells c.in-Some.taken (subst (λ o. IsRoundOver (λ b. (goal.Machine-dyn g (b.vtable, b.value)).meaning b.value) c.loop-round.plan c.loop-round.cells c.round_over.new.plan c.round_over.new.cells o) c.in-Some.is c.in_ok-taken.ensures.round) c.loop-round.invariant.awake c.if-taken-eq0.true) })
+
+pub loop-round-preserved : goal.loop-round-preserved
+loop-round-preserved g c = let i = c.loop-round.invariant in let was = i.deliveries in let made = (subst (λ o. IsRoundOver (λ b. (goal.Machine-dyn g (b.vtable, b.value)).meaning b.value) c.loop-round.plan c.loop-round.cells c.round_over.new.plan c.round_over.new.cells o) c.in-Some.is c.in_ok-taken.ensures.round) in let more = made.counted in let some = c.if-taken-eq0.false in let less = c.if-deliveries-budget.false in let grown = i.progress in let test = c.loop-round-test.true in record {
+  shared = c.sharing_after-sharing.ensures.some;
+  size = c.round_over.ensures.size ∙ c.loop-round.invariant.size;
+  joined = joined_back (λ b. (goal.Machine-dyn g (b.vtable, b.value)).meaning b.value) c.args.plan.now c.loop-round.plan c.round_over.new.cells c.loop-round.invariant.over.nodes c.round_over.ensures.joined;
+  begun = c.round_over.ensures.begun;
+  fine = made.fine;
+  over = over_then (λ b. (goal.Machine-dyn g (b.vtable, b.value)).meaning b.value) c.args.plan.now c.loop-round.plan c.round_over.new.plan c.loop-round.cells c.round_over.new.cells c.loop-round.invariant.over c.in_ok-taken.ensures.over;
+  played = busy_on (λ b. (goal.Machine-dyn g (b.vtable, b.value)).meaning b.value) c.args.budget c.loop-round.round c.args.plan.now.kept.items (states_of (λ b. (goal.Machine-dyn g (b.vtable, b.value)).meaning b.value) c.args.cells.now) c.args.plan.now c.loop-round.plan c.loop-round.cells c.loop-round.invariant.over c.loop-round.invariant.played c.loop-round.deliveries c.loop-round.invariant.deliveries (c.loop-round.invariant.within c.loop-round-test.true) c.round_over.new.plan c.round_over.new.cells c.in-Some.taken made i.awake (omega (arith, some));
+  deliveries = omega (arith, was, more);
+  progress = omega (arith, grown, some);
+  most = omega (arith, test);
+  within = λ _. omega (arith, less);
+  awake = ended_states (λ b. (goal.Machine-dyn g (b.vtable, b.value)).meaning b.value) c.round_over.new.cells ∙ sym c.if-all_ended-2.ensures;
+  faults = c.in_ok-taken.ensures.cause ∙ c.loop-round.invariant.faults;
+  dialer = λ d. c.round_over.ensures.dialer (c.loop-round.invariant.dialer d);
+  honest = λ h held. (c.in_ok-taken.ensures.honest (i.honest h held)).0.0;
+  held = λ h held. (c.in_ok-taken.ensures.honest (i.honest h held)).0.1 (i.held h held);
+}
+
+pub returns-clause-size : goal.returns-clause-size
+returns-clause-size g c = c.loop-round.invariant.size
+
+pub returns-clause-joined : goal.returns-clause-joined
+returns-clause-joined g c = c.loop-round.invariant.joined
+
+pub returns-clause-over : goal.returns-clause-over
+returns-clause-over g c = c.loop-round.invariant.over
+
+pub returns-clause-cause : goal.returns-clause-cause
+returns-clause-cause g c = c.loop-round.invariant.faults
+
+pub returns-clause-dialer : goal.returns-clause-dialer
+returns-clause-dialer g c = c.loop-round.invariant.dialer
+
+pub returns-clause-honest : goal.returns-clause-honest
+returns-clause-honest g c = λ h held. ((c.loop-round.invariant.honest h held, c.loop-round.invariant.held h held), tt)
+
+pub returns-clause-played : goal.returns-clause-played
+returns-clause-played g c = let i = c.loop-round.invariant in let was = i.deliveries in let grown = i.progress in let most = i.most in let test = c.loop-round-test.false in
+    ended_to (λ b. (goal.Machine-dyn g (b.vtable, b.value)).meaning b.value) (home c.args.plan.now.nodes c.args.plan.now.agents) c.args.budget c.args.plan.now.kept.items (states_of (λ b. (goal.Machine-dyn g (b.vtable, b.value)).meaning b.value) c.args.cells.now) c.loop-round.plan.kept.items c.loop-round.cells c.loop-round.round _ _ _ (let is = c.ended-2.ensures in (omega (arith, is.0, most, test), is.1)) (record {
+      played = all_over (home c.args.plan.now.nodes c.args.plan.now.agents) c.args.budget c.loop-round.round c.args.plan.now.kept.items (states_of (λ b. (goal.Machine-dyn g (b.vtable, b.value)).meaning b.value) c.args.cells.now) c.loop-round.plan.kept.items (states_of (λ b. (goal.Machine-dyn g (b.vtable, b.value)).meaning b.value) c.loop-round.cells) i.played;
+      stopped = (was, i.awake, omega (arith, was, grown, test));
+    })

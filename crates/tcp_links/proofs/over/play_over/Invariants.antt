@@ -1,0 +1,31 @@
+use Rattle.std.proofs.Common.{◌≡◌, ◌≤◌, ◌<◌, None, false, length}
+use Rattle.worker_runs.specs.CellRounds.{total}
+use Rattle.worker_runs.specs.CellRuns.{all_ended}
+use Rattle.worker_runs.specs.NodeRounds.{home}
+use Rattle.node_runs.specs.Wires.{HaveHeld}
+use Rattle.agent_cells.specs.State.{fault_in}
+use Rattle.agent_workers.specs.Joined.{states_of, EachIs, HasBegun, IsJoined}
+use Rattle.agent_workers.specs.Run.{AreBusy}
+use Rattle.tcp_links.specs.Plans.{IsHonest}
+use Rattle.tcp_links.specs.Over.{IsPlanOver, ArePlayedSo}
+use Rattle.tcp_links.proofs.over.play_over.Given as goal
+
+abbrev pub invariant-loop-round : goal.invariant-loop-round
+invariant-loop-round g l = record {
+  shared : 0 < l.sharing;
+  size : length l.cells ≡ length l.initial.cells;
+  joined : IsJoined (λ b. (goal.Machine-dyn g (b.vtable, b.value)).meaning b.value) l.initial.plan.nodes l.cells;
+  begun : EachIs (λ c. HasBegun (λ b. (goal.Machine-dyn g (b.vtable, b.value)).meaning b.value) c) l.cells;
+  fine : EachIs (λ c. fault_in c ≡ None) l.cells;
+  over : IsPlanOver (λ b. (goal.Machine-dyn g (b.vtable, b.value)).meaning b.value) l.initial.plan l.plan l.cells;
+  played : ArePlayedSo (home l.initial.plan.nodes l.initial.plan.agents) l.budget AreBusy l.round l.initial.plan.kept.items (states_of (λ b. (goal.Machine-dyn g (b.vtable, b.value)).meaning b.value) l.initial.cells) l.plan.kept.items (states_of (λ b. (goal.Machine-dyn g (b.vtable, b.value)).meaning b.value) l.cells);
+  deliveries : l.deliveries ≡ total (states_of (λ b. (goal.Machine-dyn g (b.vtable, b.value)).meaning b.value) l.cells);
+  progress : l.round ≤ l.deliveries;
+  most : l.round ≤ l.budget;
+  within : l.round < l.budget → l.deliveries < l.budget;
+  awake : all_ended (states_of (λ b. (goal.Machine-dyn g (b.vtable, b.value)).meaning b.value) l.cells) ≡ false;
+  faults : g.D.Dialer.faults l.dialer ≡ g.D.Dialer.faults l.initial.dialer;
+  dialer : g.D.Dialer.is_honest l.initial.dialer → g.D.Dialer.is_honest l.dialer;
+  honest : IsHonest g.D.W.Wire.told g.D.W.Wire.is_joined l.initial.plan → HaveHeld l.initial.plan.kept.items → IsHonest g.D.W.Wire.told g.D.W.Wire.is_joined l.plan;
+  held : IsHonest g.D.W.Wire.told g.D.W.Wire.is_joined l.initial.plan → HaveHeld l.initial.plan.kept.items → HaveHeld l.plan.kept.items;
+}

@@ -1,0 +1,80 @@
+use Rattle.std.proofs.Common.{◌∙◌, refl, subst}
+use Rattle.agent_workers.specs.Turns.{SomeFailed}
+use Rattle.agent_workers.proofs.RoundLaws.{sound_from, begun_still}
+use Rattle.agent_workers.proofs.RunLaws.{fine_still}
+use Rattle.tcp_links.specs.Faults.{IsNoDifference}
+use Rattle.tcp_links.specs.Over.{IsExchangeFault}
+use Rattle.tcp_links.proofs.OverLaws.{err_on, nothing_on, cause_on, joined_quiet, joined_over, joined_back, fine_quiet, over_still, round_made, broken_made}
+use Rattle.tcp_links.proofs.over.round_over.Goals as goal
+
+pub exchange-requires-clause-plan : goal.exchange-requires-clause-plan
+exchange-requires-clause-plan g c κs within = c.requires.over.plan
+
+pub exchange-requires-clause-woven : goal.exchange-requires-clause-woven
+exchange-requires-clause-woven g c κs within = c.requires.over.woven
+
+pub exchange-requires-clause-sound : goal.exchange-requires-clause-sound
+exchange-requires-clause-sound g c κs within = sound_from (λ b. (goal.Machine-dyn g (b.vtable, b.value)).meaning b.value) c.args.cells.now c.requires.begun
+
+pub play_round-requires-clause-joined : goal.play_round-requires-clause-joined
+play_round-requires-clause-joined g c κs within = joined_over (λ b. (goal.Machine-dyn g (b.vtable, b.value)).meaning b.value) c.args.plan.now c.exchange.new.plan c.exchange.new.cells c.in_ok-exchange.ensures.exchanged.over.nodes (joined_quiet (λ b. (goal.Machine-dyn g (b.vtable, b.value)).meaning b.value) c.args.plan.now.nodes c.args.cells.now c.exchange.new.cells c.requires.joined c.exchange.ensures.quiet)
+
+pub play_round-requires-clause-begun : goal.play_round-requires-clause-begun
+play_round-requires-clause-begun g c κs within = begun_still (λ b. (goal.Machine-dyn g (b.vtable, b.value)).meaning b.value) c.args.cells.now c.exchange.new.cells c.requires.begun c.exchange.ensures.quiet
+
+pub returns-in_err-exchange-clause-joined : goal.returns-in_err-exchange-clause-joined
+returns-in_err-exchange-clause-joined g c = joined_quiet (λ b. (goal.Machine-dyn g (b.vtable, b.value)).meaning b.value) c.args.plan.now.nodes c.args.cells.now c.exchange.new.cells c.requires.joined c.exchange.ensures.quiet
+
+pub returns-in_err-exchange-clause-begun : goal.returns-in_err-exchange-clause-begun
+returns-in_err-exchange-clause-begun g c = begun_still (λ b. (goal.Machine-dyn g (b.vtable, b.value)).meaning b.value) c.args.cells.now c.exchange.new.cells c.requires.begun c.exchange.ensures.quiet
+
+pub returns-in_err-exchange-clause-cause : goal.returns-in_err-exchange-clause-cause
+returns-in_err-exchange-clause-cause g c = cause_on (Unit {0}) _ _ _ c.from_residual.result _ refl c.from_residual.ensures.1 c.in_err-exchange.ensures.cause
+
+pub returns-in_err-exchange-clause-differs : goal.returns-in_err-exchange-clause-differs
+returns-in_err-exchange-clause-differs g c = err_on c.from_residual.result _ (IsExchangeFault (λ b. (goal.Machine-dyn g (b.vtable, b.value)).meaning b.value) c.args.round c.args.plan.now c.args.cells.now) c.from_residual.ensures.1 c.in_err-exchange.ensures.differs
+
+pub returns-in_err-exchange-clause-honest : goal.returns-in_err-exchange-clause-honest
+returns-in_err-exchange-clause-honest g c = λ h. (nothing_on c.from_residual.result _ _ c.from_residual.ensures.1, err_on c.from_residual.result _ IsNoDifference c.from_residual.ensures.1 (c.in_err-exchange.ensures.honest h).1)
+
+pub returns-in-Ok-clause-joined : goal.returns-in-Ok-clause-joined
+returns-in-Ok-clause-joined g c = joined_back (λ b. (goal.Machine-dyn g (b.vtable, b.value)).meaning b.value) c.args.plan.now c.exchange.new.plan c.play_round.new.cells c.in_ok-exchange.ensures.exchanged.over.nodes c.play_round.ensures.joined
+
+pub returns-in-Ok-clause-over : goal.returns-in-Ok-clause-over
+returns-in-Ok-clause-over g c = over_still (λ b. (goal.Machine-dyn g (b.vtable, b.value)).meaning b.value) c.args.plan.now c.exchange.new.plan c.exchange.new.cells c.play_round.new.cells c.in_ok-exchange.ensures.exchanged.over c.play_round.ensures.same
+
+pub returns-in-Ok-clause-honest : goal.returns-in-Ok-clause-honest
+returns-in-Ok-clause-honest g c = λ h. ((c.in_ok-exchange.ensures.honest h).0, tt)
+
+pub returns-in-Err-StampEnd-clause-joined : goal.returns-in-Err-StampEnd-clause-joined
+returns-in-Err-StampEnd-clause-joined g c = joined_back (λ b. (goal.Machine-dyn g (b.vtable, b.value)).meaning b.value) c.args.plan.now c.exchange.new.plan c.play_round.new.cells c.in_ok-exchange.ensures.exchanged.over.nodes c.play_round.ensures.joined
+
+pub returns-in-Err-StampEnd-clause-over : goal.returns-in-Err-StampEnd-clause-over
+returns-in-Err-StampEnd-clause-over g c = over_still (λ b. (goal.Machine-dyn g (b.vtable, b.value)).meaning b.value) c.args.plan.now c.exchange.new.plan c.exchange.new.cells c.play_round.new.cells c.in_ok-exchange.ensures.exchanged.over c.play_round.ensures.same
+
+pub returns-in-Err-StampEnd-clause-honest : goal.returns-in-Err-StampEnd-clause-honest
+returns-in-Err-StampEnd-clause-honest g c = λ h. ((c.in_ok-exchange.ensures.honest h).0, tt)
+
+pub returns-in-Err-NoMemory-clause-joined : goal.returns-in-Err-NoMemory-clause-joined
+returns-in-Err-NoMemory-clause-joined g c = joined_back (λ b. (goal.Machine-dyn g (b.vtable, b.value)).meaning b.value) c.args.plan.now c.exchange.new.plan c.play_round.new.cells c.in_ok-exchange.ensures.exchanged.over.nodes c.play_round.ensures.joined
+
+pub returns-in-Err-NoMemory-clause-honest : goal.returns-in-Err-NoMemory-clause-honest
+returns-in-Err-NoMemory-clause-honest g c = λ h. (tt, tt)
+
+pub returns-in-Ok-clause-round : goal.returns-in-Ok-clause-round
+returns-in-Ok-clause-round g c = round_made (λ b. (goal.Machine-dyn g (b.vtable, b.value)).meaning b.value) c.args.plan.now c.exchange.new.plan c.args.cells.now c.exchange.new.cells c.play_round.new.cells c.in-Ok.taken c.in_ok-exchange.ensures.exchanged c.exchange.ensures.quiet c.in-Ok.ensures.round c.in-Ok.ensures.counted c.in-Ok.ensures.most (fine_still (λ b. (goal.Machine-dyn g (b.vtable, b.value)).meaning b.value) c.exchange.new.cells c.play_round.new.cells c.in-Ok.ensures.fine (fine_quiet (λ b. (goal.Machine-dyn g (b.vtable, b.value)).meaning b.value) c.args.cells.now c.exchange.new.cells c.exchange.ensures.quiet c.requires.fine))
+
+pub returns-in-Err-StampEnd-clause-round : goal.returns-in-Err-StampEnd-clause-round
+returns-in-Err-StampEnd-clause-round g c = broken_made (λ b. (goal.Machine-dyn g (b.vtable, b.value)).meaning b.value) c.args.plan.now c.exchange.new.plan c.args.cells.now c.exchange.new.cells c.play_round.new.cells c.in_ok-exchange.ensures.exchanged (c.in-Err-StampEnd.ensures.end c.in-Err-StampEnd.field-0-is (fine_quiet (λ b. (goal.Machine-dyn g (b.vtable, b.value)).meaning b.value) c.args.cells.now c.exchange.new.cells c.exchange.ensures.quiet c.requires.fine)) (subst (λ f. SomeFailed f c.play_round.new.cells) c.in-Err-StampEnd.field-0-is c.in-Err-StampEnd.ensures.err)
+
+pub returns-in_err-exchange-clause-size : goal.returns-in_err-exchange-clause-size
+returns-in_err-exchange-clause-size g c = c.exchange.ensures.quiet.size
+
+pub returns-in-Ok-clause-size : goal.returns-in-Ok-clause-size
+returns-in-Ok-clause-size g c = c.play_round.ensures.same.size ∙ c.exchange.ensures.quiet.size
+
+pub returns-in-Err-StampEnd-clause-size : goal.returns-in-Err-StampEnd-clause-size
+returns-in-Err-StampEnd-clause-size g c = c.play_round.ensures.same.size ∙ c.exchange.ensures.quiet.size
+
+pub returns-in-Err-NoMemory-clause-size : goal.returns-in-Err-NoMemory-clause-size
+returns-in-Err-NoMemory-clause-size g c = c.play_round.ensures.same.size ∙ c.exchange.ensures.quiet.size

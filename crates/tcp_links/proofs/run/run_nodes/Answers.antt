@@ -1,0 +1,35 @@
+use Rattle.std.proofs.Common.{◌≡◌, false, sym, subst}
+use Rattle.std.specs.Prelude.{IfOk, OnOk, IfErr}
+use Rattle.worker_runs.specs.CellRuns.{MakesARun}
+use Rattle.agent_cells.specs.State.{begun_in, IsCell}
+use Rattle.agent_cells.proofs.CellLaws.{written}
+use Rattle.agent_workers.specs.Joined.{states_of, EachIs, IsJoined}
+use Rattle.agent_workers.specs.Run.{views_of, AreDulyPlayed}
+use Rattle.agent_workers.proofs.ListLaws.{carry}
+use Rattle.tcp_links.specs.Linked.{AreLinkedOver}
+use Rattle.tcp_links.specs.Ends.{HasHeldOver, DiffersOver}
+use Rattle.tcp_links.proofs.run.run_nodes.Goals as goal
+
+pub run_over-requires-clause-joined : goal.run_over-requires-clause-joined
+run_over-requires-clause-joined g c κs within = subst (IsJoined (λ b. (goal.Machine-dyn g (b.vtable, b.value)).meaning b.value) c.args.plan.now.nodes) (sym c.as_mut_slice.ensures.value) c.requires.joined
+
+pub run_over-requires-clause-linked : goal.run_over-requires-clause-linked
+run_over-requires-clause-linked g c κs within = subst (AreLinkedOver (λ b. (goal.Machine-dyn g (b.vtable, b.value)).meaning b.value) c.args.plan.now) (sym c.as_mut_slice.ensures.value) c.requires.linked
+
+pub run_over-requires-clause-sound : goal.run_over-requires-clause-sound
+run_over-requires-clause-sound g c κs within = subst (EachIs (λ x. IsCell (λ b. (goal.Machine-dyn g (b.vtable, b.value)).meaning b.value) x)) (sym c.as_mut_slice.ensures.value) c.requires.sound
+
+pub run_over-requires-clause-fresh : goal.run_over-requires-clause-fresh
+run_over-requires-clause-fresh g c κs within = subst (EachIs (λ x. begun_in x ≡ false)) (sym c.as_mut_slice.ensures.value) c.requires.fresh
+
+pub returns-clause-run : goal.returns-clause-run
+returns-clause-run g c = carry (λ old new. IfOk c.run_over.result (λ end. MakesARun c.args.budget (views_of (λ b. (goal.Machine-dyn g (b.vtable, b.value)).meaning b.value) old) (states_of (λ b. (goal.Machine-dyn g (b.vtable, b.value)).meaning b.value) new) end)) _ _ _ _ c.as_mut_slice.ensures.value (written _ c.args.cells.now.items c.run_over.new.cells c.as_mut_slice.result.now c.args.cells.now.ok.0 c.run_over.ensures.size c.as_mut_slice.ensures.value) c.run_over.ensures.run
+
+pub returns-clause-rounds : goal.returns-clause-rounds
+returns-clause-rounds g c = carry (λ old new. OnOk c.run_over.result (AreDulyPlayed c.args.budget (views_of (λ b. (goal.Machine-dyn g (b.vtable, b.value)).meaning b.value) old) (states_of (λ b. (goal.Machine-dyn g (b.vtable, b.value)).meaning b.value) new))) _ _ _ _ c.as_mut_slice.ensures.value (written _ c.args.cells.now.items c.run_over.new.cells c.as_mut_slice.result.now c.args.cells.now.ok.0 c.run_over.ensures.size c.as_mut_slice.ensures.value) c.run_over.ensures.rounds
+
+pub returns-clause-held : goal.returns-clause-held
+returns-clause-held g c = carry (λ old new. OnOk c.run_over.result (HasHeldOver c.args.budget (views_of (λ b. (goal.Machine-dyn g (b.vtable, b.value)).meaning b.value) old) c.args.plan.now (states_of (λ b. (goal.Machine-dyn g (b.vtable, b.value)).meaning b.value) new))) _ _ _ _ c.as_mut_slice.ensures.value (written _ c.args.cells.now.items c.run_over.new.cells c.as_mut_slice.result.now c.args.cells.now.ok.0 c.run_over.ensures.size c.as_mut_slice.ensures.value) c.run_over.ensures.held
+
+pub returns-clause-differs : goal.returns-clause-differs
+returns-clause-differs g c = carry (λ old new. IfErr c.run_over.result (DiffersOver c.args.budget (views_of (λ b. (goal.Machine-dyn g (b.vtable, b.value)).meaning b.value) old) c.args.plan.now (states_of (λ b. (goal.Machine-dyn g (b.vtable, b.value)).meaning b.value) new))) _ _ _ _ c.as_mut_slice.ensures.value (written _ c.args.cells.now.items c.run_over.new.cells c.as_mut_slice.result.now c.args.cells.now.ok.0 c.run_over.ensures.size c.as_mut_slice.ensures.value) c.run_over.ensures.differs

@@ -1,0 +1,127 @@
+use Rattle.std.proofs.Common.{◌∙◌, refl, sym, subst}
+use Rattle.agent_workers.specs.Joined.{states_of}
+use Rattle.agent_workers.specs.Run.{views_of}
+use Rattle.agent_workers.proofs.JoinLaws.{sound_still}
+use Rattle.agent_workers.proofs.RoundLaws.{sound_from}
+use Rattle.agent_workers.proofs.RunLaws.{begun_all, fine_all}
+use Rattle.letter_wires.specs.Honest.{AreHonest}
+use Rattle.tcp_links.specs.declared.over.Played.{Played}
+use Rattle.tcp_links.specs.Ends.{DiffersOver}
+use Rattle.tcp_links.specs.Faults.{IsNoDifference}
+use Rattle.tcp_links.proofs.OverLaws.{err_on, nothing_on, cause_on, joined_over, joined_quiet}
+use Rattle.tcp_links.proofs.RunLaws.{held_in, differs_in, never_differ, starts_over, joined_start, none_start, over_start, held_start, new_over, differs_played, differs_last, differs_kept, no_break, last_run, last_duly, last_held}
+use Rattle.tcp_links.proofs.run.run_over.Goals as goal
+
+pub play_over-requires-clause-over : goal.play_over-requires-clause-over
+play_over-requires-clause-over g c κs within = over_start (λ b. (goal.Machine-dyn g (b.vtable, b.value)).meaning b.value) c.args.plan.now c.args.cells.now c.begin_all.new.cells c.requires.plan c.requires.linked c.requires.joined c.in_ok-begin_all.ensures.started
+
+pub play_over-requires-clause-joined : goal.play_over-requires-clause-joined
+play_over-requires-clause-joined g c κs within = joined_start (λ b. (goal.Machine-dyn g (b.vtable, b.value)).meaning b.value) c.args.plan.now.nodes c.args.cells.now c.begin_all.new.cells c.requires.joined c.in_ok-begin_all.ensures.started
+
+pub play_over-requires-clause-begun : goal.play_over-requires-clause-begun
+play_over-requires-clause-begun g c κs within = begun_all (λ b. (goal.Machine-dyn g (b.vtable, b.value)).meaning b.value) c.args.cells.now c.begin_all.new.cells c.in_ok-begin_all.ensures.started
+
+pub play_over-requires-clause-fine : goal.play_over-requires-clause-fine
+play_over-requires-clause-fine g c κs within = fine_all (λ b. (goal.Machine-dyn g (b.vtable, b.value)).meaning b.value) c.args.cells.now c.begin_all.new.cells c.in_ok-begin_all.ensures.started
+
+pub play_over-requires-clause-none : goal.play_over-requires-clause-none
+play_over-requires-clause-none g c κs within = none_start (λ b. (goal.Machine-dyn g (b.vtable, b.value)).meaning b.value) c.args.plan.now.nodes c.args.cells.now c.begin_all.new.cells c.requires.joined c.in_ok-begin_all.ensures.started
+
+pub exchange-requires-clause-plan : goal.exchange-requires-clause-plan
+exchange-requires-clause-plan g c κs within = c.in_ok-play.ensures.over.plan
+
+pub exchange-requires-clause-woven : goal.exchange-requires-clause-woven
+exchange-requires-clause-woven g c κs within = c.in_ok-play.ensures.over.woven
+
+pub exchange-requires-clause-joined : goal.exchange-requires-clause-joined
+exchange-requires-clause-joined g c κs within = joined_over (λ b. (goal.Machine-dyn g (b.vtable, b.value)).meaning b.value) c.args.plan.now c.play_over.new.plan c.play_over.new.cells c.in_ok-play.ensures.over.nodes c.play_over.ensures.joined
+
+pub exchange-requires-clause-sound : goal.exchange-requires-clause-sound
+exchange-requires-clause-sound g c κs within = sound_from (λ b. (goal.Machine-dyn g (b.vtable, b.value)).meaning b.value) c.play_over.new.cells c.play_over.ensures.begun
+
+pub settle_all-requires-clause-joined : goal.settle_all-requires-clause-joined
+settle_all-requires-clause-joined g c = joined_over (λ b. (goal.Machine-dyn g (b.vtable, b.value)).meaning b.value) c.args.plan.now c.exchange.new.plan c.exchange.new.cells (c.in_ok-exchange.ensures.exchanged.over.nodes ∙ c.in_ok-play.ensures.over.nodes) (joined_quiet (λ b. (goal.Machine-dyn g (b.vtable, b.value)).meaning b.value) c.args.plan.now.nodes c.play_over.new.cells c.exchange.new.cells c.play_over.ensures.joined c.exchange.ensures.quiet)
+
+pub settle_all-requires-clause-sound : goal.settle_all-requires-clause-sound
+settle_all-requires-clause-sound g c = sound_still (λ b. (goal.Machine-dyn g (b.vtable, b.value)).meaning b.value) c.play_over.new.cells c.exchange.new.cells (sound_from (λ b. (goal.Machine-dyn g (b.vtable, b.value)).meaning b.value) c.play_over.new.cells c.play_over.ensures.begun) c.exchange.ensures.quiet
+
+pub clear_links-requires-clause-agents : goal.clear_links-requires-clause-agents
+clear_links-requires-clause-agents g c = c.in_ok-exchange.ensures.exchanged.over.plan.agents
+
+pub clear_links-requires-clause-nodes : goal.clear_links-requires-clause-nodes
+clear_links-requires-clause-nodes g c = c.in_ok-exchange.ensures.exchanged.over.plan.nodes
+
+pub clear_links-requires-clause-wires : goal.clear_links-requires-clause-wires
+clear_links-requires-clause-wires g c = c.in_ok-exchange.ensures.exchanged.over.plan.wires
+
+pub returns-in_err-begin_all-clause-size : goal.returns-in_err-begin_all-clause-size
+returns-in_err-begin_all-clause-size g c = c.begin_all.ensures.same.size
+
+pub returns-in_err-play-clause-size : goal.returns-in_err-play-clause-size
+returns-in_err-play-clause-size g c = c.play_over.ensures.size ∙ c.in_ok-begin_all.ensures.started.size
+
+pub returns-in_err-play-clause-differs : goal.returns-in_err-play-clause-differs
+returns-in_err-play-clause-differs g c = err_on c.from_residual-in_err-play.result _ (DiffersOver c.args.budget (views_of (λ b. (goal.Machine-dyn g (b.vtable, b.value)).meaning b.value) c.args.cells.now) c.args.plan.now (states_of (λ b. (goal.Machine-dyn g (b.vtable, b.value)).meaning b.value) c.play_over.new.cells)) c.from_residual-in_err-play.ensures.1 (differs_played (λ b. (goal.Machine-dyn g (b.vtable, b.value)).meaning b.value) c.args.budget (views_of (λ b. (goal.Machine-dyn g (b.vtable, b.value)).meaning b.value) c.args.cells.now) (states_of (λ b. (goal.Machine-dyn g (b.vtable, b.value)).meaning b.value) c.begin_all.new.cells) (states_of (λ b. (goal.Machine-dyn g (b.vtable, b.value)).meaning b.value) c.play_over.new.cells) c.args.plan.now _ (starts_over (λ b. (goal.Machine-dyn g (b.vtable, b.value)).meaning b.value) c.args.plan.now.nodes c.args.cells.now c.begin_all.new.cells c.requires.joined c.in_ok-begin_all.ensures.started) c.in_err-play.ensures.differs)
+
+pub returns-in_err-play-clause-cause : goal.returns-in_err-play-clause-cause
+returns-in_err-play-clause-cause g c = cause_on Played _ _ _ c.from_residual-in_err-play.result _ refl c.from_residual-in_err-play.ensures.1 c.in_err-play.ensures.cause
+
+pub returns-in_err-play-clause-honest : goal.returns-in_err-play-clause-honest
+returns-in_err-play-clause-honest g c = λ h. (nothing_on c.from_residual-in_err-play.result _ _ c.from_residual-in_err-play.ensures.1, err_on c.from_residual-in_err-play.result _ IsNoDifference c.from_residual-in_err-play.ensures.1 (c.in_err-play.ensures.honest h (held_start (λ b. (goal.Machine-dyn g (b.vtable, b.value)).meaning b.value) c.args.plan.now c.args.cells.now c.requires.plan c.requires.linked)).1)
+
+pub returns-in_err-exchange-clause-size : goal.returns-in_err-exchange-clause-size
+returns-in_err-exchange-clause-size g c = c.exchange.ensures.quiet.size ∙ c.play_over.ensures.size ∙ c.in_ok-begin_all.ensures.started.size
+
+pub returns-in_err-exchange-clause-differs : goal.returns-in_err-exchange-clause-differs
+returns-in_err-exchange-clause-differs g c = err_on c.from_residual-in_err-exchange.result _ (DiffersOver c.args.budget (views_of (λ b. (goal.Machine-dyn g (b.vtable, b.value)).meaning b.value) c.args.cells.now) c.args.plan.now (states_of (λ b. (goal.Machine-dyn g (b.vtable, b.value)).meaning b.value) c.exchange.new.cells)) c.from_residual-in_err-exchange.ensures.1 (differs_last (λ b. (goal.Machine-dyn g (b.vtable, b.value)).meaning b.value) c.args.budget c.in_ok-play.play.rounds (views_of (λ b. (goal.Machine-dyn g (b.vtable, b.value)).meaning b.value) c.args.cells.now) (states_of (λ b. (goal.Machine-dyn g (b.vtable, b.value)).meaning b.value) c.begin_all.new.cells) c.args.plan.now c.play_over.new.plan c.play_over.new.cells c.in_ok-play.play.end (starts_over (λ b. (goal.Machine-dyn g (b.vtable, b.value)).meaning b.value) c.args.plan.now.nodes c.args.cells.now c.begin_all.new.cells c.requires.joined c.in_ok-begin_all.ensures.started) c.in_ok-play.ensures.over c.in_ok-play.ensures.played (states_of (λ b. (goal.Machine-dyn g (b.vtable, b.value)).meaning b.value) c.exchange.new.cells) _ c.in_err-exchange.ensures.differs)
+
+pub returns-in_err-exchange-clause-cause : goal.returns-in_err-exchange-clause-cause
+returns-in_err-exchange-clause-cause g c = cause_on (Unit {0}) _ _ _ c.from_residual-in_err-exchange.result _ c.in_ok-play.ensures.cause c.from_residual-in_err-exchange.ensures.1 c.in_err-exchange.ensures.cause
+
+pub returns-in_err-exchange-clause-dialer : goal.returns-in_err-exchange-clause-dialer
+returns-in_err-exchange-clause-dialer g c = λ d. c.exchange.ensures.dialer (c.play_over.ensures.dialer d)
+
+pub returns-in_err-exchange-clause-honest : goal.returns-in_err-exchange-clause-honest
+returns-in_err-exchange-clause-honest g c = λ h. (nothing_on c.from_residual-in_err-exchange.result _ _ c.from_residual-in_err-exchange.ensures.1, err_on c.from_residual-in_err-exchange.result _ IsNoDifference c.from_residual-in_err-exchange.ensures.1 (c.in_err-exchange.ensures.honest (c.in_ok-play.ensures.honest h (held_start (λ b. (goal.Machine-dyn g (b.vtable, b.value)).meaning b.value) c.args.plan.now c.args.cells.now c.requires.plan c.requires.linked)).0.0).1)
+
+pub returns-in-Some-clause-size : goal.returns-in-Some-clause-size
+returns-in-Some-clause-size g c = c.settle_all.ensures.settled.quiet.size ∙ c.exchange.ensures.quiet.size ∙ c.play_over.ensures.size ∙ c.in_ok-begin_all.ensures.started.size
+
+pub returns-in-Some-clause-cause : goal.returns-in-Some-clause-cause
+returns-in-Some-clause-cause g c = c.in_ok-exchange.ensures.cause ∙ c.in_ok-play.ensures.cause
+
+pub returns-in-Some-clause-dialer : goal.returns-in-Some-clause-dialer
+returns-in-Some-clause-dialer g c = λ d. c.exchange.ensures.dialer (c.play_over.ensures.dialer d)
+
+pub returns-in-Some-clause-differs : goal.returns-in-Some-clause-differs
+returns-in-Some-clause-differs g c = differs_kept (λ b. (goal.Machine-dyn g (b.vtable, b.value)).meaning b.value) c.args.budget c.in_ok-play.play.rounds (views_of (λ b. (goal.Machine-dyn g (b.vtable, b.value)).meaning b.value) c.args.cells.now) (states_of (λ b. (goal.Machine-dyn g (b.vtable, b.value)).meaning b.value) c.begin_all.new.cells) c.args.plan.now c.play_over.new.plan c.play_over.new.cells c.in_ok-play.play.end (starts_over (λ b. (goal.Machine-dyn g (b.vtable, b.value)).meaning b.value) c.args.plan.now.nodes c.args.cells.now c.begin_all.new.cells c.requires.joined c.in_ok-begin_all.ensures.started) c.in_ok-play.ensures.over c.in_ok-play.ensures.played c.exchange.new.plan c.exchange.new.cells c.settle_all.new.cells c.in_ok-exchange.ensures.exchanged c.settle_all.ensures.settled _ _ _ _ _ _ c.into.ensures (differs_in _ _ _ _ _ _ _ c.as_mut_slice.ensures.value c.in-Some.ensures)
+
+pub returns-in-Some-clause-honest : goal.returns-in-Some-clause-honest
+returns-in-Some-clause-honest g c = λ h. absurd (never_differ c.as_mut_slice.result.now _ _ _ _ _ (held_in _ _ (sym c.as_mut_slice.ensures.value) ((c.in_ok-exchange.ensures.honest (c.in_ok-play.ensures.honest h (held_start (λ b. (goal.Machine-dyn g (b.vtable, b.value)).meaning b.value) c.args.plan.now c.args.cells.now c.requires.plan c.requires.linked)).0.0).0.1 (c.in_ok-play.ensures.honest h (held_start (λ b. (goal.Machine-dyn g (b.vtable, b.value)).meaning b.value) c.args.plan.now c.args.cells.now c.requires.plan c.requires.linked)).0.1)) c.in-Some.ensures)
+
+pub unreachable-requires : goal.unreachable-requires
+unreachable-requires g c = no_break (λ b. (goal.Machine-dyn g (b.vtable, b.value)).meaning b.value) c.args.budget c.in_ok-play.play.rounds (views_of (λ b. (goal.Machine-dyn g (b.vtable, b.value)).meaning b.value) c.args.cells.now) (states_of (λ b. (goal.Machine-dyn g (b.vtable, b.value)).meaning b.value) c.begin_all.new.cells) c.args.plan.now c.play_over.new.plan c.play_over.new.cells c.in_ok-play.play.end (starts_over (λ b. (goal.Machine-dyn g (b.vtable, b.value)).meaning b.value) c.args.plan.now.nodes c.args.cells.now c.begin_all.new.cells c.requires.joined c.in_ok-begin_all.ensures.started) c.in_ok-play.ensures.over c.in_ok-play.ensures.played c.exchange.new.plan c.exchange.new.cells c.settle_all.new.cells c.in_ok-exchange.ensures.exchanged c.settle_all.ensures.settled (held_in _ _ c.as_mut_slice.ensures.value c.in_default.ensures) c.in-None.is
+
+pub returns-clause-size : goal.returns-clause-size
+returns-clause-size g c = c.settle_all.ensures.settled.quiet.size ∙ c.exchange.ensures.quiet.size ∙ c.play_over.ensures.size ∙ c.in_ok-begin_all.ensures.started.size
+
+pub returns-clause-cause : goal.returns-clause-cause
+returns-clause-cause g c = c.in_ok-exchange.ensures.cause ∙ c.in_ok-play.ensures.cause
+
+pub returns-clause-dialer : goal.returns-clause-dialer
+returns-clause-dialer g c = λ d. c.exchange.ensures.dialer (c.play_over.ensures.dialer d)
+
+pub returns-clause-run : goal.returns-clause-run
+returns-clause-run g c = last_run (λ b. (goal.Machine-dyn g (b.vtable, b.value)).meaning b.value) c.args.budget c.in_ok-play.play.rounds (views_of (λ b. (goal.Machine-dyn g (b.vtable, b.value)).meaning b.value) c.args.cells.now) (states_of (λ b. (goal.Machine-dyn g (b.vtable, b.value)).meaning b.value) c.begin_all.new.cells) c.args.plan.now c.play_over.new.plan c.play_over.new.cells c.in_ok-play.play.end (starts_over (λ b. (goal.Machine-dyn g (b.vtable, b.value)).meaning b.value) c.args.plan.now.nodes c.args.cells.now c.begin_all.new.cells c.requires.joined c.in_ok-begin_all.ensures.started) c.in_ok-play.ensures.over c.in_ok-play.ensures.played c.exchange.new.plan c.exchange.new.cells c.settle_all.new.cells c.in_ok-exchange.ensures.exchanged c.settle_all.ensures.settled (held_in _ _ c.as_mut_slice.ensures.value c.in_default.ensures) c.in-Some-end.end c.in-Some-end.is
+
+pub returns-clause-rounds : goal.returns-clause-rounds
+returns-clause-rounds g c = last_duly (λ b. (goal.Machine-dyn g (b.vtable, b.value)).meaning b.value) c.args.budget c.in_ok-play.play.rounds (views_of (λ b. (goal.Machine-dyn g (b.vtable, b.value)).meaning b.value) c.args.cells.now) (states_of (λ b. (goal.Machine-dyn g (b.vtable, b.value)).meaning b.value) c.begin_all.new.cells) c.args.plan.now c.play_over.new.plan c.play_over.new.cells c.in_ok-play.play.end (starts_over (λ b. (goal.Machine-dyn g (b.vtable, b.value)).meaning b.value) c.args.plan.now.nodes c.args.cells.now c.begin_all.new.cells c.requires.joined c.in_ok-begin_all.ensures.started) c.in_ok-play.ensures.over c.in_ok-play.ensures.played c.exchange.new.plan c.exchange.new.cells c.settle_all.new.cells c.in_ok-exchange.ensures.exchanged c.settle_all.ensures.settled (held_in _ _ c.as_mut_slice.ensures.value c.in_default.ensures) c.in-Some-end.end c.in-Some-end.is
+
+pub returns-clause-held : goal.returns-clause-held
+returns-clause-held g c = last_held (λ b. (goal.Machine-dyn g (b.vtable, b.value)).meaning b.value) c.args.budget c.in_ok-play.play.rounds (views_of (λ b. (goal.Machine-dyn g (b.vtable, b.value)).meaning b.value) c.args.cells.now) (states_of (λ b. (goal.Machine-dyn g (b.vtable, b.value)).meaning b.value) c.begin_all.new.cells) c.args.plan.now c.play_over.new.plan c.play_over.new.cells c.in_ok-play.play.end (starts_over (λ b. (goal.Machine-dyn g (b.vtable, b.value)).meaning b.value) c.args.plan.now.nodes c.args.cells.now c.begin_all.new.cells c.requires.joined c.in_ok-begin_all.ensures.started) c.in_ok-play.ensures.over c.in_ok-play.ensures.played c.exchange.new.plan c.exchange.new.cells c.settle_all.new.cells c.in_ok-exchange.ensures.exchanged c.settle_all.ensures.settled (held_in _ _ c.as_mut_slice.ensures.value c.in_default.ensures) c.in-Some-end.end c.in-Some-end.is
+
+pub returns-clause-plan : goal.returns-clause-plan
+returns-clause-plan g c = new_over (λ b. (goal.Machine-dyn g (b.vtable, b.value)).meaning b.value) c.args.plan.now c.play_over.new.plan c.exchange.new.plan c.clear_links.new.plan c.play_over.new.cells c.exchange.new.cells c.in_ok-play.ensures.over c.in_ok-exchange.ensures.exchanged.over c.clear_links.ensures.new
+
+pub returns-clause-honest : goal.returns-clause-honest
+returns-clause-honest g c = λ h. (subst (λ ws. AreHonest g.D.W.Wire.told g.D.W.Wire.is_joined ws) (sym c.clear_links.ensures.wires) (c.in_ok-exchange.ensures.honest (c.in_ok-play.ensures.honest h (held_start (λ b. (goal.Machine-dyn g (b.vtable, b.value)).meaning b.value) c.args.plan.now c.args.cells.now c.requires.plan c.requires.linked)).0.0).0.0, tt)

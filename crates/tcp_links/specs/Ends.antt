@@ -1,0 +1,78 @@
+-- How a run of nodes ended.
+use Rattle.std.specs.Prelude.{◌≡◌, ℕ, ◌+◌, ◌⊎◌, List, length, Option}
+use Rattle.protocol_steps.specs.declared.message.Message.{Message as Sent}
+use Rattle.protocol_steps.specs.View.{View}
+use Rattle.worker_runs.specs.Cells.{CellState, EachAre}
+use Rattle.worker_runs.specs.CellRounds.{AreStarted}
+use Rattle.worker_runs.specs.NodeRounds.{home}
+use Rattle.node_runs.specs.Wires.{Wire, HaveHeld}
+use Rattle.node_runs.specs.NodeRounds.{IsNodeEnd, ArePlayedOver}
+use Rattle.node_runs.specs.NodeStamps.{AreBrokenOver}
+use Rattle.kept_wires.specs.Differences.{Differs as DifferKept}
+use Rattle.tcp_links.specs.declared.fault.Difference.{Difference}
+use Rattle.tcp_links.specs.declared.fault.Difference.TheVariants.{Message, Bytes}
+use Rattle.tcp_links.specs.declared.fault.NodeFault.{NodeFault}
+use Rattle.tcp_links.specs.declared.fault.NodeFault.TheVariants.{Failed, Differs, NoMemory}
+use Rattle.tcp_links.specs.declared.plan.NodePlan.{NodePlan}
+use Rattle.node_letters.specs.Passings.{Passing, IsOtherByte}
+use Rattle.tcp_links.specs.Over.{IsDrainedOf}
+
+-- cells that had started were played in so many rounds, of which the last one may have been broken off
+abbrev pub AreThere : (ℕ → ℕ) → ℕ → List Wire → List CellState → List Wire → List CellState → ℕ → Type 0
+AreThere node budget begun started wires now count =
+    ((p : ArePlayedOver node budget begun started wires now) × (length p.rounds ≡ count))
+    ⊎ ((stood : List CellState) × (b : AreBrokenOver node budget begun started wires stood now) × (length b.played.rounds + 1 ≡ count))
+
+-- behind so many rounds of cells that had started, an exchange sent bytes from one node to another, of all that its agents had sent to the other's and that was not drained before, and others came
+pub record HasOtherByte (node : ℕ → ℕ) (budget : ℕ) (begun : List Wire) (started : List CellState) (round from_node to_node place : ℕ) (sent taken : Option ℕ) : Type 0 where
+  pub wires : List Wire
+  pub now : List CellState
+  pub there : AreThere node budget begun started wires now round
+  pub passings : List Passing
+  pub drained : EachAre (IsDrainedOf node now) wires passings
+  pub other : IsOtherByte passings from_node to_node place sent taken
+
+-- behind some rounds of cells that had started, and one exchange more, the first two envelopes that differ stand on the lowest link
+pub record HasOtherMessage (node : ℕ → ℕ) (budget : ℕ) (begun : List Wire) (started last : List CellState) (from to at : ℕ) (sent taken : Option (ℕ × Sent)) : Type 0 where
+  pub count : ℕ
+  pub wires : List Wire
+  pub now : List CellState
+  pub there : AreThere node budget begun started wires now count
+  pub passed : List Wire
+  pub end : IsNodeEnd node wires passed now last
+  pub differs : DifferKept passed from to at sent taken
+
+abbrev pub IsDifference : (ℕ → ℕ) → ℕ → List Wire → List CellState → List CellState → Difference → Type 0
+IsDifference node budget begun started last (Message from to at sent taken) = HasOtherMessage node budget begun started last from to at sent taken
+IsDifference node budget begun started last (Bytes round from_node to_node place sent taken) = HasOtherByte node budget begun started round from_node to_node place sent taken
+
+-- while cells are played, a difference that is found is one of bytes
+abbrev pub IsFaultOver : (ℕ → ℕ) → ℕ → List Wire → List CellState → NodeFault → Type 0
+IsFaultOver node budget begun started Failed = Unit {0}
+IsFaultOver node budget begun started (Differs (Message from to at sent taken)) = ⊥
+IsFaultOver node budget begun started (Differs (Bytes round from_node to_node place sent taken)) = HasOtherByte node budget begun started round from_node to_node place sent taken
+IsFaultOver node budget begun started NoMemory = Unit {0}
+
+module _ {W : Type 0} where
+  -- cells of agents that were made so have started, were played in rounds over the links of a plan, and each exchange, one more behind the last round too, took on each link just what it sent there
+  pub record HasHeldOver (budget : ℕ) (made : List View) (p : NodePlan W) (last : List CellState) : Type 0 where
+    pub started : List CellState
+    pub starts : AreStarted made started
+    pub wires : List Wire
+    pub now : List CellState
+    pub played : ArePlayedOver (home p.nodes p.agents) budget p.kept.items started wires now
+    pub passed : List Wire
+    pub end : IsNodeEnd (home p.nodes p.agents) wires passed now last
+    pub held : HaveHeld passed
+
+  -- a difference that such cells have come to
+  pub record HasDifference (budget : ℕ) (made : List View) (p : NodePlan W) (last : List CellState) (d : Difference) : Type 0 where
+    pub started : List CellState
+    pub starts : AreStarted made started
+    pub right : IsDifference (home p.nodes p.agents) budget p.kept.items started last d
+
+  -- what differs, where a fault says that something does
+  abbrev pub DiffersOver : ℕ → List View → NodePlan W → List CellState → NodeFault → Type 0
+  DiffersOver budget made p last Failed = Unit {0}
+  DiffersOver budget made p last (Differs d) = HasDifference budget made p last d
+  DiffersOver budget made p last NoMemory = Unit {0}

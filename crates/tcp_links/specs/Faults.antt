@@ -1,0 +1,35 @@
+-- Why an exchange failed, and what a fault says of a dialer's count.
+use Rattle.std.specs.Prelude.{◌≡◌, ℕ, ◌≤◌, List, Result, Ok, Err}
+use Rattle.dcop_edge.specs.Faults.{Rose}
+use Rattle.letter_wires.specs.declared.fault.PassFault.{PassFault}
+use Rattle.letter_wires.specs.declared.fault.PassFault.TheVariants.{Failed as pass_failed, Bytes as pass_bytes, NoMemory as no_pass_memory}
+use Rattle.node_letters.specs.Passings.{Passing, IsOtherByte}
+use Rattle.tcp_links.specs.declared.fault.Difference.TheVariants.{Message, Bytes}
+use Rattle.tcp_links.specs.declared.fault.NodeFault.{NodeFault}
+use Rattle.tcp_links.specs.declared.fault.NodeFault.TheVariants.{Failed, Differs, NoMemory}
+
+-- the fault of the exchange behind so many rounds
+abbrev pub node_fault : ℕ → PassFault → NodeFault
+node_fault round pass_failed = Failed
+node_fault round (pass_bytes from_node to_node place sent taken) = Differs (Bytes round from_node to_node place sent taken)
+node_fault round no_pass_memory = NoMemory
+
+-- no difference was found
+abbrev pub IsNoDifference : NodeFault → Type 0
+IsNoDifference Failed = Unit {0}
+IsNoDifference (Differs d) = ⊥
+IsNoDifference NoMemory = Unit {0}
+
+-- where a difference was found in the exchange behind so many rounds, it is one of bytes
+abbrev pub IsByteFault : ℕ → List Passing → NodeFault → Type 0
+IsByteFault round ps Failed = Unit {0}
+IsByteFault round ps (Differs (Message from to at sent taken)) = ⊥
+IsByteFault round ps (Differs (Bytes behind from_node to_node place sent taken)) = (behind ≡ round) × IsOtherByte ps from_node to_node place sent taken
+IsByteFault round ps NoMemory = Unit {0}
+
+-- the dialer's count rose where it failed, and in no other case
+abbrev pub HasNodeCause : {T : Type 0} → ℕ → ℕ → Result T NodeFault → Type 0
+HasNodeCause old new (Ok value) = new ≡ old
+HasNodeCause old new (Err Failed) = (old ≤ new) × Rose old new
+HasNodeCause old new (Err (Differs d)) = new ≡ old
+HasNodeCause old new (Err NoMemory) = new ≡ old

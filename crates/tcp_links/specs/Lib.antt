@@ -1,0 +1,9 @@
+pub mod Faults
+pub mod Plans
+pub mod Kept
+pub mod Drains
+pub mod Feeds
+pub mod Woven
+pub mod Linked
+pub mod Over
+pub mod Ends

@@ -1,0 +1,91 @@
+-- A plan of nodes: its wires and its links.
+use Rattle.std.specs.Prelude.{◌≡◌, ◌≢◌, ℕ, ◌-◌, ◌*◌, ◌/◌, ◌<◌, ◌≤◌, List, [], length, Some, slice_get}
+use Rattle.std.specs.List.{All, insert}
+use Rattle.dcop_base.specs.Limits.{variable_limit}
+use Rattle.protocol_steps.specs.declared.message.Message.{Message}
+use Rattle.worker_runs.specs.NodeRounds.{home}
+use Rattle.node_runs.specs.Wires.{Wire, AreApart}
+use Rattle.kept_wires.specs.Differences.{ComesBefore}
+use Rattle.fifo_links.specs.declared.ends.LinkTail.{LinkTail}
+use Rattle.fifo_links.specs.declared.ends.LinkHead.{LinkHead}
+use Rattle.fifo_links.specs.Link.{AreEnds, sent_on, taken_from}
+use Rattle.wire_edge.specs.Wire.{Told}
+use Rattle.letter_wires.specs.Honest.{AreHonest}
+use Rattle.tcp_links.specs.declared.plan.InnerEnds.{InnerEnds}
+use Rattle.tcp_links.specs.declared.plan.NodePlan.{NodePlan}
+
+-- the most nodes
+abbrev pub node_limit : ℕ
+node_limit = 8
+
+-- how many pairs there are of so many nodes
+abbrev pub pair_count : ℕ → ℕ
+pair_count nodes = nodes * (nodes - 1) / 2
+
+-- a link leads from one agent to another in a different node
+pub record IsBetween (agents nodes : ℕ) (w : Wire) : Type 0 where
+  pub sender : w.sender < agents
+  pub receiver : w.receiver < agents
+  pub apart : home nodes agents w.sender ≢ home nodes agents w.receiver
+
+-- links stand in order, by sender and then receiver
+abbrev pub AreOrdered : List Wire → Type 0
+AreOrdered ws = (k l : ℕ) (v w : Wire) → slice_get ws k ≡ Some v → slice_get ws l ≡ Some w → k < l → ComesBefore v w
+
+-- a link from this agent to that, which has passed nothing
+abbrev pub fresh_link : ℕ → ℕ → Wire
+fresh_link from to = record { receiver = to; sender = from; passages = [] }
+
+-- such a link belongs at this place of others: those below it come before it, and it comes before all others
+pub record BelongsAt (ws : List Wire) (from to place : ℕ) : Type 0 where
+  pub inside : place ≤ length ws
+  pub below : (k : ℕ) (w : Wire) → slice_get ws k ≡ Some w → k < place → ComesBefore w (fresh_link from to)
+  pub above : (k : ℕ) (w : Wire) → slice_get ws k ≡ Some w → place ≤ k → ComesBefore (fresh_link from to) w
+
+module _ {W : Type 0} where
+  -- a plan: at most 1,000 agents in at most 8 nodes, two wires for each pair of nodes, and two inner ends for each link; the links lead from node to node, and stand in order
+  pub record IsPlan (p : NodePlan W) : Type 0 where
+    pub agents : (0 < p.agents) × (p.agents ≤ variable_limit)
+    pub nodes : (0 < p.nodes) × (p.nodes ≤ node_limit)
+    pub wires : length p.wires.items ≡ pair_count p.nodes
+    pub ends : length p.ends.items ≡ length p.kept.items
+    pub between : All (IsBetween p.agents p.nodes) p.kept.items
+    pub apart : AreApart p.kept.items
+    pub ordered : AreOrdered p.kept.items
+
+  -- a plan of so many agents in so many nodes, with no link
+  pub record IsNewPlan (agents nodes : ℕ) (p : NodePlan W) : Type 0 where
+    pub plan : IsPlan p
+    pub agents_are : p.agents ≡ agents
+    pub nodes_are : p.nodes ≡ nodes
+    pub no_link : p.kept.items ≡ []
+
+  -- there is no link from this agent to that
+  pub record HasNoLink (p : NodePlan W) (from to : ℕ) : Type 0 where
+    pub none : (k : ℕ) (w : Wire) → slice_get p.kept.items k ≡ Some w → w.sender ≡ from → w.receiver ≢ to
+
+  -- a plan has one link more, from this agent to that, at its place among the others; it has passed nothing, and these are its outer ends
+  pub record IsNewLink (before : NodePlan W) (from to : ℕ) (tail : LinkTail (ℕ × Message)) (head : LinkHead (ℕ × Message)) (after : NodePlan W) : Type 0 where
+    pub place : ℕ
+    pub ends : InnerEnds
+    pub at : BelongsAt before.kept.items from to place
+    pub kept_is : after.kept.items ≡ insert before.kept.items place (fresh_link from to)
+    pub ends_is : after.ends.items ≡ insert before.ends.items place ends
+    pub drains : AreEnds tail ends.drain
+    pub feeds : AreEnds ends.feed head
+    pub unsent : (sent_on tail ≡ []) × (sent_on ends.feed ≡ [])
+    pub untaken : (taken_from ends.drain ≡ []) × (taken_from head ≡ [])
+    pub same : (after.agents ≡ before.agents) × (after.nodes ≡ before.nodes) × (after.wires.items ≡ before.wires.items)
+
+  -- the plan is as before
+  pub record IsSamePlan (before after : NodePlan W) : Type 0 where
+    pub agents : after.agents ≡ before.agents
+    pub nodes : after.nodes ≡ before.nodes
+    pub wires : after.wires.items ≡ before.wires.items
+    pub kept : after.kept.items ≡ before.kept.items
+    pub ends : after.ends.items ≡ before.ends.items
+
+module _ {W : Type 0} (told : W → Told) (is_joined : W → W → Type 0) where
+  -- the two wires of each pair are joined, and each has received all that the other has sent
+  abbrev pub IsHonest : NodePlan W → Type 0
+  IsHonest p = AreHonest told is_joined p.wires.items

@@ -1,0 +1,102 @@
+-- Cells whose links between nodes lead over a plan, in a run.
+use Rattle.std.specs.Prelude.{◌≡◌, ◌≢◌, ℕ, ◌<◌, ◌≤◌, List, [], ◌++◌, length, Some, slice_get}
+use Rattle.std.specs.List.{All, Contains}
+use Rattle.std.specs.declared.dyn_box.DynBox.{DynBox}
+use Rattle.std.specs.declared.alloc.Global.{Global}
+use Rattle.protocol_steps.specs.declared.message.Message.{Message}
+use Rattle.protocol_steps.specs.View.{View}
+use Rattle.worker_runs.specs.Cells.{peers, lane, known_from}
+use Rattle.worker_runs.specs.NodeRounds.{home}
+use Rattle.node_runs.specs.Wires.{Wire, AreApart}
+use Rattle.fifo_links.specs.Link.{sent_on, taken_from, SameHead, SameTail}
+use Rattle.kept_wires.specs.Keeping.{keeps}
+use Rattle.agent_cells.specs.declared.cell.Cell.{Cell}
+use Rattle.agent_cells.specs.Settled.{TailJoins, HeadJoins}
+use Rattle.agent_cells.specs.State.{state_of, tails_in, heads_in, IsCell}
+use Rattle.tcp_links.specs.declared.plan.InnerEnds.{InnerEnds}
+use Rattle.tcp_links.specs.Plans.{IsBetween}
+use Rattle.tcp_links.specs.Kept.{IsKept}
+use Rattle.tcp_links.specs.Drains.{HasDrained}
+use Rattle.tcp_links.specs.Feeds.{AllWaits}
+use Rattle.node_letters.specs.Passings.{Passing}
+
+-- a link as an exchange passes it on: its agents and their nodes
+pub record IsPassingOf (node : ℕ → ℕ) (w : Wire) (p : Passing) : Type 0 where
+  pub from : p.from ≡ w.sender
+  pub to : p.to ≡ w.receiver
+  pub from_node : p.from_node ≡ node w.sender
+  pub to_node : p.to_node ≡ node w.receiver
+
+module _ {X : Type 0} {F : X → Type 0} where
+  -- the inner ends of a link belong to the two cells between which it leads, of which each is a peer of the other, and its passages tell all that went through them
+  pub record IsWoven (meaning : DynBox X Global F → View) (from to : Cell X F) (w : Wire) (ends : InnerEnds) : Type 0 where
+    pub drains : TailJoins (tails_in from) w.receiver ends.drain
+    pub feeds : HeadJoins (heads_in to) w.sender ends.feed
+    pub sends : Contains (peers (state_of meaning from).sent) w.receiver
+    pub takes : Contains (peers (state_of meaning to).taken) w.sender
+    pub kept : IsKept w ends
+
+  -- so it is with each of these links, which lead apart from node to node, and there is one from each cell to each of its peers in another node
+  pub record AreWoven (meaning : DynBox X Global F → View) (nodes agents : ℕ) (ws : List Wire) (es : List InnerEnds) (cells : List (Cell X F)) : Type 0 where
+    pub size : length cells ≡ agents
+    pub ends : length es ≡ length ws
+    pub between : All (IsBetween agents nodes) ws
+    pub apart : AreApart ws
+    pub woven : (k : ℕ) (w : Wire) (e : InnerEnds) (from to : Cell X F) → slice_get ws k ≡ Some w → slice_get es k ≡ Some e → slice_get cells w.sender ≡ Some from → slice_get cells w.receiver ≡ Some to → IsWoven meaning from to w e
+    pub every : (i j : ℕ) (from : Cell X F) → slice_get cells i ≡ Some from → Contains (peers (state_of meaning from).sent) j → home nodes agents i ≢ home nodes agents j
+        → (k : ℕ) × (w : Wire) × (slice_get ws k ≡ Some w) × (w.sender ≡ i) × (w.receiver ≡ j)
+
+  -- a cell can be drained of what it has sent on a link
+  pub record CanDrain (meaning : DynBox X Global F → View) (from : Cell X F) (w : Wire) (ends : InnerEnds) : Type 0 where
+    pub cell : IsCell meaning from
+    pub joined : TailJoins (tails_in from) w.receiver ends.drain
+    pub peer : Contains (peers (state_of meaning from).sent) w.receiver
+
+  -- a cell can be fed on a link
+  pub record CanFeed (meaning : DynBox X Global F → View) (to : Cell X F) (w : Wire) (ends : InnerEnds) : Type 0 where
+    pub cell : IsCell meaning to
+    pub joined : HeadJoins (heads_in to) w.sender ends.feed
+    pub peer : Contains (peers (state_of meaning to).taken) w.sender
+
+  -- so can the cells of all these links, which lead apart
+  pub record CanFeedAll (meaning : DynBox X Global F → View) (ws : List Wire) (es : List InnerEnds) (cells : List (Cell X F)) : Type 0 where
+    pub apart : AreApart ws
+    pub inside : (k : ℕ) (w : Wire) → slice_get ws k ≡ Some w → w.receiver < length cells
+    pub each : (k : ℕ) (w : Wire) (e : InnerEnds) (to : Cell X F) → slice_get ws k ≡ Some w → slice_get es k ≡ Some e → slice_get cells w.receiver ≡ Some to → CanFeed meaning to w e
+
+  -- of other links than that to agent i from agent j no cell knows more or less
+  pub record KnowsElse (meaning : DynBox X Global F → View) (i j : ℕ) (before after : List (Cell X F)) : Type 0 where
+    pub other : (k l : ℕ) (a b : Cell X F) → slice_get before k ≡ Some a → slice_get after k ≡ Some b → (k ≡ i → l ≡ j → ⊥) → known_from l (state_of meaning b).known ≡ known_from l (state_of meaning a).known
+
+  -- all that the sender's cell has sent on a link was drained of it
+  pub record HasDrainedLink (meaning : DynBox X Global F → View) (from : Cell X F) (w : Wire) (before after : InnerEnds) (drained : List (ℕ × Message)) : Type 0 where
+    pub end : SameHead before.drain after.drain
+    pub more : HasDrained before.drain [] after.drain drained
+    pub all : taken_from after.drain ≡ lane w.receiver (state_of meaning from).sent
+    pub feed : after.feed ≡ before.feed
+
+  -- of the first links, so many, all was drained, and the others stand as they stood
+  pub record HaveDrained (meaning : DynBox X Global F → View) (node : ℕ → ℕ) (count : ℕ) (cells : List (Cell X F)) (ws : List Wire) (before after : List InnerEnds) (ps : List Passing) : Type 0 where
+    pub size : length after ≡ length before
+    pub counted : length ps ≡ count
+    pub rest : (k : ℕ) (a b : InnerEnds) → count ≤ k → slice_get before k ≡ Some a → slice_get after k ≡ Some b → b ≡ a
+    pub passing : (k : ℕ) (w : Wire) (p : Passing) → slice_get ws k ≡ Some w → slice_get ps k ≡ Some p → IsPassingOf node w p × (p.arrived ≡ [])
+    pub drained : (k : ℕ) (w : Wire) (from : Cell X F) (a b : InnerEnds) (p : Passing) → slice_get ws k ≡ Some w → slice_get cells w.sender ≡ Some from → slice_get before k ≡ Some a → slice_get after k ≡ Some b → slice_get ps k ≡ Some p
+        → HasDrainedLink meaning from w a b p.drained
+
+  -- what arrived on a link was fed to it, all of it waits for the receiver's cell, and it is kept with what was drained
+  pub record HasFedLink (meaning : DynBox X Global F → View) (to : Cell X F) (w v : Wire) (before after : InnerEnds) (p : Passing) : Type 0 where
+    pub end : SameTail before.feed after.feed
+    pub fed : sent_on after.feed ≡ sent_on before.feed ++ p.arrived
+    pub waits : AllWaits (state_of meaning to) w.sender after.feed
+    pub drain : after.drain ≡ before.drain
+    pub kept : v ≡ keeps w p.drained p.arrived
+
+  -- so it was with the first links, so many, and the others stand as they stood
+  pub record HaveFed (meaning : DynBox X Global F → View) (count : ℕ) (cells : List (Cell X F)) (ws vs : List Wire) (before after : List InnerEnds) (ps : List Passing) : Type 0 where
+    pub size : length after ≡ length before
+    pub wires : length vs ≡ length ws
+    pub rest : (k : ℕ) (a b : InnerEnds) → count ≤ k → slice_get before k ≡ Some a → slice_get after k ≡ Some b → b ≡ a
+    pub left : (k : ℕ) (w v : Wire) → count ≤ k → slice_get ws k ≡ Some w → slice_get vs k ≡ Some v → v ≡ w
+    pub fed : (k : ℕ) (w v : Wire) (to : Cell X F) (a b : InnerEnds) (p : Passing) → k < count → slice_get ws k ≡ Some w → slice_get vs k ≡ Some v → slice_get cells w.receiver ≡ Some to
+        → slice_get before k ≡ Some a → slice_get after k ≡ Some b → slice_get ps k ≡ Some p → HasFedLink meaning to w v a b p

@@ -1,0 +1,79 @@
+//! An exchange between nodes.
+
+ghost use Rattle.std.specs.Prelude.{◌≡◌, OnOk, IfErr};
+ghost use Rattle.node_runs.specs.Wires.{HaveHeld};
+ghost use Rattle.agent_cells.specs.State.{IsCell};
+ghost use Rattle.agent_workers.specs.Joined.{EachIs, EachBecomes, IsJoined};
+ghost use Rattle.agent_workers.specs.Settled.{StaysQuiet};
+ghost use Rattle.tcp_links.specs.Plans.{IsPlan, IsHonest};
+ghost use Rattle.tcp_links.specs.Faults.{HasNodeCause, IsNoDifference};
+ghost use Rattle.tcp_links.specs.Woven.{AreWoven};
+ghost use Rattle.tcp_links.specs.Over.{HasExchanged, IsExchangeFault};
+
+use crate::fault::{NodeFault, node_fault};
+use crate::plan::NodePlan;
+use crate::weave::{drain_all, feed_all};
+use agent_cells::Cell;
+use letter_wires::pass_all;
+use std::alloc::{AllocGlobal, Global};
+use std::net::Net;
+use std::random::RandomSource;
+use std::sync::Wait;
+use std::thread::Threads;
+use std::time::Clock;
+use wire_edge::Dialer;
+
+/// Drains each link between nodes, sends what they held over the wires, and feeds what arrived to
+/// the receivers, in the exchange behind so many rounds. Links on which nothing was sent rest, and so
+/// do wires between whose nodes there is nothing to send.
+pub(crate) fn exchange<R, D>(
+    rt: &R,
+    alloc: Global,
+    dialer: &mut D,
+    cells: &mut [Cell],
+    plan: &mut NodePlan<D::W>,
+    round: u64,
+) -> Result<(), NodeFault>
+where
+    R: Threads + Wait + Clock + RandomSource + Net + AllocGlobal + Sync,
+    D: Dialer,
+    requires plan { IsPlan plan.old }
+    requires woven { AreWoven (λ b. meaning (b.vtable, b.value)) plan.old.nodes plan.old.agents plan.old.kept.items plan.old.ends.items cells.old }
+    requires joined { IsJoined (λ b. meaning (b.vtable, b.value)) plan.old.nodes cells.old }
+    requires sound { EachIs (λ c. IsCell (λ b. meaning (b.vtable, b.value)) c) cells.old }
+    ensures quiet { EachBecomes (λ a b. StaysQuiet (λ b. meaning (b.vtable, b.value)) a b) cells.old cells.new }
+    ensures exchanged { OnOk result (HasExchanged (λ b. meaning (b.vtable, b.value)) plan.old cells.old plan.new cells.new) }
+    ensures cause { HasNodeCause (D.faults dialer.old) (D.faults dialer.new) result }
+    ensures dialer { D.is_honest dialer.old → D.is_honest dialer.new }
+    ensures differs { IfErr result (IsExchangeFault (λ b. meaning (b.vtable, b.value)) round plan.old cells.old) }
+    ensures honest { IsHonest D.W.told D.W.is_joined plan.old
+        → OnOk result (IsHonest D.W.told D.W.is_joined plan.new × (HaveHeld plan.old.kept.items → HaveHeld plan.new.kept.items)) × IfErr result IsNoDifference }
+{
+    let (nodes, agents) = (plan.nodes, plan.agents);
+    let mut passings = drain_all(
+        alloc,
+        cells,
+        plan.kept.as_slice(),
+        plan.ends.as_mut_slice(),
+        nodes,
+        agents,
+    )?;
+    if let Err(fault) = pass_all(
+        rt,
+        alloc,
+        dialer,
+        &mut plan.wires,
+        passings.as_mut_slice(),
+        nodes,
+    ) {
+        return Err(node_fault(round, fault));
+    }
+    feed_all(
+        alloc,
+        cells,
+        plan.kept.as_mut_slice(),
+        plan.ends.as_mut_slice(),
+        passings.as_mut_slice(),
+    )?;
+    Ok(())
+}

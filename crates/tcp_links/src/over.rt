@@ -1,0 +1,152 @@
+//! Playing cells over a plan of nodes.
+
+ghost use Rattle.std.specs.Prelude.{◌≡◌, ◌<◌, ◌≤◌, length, IfOk, OnOk, IfErr, Some as some, None as none};
+ghost use Rattle.dcop_base.specs.Limits.{budget_limit};
+ghost use Rattle.worker_runs.specs.CellRounds.{total};
+ghost use Rattle.worker_runs.specs.NodeRounds.{home};
+ghost use Rattle.node_runs.specs.Wires.{HaveHeld};
+ghost use Rattle.agent_cells.specs.State.{fault_in};
+ghost use Rattle.agent_workers.specs.Joined.{states_of, EachIs, HasBegun, IsJoined};
+ghost use Rattle.tcp_links.specs.Plans.{IsHonest};
+ghost use Rattle.tcp_links.specs.Faults.{HasNodeCause, IsNoDifference};
+ghost use Rattle.tcp_links.specs.Over.{IsPlanOver, IsRoundOver, IsExchangeFault, ArePlayedTo};
+ghost use Rattle.tcp_links.specs.Ends.{IsFaultOver};
+
+use crate::exchange::exchange;
+use crate::fault::NodeFault;
+use crate::plan::NodePlan;
+use agent_cells::{Cell, VisitFault};
+use agent_workers::{all_ended, play_round, sharing_after};
+use dcop_edge::Gate;
+use protocol_steps::RunEnd;
+use std::alloc::{AllocGlobal, Global};
+use std::net::Net;
+use std::random::RandomSource;
+use std::sync::Wait;
+use std::thread::Threads;
+use std::time::Clock;
+use wire_edge::Dialer;
+
+/// How playing came to its end.
+#[derive(Clone, Copy, Debug, PartialEq, Eq)]
+pub(crate) struct Played {
+    /// The number of rounds, one that was broken off included.
+    pub(crate) rounds: u64,
+    /// How the run ended; `None` where a round was broken off because stamps came to their end.
+    pub(crate) end: Option<RunEnd>,
+}
+
+/// Plays rounds, with an exchange before each, until the run has ended or a round was broken off.
+pub(crate) fn play_over<R, D, G>(
+    rt: &R,
+    alloc: Global,
+    cells: &mut [Cell],
+    plan: &mut NodePlan<D::W>,
+    dialer: &mut D,
+    workers: u32,
+    budget: u64,
+    gate: &G,
+) -> Result<Played, NodeFault>
+where
+    R: Threads + Wait + Clock + RandomSource + Net + AllocGlobal + Sync,
+    D: Dialer,
+    G: Gate,
+    requires workers { 0 < workers }
+    requires budget { budget ≤ budget_limit }
+    requires over { IsPlanOver (λ b. meaning (b.vtable, b.value)) plan.old plan.old cells.old }
+    requires joined { IsJoined (λ b. meaning (b.vtable, b.value)) plan.old.nodes cells.old }
+    requires begun { EachIs (λ c. HasBegun (λ b. meaning (b.vtable, b.value)) c) cells.old }
+    requires fine { EachIs (λ c. fault_in c ≡ none) cells.old }
+    requires none { total (states_of (λ b. meaning (b.vtable, b.value)) cells.old) ≡ 0 }
+    ensures size { length cells.new ≡ length cells.old }
+    ensures joined { IsJoined (λ b. meaning (b.vtable, b.value)) plan.old.nodes cells.new }
+    ensures begun { EachIs (λ c. HasBegun (λ b. meaning (b.vtable, b.value)) c) cells.new }
+    ensures over { OnOk result (IsPlanOver (λ b. meaning (b.vtable, b.value)) plan.old plan.new cells.new) }
+    ensures played { IfOk result (λ play. ArePlayedTo (λ b. meaning (b.vtable, b.value)) (home plan.old.nodes plan.old.agents) budget plan.old.kept.items
+        (states_of (λ b. meaning (b.vtable, b.value)) cells.old) plan.new.kept.items cells.new play.rounds play.end) }
+    ensures cause { HasNodeCause (D.faults dialer.old) (D.faults dialer.new) result }
+    ensures dialer { D.is_honest dialer.old → D.is_honest dialer.new }
+    ensures differs { IfErr result (IsFaultOver (home plan.old.nodes plan.old.agents) budget plan.old.kept.items (states_of (λ b. meaning (b.vtable, b.value)) cells.old)) }
+    ensures honest { IsHonest D.W.told D.W.is_joined plan.old → HaveHeld plan.old.kept.items
+        → OnOk result (IsHonest D.W.told D.W.is_joined plan.new × HaveHeld plan.new.kept.items) × IfErr result IsNoDifference }
+{
+    let mut deliveries = 0;
+    if all_ended(cells) {
+        return Ok(ended(0, RunEnd::AllEnded { deliveries }));
+    }
+    let mut sharing = workers;
+    for round in 0..budget {
+        let Some(taken) = round_over(rt, alloc, cells, plan, dialer, sharing, round, gate)? else {
+            return Ok(broken(round + 1));
+        };
+        sharing = sharing_after(taken, cells.len() as u64, workers);
+        deliveries += taken;
+        if all_ended(cells) {
+            return Ok(ended(round + 1, RunEnd::AllEnded { deliveries }));
+        }
+        if deliveries >= budget {
+            return Ok(ended(round + 1, RunEnd::Spent { deliveries }));
+        }
+        if taken == 0 {
+            return Ok(ended(round + 1, RunEnd::Still { deliveries }));
+        }
+    }
+    Ok(ended(budget, RunEnd::Spent { deliveries }))
+}
+
+/// Plays the round behind so many, with an exchange before it. Answers how many messages were taken;
+/// `None` where stamps came to their end.
+fn round_over<R, D, G>(
+    rt: &R,
+    alloc: Global,
+    cells: &mut [Cell],
+    plan: &mut NodePlan<D::W>,
+    dialer: &mut D,
+    sharing: u32,
+    round: u64,
+    gate: &G,
+) -> Result<Option<u64>, NodeFault>
+where
+    R: Threads + Wait + Clock + RandomSource + Net + AllocGlobal + Sync,
+    D: Dialer,
+    G: Gate,
+    requires sharing { 0 < sharing }
+    requires over { IsPlanOver (λ b. meaning (b.vtable, b.value)) plan.old plan.old cells.old }
+    requires joined { IsJoined (λ b. meaning (b.vtable, b.value)) plan.old.nodes cells.old }
+    requires begun { EachIs (λ c. HasBegun (λ b. meaning (b.vtable, b.value)) c) cells.old }
+    requires fine { EachIs (λ c. fault_in c ≡ none) cells.old }
+    ensures size { length cells.new ≡ length cells.old }
+    ensures joined { IsJoined (λ b. meaning (b.vtable, b.value)) plan.old.nodes cells.new }
+    ensures begun { EachIs (λ c. HasBegun (λ b. meaning (b.vtable, b.value)) c) cells.new }
+    ensures over { OnOk result (IsPlanOver (λ b. meaning (b.vtable, b.value)) plan.old plan.new cells.new) }
+    ensures round { IfOk result (IsRoundOver (λ b. meaning (b.vtable, b.value)) plan.old cells.old plan.new cells.new) }
+    ensures cause { HasNodeCause (D.faults dialer.old) (D.faults dialer.new) result }
+    ensures dialer { D.is_honest dialer.old → D.is_honest dialer.new }
+    ensures differs { IfErr result (IsExchangeFault (λ b. meaning (b.vtable, b.value)) round plan.old cells.old) }
+    ensures honest { IsHonest D.W.told D.W.is_joined plan.old
+        → OnOk result (IsHonest D.W.told D.W.is_joined plan.new × (HaveHeld plan.old.kept.items → HaveHeld plan.new.kept.items)) × IfErr result IsNoDifference }
+{
+    exchange(rt, alloc, dialer, cells, plan, round)?;
+    match play_round(rt, cells, plan.nodes, sharing, gate) {
+        Ok(taken) => Ok(Some(taken)),
+        Err(VisitFault::StampEnd) => Ok(None),
+        Err(VisitFault::NoMemory) => Err(NodeFault::NoMemory),
+    }
+}
+
+/// Playing that ended so after so many rounds.
+fn ended(rounds: u64, end: RunEnd) -> Played
+    ensures { (result.rounds ≡ rounds) × (result.end ≡ some end) }
+{
+    Played {
+        rounds,
+        end: Some(end),
+    }
+}
+
+/// Playing of which so many rounds were begun, and the last one was broken off.
+fn broken(rounds: u64) -> Played
+    ensures { (result.rounds ≡ rounds) × (result.end ≡ none) }
+{
+    Played { rounds, end: None }
+}

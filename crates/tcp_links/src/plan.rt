@@ -1,0 +1,191 @@
+//! What stands between the nodes of agents: wires, and the inner ends of links.
+
+ghost use Rattle.std.specs.Prelude.{◌≡◌, ◌≢◌, ◌↔◌, ℕ, ◌<◌, ◌≤◌, true, [], length, Some, slice_get, IfOk, OnOk, OnErr};
+ghost use Rattle.std.specs.List.{insert};
+ghost use Rattle.dcop_base.specs.Limits.{variable_limit};
+ghost use Rattle.worker_runs.specs.NodeRounds.{home};
+ghost use Rattle.kept_wires.specs.Differences.{ComesBefore};
+ghost use Rattle.fifo_links.specs.Link.{AreEnds, sent_on, taken_from};
+ghost use Rattle.wire_edge.specs.Dialer.{HasDialCause};
+ghost use Rattle.tcp_links.specs.Plans.{node_limit, pair_count, AreOrdered, IsPlan, IsHonest, HasNoLink, IsNewPlan, IsNewLink, IsSamePlan, fresh_link, BelongsAt};
+
+use agent_cells::Sealed;
+use dcop_base::{NoMemory, VarId};
+use fifo_links::{LinkHead, LinkTail, link};
+use kept_wires::KeptLink;
+use std::alloc::{AllocGlobal, Global};
+use std::net::Net;
+use std::random::RandomSource;
+use std::sync::Wait;
+use std::thread::Threads;
+use std::time::Clock;
+use wire_edge::{DialFault, Dialer, Wire};
+
+/// The inner ends of a link between two nodes: what the sender's cell sends is drained from the
+/// one, and what has arrived is fed to the other, of which the receiver's cell has the head.
+#[derive(Drop)]
+pub struct InnerEnds {
+    pub(crate) drain: LinkHead<Sealed>,
+    pub(crate) feed: LinkTail<Sealed>,
+}
+
+/// The wires between each two nodes, and the inner ends of the links between agents of different
+/// nodes, by sender and then receiver. Agent i of n is in node i · nodes / n, rounded down.
+#[derive(Drop)]
+pub struct NodePlan<W: Wire> {
+    pub(crate) agents: u32,
+    pub(crate) nodes: u32,
+    pub(crate) wires: Vec<(W, W)>,
+    pub(crate) kept: Vec<KeptLink>,
+    pub(crate) ends: Vec<InnerEnds>,
+}
+
+impl<W: Wire> NodePlan<W> {
+    /// Dials each pair of nodes, (0, 1), (0, 2) and so on in order, for so many agents. It takes
+    /// memory, and may wait.
+    ///
+    /// # Errors
+    ///
+    /// [`DialFault::Failed`] only where the dialer's count of faults rose.
+    pub fn new<R, D>(
+        rt: &R,
+        alloc: Global,
+        dialer: &mut D,
+        agents: u32,
+        nodes: u32,
+    ) -> Result<NodePlan<W>, DialFault>
+    where
+        R: Threads + Wait + Clock + RandomSource + Net + AllocGlobal + Sync,
+        D: Dialer<W = W>,
+        requires agents { (0 < agents) × (agents ≤ variable_limit) }
+        requires nodes { (0 < nodes) × (nodes ≤ node_limit) }
+        ensures new { IfOk result (IsNewPlan agents nodes) }
+        ensures cause { HasDialCause (D.faults dialer.old) (D.faults dialer.new) result }
+        ensures dialer { D.is_honest dialer.old → D.is_honest dialer.new }
+        ensures honest { D.is_honest dialer.old → IfOk result (IsHonest W.told W.is_joined) }
+    {
+        let mut wires = Vec::new(alloc);
+        for _ in 0..pair_count(nodes) {
+            let pair = dialer.pair(rt, alloc)?;
+            wires.push(pair)?;
+        }
+        Ok(NodePlan {
+            agents,
+            nodes,
+            wires,
+            kept: Vec::new(alloc),
+            ends: Vec::new(alloc),
+        })
+    }
+
+    /// The outer ends of a link from one agent to another in a different node: the tail for the
+    /// cell that sends, and the head for the one that takes. The plan keeps the two inner ends until
+    /// [`run_nodes`](crate::run_nodes) returns. Links may be made in any order; it is done soonest
+    /// by sender and then receiver. It takes memory.
+    ///
+    /// # Errors
+    ///
+    /// [`NoMemory`] where memory was wanted and not had. The plan is then as before.
+    pub fn link(
+        &mut self,
+        alloc: Global,
+        from: VarId,
+        to: VarId,
+    ) -> Result<(LinkTail<Sealed>, LinkHead<Sealed>), NoMemory>
+        requires plan { IsPlan self.old }
+        requires inside { (from < self.old.agents) × (to < self.old.agents) }
+        requires apart { home self.old.nodes self.old.agents from ≢ home self.old.nodes self.old.agents to }
+        requires none { HasNoLink self.old from to }
+        ensures plan { IsPlan self.new }
+        ensures made { IfOk result (λ l. IsNewLink self.old from to l.0 l.1 self.new) }
+        ensures same { OnErr result (IsSamePlan self.old self.new) }
+    {
+        let (tail, drain) = new_link(alloc)?;
+        let (feed, head) = new_link(alloc)?;
+        let place = place_of(self.kept.as_slice(), from, to);
+        add_link(
+            &mut self.kept,
+            &mut self.ends,
+            place,
+            KeptLink::new(alloc, from, to),
+            InnerEnds { drain, feed },
+        )?;
+        Ok((tail, head))
+    }
+}
+
+/// The node of an agent, of so many nodes and agents.
+pub(crate) fn home(agent: VarId, nodes: u32, agents: u32) -> u32
+    requires inside { agent < agents }
+    requires few { (agents ≤ variable_limit) × (nodes ≤ node_limit) }
+    ensures { result ≡ home nodes agents agent }
+{
+    agent.0 * nodes / agents
+}
+
+/// How many pairs there are of so many nodes.
+fn pair_count(nodes: u32) -> u32
+    requires { (0 < nodes) × (nodes ≤ node_limit) }
+    ensures { result ≡ pair_count nodes }
+{
+    nodes * (nodes - 1) / 2
+}
+
+/// The ends of a new link.
+fn new_link(alloc: Global) -> Result<(LinkTail<Sealed>, LinkHead<Sealed>), NoMemory>
+    ensures ends { IfOk result (λ l. AreEnds l.0 l.1) }
+    ensures sent { IfOk result (λ l. sent_on l.0 ≡ []) }
+    ensures taken { IfOk result (λ l. taken_from l.1 ≡ []) }
+{
+    let Ok((tail, head)) = link::<Sealed>(alloc) else {
+        return Err(NoMemory);
+    };
+    Ok((tail, head))
+}
+
+/// The place of a new link among these. It is sought from their end.
+fn place_of(kept: &[KeptLink], from: VarId, to: VarId) -> usize
+    requires ordered { AreOrdered kept.now }
+    requires none { (k : ℕ) (w : _) → slice_get kept.now k ≡ Some w → w.sender ≡ from → w.receiver ≢ to }
+    ensures { BelongsAt kept.now from to result }
+{
+    let mut place = kept.len();
+    while place > 0 {
+        if comes_before(&kept[place - 1], from, to) {
+            return place;
+        }
+        place -= 1;
+    }
+    place
+}
+
+/// Whether a link comes before one from this agent to that.
+fn comes_before(link: &KeptLink, from: VarId, to: VarId) -> bool
+    ensures { (result ≡ true) ↔ ComesBefore link.now (fresh_link from to) }
+{
+    let sender = link.from();
+    if sender != from {
+        return sender < from;
+    }
+    link.to() < to
+}
+
+/// Adds a link and its inner ends to two lists at a place, or leaves both as they were.
+fn add_link(
+    kept: &mut Vec<KeptLink>,
+    ends: &mut Vec<InnerEnds>,
+    place: usize,
+    link: KeptLink,
+    inner: InnerEnds,
+) -> Result<(), NoMemory>
+    requires inside { (place ≤ length kept.old.items) × (place ≤ length ends.old.items) }
+    ensures added { OnOk result ((kept.new.items ≡ insert kept.old.items place link) × (ends.new.items ≡ insert ends.old.items place inner)) }
+    ensures same { OnErr result ((kept.new.items ≡ kept.old.items) × (ends.new.items ≡ ends.old.items)) }
+{
+    ends.insert(place, inner)?;
+    if kept.insert(place, link).is_err() {
+        ends.remove(place);
+        return Err(NoMemory);
+    }
+    Ok(())
+}

@@ -1,0 +1,143 @@
+//! A run of cells in nodes.
+
+ghost use Rattle.std.specs.Prelude.{◌≡◌, ◌<◌, ◌≤◌, length, false, IfOk, OnOk, IfErr};
+ghost use Rattle.dcop_base.specs.Limits.{variable_limit, budget_limit};
+ghost use Rattle.worker_runs.specs.CellRuns.{MakesARun};
+ghost use Rattle.agent_cells.specs.State.{begun_in, IsCell};
+ghost use Rattle.agent_workers.specs.Joined.{states_of, EachIs, IsJoined};
+ghost use Rattle.agent_workers.specs.Run.{views_of, AreDulyPlayed};
+ghost use Rattle.tcp_links.specs.Plans.{node_limit, pair_count, IsPlan, IsHonest, IsNewPlan};
+ghost use Rattle.tcp_links.specs.Linked.{AreLinkedOver};
+ghost use Rattle.tcp_links.specs.Ends.{HasHeldOver, DiffersOver};
+ghost use Rattle.tcp_links.specs.Faults.{HasNodeCause, IsNoDifference};
+
+use crate::exchange::exchange;
+use crate::fault::NodeFault;
+use crate::over::play_over;
+use crate::plan::NodePlan;
+use agent_cells::Cell;
+use agent_workers::{CellsList, begin_all, settle_all};
+use dcop_edge::Gate;
+use kept_wires::take_difference;
+use protocol_steps::RunEnd;
+use std::alloc::{AllocGlobal, Global};
+use std::net::Net;
+use std::random::RandomSource;
+use std::sync::Wait;
+use std::thread::Threads;
+use std::time::Clock;
+use wire_edge::{Dialer, Wire};
+
+/// Starts the agents of all cells in order, and plays the cells in rounds of so many workers until
+/// the run has ended under this budget of deliveries, with an exchange between the nodes after the
+/// start and after each round. The run ends as that of `agent_workers` does. At the end every link is
+/// settled once more, and what each exchange drained and what arrived is compared, exchange by
+/// exchange. It takes memory, but not for the comparison, and may wait.
+///
+/// # Errors
+///
+/// [`NodeFault::Failed`] only where the dialer's count of faults rose. [`NodeFault::Differs`] only
+/// where the two values in it differ, and never over a plan of an honest dialer. After a fault the
+/// cells and the plan are as the rounds and exchanges left them.
+pub fn run_nodes<R, D, G>(
+    rt: &R,
+    alloc: Global,
+    cells: &mut CellsList,
+    plan: &mut NodePlan<D::W>,
+    dialer: &mut D,
+    workers: u32,
+    budget: u64,
+    gate: &G,
+) -> Result<RunEnd, NodeFault>
+where
+    R: Threads + Wait + Clock + RandomSource + Net + AllocGlobal + Sync,
+    D: Dialer,
+    G: Gate,
+    requires workers { 0 < workers }
+    requires budget { budget ≤ budget_limit }
+    requires plan { IsPlan plan.old }
+    requires joined { IsJoined (λ b. meaning (b.vtable, b.value)) plan.old.nodes cells.old.items }
+    requires linked { AreLinkedOver (λ b. meaning (b.vtable, b.value)) plan.old cells.old.items }
+    requires sound { EachIs (λ c. IsCell (λ b. meaning (b.vtable, b.value)) c) cells.old.items }
+    requires fresh { EachIs (λ c. begun_in c ≡ false) cells.old.items }
+    ensures run { IfOk result (λ end. MakesARun budget (views_of (λ b. meaning (b.vtable, b.value)) cells.old.items)
+        (states_of (λ b. meaning (b.vtable, b.value)) cells.new.items) end) }
+    ensures rounds { OnOk result (AreDulyPlayed budget (views_of (λ b. meaning (b.vtable, b.value)) cells.old.items) (states_of (λ b. meaning (b.vtable, b.value)) cells.new.items)) }
+    ensures held { OnOk result (HasHeldOver budget (views_of (λ b. meaning (b.vtable, b.value)) cells.old.items) plan.old (states_of (λ b. meaning (b.vtable, b.value)) cells.new.items)) }
+    ensures differs { IfErr result (DiffersOver budget (views_of (λ b. meaning (b.vtable, b.value)) cells.old.items) plan.old (states_of (λ b. meaning (b.vtable, b.value)) cells.new.items)) }
+    ensures cause { HasNodeCause (D.faults dialer.old) (D.faults dialer.new) result }
+    ensures plan { OnOk result (IsNewPlan plan.old.agents plan.old.nodes plan.new) }
+    ensures dialer { D.is_honest dialer.old → D.is_honest dialer.new }
+    ensures honest { IsHonest D.W.told D.W.is_joined plan.old → OnOk result (IsHonest D.W.told D.W.is_joined plan.new) × IfErr result IsNoDifference }
+{
+    run_over(
+        rt,
+        alloc,
+        cells.as_mut_slice(),
+        plan,
+        dialer,
+        workers,
+        budget,
+        gate,
+    )
+}
+
+/// [`run_nodes`], on a slice.
+fn run_over<R, D, G>(
+    rt: &R,
+    alloc: Global,
+    cells: &mut [Cell],
+    plan: &mut NodePlan<D::W>,
+    dialer: &mut D,
+    workers: u32,
+    budget: u64,
+    gate: &G,
+) -> Result<RunEnd, NodeFault>
+where
+    R: Threads + Wait + Clock + RandomSource + Net + AllocGlobal + Sync,
+    D: Dialer,
+    G: Gate,
+    requires workers { 0 < workers }
+    requires budget { budget ≤ budget_limit }
+    requires plan { IsPlan plan.old }
+    requires joined { IsJoined (λ b. meaning (b.vtable, b.value)) plan.old.nodes cells.old }
+    requires linked { AreLinkedOver (λ b. meaning (b.vtable, b.value)) plan.old cells.old }
+    requires sound { EachIs (λ c. IsCell (λ b. meaning (b.vtable, b.value)) c) cells.old }
+    requires fresh { EachIs (λ c. begun_in c ≡ false) cells.old }
+    ensures size { length cells.new ≡ length cells.old }
+    ensures run { IfOk result (λ end. MakesARun budget (views_of (λ b. meaning (b.vtable, b.value)) cells.old)
+        (states_of (λ b. meaning (b.vtable, b.value)) cells.new) end) }
+    ensures rounds { OnOk result (AreDulyPlayed budget (views_of (λ b. meaning (b.vtable, b.value)) cells.old) (states_of (λ b. meaning (b.vtable, b.value)) cells.new)) }
+    ensures held { OnOk result (HasHeldOver budget (views_of (λ b. meaning (b.vtable, b.value)) cells.old) plan.old (states_of (λ b. meaning (b.vtable, b.value)) cells.new)) }
+    ensures differs { IfErr result (DiffersOver budget (views_of (λ b. meaning (b.vtable, b.value)) cells.old) plan.old (states_of (λ b. meaning (b.vtable, b.value)) cells.new)) }
+    ensures cause { HasNodeCause (D.faults dialer.old) (D.faults dialer.new) result }
+    ensures plan { OnOk result (IsNewPlan plan.old.agents plan.old.nodes plan.new) }
+    ensures dialer { D.is_honest dialer.old → D.is_honest dialer.new }
+    ensures honest { IsHonest D.W.told D.W.is_joined plan.old → OnOk result (IsHonest D.W.told D.W.is_joined plan.new) × IfErr result IsNoDifference }
+{
+    begin_all(cells)?;
+    let play = play_over(rt, alloc, cells, plan, dialer, workers, budget, gate)?;
+    exchange(rt, alloc, dialer, cells, plan, play.rounds)?;
+    settle_all(cells, plan.nodes, 1);
+    if let Some(difference) = take_difference(plan.kept.as_mut_slice()) {
+        return Err(NodeFault::Differs(difference.into()));
+    }
+    clear_links(plan);
+    match play.end {
+        Some(end) => Ok(end),
+        // Where every exchange took just what it sent, no stamp is so great.
+        None => unreachable!(),
+    }
+}
+
+/// Takes all links off a plan.
+fn clear_links<W: Wire>(plan: &mut NodePlan<W>)
+    requires agents { (0 < plan.old.agents) × (plan.old.agents ≤ variable_limit) }
+    requires nodes { (0 < plan.old.nodes) × (plan.old.nodes ≤ node_limit) }
+    requires wires { length plan.old.wires.items ≡ pair_count plan.old.nodes }
+    ensures new { IsNewPlan plan.old.agents plan.old.nodes plan.new }
+    ensures wires { plan.new.wires.items ≡ plan.old.wires.items }
+{
+    plan.kept.clear();
+    plan.ends.clear();
+}
