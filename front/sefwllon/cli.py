@@ -19,6 +19,7 @@ from .solving import Best, Refused, Solver, accepts, cost_of, deadline
 from .translate import Translation, plain, translate
 
 SOLVED, OPEN, USAGE, TEXT = 0, 1, 2, 3
+UNCHECKED_CUT = "exact by the proved program, but there is no certificate of a cut to check yet"
 
 
 def main(arguments: list[str] | None = None) -> int:
@@ -49,7 +50,13 @@ def parser() -> argparse.ArgumentParser:
     solve.add_argument("file", metavar="FILE")
     solve.add_argument("--time", type=seconds, metavar="30s", help="stop after this time with the best so far")
     solve.add_argument("--error", type=amount, default=0, metavar="E", help="by how much the cost may miss the best (adopt)")
-    solve.add_argument("--method", choices=("auto", "plain", "dpop", "order", "cut", "adopt"), default="auto")
+    solve.add_argument(
+        "--method",
+        choices=("auto", "plain", "dpop", "order", "cut", "adopt"),
+        default="auto",
+        help="auto, which is meant where none is named, tries dpop, order (dpop in an order by dcop_order), cut (dpop with some "
+        "variables fixed in turn: exact, without a certificate yet) and adopt, one behind the other",
+    )
     solve.add_argument("--workers", type=natural, default=1, metavar="N")
     solve.add_argument("--json", action="store_true", help="the answer as JSON")
     solve.add_argument("--report", metavar="OUT", help="write the report of dcop there, with its certificate where it has one")
@@ -209,6 +216,8 @@ def as_text(best: Best, told: Translation) -> str:
         lines.append("broken, though it must hold: " + ", ".join(broken))
     if best.stopped:
         lines.append(f"stopped: {best.stopped}")
+    if not best.solved and best.cut_stopped is not None:
+        lines.append(cut_note(best.cut_stopped))
     width = max(len(name) for name in told.names)
     lines += [f"  {name:<{width}}  {value}" for name, value in told.told(best.values).items()]
     return "\n".join(lines) + "\n"
@@ -222,11 +231,25 @@ def headline(best: Best, told: Translation) -> str:
     if told.broken(best.values):
         return f"no assignment that keeps all hard constraints was found ({what} {best.cost} in dcop's units)"
     gap, checked = best.gap(goal), best.checked_gap
+    if gap == 0 and checked != 0 and best.method == "cut":
+        return f"{what} {own}, and none is better (not verified: {UNCHECKED_CUT})"
     if gap == 0:
         return f"{what} {own}, and none is better" + (" (verified)" if checked == 0 else "")
     worse = "" if gap is None else f", at most {number(Fraction(gap, told.scale))} from the best"
     shown = "" if checked is None else f" (verified: at most {number(Fraction(checked, told.scale))})"
     return f"{what} {own}{worse}{shown}"
+
+
+def cut_note(spent: float) -> str:
+    """That a cut was stopped after so many seconds."""
+    return f"cut was stopped after {spent:.1f} s, its share of the time; with `--method cut` it has all of it"
+
+
+def note(best: Best) -> str | None:
+    """What else is to be known of an answer."""
+    if best.method == "cut" and best.checked_gap != 0:
+        return UNCHECKED_CUT
+    return None if best.solved or best.cut_stopped is None else cut_note(best.cut_stopped)
 
 
 def as_json(best: Best, told: Translation) -> str:
@@ -244,6 +267,7 @@ def as_json(best: Best, told: Translation) -> str:
     answer = {
         "solved": best.solved and not broken,
         "verified": best.checked_gap is not None and best.checked_gap == best.gap(goal),
+        "note": note(best),
         "method": best.method,
         "goal": goal,
         "cost": own(best.cost),

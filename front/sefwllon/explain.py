@@ -32,7 +32,7 @@ REPORT = {
     2: "a number is not 1 to 19 digits, or above 2^62",
     3: "a name is none of the problem's, or not the next variable's",
     4: "the line has not as many cells as its variables have choices of values",
-    5: "the report has no certificate: make it with `--certificate yes`",
+    5: "the report has no certificate: make it with `--certificate yes`; those of plain, and as yet those of cut, have none",
     6: "the report is over before its line `end`",
     7: "words follow behind the report's line `end`",
     8: "a value is not among its variable's values",
@@ -49,8 +49,13 @@ WORDS = {
     7: "the number is not in the option's range",
     8: "the value is none of the option's words",
     9: "the option does not go with this command, or with this method",
-    10: "these words are right, and this program does not serve them yet",
+    10: "these words are right, and this program does not serve them yet, as `--nodes` above 1, and `--certificate yes` with "
+    "`--method cut`, whose answer is exact without one too",
 }
+UNSERVED_CUT = (
+    "There is no certificate of a cut yet: leave `--certificate yes` out. The answer is exact all the same, by the proved "
+    "program, and nothing can be checked."
+)
 WCSP = {
     1: "a whole number from 0 up was expected",
     2: "the text is over before its last word",
@@ -80,6 +85,8 @@ def explain(answer: str, text: str = "", words: list[str] | None = None) -> str:
     """What a refusal says, in sentences."""
     told = answer.split()
     match told:
+        case ["refused", "words", "at", _, "kind", "10"] if words and "cut" in words and "--certificate" in words:
+            return UNSERVED_CUT
         case ["refused", "words", "at", place, "kind", kind]:
             here = f" (word {place}" + (f", `{words[int(place) - 1]}`" if words and int(place) <= len(words) else "") + ")"
             return f"The words are refused{here}: {WORDS.get(int(kind), 'kind ' + kind)}."
@@ -95,12 +102,18 @@ def explain(answer: str, text: str = "", words: list[str] | None = None) -> str:
         case ["refused", "wide", "agent", name, "cells", cells, "limit", limit]:
             return (
                 f"DPOP would need a table of {int(cells):,} cells at {name}, and {int(limit):,} are the most. "
-                "Change the order of the `var` lines, take fewer values or drop a table, or use adopt."
+                "Change the order of the `var` lines, take fewer values or drop a table, or use cut or adopt."
             )
         case ["refused", "wide", "total", "cells", cells, "limit", limit]:
             return (
-                f"DPOP would send {int(cells):,} cells in all, and {int(limit):,} are the most. "
-                "Change the order of the `var` lines, take fewer values, or use adopt."
+                f"DPOP, or one turn of cut, would send {int(cells):,} cells in all, and {int(limit):,} are the most. "
+                "Change the order of the `var` lines, take fewer values, or use cut, with a smaller `--cells`, or adopt."
+            )
+        case ["refused", "many", "turns", count, "limit", limit]:
+            return (
+                f"To keep its tables small, cut would fix so many variables that it had {int(count):,} turns, one for each choice "
+                f"of their values, and {int(limit):,} are the most. Larger tables mean fewer turns: give a larger `--cells`, "
+                "up to 1,048,576, where it was less. Else try another order of the `var` lines, as dcop_order finds it, or use adopt."
             )
         case ["refused", "many", what, count, "limit", limit]:
             return f"There are {int(count):,} {what} to try, and {int(limit):,} are the most: use another method."

@@ -12,7 +12,13 @@ from .report import Report, read_report
 
 BUDGETS = (1_000, 10_000, 100_000, 1_000_000, 10_000_000)
 ORDERS = 1_000
-NO_MEMORY = 7
+CUT_SECONDS = 60
+"""How long a cut may take where other ways are left and the time has no end."""
+CUT_SHARE = 0.5
+"""Which part of what is left of the time a cut may take where other ways are left."""
+CELLS = (1_048_576, 65_536, 4_096)
+"""How many cells a joined table of a cut may have: fewer where all tables of a turn together are too many."""
+WIDE, NO_MEMORY, MANY = 4, 7, 11
 
 
 @dataclass
@@ -30,6 +36,8 @@ class Best:
     checked: int | None = None
     """The best bound that a report showed which `dcop check` accepted: a lower one, or an upper one for a greatest sum."""
     stopped: str | None = None
+    cut_stopped: float | None = None
+    """After how many seconds, its share of the time, a cut was stopped."""
     report: str | None = None
     text: str | None = None
 
@@ -87,6 +95,8 @@ class Solver:
     tell: Callable[[str, Best], None] = lambda what, best: None
     tick: Callable[[], None] | None = None
     best: Best = field(default_factory=Best)
+    narrow: str | None = None
+    """The problem in the order that `dcop_order` found."""
 
     def solve(self) -> Best:
         """Solves it, or keeps the best that is known when the time is over or the user stops it."""
@@ -112,8 +122,12 @@ class Solver:
                 return
 
     def run(self, words: list[str], text: str) -> Answer:
-        answer = self.programs.run(words, text, self.until, self.tick)
-        if answer.status is None:
+        return self.run_until(self.until, words, text)
+
+    def run_until(self, until: float | None, words: list[str], text: str) -> Answer:
+        """Runs `dcop` until this moment, which is the end of the time or of a share of it."""
+        answer = self.programs.run(words, text, until, self.tick)
+        if answer.status is None and until == self.until:
             self.best.stopped = "the time is over"
         return answer
 
@@ -130,13 +144,38 @@ class Solver:
             raise Trouble("the program dcop_order is not built: run `cd crates/order_cli && rt run`, or name it by SEFWLLON_ORDER")
         if ordered is None or ordered.status != 0:
             return False
-        other = parse(ordered.text)
+        self.narrow = ordered.text
         words = ["solve", "--method", "dpop", "--certificate", "yes", *self.worker_words()]
-        return self.taken(self.run(words, ordered.text), ordered.text, other)
+        return self.taken(self.run(words, ordered.text), ordered.text, parse(ordered.text))
 
     def by_cut(self, text: str) -> bool:
-        answer = self.run(["solve", "--method", "cut", "--certificate", "yes", *self.worker_words()], text)
-        return self.taken(answer, text, self.problem)
+        """Solves by a cut, in the narrower order where one was found. Too many turns are refused at once; a cut that takes
+        longer than its share of the time is stopped, and leaves the problem to the next way."""
+        began = time.monotonic()
+        ordered = text if self.narrow is None else self.narrow
+        answer = self.run_cut(ordered, self.cut_until(began))
+        if answer.status is None and not self.best.stopped:
+            self.best.cut_stopped = time.monotonic() - began
+        return self.taken(answer, ordered, self.problem if self.narrow is None else parse(ordered))
+
+    def run_cut(self, text: str, until: float | None) -> Answer:
+        """What a cut answers, with a certificate where `dcop` makes one."""
+        certificate = ["--certificate", "yes"]
+        for cells in CELLS:
+            words = ["solve", "--method", "cut", "--cells", str(cells), *self.worker_words()]
+            answer = self.run_until(until, [*words, *certificate], text)
+            if certificate and (answer.unserved or answer.status == WIDE):
+                certificate = []
+                answer = self.run_until(until, words, text)
+            if answer.status != WIDE:
+                break
+        return answer
+
+    def cut_until(self, now: float) -> float | None:
+        """The moment at which a cut is stopped: where it is the only way, or the time is over now, the end of the time."""
+        if self.method != "auto" or (self.until is not None and self.until <= now):
+            return self.until
+        return now + (CUT_SECONDS if self.until is None else CUT_SHARE * (self.until - now))
 
     def by_adopt(self, text: str) -> bool:
         certificate = ["--certificate", "yes"]
@@ -167,7 +206,7 @@ class Solver:
 
     def taken(self, answer: Answer, text: str, problem: Problem) -> bool:
         """Takes an answer, where it is a report. A refusal for size leaves the problem to the next way."""
-        if answer.status is None or answer.status in (4, 11) or answer.unserved:
+        if answer.status in (None, WIDE, MANY) or answer.unserved:
             if self.method != "auto" and answer.status is not None:
                 raise Refused(answer)
             return False

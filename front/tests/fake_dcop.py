@@ -1,6 +1,8 @@
 #!/usr/bin/env python3
-"""A stand-in for `dcop` that tries all assignments. FAKE tells how it misbehaves, by words:
-wide: dpop is too wide; lies: it prints a cost that is one too low; forges: its check says no; slow: it takes for ever,
+"""A stand-in for `dcop` that tries all assignments, and for `dcop_order`, which turns the order round. FAKE tells how it
+misbehaves, by words: wide: dpop is too wide; turns: a cut has too many turns; turned: it has them in the order of the
+names alone; heavy: its tables are too many where they may have above 65536 cells; long: it takes for ever; earlier: no cut
+is served yet; lies: it prints a cost that is one too low; forges: its check says no; slow: it takes for ever,
 once it has written a word to the file FAKE_MARK; spends: adopt is spent below a budget of 100000, with an assignment
 that is worse each time; logs: adopt prints a log of eight events, and replay knows it; stuck: replay says that the
 third event is unlawful."""
@@ -33,6 +35,10 @@ def main() -> int:
             print(f"refused text line {fault.line} kind 2")
             return 3
         return 0
+    if words[0] == "--tries":
+        problem = parse(text)
+        print(problem.reordered([v.name for v in reversed(problem.variables)]).text(), end="")
+        return 0
     options = dict(zip(words[1::2], words[2::2]))
     method = options.get("--method", "plain")
     if "slow" in FAKE:
@@ -42,10 +48,34 @@ def main() -> int:
     if method == "dpop" and "wide" in FAKE:
         print("refused wide agent a cells 2097152 limit 1048576")
         return 4
-    if words[0] == "replay" or method == "cut" or (method == "adopt" and "--certificate" in options and "logs" not in FAKE):
+    if words[0] == "replay" or unserved(method, "--certificate" in options):
         print("refused words at 1 kind 10")
         return 2
+    if method == "cut":
+        refused = cut_refusal(text, int(options.get("--cells", "1048576")))
+        if refused is not None:
+            return refused
     return solve(text, method, int(options.get("--budget", "1000000")))
+
+
+def unserved(method: str, certificate: bool) -> bool:
+    if method == "cut":
+        return certificate or "earlier" in FAKE
+    return method == "adopt" and certificate and "logs" not in FAKE
+
+
+def cut_refusal(text: str, cells: int) -> int | None:
+    """The exit status of a cut that is refused; None where it is not."""
+    if "long" in FAKE:
+        time.sleep(60)
+    names = [v.name for v in parse(text).variables]
+    if "turns" in FAKE or ("turned" in FAKE and names == sorted(names)):
+        print("refused many turns 1048576 limit 65536")
+        return 11
+    if "heavy" in FAKE and cells > 65_536:
+        print("refused wide total cells 5000000 limit 4194304")
+        return 4
+    return None
 
 
 def solve(text: str, method: str, budget: int) -> int:

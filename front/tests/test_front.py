@@ -16,6 +16,7 @@ import unittest
 from contextlib import redirect_stderr, redirect_stdout
 from fractions import Fraction
 from pathlib import Path
+from unittest import mock
 from xml.dom import minidom
 
 HERE = Path(__file__).resolve().parent
@@ -32,7 +33,7 @@ from sefwllon.explain import differs, explain  # noqa: E402
 from sefwllon.problem import Trouble, parse  # noqa: E402
 from sefwllon.programs import Programs  # noqa: E402
 from sefwllon.report import Report, read_report  # noqa: E402
-from sefwllon.solving import Best  # noqa: E402
+from sefwllon.solving import Best, Solver  # noqa: E402
 from sefwllon.translate import Constraint, Source, translate  # noqa: E402
 
 FAKE = str(HERE / "fake_dcop.py")
@@ -44,9 +45,11 @@ HAS_YAML = importlib.util.find_spec("yaml") is not None
 class Case(unittest.TestCase):
     """A test that runs the command with the stand-in."""
 
-    def front(self, *words: str, fake: str = "", program: str = FAKE) -> tuple[int, str, str]:
+    def front(self, *words: str, fake: str = "", program: str = FAKE, order: str | None = None) -> tuple[int, str, str]:
         kept = dict(os.environ)
         os.environ.update(SEFWLLON_DCOP=program, FAKE=fake)
+        if order is not None:
+            os.environ["SEFWLLON_ORDER"] = order
         out, err = io.StringIO(), io.StringIO()
         try:
             with redirect_stdout(out), redirect_stderr(err):
@@ -76,9 +79,59 @@ class Solving(Case):
             self.assertIn("don't trust this program", why)
 
     def test_adopt_keeps_the_best_of_growing_budgets(self):
-        status, told, _ = self.front("solve", "--json", str(PROBLEMS / "pair.dcop"), fake="wide spends")
+        for fake in ("wide turns spends", "wide earlier spends"):
+            status, told, _ = self.front("solve", "--json", str(PROBLEMS / "pair.dcop"), fake=fake)
+            answer = json.loads(told)
+            self.assertEqual((status, answer["method"], answer["cost"]), (0, "adopt", 2))
+            self.assertEqual((answer["solved"], answer["verified"], answer["note"]), (True, False, None))
+
+    def test_a_cut_is_exact_and_not_called_verified(self):
+        pair = str(PROBLEMS / "pair.dcop")
+        known = "exact by the proved program, but there is no certificate of a cut to check yet"
+        for words in ((), ("--method", "cut")):
+            status, told, _ = self.front("solve", pair, *words, fake="wide")
+            self.assertEqual((status, told.splitlines()[0]), (0, f"cost 2, and none is better (not verified: {known})"))
+        status, told, _ = self.front("solve", "--json", pair, fake="wide heavy")
         answer = json.loads(told)
-        self.assertEqual((status, answer["cost"], answer["solved"], answer["verified"]), (0, 2, True, False))
+        self.assertEqual((status, answer["method"], answer["solved"], answer["verified"]), (0, "cut", True, False))
+        self.assertEqual(answer["note"], known)
+        self.assertEqual(self.front("solve", pair, fake="wide lies")[0], 3)
+
+    def test_a_refused_cut_is_told_where_it_is_the_only_way(self):
+        status, told, why = self.front("solve", "--method", "cut", str(PROBLEMS / "pair.dcop"), fake="turns")
+        self.assertEqual((status, told), (3, ""))
+        self.assertIn("1,048,576 turns", why)
+
+    def test_a_cut_is_made_in_the_narrower_order(self):
+        report = self.file("report", "")
+        words = ("solve", "--json", "--report", report, str(PROBLEMS / "pair.dcop"))
+        status, told, _ = self.front(*words, fake="wide turned", order=FAKE)
+        answer = json.loads(told)
+        self.assertEqual((status, answer["method"], answer["cost"], answer["values"]), (0, "cut", 2, {"x": "1", "y": "0"}))
+        self.assertIn("value y 0\nvalue x 1\n", Path(report).read_text())
+
+    def test_a_long_cut_is_stopped_after_its_share(self):
+        pair = str(PROBLEMS / "pair.dcop")
+        with mock.patch("sefwllon.solving.CUT_SECONDS", 0.2):
+            status, told, _ = self.front("solve", "--json", pair, fake="wide long")
+            self.assertEqual((status, json.loads(told)["method"], json.loads(told)["note"]), (0, "adopt", None))
+            with mock.patch("sefwllon.solving.BUDGETS", (1_000,)):
+                status, told, _ = self.front("solve", pair, fake="wide long spends")
+        self.assertEqual(status, 1)
+        self.assertRegex(told, r"\ncut was stopped after \d+\.\d s, its share of the time; with `--method cut` it has all of it\n")
+        status, told, _ = self.front("solve", "--method", "cut", "--time", "300ms", pair, fake="long")
+        self.assertEqual((status, told), (1, "nothing found: the time is over\n"))
+        problem = parse((PROBLEMS / "pair.dcop").read_text())
+        shares = {("auto", 30.0): 20.0, ("auto", None): 70.0, ("cut", 30.0): 30.0, ("cut", None): None}
+        for (method, until), moment in shares.items():
+            self.assertEqual(Solver(Programs(FAKE), problem, method=method, until=until).cut_until(10.0), moment)
+
+    def test_each_way_is_told_as_it_is_tried(self):
+        told: list[str] = []
+        problem = parse((PROBLEMS / "pair.dcop").read_text())
+        with mock.patch.dict(os.environ, FAKE="wide turns"):
+            Solver(Programs(FAKE, FAKE), problem, tell=lambda what, best: told.append(what)).solve()
+        self.assertEqual(told, ["dpop", "order", "cut", "adopt", "adopt, 1000 messages"])
 
     def test_an_assignment_is_no_dearer_than_the_bound_that_is_told(self):
         best = Best()
@@ -260,6 +313,13 @@ class Telling(Case):
             self.assertIn(why, explain(answer, text))
         self.assertIn("order of the `var` lines", explain("refused wide agent a cells 2097152 limit 1048576"))
         self.assertIn("`0`", explain("refused words at 3 kind 7", words=["solve", "--workers", "0"]))
+        why = explain("refused many turns 1185921 limit 65536")
+        for part in ("1,185,921 turns", "larger `--cells`", "dcop_order", "adopt"):
+            self.assertIn(part, why)
+        self.assertIn("one turn of cut", explain("refused wide total cells 5000000 limit 4194304"))
+        self.assertIn("`--method cut`, whose answer is exact", explain("refused words at 1 kind 10"))
+        words = ["solve", "--method", "cut", "--certificate", "yes"]
+        self.assertIn("no certificate of a cut yet: leave", explain("refused words at 1 kind 10", words=words))
 
     def test_pictures_are_svg(self):
         status, told, _ = self.front("draw", "graph", str(PROBLEMS / "tracking.dcop"))
