@@ -1,6 +1,7 @@
 //! What makes replies.
 
 ghost use Rattle.std.specs.Prelude.{◌≡◌, ◌≤◌, ◌<◌, ◌+◌, ◌^◌, ℕ, List, length, IfOk};
+ghost use Rattle.std.specs.Thread.{IsSync};
 ghost use Rattle.reply_cache.specs.Limits.{reply_limit};
 
 use dcop_base::{Bytes, NoMemory};
@@ -30,7 +31,8 @@ pub trait Maker: Send + Drop {
         alloc: Global,
         key: &[u8],
     ) -> Result<Bytes, NoMemory>
-        requires { calls self.old < 2 ^ 63 }
+        requires calls { calls self.old < 2 ^ 63 }
+        requires shared { IsSync R.row }
         ensures made { IfOk result (λ made. is_reply key.now made) }
         ensures counted { calls self.new ≡ calls self.old + 1 };
 

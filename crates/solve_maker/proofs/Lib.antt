@@ -1,0 +1,5 @@
+mod WordLaws
+mod NameReadLaws
+mod TextLaws
+mod ShortLaws
+mod ReplyLaws

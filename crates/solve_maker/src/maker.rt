@@ -1,0 +1,56 @@
+//! The maker of a server's replies.
+
+ghost use Rattle.std.specs.Prelude.{◌≡◌, ◌+◌};
+
+use crate::answer::answer_bytes;
+use dcop_base::{Bytes, NoMemory};
+use reply_cache::{FreshMaker, Maker};
+use solve_top::dpop_answers_are_one;
+use std::alloc::Global;
+use std::marker::Sync;
+use std::thread::Threads;
+
+/// Replies to a key with what `solve --method dpop` writes for it.
+#[derive(Debug, Drop)]
+pub struct SolveMaker {
+    calls: u64,
+}
+
+impl SolveMaker {
+    /// How often it was called.
+    pub fn calls(&self) -> u64
+        ensures { result ≡ self.now.calls }
+    {
+        self.calls
+    }
+}
+
+impl Maker for SolveMaker {
+    ghost use Rattle.solve_maker.specs.Reply.{IsReply};
+
+    ghost is_reply = { IsReply };
+
+    ghost calls = { λ maker. maker.calls };
+
+    fn make<R: Threads + Sync>(
+        &mut self,
+        rt: &R,
+        alloc: Global,
+        key: &[u8],
+    ) -> Result<Bytes, NoMemory> {
+        self.calls += 1;
+        answer_bytes(rt, alloc, key)
+    }
+
+    fn keys_have_one_reply() {
+        dpop_answers_are_one();
+    }
+
+    fn replies_are_short() {}
+}
+
+impl FreshMaker for SolveMaker {
+    fn fresh() -> Self {
+        SolveMaker { calls: 0 }
+    }
+}
