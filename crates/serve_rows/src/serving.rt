@@ -1,83 +1,105 @@
-//! Two clients in memory, served beside each other.
+//! The server's top call over a listener in memory.
 
 use crate::gate::MeetingGate;
-use crate::maker::Okay;
-use dcop_edge::{MemorySink, MemorySource};
-use serve_clients::{Plan, serve_clients};
+use crate::pair::{ONCE, replies_in};
+use dcop_edge::{Gate, MemorySink, MemorySource, OpenGate};
 use serve_edge::MemoryListener;
-use solve_serve::SessionEnd;
+use serve_top::serve_all;
+use solve_maker::SolveMaker;
 use std::alloc::Global;
 use std::sync::Wait;
 use std::thread::Threads;
 
-/// How two sessions went.
+/// What the top call answered.
 #[derive(Drop)]
-pub(crate) struct Replies {
-    /// How many requests the first session answered before its input was closed.
-    pub(crate) first_served: u64,
-    /// How many the second one answered before its input was cut.
-    pub(crate) second_cut: u64,
-    /// How many looks at the cache there were.
-    pub(crate) looks: u64,
-    /// How many sessions saw no other one.
-    pub(crate) missed: u64,
-    /// What was written to the first client.
-    pub(crate) first: Vec<u8>,
-    /// What was written to the second client.
-    pub(crate) second: Vec<u8>,
+pub(crate) struct Answered {
+    /// The code of its status.
+    pub(crate) code: u8,
+    /// What it wrote.
+    pub(crate) text: String,
 }
 
-/// Serves two clients by two workers: the first asks twice for the same, the second is cut inside
-/// its frame. `None` where it went otherwise.
-pub(crate) fn serve_both<R: Threads + Wait + AllocGlobal + Sync>(rt: &R) -> Option<Replies> {
+/// What it answered to two clients, and what was written to each.
+#[derive(Drop)]
+pub(crate) struct AnsweredBoth {
+    /// What it answered.
+    pub(crate) answered: Answered,
+    /// How many sessions saw no other one.
+    pub(crate) missed: u64,
+    /// How many replies to the pair of agents were written to the first client, and nothing else.
+    pub(crate) first: u64,
+    /// The same of the second client.
+    pub(crate) second: u64,
+}
+
+/// What is answered to these words where nobody connects.
+pub(crate) fn answer_to<R>(rt: &R, words: &str) -> Option<Answered>
+where
+    R: Threads + Wait + AllocGlobal + Sync,
+{
     let alloc = rt.alloc();
-    let twice = b"\x00\x00\x00\x02ab\x00\x00\x00\x02ab";
-    let cut = b"\x00\x00\x00\x03ab";
-    let first = connection(alloc, twice)?;
-    let second = connection(alloc, cut)?;
-    let connections = vec![in alloc; first, second].ok()?;
+    let mut listener = MemoryListener::new(alloc, Vec::new(alloc), Vec::new(alloc)).ok()?;
+    answered_by(rt, words, &mut listener, &OpenGate)
+}
+
+/// What is answered to two clients that each ask once, where each session waits for the other one.
+pub(crate) fn answer_to_both<R>(rt: &R) -> Option<AnsweredBoth>
+where
+    R: Threads + Wait + AllocGlobal + Sync,
+{
+    let alloc = rt.alloc();
+    let connections = vec![in alloc; connection(alloc)?, connection(alloc)?].ok()?;
     let mut listener = MemoryListener::new(alloc, connections, Vec::new(alloc)).ok()?;
     let gate = MeetingGate::new();
-    let plan = Plan {
-        clients: 2,
-        entries: 4,
-        workers: 2,
-    };
-    let outcome = serve_clients::<R, MemoryListener, Okay, MeetingGate>(
-        rt,
-        alloc,
-        &mut listener,
-        plan,
-        &gate,
-    );
-    let outcome = outcome.ok()?;
-    let first_served = match outcome.ends.first()? {
-        SessionEnd::Closed { served } => *served,
-        _ => return None,
-    };
-    let second_cut = match outcome.ends.get(1)? {
-        SessionEnd::Cut { served } => *served,
-        _ => return None,
-    };
-    Some(Replies {
-        first_served,
-        second_cut,
-        looks: outcome.looks,
+    let answered = answered_by(rt, "2000 2 4 2", &mut listener, &gate)?;
+    Some(AnsweredBoth {
+        answered,
         missed: gate.missed(),
-        first: replies_at(alloc, &listener, 0)?,
-        second: replies_at(alloc, &listener, 1)?,
+        first: replies_at(&listener, 0)?,
+        second: replies_at(&listener, 1)?,
     })
 }
 
-// A connection on which these bytes come.
-fn connection(alloc: Global, bytes: &[u8]) -> Option<(MemorySource, MemorySink)> {
-    let bytes = Vec::from_slice(alloc, bytes).ok()?;
+// What is answered to these words.
+fn answered_by<R, G>(
+    rt: &R,
+    words: &str,
+    listener: &mut MemoryListener,
+    gate: &G,
+) -> Option<Answered>
+where
+    R: Threads + Wait + AllocGlobal + Sync,
+    G: Gate,
+{
+    let alloc = rt.alloc();
+    let mut list = Vec::new(alloc);
+    for word in words.split(' ') {
+        list.push(String::from_str(alloc, word).ok()?).ok()?;
+    }
+    let mut sink = MemorySink::new(alloc, Vec::new(alloc));
+    let status = serve_all::<R, MemoryListener, MemorySink, SolveMaker, G>(
+        rt, alloc, &list, listener, &mut sink, gate,
+    );
+    let text = sink.bytes().to_vec(alloc).ok()?;
+    Some(Answered {
+        code: status.code(),
+        text: String::from_utf8(text).ok()?,
+    })
+}
+
+// A connection on which the pair of agents is asked for once.
+fn connection(alloc: Global) -> Option<(MemorySource, MemorySink)> {
+    let bytes = Vec::from_slice(alloc, ONCE).ok()?;
     let source = MemorySource::new(bytes, Vec::new(alloc));
     Some((source, MemorySink::new(alloc, Vec::new(alloc))))
 }
 
-// What was written to the connection that was given back at this place.
-fn replies_at(alloc: Global, listener: &MemoryListener, place: usize) -> Option<Vec<u8>> {
+// How many replies were written to the connection that was given back at this place; `None` where
+// something else was.
+fn replies_at(listener: &MemoryListener, place: usize) -> Option<u64> {
     let (_source, sink) = listener.closed().get(place)?;
-    Vec::from_slice(alloc, sink.bytes()).ok()
+    match replies_in(sink.bytes()) {
+        (count, 0) => Some(count),
+        _ => None,
+    }
 }

@@ -1,0 +1,41 @@
+//! The program `dcop_serve`: solves problems for clients over sockets on 127.0.0.1, and prints how
+//! their sessions went.
+//!
+//! All of its work is [`serve_all`], with a [`SolveMaker`] for each session. It ends with the code of
+//! the status, or with 12 and nothing printed where it is refused its arguments.
+#![tactic(auto)]
+
+use dcop_edge::{OpenGate, StdSink};
+use serve_edge::StdListener;
+use serve_top::serve_all;
+use solve_maker::SolveMaker;
+use std::process::ExitCode;
+use std::rt::Env;
+use std::{env, io};
+
+/// The code with which the program ends where it is refused its arguments, which no status has.
+const REFUSED_ARGUMENTS: u8 = 12;
+
+fn main(rt: HostRuntime) -> ExitCode {
+    let Ok(words) = words_of(&rt) else {
+        return ExitCode::from(REFUSED_ARGUMENTS);
+    };
+    let mut listener = StdListener::new(&rt);
+    let mut sink = StdSink::new(rt.stdout());
+    let status = serve_all::<_, _, _, SolveMaker, _>(
+        &rt,
+        rt.alloc(),
+        &words,
+        &mut listener,
+        &mut sink,
+        &OpenGate,
+    );
+    ExitCode::from(status.code())
+}
+
+/// The arguments of the program, without its own name.
+fn words_of<R: Env + AllocGlobal>(rt: &R) -> io::Result<Vec<String>> {
+    let mut arguments = env::args(rt)?;
+    arguments.next();
+    Ok(arguments.collect(rt.alloc())?)
+}
