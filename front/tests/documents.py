@@ -1,8 +1,8 @@
 """Runs the commands of README.md and docs/USE.md, and compares what they print with what stands below them.
 
-usage: python3 front/tests/documents.py DCOP DCOP_ORDER
+usage: python3 front/tests/documents.py DCOP DCOP_ORDER [DCOP_SERVE]
 
-DCOP and DCOP_ORDER are the built programs `dcop` and `dcop_order`. A command is a line behind `$ ` in a block of a document; what
+DCOP, DCOP_ORDER and DCOP_SERVE are the built programs `dcop`, `dcop_order` and `dcop_serve`. A command is a line behind `$ ` in a block of a document; what
 it has to print stands below it, up to the next command or the end of the block, and `..` alone stands for any lines; a text
 that is given by `<<'EOF'` goes up to that word. The
 commands of a document run one after the other in one folder, in which `examples` and `front` are those of the repository.
@@ -66,11 +66,11 @@ def is_as_expected(printed: list[str], expected: list[str]) -> bool:
     return bool(printed) and printed[0] == expected[0] and is_as_expected(printed[1:], expected[1:])
 
 
-def missing(command: str) -> str | None:
-    """What the machine has not and the command needs."""
+def missing(command: str, path: str) -> str | None:
+    """What a command needs and these folders have not."""
     words = command.replace("|", " ").split()
-    for tool in ("dot", "toulbar2"):
-        if tool in words and shutil.which(tool) is None:
+    for tool in ("dot", "toulbar2", "dcop_serve"):
+        if tool in words and shutil.which(tool, path=path) is None:
             return tool
     if any(word.endswith(".yaml") for word in words) and importlib.util.find_spec("yaml") is None:
         return "PyYAML"
@@ -91,7 +91,7 @@ def run(document: str, programs: dict[str, str]) -> tuple[list[str], list[str]]:
         kept = {name: value for name, value in os.environ.items() if not name.startswith("SEFWLLON_")}
         environment = kept | {"PATH": f"{folder / 'bin'}:{os.environ['PATH']}", "PYTHONDONTWRITEBYTECODE": "1"}
         for step in steps(document):
-            wanted = missing(step.command)
+            wanted = missing(step.command, environment["PATH"])
             if wanted is not None:
                 passed_over.append(f"{step.place}: no {wanted}: {step.command}")
                 continue
@@ -105,10 +105,10 @@ def run(document: str, programs: dict[str, str]) -> tuple[list[str], list[str]]:
 
 
 def main() -> int:
-    if len(sys.argv) != 3:
+    if len(sys.argv) not in (3, 4):
         print(__doc__, file=sys.stderr)
         return 2
-    programs = {"dcop": sys.argv[1], "dcop_order": sys.argv[2]}
+    programs = dict(zip(("dcop", "dcop_order", "dcop_serve"), sys.argv[1:]))
     count = 0
     for document in DOCUMENTS:
         differ, passed_over = run(document, programs)
