@@ -32,15 +32,12 @@ where
             looks,
             calls,
             replies,
-            others,
         },
     ) = session_on(rt, bytes)
     else {
         return println!(rt; "{row}: otherwise");
     };
-    println!(rt;
-        "{row}: {end} {served}, looks {looks}, calls {calls}, replies of the pair {replies}, other bytes {others}"
-    )
+    println!(rt; "{row}: {end} {served}, looks {looks}, calls {calls}, replies {replies}")
 }
 
 // What comes of words that are refused.
@@ -65,7 +62,7 @@ where
     let missed = both.missed;
     println!(rt; "serve-all-two: sessions that saw no other: {missed}")?;
     let (first, second) = (both.first, both.second);
-    println!(rt; "serve-all-two: replies of the pair to each: {first} {second}")?;
+    println!(rt; "serve-all-two: replies to each: {first} {second}")?;
     let Answered { code, text } = both.answered;
     print!(rt; "serve-all-two, exit {code}:\n{text}")
 }

@@ -12,13 +12,19 @@ pub(crate) const TWICE: &[u8] =
 const REPLY: &[u8] =
     b"\x00\x00\x00\x5estatus solved\nmethod dpop\nerror 0\ndeliveries 2\ncost 2\nlower 2\nupper 2\nvalue x 1\nvalue y 0\nend\n";
 
-/// How often the frame of the reply stands at the front, and how many bytes stand behind.
-pub(crate) fn replies_in(written: &[u8]) -> (u64, usize) {
-    let mut count = 0;
-    let mut rest = written;
-    while rest.starts_with(REPLY) {
-        rest = &rest[REPLY.len()..];
-        count += 1;
+/// The same twice.
+const REPLIES: &[u8] =
+    b"\x00\x00\x00\x5estatus solved\nmethod dpop\nerror 0\ndeliveries 2\ncost 2\nlower 2\nupper 2\nvalue x 1\nvalue y 0\nend\n\x00\x00\x00\x5estatus solved\nmethod dpop\nerror 0\ndeliveries 2\ncost 2\nlower 2\nupper 2\nvalue x 1\nvalue y 0\nend\n";
+
+/// How many replies these bytes are, none, one or two; `None` where they are something else.
+pub(crate) fn replies_in(written: &[u8]) -> Option<u64> {
+    if written.is_empty() {
+        Some(0)
+    } else if written == REPLY {
+        Some(1)
+    } else if written == REPLIES {
+        Some(2)
+    } else {
+        None
     }
-    (count, rest.len())
 }

@@ -23,14 +23,12 @@ pub(crate) struct Ended {
     pub(crate) looks: u64,
     /// How often its maker was called.
     pub(crate) calls: u64,
-    /// How many replies to the pair of agents were written.
+    /// How many replies to the pair of agents were written, and nothing else.
     pub(crate) replies: u64,
-    /// How many bytes were written behind these.
-    pub(crate) others: usize,
 }
 
 /// How a session on these bytes goes, with a cache of four entries. `None` where it ends otherwise
-/// than closed or cut.
+/// than closed or cut, or writes something else than replies to the pair of agents.
 pub(crate) fn session_on<R: Threads + Wait + AllocGlobal + Sync>(
     rt: &R,
     bytes: &[u8],
@@ -76,13 +74,11 @@ fn session_with<R: Threads + Wait + AllocGlobal + Sync, A: Ledger, B: Ledger>(
         SessionEnd::Cut { served } => ("cut", served),
         _ => return None,
     };
-    let (replies, others) = replies_in(sink.bytes());
     Some(Ended {
         end,
         served,
         looks: cache.into_inner().looks(),
         calls: maker.calls(),
-        replies,
-        others,
+        replies: replies_in(sink.bytes())?,
     })
 }
