@@ -16,7 +16,7 @@ use Rattle.node_letters.proofs.ComeLaws.{come_on}
 use Rattle.letter_wires.specs.Honest.{AreHonest}
 use Rattle.letter_wires.specs.declared.fault.PassFault.{PassFault}
 use Rattle.letter_wires.specs.declared.fault.PassFault.TheVariants.{Failed, Bytes, NoMemory}
-use Rattle.letter_wires.specs.Faults.{IsByteFault, HasPassCause}
+use Rattle.letter_wires.specs.Faults.{AreTwo, IsByteFault, HasPassCause}
 
 all_but_first : {A : Type 0} (P : A → Type 0) (xs : List A) → All P xs → All P (remove xs 0)
 all_but_first P [] h = All-nil P
@@ -57,10 +57,17 @@ cause_on first old new (Ok x) e same h cause = absurd h
 cause_on first old new (Err x) e same h cause = subst (λ (f : PassFault). Causes first new f) (sym h) (subst (λ (n : ℕ). Causes n new e) same cause)
 
 -- a byte that differed is that of links of which the same was drained
-pub fault_still : (ps qs : List Passing) (f : PassFault) → EachAre SamePassing ps qs → IsByteFault qs f → IsByteFault ps f
-fault_still ps qs Failed s d = tt
-fault_still ps qs (Bytes from_node to_node place sent taken) s d = other_still from_node to_node place sent taken ps qs s d
-fault_still ps qs NoMemory s d = tt
+pub fault_still : (nodes : ℕ) (ps qs : List Passing) (f : PassFault) → EachAre SamePassing ps qs → IsByteFault nodes qs f → IsByteFault nodes ps f
+fault_still nodes ps qs Failed s d = tt
+fault_still nodes ps qs (Bytes from_node to_node place sent taken) s d = record { two = d.two; came = d.came; other = other_still from_node to_node d.came place sent taken ps qs s d.other }
+fault_still nodes ps qs NoMemory s d = tt
+
+-- two nodes the other way round, and two in order
+pub turned_two : (nodes first second : ℕ) → AreTwo nodes first second → AreTwo nodes second first
+turned_two nodes first second two = record { first_in = two.second_in; second_in = two.first_in; apart = λ e. two.apart (sym e) }
+
+pub two_in_order : (nodes first second : ℕ) → first < second → second < nodes → AreTwo nodes first second
+two_in_order nodes first second order inside = record { first_in = omega (arith, order, inside); second_in = inside; apart = λ e. omega (arith, order, e) }
 
 -- what a turn of two nodes came to, over honest wires
 module _ (a b : ℕ) (ps qs : List Passing) (back at_first : List ℕ) (s : EachAre SamePassing ps qs) where

@@ -6,7 +6,7 @@ ghost use Rattle.worker_runs.specs.Cells.{EachAre};
 ghost use Rattle.node_letters.specs.Passings.{SamePassing, HasReceived, AreAcross, LeadApart, HaveCome, NothingCame, AllCame, letters_of, frames_of};
 ghost use Rattle.node_letters.specs.Letters.{IsLetter};
 ghost use Rattle.letter_wires.specs.Honest.{AreHonest};
-ghost use Rattle.letter_wires.specs.Faults.{HasPassCause, IsByteFault, IsNoDifference, IsNoFailure};
+ghost use Rattle.letter_wires.specs.Faults.{HasPassCause, AreTwo, IsByteFault, IsNoDifference, IsNoFailure};
 
 use crate::carry::carry;
 use crate::fault::PassFault;
@@ -38,7 +38,7 @@ where
     ensures wires { OnOk result (length wires.new.items ≡ length wires.old.items) }
     ensures cause { HasPassCause (D.faults dialer.old) (D.faults dialer.new) result }
     ensures dialer { D.is_honest dialer.old → D.is_honest dialer.new }
-    ensures differs { IfErr result (IsByteFault passings.old) }
+    ensures differs { IfErr result (IsByteFault nodes passings.old) }
     ensures honest { AreHonest D.W.told D.W.is_joined wires.old.items → NothingCame passings.old
         → OnOk result (AreHonest D.W.told D.W.is_joined wires.new.items × AllCame passings.new) × IfErr result IsNoDifference }
 {
@@ -68,7 +68,7 @@ where
     ensures wires { OnOk result (length wires.new.items ≡ length wires.old.items) }
     ensures cause { HasPassCause (D.faults dialer.old) (D.faults dialer.new) result }
     ensures dialer { D.is_honest dialer.old → D.is_honest dialer.new }
-    ensures differs { IfErr result (IsByteFault passings.old) }
+    ensures differs { IfErr result (IsByteFault nodes passings.old) }
     ensures honest { AreHonest D.W.told D.W.is_joined wires.old.items → HaveCome first (first + 1) passings.old
         → OnOk result (AreHonest D.W.told D.W.is_joined wires.new.items × HaveCome (first + 1) (first + 2) passings.new) × IfErr result IsNoDifference }
 {
@@ -98,7 +98,7 @@ where
     ensures wires { OnOk result (length wires.new.items ≡ length wires.old.items) }
     ensures cause { HasPassCause (D.faults dialer.old) (D.faults dialer.new) result }
     ensures dialer { D.is_honest dialer.old → D.is_honest dialer.new }
-    ensures differs { IfErr result (IsByteFault passings.old) }
+    ensures differs { (nodes : ℕ) → AreTwo nodes first second → IfErr result (IsByteFault nodes passings.old) }
     ensures honest { AreHonest D.W.told D.W.is_joined wires.old.items → HaveCome first second passings.old
         → OnOk result (AreHonest D.W.told D.W.is_joined wires.new.items × HaveCome first (second + 1) passings.new) × IfErr result IsNoDifference }
 {
@@ -123,7 +123,7 @@ fn take_in(
     requires apart { LeadApart passings.old }
     ensures same { EachAre SamePassing passings.old passings.new }
     ensures fault { IfErr result IsNoFailure }
-    ensures differs { IfErr result (IsByteFault passings.old) }
+    ensures differs { (nodes : ℕ) → AreTwo nodes from_node to_node → IfErr result (IsByteFault nodes passings.old) }
     ensures honest { came.now ≡ frames_of from_node to_node passings.old → All IsLetter (letters_of from_node to_node passings.old)
         → OnOk result (EachAre (HasReceived from_node to_node (letters_of from_node to_node passings.old)) passings.old passings.new) × IfErr result IsNoDifference }
 {

@@ -1,8 +1,9 @@
 -- Receiving letters.
 use Rattle.std.proofs.Common.{◌≡◌, ◌≢◌, ℕ, zero, suc, ◌<◌, Bool, true, false, ◌==◌, ◌&&◌, if◌then◌else◌, List, [], ◌∷◌, ◌++◌, length, set, take, get_or, position, Some, None, Option, refl, sym, ap, ap₂, subst, ◌∙◌, inl, inr, arith}
-use Rattle.std.specs.List.{slice_get}
+use Rattle.std.specs.List.{slice_get, All}
 use Rattle.std.proofs.lemmas.Bool.{cases_Bool, and_parts, eqb-true, eq-eqb, true≢false}
 use Rattle.std.proofs.lemmas.List.{append-nil, append_assoc}
+use Rattle.std.proofs.lemmas.List.Elements.{All-nil, All-cons, All-head, All-tail}
 use Rattle.std.proofs.lemmas.List.Quantifiers.{position-Some}
 use Rattle.std.proofs.lemmas.Option.{slice_get_within, slice_get-get_or, get_or_from_slice_get}
 use Rattle.dcop_base.proofs.FaultLaws.{position-none}
@@ -11,7 +12,7 @@ use Rattle.worker_runs.specs.Cells.{EachAre}
 use Rattle.worker_runs.proofs.EachLaws.{each_back, each_on}
 use Rattle.node_letters.specs.declared.payload.Addressed.{Addressed}
 use Rattle.node_letters.specs.Letters.{carried}
-use Rattle.node_letters.specs.Passings.{Passing, leads, is_link, SamePassing, HasReceived, brought, LeadApart, AreAcross, IsOnLink, IsOtherByte}
+use Rattle.node_letters.specs.Passings.{Passing, leads, is_link, SamePassing, HasReceived, brought, LeadApart, AreAcross, IsOnLink, AreNoLetters, IsOtherByte}
 use Rattle.node_letters.proofs.LetterLaws.{frames_same, same_none, same_then, carried_append}
 
 -- a list with one element written
@@ -155,10 +156,34 @@ still_across nodes ps qs s a = record {
   apart = still_apart ps qs s a.apart;
 }
 
+-- letters on such links are letters on those before, and bytes that are none are none there
+back_on_link : (a b : ℕ) (ps qs : List Passing) (l : Addressed) → EachAre SamePassing ps qs → IsOnLink a b qs l → IsOnLink a b ps l
+back_on_link a b ps qs l s on =
+    let p = each_back SamePassing ps qs s on.place on.passing on.is in
+    record {
+      place = on.place;
+      passing = p.0;
+      is = p.1;
+      from_node_is = sym p.2.from_node ∙ on.from_node_is;
+      to_node_is = sym p.2.to_node ∙ on.to_node_is;
+      from_is = sym p.2.from ∙ on.from_is;
+      to_is = sym p.2.to ∙ on.to_is;
+    }
+
+all_weaker : {X : Type 0} (P Q : X → Type 0) (xs : List X) → ((x : X) → P x → Q x) → All P xs → All Q xs
+all_weaker P Q [] f all = All-nil Q
+all_weaker P Q (x ∷ xs) f all = All-cons Q x xs (f x (All-head P x xs all)) (all_weaker P Q xs f (All-tail P x xs all))
+
+pub still_strange : (a b : ℕ) (came : List ℕ) (ps qs : List Passing) → EachAre SamePassing ps qs → AreNoLetters ps a b came → AreNoLetters qs a b came
+still_strange a b came ps qs s none ls good on = none ls good (all_weaker (IsOnLink a b qs) (IsOnLink a b ps) ls (λ l. back_on_link a b ps qs l s) on)
+
+pub back_strange : (a b : ℕ) (came : List ℕ) (ps qs : List Passing) → EachAre SamePassing ps qs → AreNoLetters qs a b came → AreNoLetters ps a b came
+back_strange a b came ps qs s none ls good on = none ls good (all_weaker (IsOnLink a b ps) (IsOnLink a b qs) ls (λ l. still_on_link a b ps qs l s) on)
+
 -- the first other byte is that of links of which the same was drained
-pub other_still : (a b place : ℕ) (sent taken : Option ℕ) (ps qs : List Passing) → EachAre SamePassing ps qs → IsOtherByte qs a b place sent taken → IsOtherByte ps a b place sent taken
-other_still a b place sent taken ps qs s o = record {
-  came = o.came;
+pub other_still : (a b : ℕ) (came : List ℕ) (place : ℕ) (sent taken : Option ℕ) (ps qs : List Passing) → EachAre SamePassing ps qs → IsOtherByte qs a b came place sent taken → IsOtherByte ps a b came place sent taken
+other_still a b came place sent taken ps qs s o = record {
+  strange = back_strange a b came ps qs s o.strange;
   same = o.same ∙ ap (λ (bs : List ℕ). take place bs) (frames_same a b ps qs s);
   sent_is = o.sent_is ∙ ap (λ (bs : List ℕ). slice_get bs place) (frames_same a b ps qs s);
   taken_is = o.taken_is;

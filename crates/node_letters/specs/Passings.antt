@@ -1,11 +1,11 @@
 -- What one exchange passes on each link.
 use Rattle.std.specs.Prelude.{◌≡◌, ◌≢◌, ℕ, ◌<◌, ◌⊎◌, Bool, List, [], ◌++◌, map, take, ◌==◌, ◌&&◌, if◌then◌else◌, Option, Some, slice_get}
-use Rattle.std.specs.List.{flat_map}
+use Rattle.std.specs.List.{flat_map, All}
 use Rattle.protocol_steps.specs.declared.message.Message.{Message}
 use Rattle.wire_frames.specs.Frame.{framed}
 use Rattle.node_letters.specs.declared.payload.Addressed.{Addressed}
 use Rattle.node_letters.specs.Payloads.{payload_code}
-use Rattle.node_letters.specs.Letters.{letter, carried}
+use Rattle.node_letters.specs.Letters.{letter, stream_of, IsLetter, carried}
 
 -- a link, by the agents and the nodes at its ends: what the exchange drained of it, and what has arrived so far
 pub record Passing : Type 0 where
@@ -95,9 +95,13 @@ NothingCame ps = (k : ℕ) (p : Passing) → slice_get ps k ≡ Some p → p.arr
 abbrev pub AllCame : List Passing → Type 0
 AllCame ps = (k : ℕ) (p : Passing) → slice_get ps k ≡ Some p → p.arrived ≡ p.drained
 
--- these bytes were sent from one node to another and others were received: the first that differs stands at this place, where one of them may be missing
-pub record IsOtherByte (ps : List Passing) (from_node to_node place : ℕ) (sent taken : Option ℕ) : Type 0 where
-  pub came : List ℕ
+-- these bytes are no whole frames of letters on the links from one node to another
+abbrev pub AreNoLetters : List Passing → ℕ → ℕ → List ℕ → Type 0
+AreNoLetters ps from_node to_node came = (ls : List Addressed) → All IsLetter ls → All (IsOnLink from_node to_node ps) ls → came ≢ stream_of ls
+
+-- what a node received from another is no whole frames of letters, and its first byte that is not the one that was sent stands at this place, where one of them may be missing
+pub record IsOtherByte (ps : List Passing) (from_node to_node : ℕ) (came : List ℕ) (place : ℕ) (sent taken : Option ℕ) : Type 0 where
+  pub strange : AreNoLetters ps from_node to_node came
   pub same : take place came ≡ take place (frames_of from_node to_node ps)
   pub sent_is : sent ≡ slice_get (frames_of from_node to_node ps) place
   pub taken_is : taken ≡ slice_get came place

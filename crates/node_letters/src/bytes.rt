@@ -1,9 +1,7 @@
 //! The first byte that a node received and that is not the one that was sent.
 
 ghost use Rattle.std.specs.Prelude.{◌≡◌, ◌↔◌, true, slice_get, IfOk, MatchOption};
-ghost use Rattle.std.specs.List.{All};
-ghost use Rattle.node_letters.specs.Letters.{IsLetter};
-ghost use Rattle.node_letters.specs.Passings.{letters_of, frames_of, IsOtherByte};
+ghost use Rattle.node_letters.specs.Passings.{AreNoLetters, IsOtherByte};
 ghost use Rattle.node_letters.specs.FirstByte.{IsFirstOther};
 
 use crate::passing::LinkPassing;
@@ -22,7 +20,7 @@ pub struct OtherByte {
     pub taken: Option<u8>,
 }
 
-/// The first byte that came and is not the one that was sent. What was sent is written once more for
+/// The first byte that is not the one that was sent, where what came is no letters. What was sent is written once more for
 /// it, which takes memory.
 pub(crate) fn other_byte(
     alloc: Global,
@@ -31,8 +29,8 @@ pub(crate) fn other_byte(
     to_node: u32,
     came: &[u8],
 ) -> Result<OtherByte, NoMemory>
-    requires apart { All IsLetter (letters_of from_node to_node passings.now) → came.now ≡ frames_of from_node to_node passings.now → ⊥ }
-    ensures { IfOk result (λ d. IsOtherByte passings.now from_node to_node d.place d.sent d.taken) }
+    requires strange { AreNoLetters passings.now from_node to_node came.now }
+    ensures { IfOk result (λ d. IsOtherByte passings.now from_node to_node came.now d.place d.sent d.taken) }
 {
     let went = write_letters(alloc, passings, from_node, to_node)?;
     let Some(place) = first_other(went.as_slice(), came) else {

@@ -30,7 +30,7 @@ pub fn receive(
 ) -> Result<Option<OtherByte>, NoMemory>
     requires apart { LeadApart passings.old }
     ensures same { EachAre SamePassing passings.old passings.new }
-    ensures differs { IfOk result (λ o. IfSome o (λ d. IsOtherByte passings.old from_node to_node d.place d.sent d.taken)) }
+    ensures differs { IfOk result (λ o. IfSome o (λ d. IsOtherByte passings.old from_node to_node bytes.now d.place d.sent d.taken)) }
     ensures honest { bytes.now ≡ frames_of from_node to_node passings.old → All IsLetter (letters_of from_node to_node passings.old)
         → IfOk result (λ o. (o ≡ none) × EachAre (HasReceived from_node to_node (letters_of from_node to_node passings.old)) passings.old passings.new) }
 {

@@ -35,7 +35,7 @@ use Rattle.agent_workers.proofs.JoinLaws.{stood, quiet_same, joined_still, each_
 use Rattle.node_letters.specs.Passings.{Passing, SamePassing, AreAcross, NothingCame, AllCame}
 use Rattle.letter_wires.specs.declared.fault.PassFault.{PassFault}
 use Rattle.letter_wires.specs.declared.fault.PassFault.TheVariants.{Failed, Bytes, NoMemory}
-use Rattle.letter_wires.specs.Faults.{IsByteFault, IsNoDifference as passes_no_difference}
+use Rattle.letter_wires.specs.Faults.{IsByteBetween, IsByteFault, IsNoDifference as passes_no_difference}
 use Rattle.tcp_links.specs.declared.plan.InnerEnds.{InnerEnds}
 use Rattle.tcp_links.specs.declared.plan.NodePlan.{NodePlan}
 use Rattle.tcp_links.specs.Plans.{AreOrdered, IsBetween, pair_count, IsPlan}
@@ -217,14 +217,14 @@ module _ {X : Type 0} {F : X → Type 0} (M : DynBox X Global F → View) where
     })
 
     -- a difference of bytes
-    pub fault_on : {W : Type 0} (round : ℕ) (p : NodePlan W) (f : PassFault) → p.nodes ≡ nodes → p.agents ≡ agents → p.kept.items ≡ ws → IsByteFault ps f → IsExchangeFault M round p cells (node_fault round f)
+    pub fault_on : {W : Type 0} (round : ℕ) (p : NodePlan W) (f : PassFault) → p.nodes ≡ nodes → p.agents ≡ agents → p.kept.items ≡ ws → IsByteFault nodes ps f → IsExchangeFault M round p cells (node_fault round f)
     fault_on round p Failed n a k h = tt
     fault_on round p (Bytes from_node to_node place sent taken) n a k h = record {
       passings = ps;
       drained = subst (λ (vs : List Wire). EachAre (IsDrainedOf (home p.nodes p.agents) (states_of M cells)) vs ps) (sym k)
           (subst (λ (x : ℕ). EachAre (IsDrainedOf (home x p.agents) (states_of M cells)) ws ps) (sym n)
           (subst (λ (x : ℕ). EachAre (IsDrainedOf (home nodes x) (states_of M cells)) ws ps) (sym a) all_drained));
-      fault = (refl, h);
+      fault = (refl, subst (λ (x : ℕ). IsByteBetween x ps from_node to_node place sent taken) (sym n) h);
     }
     fault_on round p NoMemory n a k h = tt
 

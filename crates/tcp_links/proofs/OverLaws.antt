@@ -31,7 +31,7 @@ use Rattle.agent_workers.specs.Joined.{states_of, EachIs, EachBecomes, IsSameCel
 use Rattle.agent_workers.specs.Settled.{StaysQuiet}
 use Rattle.agent_workers.specs.Turns.{sprint_limit, SomeFailed}
 use Rattle.agent_workers.specs.Broken.{StandsOrEnds, AreBrokenOff}
-use Rattle.agent_workers.specs.Run.{AreBusy, AreDue}
+use Rattle.agent_workers.specs.Run.{AreBusy, AreDue, EndIdle}
 use Rattle.agent_workers.proofs.JoinLaws.{stood, sent_peers, taken_peers, quiet_same, joined_still}
 use Rattle.tcp_links.specs.declared.fault.Difference.TheVariants.{Message, Bytes}
 use Rattle.tcp_links.specs.declared.fault.NodeFault.{NodeFault}
@@ -41,6 +41,7 @@ use Rattle.tcp_links.specs.declared.plan.NodePlan.{NodePlan}
 use Rattle.tcp_links.specs.Faults.{HasNodeCause}
 use Rattle.tcp_links.specs.Woven.{AreWoven}
 use Rattle.tcp_links.specs.Over.{IsDrainedOf, IsPlanOver, HasExchanged, HasPassedOther, IsExchangeFault, ArePlayedSo, IsIdleOver, ArePlayedOutOver, HasBrokenOver, HasRoundOver, HasBrokenRound, ArePlayedTo}
+use Rattle.letter_wires.specs.Faults.{IsByteBetween}
 use Rattle.tcp_links.specs.Ends.{AreThere, HasOtherByte, IsFaultOver}
 use Rattle.tcp_links.proofs.DrainLaws.{tail_still, head_none}
 use Rattle.tcp_links.proofs.FeedLaws.{heads_still}
@@ -76,6 +77,13 @@ due_push : (node : ℕ → ℕ) (budget : ℕ) (begun : List Wire) (a : List Cel
     → AreNodeRounds node budget begun a rounds wires b → AreBusy a rounds → all_ended b ≡ false → AreDue a (rounds ++ c ∷ [])
 due_push node budget begun a [] wires b c are busy awake = subst (λ (cells : List CellState). AreDue cells (c ∷ [])) (sym are.1) (awake, (λ some. absurd (some refl)), tt)
 due_push node budget begun a (next ∷ rounds) wires b c are busy awake = (busy.0, (λ _. busy.1), due_push node budget are.1.0 next rounds wires b c are.1.2 busy.2 awake)
+
+-- one round more, which took nothing
+idle_push : (node : ℕ → ℕ) (budget : ℕ) (begun : List Wire) (a : List CellState) (rounds : List (List CellState)) (wires : List Wire) (b c : List CellState)
+    → AreNodeRounds node budget begun a rounds wires b → total c ≡ total b → EndIdle a (rounds ++ c ∷ [])
+idle_push node budget begun a [] wires b c are none = none ∙ ap total (sym are.1)
+idle_push node budget begun a (next ∷ []) wires b c are none = idle_push node budget are.1.0 next [] wires b c are.1.2 none
+idle_push node budget begun a (next ∷ (later ∷ rounds)) wires b c are none = idle_push node budget are.1.0 next (later ∷ rounds) wires b c are.1.2 none
 
 due_busy : (a : List CellState) (rounds : List (List CellState)) → AreBusy a rounds → AreDue a rounds
 due_busy a [] busy = tt
@@ -201,16 +209,16 @@ module _ {X : Type 0} {F : X → Type 0} (M : DynBox X Global F → View) where
     -- a byte that an exchange finds to differ, behind these rounds
     pub byte_over : (budget round : ℕ) (begun : List Wire) (started : List CellState) (p q : NodePlan W) (cells : List (Cell X F)) (behind from_node to_node place : ℕ) (sent taken : Option ℕ) → IsPlanOver M p q cells
         → AreThere (home p.nodes p.agents) budget begun started q.kept.items (states_of M cells) round → HasPassedOther M round q cells (Bytes behind from_node to_node place sent taken)
-        → HasOtherByte (home p.nodes p.agents) budget begun started behind from_node to_node place sent taken
+        → HasOtherByte p.nodes (home p.nodes p.agents) budget begun started behind from_node to_node place sent taken
     byte_over budget round begun started p q cells behind from_node to_node place sent taken o at f =
-        subst (λ (n : ℕ). HasOtherByte (home p.nodes p.agents) budget begun started n from_node to_node place sent taken) (sym f.fault.0)
+        subst (λ (n : ℕ). HasOtherByte p.nodes (home p.nodes p.agents) budget begun started n from_node to_node place sent taken) (sym f.fault.0)
         (record {
           wires = q.kept.items;
           now = states_of M cells;
           there = at;
           passings = f.passings;
           drained = as_there (λ node. EachAre (IsDrainedOf node (states_of M cells)) q.kept.items f.passings) p q cells o f.drained;
-          other = f.fault.1;
+          other = subst (λ (n : ℕ). IsByteBetween n f.passings from_node to_node place sent taken) o.nodes f.fault.1;
         })
 
     module _ (budget count : ℕ) (begun : List Wire) (started : List CellState) (p q : NodePlan W) (now : List (Cell X F)) (o : IsPlanOver M p q now)
@@ -222,7 +230,7 @@ module _ {X : Type 0} {F : X → Type 0} (M : DynBox X Global F → View) where
       busy_over = record { rounds = played.rounds; are = played.are }
 
       -- a fault that an exchange finds behind these rounds
-      pub fault_over : (e : NodeFault) → IsExchangeFault M count q now e → IsFaultOver node budget begun started e
+      pub fault_over : (e : NodeFault) → IsExchangeFault M count q now e → IsFaultOver p.nodes node budget begun started e
       fault_over Failed f = tt
       fault_over (Differs (Message from to at sent taken)) f = f.fault
       fault_over (Differs (Bytes behind from_node to_node place sent taken)) f =
@@ -258,6 +266,12 @@ module _ {X : Type 0} {F : X → Type 0} (M : DynBox X Global F → View) where
                 such = busy_push node budget begun started played.rounds q.kept.items (states_of M now) (states_of M next) played.are played.such awake (omega (arith, more, some));
                 counted = counted_on;
               }
+
+          pub rest_on : taken ≡ 0 → EndIdle started due_on.rounds
+          unfolding due_on
+          rest_on none =
+              let more = made.counted in
+              idle_push node budget begun started played.rounds q.kept.items (states_of M now) (states_of M next) played.are (omega (arith, more, none))
 
           pub idle_on : taken ≡ 0 → IsIdleOver node budget begun started r.kept.items (states_of M next)
           idle_on none =

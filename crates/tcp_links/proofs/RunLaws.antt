@@ -23,14 +23,13 @@ use Rattle.node_runs.specs.NodeRounds.{IsNodeEnd}
 use Rattle.node_runs.specs.NodeRuns.{IsAsInOneNode}
 use Rattle.node_runs.proofs.RunLaws.{nodes_are_one, played_nodes_make_runs}
 use Rattle.node_runs.proofs.StampLaws.{node_stamps_are_few}
-use Rattle.kept_wires.specs.Differences.{Differs as DifferKept}
 use Rattle.agent_cells.specs.declared.cell.Cell.{Cell}
 use Rattle.agent_cells.specs.declared.fault.VisitFault.TheVariants.{StampEnd}
 use Rattle.agent_cells.specs.State.{state_of}
 use Rattle.agent_workers.specs.Joined.{states_of, EachBecomes, IsSameCell, IsJoined}
 use Rattle.agent_workers.specs.Settled.{HaveSettled}
 use Rattle.agent_workers.specs.Broken.{StandsOrEnds}
-use Rattle.agent_workers.specs.Run.{views_of, HasStarted, AreDulyPlayed}
+use Rattle.agent_workers.specs.Run.{views_of, HasStarted, AreDulyPlayed, RestsAtStill}
 use Rattle.agent_workers.proofs.ListLaws.{map_back, each_are}
 use Rattle.agent_workers.proofs.JoinLaws.{joined_still}
 use Rattle.agent_workers.proofs.SettleLaws.{settling}
@@ -41,6 +40,7 @@ use Rattle.tcp_links.specs.declared.fault.NodeFault.{NodeFault}
 use Rattle.tcp_links.specs.declared.fault.NodeFault.TheVariants.{Failed, Differs, NoMemory}
 use Rattle.tcp_links.specs.declared.plan.NodePlan.{NodePlan}
 use Rattle.tcp_links.specs.Plans.{IsPlan, IsNewPlan}
+use Rattle.tcp_links.specs.Faults.{IsKeptDifference}
 use Rattle.tcp_links.specs.Linked.{AreLinkedOver}
 use Rattle.tcp_links.specs.Woven.{AreWoven}
 use Rattle.tcp_links.specs.Over.{IsPlanOver, HasExchanged, IsExchangeFault, ArePlayedOutOver, HasBrokenOver, ArePlayedTo}
@@ -60,12 +60,13 @@ map_at f (y ∷ xs) (suc i) x e = map_at f xs i x e
 pub held_in : (vs ws : List Wire) → vs ≡ ws → HaveHeld vs → HaveHeld ws
 held_in vs ws same held = subst HaveHeld same held
 
-pub differs_in : (vs ws : List Wire) (from to at : ℕ) (sent taken : Option (ℕ × Sent)) → vs ≡ ws → DifferKept vs from to at sent taken → DifferKept ws from to at sent taken
-differs_in vs ws from to at sent taken same d = subst (λ (xs : List Wire). DifferKept xs from to at sent taken) same d
+pub differs_in : (vs ws : List Wire) (d : Difference) → vs ≡ ws → IsKeptDifference vs d → IsKeptDifference ws d
+differs_in vs ws d same differs = subst (λ (xs : List Wire). IsKeptDifference xs d) same differs
 
 -- links that have held do not differ
-pub never_differ : (ws : List Wire) (from to at : ℕ) (sent taken : Option (ℕ × Sent)) → HaveHeld ws → DifferKept ws from to at sent taken → ⊥
-never_differ ws from to at sent taken held d =
+pub never_differ : (ws : List Wire) (e : Difference) → HaveHeld ws → IsKeptDifference ws e → ⊥
+never_differ ws (Bytes round from_node to_node place sent taken) held d = d
+never_differ ws (Message from to at sent taken) held d =
     let first = d.first.first in
     let on : HasHeld d.first.wire = all_at HasHeld ws d.link d.first.wire held d.first.is in
     let same : IsSame first.passage = all_at IsSame d.first.wire.passages d.number first.passage on first.is in
@@ -91,6 +92,26 @@ module _ (node : ℕ → ℕ) (budget count : ℕ) (made : List View) (begun wir
         rounds = record { rounds = p.played.rounds; are = one.rounds_are; such = p.played.such };
         quiet = one.quiet;
         settled = one.settled;
+      }
+
+  pub still_over : (answer : RunEnd) → ArePlayedOutOver node budget count begun started wires now answer → RestsAtStill budget made last answer
+  still_over (AllEnded n) p = record { rest = tt }
+  still_over (Spent n) p = record { rest = tt }
+  still_over (Still n) p =
+      let one : IsAsInOneNode budget started now last p.played.rounds = nodes_are_one node budget started now last p.played.rounds begun wires more p.played.are end held in
+      record {
+        rest = record {
+          duly = record {
+            started = started;
+            played = now;
+            starts = starts;
+            rounds = record { rounds = p.played.rounds; are = one.rounds_are; such = p.played.such };
+            quiet = one.quiet;
+            settled = one.settled;
+          };
+          idle = p.idle;
+          awake = still_ended now last one.quiet ∙ p.stopped.1;
+        };
       }
 
   pub run_over : (answer : RunEnd) → ArePlayedOutOver node budget count begun started wires now answer → MakesARun budget made last answer
@@ -221,7 +242,7 @@ module _ {X : Type 0} {F : X → Type 0} (M : DynBox X Global F → View) where
     new_over p q r s now ready o x n = record { plan = n.plan; agents_are = n.agents_are ∙ x.agents ∙ o.agents; nodes_are = n.nodes_are ∙ x.nodes ∙ o.nodes; no_link = n.no_link }
 
     -- a fault that playing came to
-    pub differs_played : (budget : ℕ) (made : List View) (started last : List CellState) (p : NodePlan W) (e : NodeFault) → AreStarted made started → IsFaultOver (home p.nodes p.agents) budget p.kept.items started e
+    pub differs_played : (budget : ℕ) (made : List View) (started last : List CellState) (p : NodePlan W) (e : NodeFault) → AreStarted made started → IsFaultOver p.nodes (home p.nodes p.agents) budget p.kept.items started e
         → DiffersOver budget made p last e
     differs_played budget made started last p Failed starts f = tt
     differs_played budget made started last p (Differs (Message from to at sent taken)) starts f = absurd f
@@ -253,14 +274,13 @@ module _ {X : Type 0} {F : X → Type 0} (M : DynBox X Global F → View) where
         last_end = end_made p q r now ready settled o x s
 
         -- a difference between what was sent and what was taken
-        pub differs_kept : (d : Difference) (from to at : ℕ) (sent taken : Option (ℕ × Sent)) → d ≡ Message from to at sent taken → DifferKept r.kept.items from to at sent taken → HasDifference budget made p last d
-        differs_kept d from to at sent taken is differs =
-            subst (λ (e : Difference). HasDifference budget made p last e) (sym is)
-            (record {
-              started = started;
-              starts = starts;
-              right = record { count = rounds; wires = q.kept.items; now = states_of M now; there = played_there; passed = r.kept.items; end = last_end; differs = differs };
-            })
+        pub differs_kept : (d : Difference) → IsKeptDifference r.kept.items d → HasDifference budget made p last d
+        differs_kept (Bytes round from_node to_node place sent taken) differs = absurd differs
+        differs_kept (Message from to at sent taken) differs = record {
+          started = started;
+          starts = starts;
+          right = record { count = rounds; wires = q.kept.items; now = states_of M now; there = played_there; passed = r.kept.items; end = last_end; differs = differs };
+        }
 
         module _ (held : HaveHeld r.kept.items) where
           pub no_break : end ≡ None → ⊥
@@ -277,6 +297,9 @@ module _ {X : Type 0} {F : X → Type 0} (M : DynBox X Global F → View) where
 
             pub last_duly : AreDulyPlayed budget made last
             last_duly = duly_over node budget rounds made p.kept.items q.kept.items r.kept.items started (states_of M now) last starts last_end held answer out
+
+            pub last_still : RestsAtStill budget made last answer
+            last_still = still_over node budget rounds made p.kept.items q.kept.items r.kept.items started (states_of M now) last starts last_end held answer out
 
             pub last_held : HasHeldOver budget made p last
             last_held = record {

@@ -14,7 +14,8 @@ use Rattle.tcp_links.specs.declared.fault.Difference.TheVariants.{Message, Bytes
 use Rattle.tcp_links.specs.declared.fault.NodeFault.{NodeFault}
 use Rattle.tcp_links.specs.declared.fault.NodeFault.TheVariants.{Failed, Differs, NoMemory}
 use Rattle.tcp_links.specs.declared.plan.NodePlan.{NodePlan}
-use Rattle.node_letters.specs.Passings.{Passing, IsOtherByte}
+use Rattle.letter_wires.specs.Faults.{IsByteBetween}
+use Rattle.node_letters.specs.Passings.{Passing}
 use Rattle.tcp_links.specs.Over.{IsDrainedOf}
 
 -- cells that had started were played in so many rounds, of which the last one may have been broken off
@@ -23,14 +24,14 @@ AreThere node budget begun started wires now count =
     ((p : ArePlayedOver node budget begun started wires now) × (length p.rounds ≡ count))
     ⊎ ((stood : List CellState) × (b : AreBrokenOver node budget begun started wires stood now) × (length b.played.rounds + 1 ≡ count))
 
--- behind so many rounds of cells that had started, an exchange sent bytes from one node to another, of all that its agents had sent to the other's and that was not drained before, and others came
-pub record HasOtherByte (node : ℕ → ℕ) (budget : ℕ) (begun : List Wire) (started : List CellState) (round from_node to_node place : ℕ) (sent taken : Option ℕ) : Type 0 where
+-- behind so many rounds of cells that had started, an exchange sent bytes from one of so many nodes to another, of all that its agents had sent to the other's and that was not drained before, and what came is no whole frames of letters
+pub record HasOtherByte (nodes : ℕ) (node : ℕ → ℕ) (budget : ℕ) (begun : List Wire) (started : List CellState) (round from_node to_node place : ℕ) (sent taken : Option ℕ) : Type 0 where
   pub wires : List Wire
   pub now : List CellState
   pub there : AreThere node budget begun started wires now round
   pub passings : List Passing
   pub drained : EachAre (IsDrainedOf node now) wires passings
-  pub other : IsOtherByte passings from_node to_node place sent taken
+  pub other : IsByteBetween nodes passings from_node to_node place sent taken
 
 -- behind some rounds of cells that had started, and one exchange more, the first two envelopes that differ stand on the lowest link
 pub record HasOtherMessage (node : ℕ → ℕ) (budget : ℕ) (begun : List Wire) (started last : List CellState) (from to at : ℕ) (sent taken : Option (ℕ × Sent)) : Type 0 where
@@ -42,16 +43,16 @@ pub record HasOtherMessage (node : ℕ → ℕ) (budget : ℕ) (begun : List Wir
   pub end : IsNodeEnd node wires passed now last
   pub differs : DifferKept passed from to at sent taken
 
-abbrev pub IsDifference : (ℕ → ℕ) → ℕ → List Wire → List CellState → List CellState → Difference → Type 0
-IsDifference node budget begun started last (Message from to at sent taken) = HasOtherMessage node budget begun started last from to at sent taken
-IsDifference node budget begun started last (Bytes round from_node to_node place sent taken) = HasOtherByte node budget begun started round from_node to_node place sent taken
+abbrev pub IsDifference : ℕ → (ℕ → ℕ) → ℕ → List Wire → List CellState → List CellState → Difference → Type 0
+IsDifference nodes node budget begun started last (Message from to at sent taken) = HasOtherMessage node budget begun started last from to at sent taken
+IsDifference nodes node budget begun started last (Bytes round from_node to_node place sent taken) = HasOtherByte nodes node budget begun started round from_node to_node place sent taken
 
 -- while cells are played, a difference that is found is one of bytes
-abbrev pub IsFaultOver : (ℕ → ℕ) → ℕ → List Wire → List CellState → NodeFault → Type 0
-IsFaultOver node budget begun started Failed = Unit {0}
-IsFaultOver node budget begun started (Differs (Message from to at sent taken)) = ⊥
-IsFaultOver node budget begun started (Differs (Bytes round from_node to_node place sent taken)) = HasOtherByte node budget begun started round from_node to_node place sent taken
-IsFaultOver node budget begun started NoMemory = Unit {0}
+abbrev pub IsFaultOver : ℕ → (ℕ → ℕ) → ℕ → List Wire → List CellState → NodeFault → Type 0
+IsFaultOver nodes node budget begun started Failed = Unit {0}
+IsFaultOver nodes node budget begun started (Differs (Message from to at sent taken)) = ⊥
+IsFaultOver nodes node budget begun started (Differs (Bytes round from_node to_node place sent taken)) = HasOtherByte nodes node budget begun started round from_node to_node place sent taken
+IsFaultOver nodes node budget begun started NoMemory = Unit {0}
 
 module _ {W : Type 0} where
   -- cells of agents that were made so have started, were played in rounds over the links of a plan, and each exchange, one more behind the last round too, took on each link just what it sent there
@@ -69,7 +70,7 @@ module _ {W : Type 0} where
   pub record HasDifference (budget : ℕ) (made : List View) (p : NodePlan W) (last : List CellState) (d : Difference) : Type 0 where
     pub started : List CellState
     pub starts : AreStarted made started
-    pub right : IsDifference (home p.nodes p.agents) budget p.kept.items started last d
+    pub right : IsDifference p.nodes (home p.nodes p.agents) budget p.kept.items started last d
 
   -- what differs, where a fault says that something does
   abbrev pub DiffersOver : ℕ → List View → NodePlan W → List CellState → NodeFault → Type 0

@@ -1,9 +1,13 @@
 -- Why an exchange failed, and what a fault says of a dialer's count.
 use Rattle.std.specs.Prelude.{◌≡◌, ℕ, ◌≤◌, List, Result, Ok, Err}
 use Rattle.dcop_edge.specs.Faults.{Rose}
+use Rattle.node_runs.specs.Wires.{Wire}
+use Rattle.kept_wires.specs.Differences.{Differs as DifferKept}
 use Rattle.letter_wires.specs.declared.fault.PassFault.{PassFault}
 use Rattle.letter_wires.specs.declared.fault.PassFault.TheVariants.{Failed as pass_failed, Bytes as pass_bytes, NoMemory as no_pass_memory}
-use Rattle.node_letters.specs.Passings.{Passing, IsOtherByte}
+use Rattle.letter_wires.specs.Faults.{IsByteBetween}
+use Rattle.node_letters.specs.Passings.{Passing}
+use Rattle.tcp_links.specs.declared.fault.Difference.{Difference}
 use Rattle.tcp_links.specs.declared.fault.Difference.TheVariants.{Message, Bytes}
 use Rattle.tcp_links.specs.declared.fault.NodeFault.{NodeFault}
 use Rattle.tcp_links.specs.declared.fault.NodeFault.TheVariants.{Failed, Differs, NoMemory}
@@ -20,12 +24,17 @@ IsNoDifference Failed = Unit {0}
 IsNoDifference (Differs d) = ⊥
 IsNoDifference NoMemory = Unit {0}
 
--- where a difference was found in the exchange behind so many rounds, it is one of bytes
-abbrev pub IsByteFault : ℕ → List Passing → NodeFault → Type 0
-IsByteFault round ps Failed = Unit {0}
-IsByteFault round ps (Differs (Message from to at sent taken)) = ⊥
-IsByteFault round ps (Differs (Bytes behind from_node to_node place sent taken)) = (behind ≡ round) × IsOtherByte ps from_node to_node place sent taken
-IsByteFault round ps NoMemory = Unit {0}
+-- where a difference was found in the exchange behind so many rounds, it is one of bytes between two of so many nodes
+abbrev pub IsByteFault : ℕ → ℕ → List Passing → NodeFault → Type 0
+IsByteFault nodes round ps Failed = Unit {0}
+IsByteFault nodes round ps (Differs (Message from to at sent taken)) = ⊥
+IsByteFault nodes round ps (Differs (Bytes behind from_node to_node place sent taken)) = (behind ≡ round) × IsByteBetween nodes ps from_node to_node place sent taken
+IsByteFault nodes round ps NoMemory = Unit {0}
+
+-- this difference is the first one between what was drained of links and what arrived on them
+abbrev pub IsKeptDifference : List Wire → Difference → Type 0
+IsKeptDifference ws (Message from to at sent taken) = DifferKept ws from to at sent taken
+IsKeptDifference ws (Bytes round from_node to_node place sent taken) = ⊥
 
 -- the dialer's count rose where it failed, and in no other case
 abbrev pub HasNodeCause : {T : Type 0} → ℕ → ℕ → Result T NodeFault → Type 0

@@ -21,7 +21,7 @@ use Rattle.agent_cells.specs.declared.fault.VisitFault.TheVariants.{StampEnd}
 use Rattle.agent_workers.specs.Joined.{states_of, EachIs}
 use Rattle.agent_workers.specs.Turns.{sprint_limit, SomeFailed}
 use Rattle.agent_workers.specs.Broken.{StandsOrEnds}
-use Rattle.agent_workers.specs.Run.{AreDue}
+use Rattle.agent_workers.specs.Run.{AreDue, EndIdle, AtStill}
 use Rattle.dcop_base.specs.Limits.{amount_limit}
 use Rattle.tcp_links.specs.declared.plan.NodePlan.{NodePlan}
 use Rattle.tcp_links.specs.declared.fault.Difference.{Difference}
@@ -54,7 +54,7 @@ module _ {X : Type 0} {F : X → Type 0} {W : Type 0} where
   pub record HasPassedOther (meaning : DynBox X Global F → View) (round : ℕ) (p : NodePlan W) (cells : List (Cell X F)) (d : Difference) : Type 0 where
     pub passings : List Passing
     pub drained : EachAre (IsDrainedOf (home p.nodes p.agents) (states_of meaning cells)) p.kept.items passings
-    pub fault : IsByteFault round passings (Differs d)
+    pub fault : IsByteFault p.nodes round passings (Differs d)
 
   -- a difference that an exchange finds is one of the bytes that it passed
   abbrev pub IsExchangeFault : (DynBox X Global F → View) → ℕ → NodePlan W → List (Cell X F) → NodeFault → Type 0
@@ -84,10 +84,11 @@ HasStoppedOver node budget begun started wires now (AllEnded n) = (n ≡ total n
 HasStoppedOver node budget begun started wires now (Spent n) = (n ≡ total now) × (all_ended now ≡ false) × (budget ≤ total now)
 HasStoppedOver node budget begun started wires now (Still n) = (n ≡ total now) × (all_ended now ≡ false) × IsIdleOver node budget begun started wires now
 
--- cells were played until they ended so
+-- cells were played until they ended so; where the answer is Still, the last round took nothing
 pub record ArePlayedOutOver (node : ℕ → ℕ) (budget count : ℕ) (begun : List Wire) (started : List CellState) (wires : List Wire) (now : List CellState) (answer : RunEnd) : Type 0 where
   pub played : ArePlayedSo node budget AreDue count begun started wires now
   pub stopped : HasStoppedOver node budget begun started wires now answer
+  pub idle : AtStill answer (EndIdle started played.rounds)
 
 module _ {X : Type 0} {F : X → Type 0} where
   -- cells were played to a round that was broken off where stamps end, the last one of so many

@@ -66,7 +66,7 @@ where
         (states_of (λ b. meaning (b.vtable, b.value)) cells.old) plan.new.kept.items cells.new play.rounds play.end) }
     ensures cause { HasNodeCause (D.faults dialer.old) (D.faults dialer.new) result }
     ensures dialer { D.is_honest dialer.old → D.is_honest dialer.new }
-    ensures differs { IfErr result (IsFaultOver (home plan.old.nodes plan.old.agents) budget plan.old.kept.items (states_of (λ b. meaning (b.vtable, b.value)) cells.old)) }
+    ensures differs { IfErr result (IsFaultOver plan.old.nodes (home plan.old.nodes plan.old.agents) budget plan.old.kept.items (states_of (λ b. meaning (b.vtable, b.value)) cells.old)) }
     ensures honest { IsHonest D.W.told D.W.is_joined plan.old → HaveHeld plan.old.kept.items
         → OnOk result (IsHonest D.W.told D.W.is_joined plan.new × HaveHeld plan.new.kept.items) × IfErr result IsNoDifference }
 {

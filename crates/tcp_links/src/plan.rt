@@ -78,6 +78,15 @@ impl<W: Wire> NodePlan<W> {
         })
     }
 
+    /// Whether two agents are in the same node.
+    pub fn are_together(&self, one: VarId, other: VarId) -> bool
+        requires plan { IsPlan self.now }
+        requires inside { (one < self.now.agents) × (other < self.now.agents) }
+        ensures { (result ≡ true) ↔ (home self.now.nodes self.now.agents one ≡ home self.now.nodes self.now.agents other) }
+    {
+        home(one, self.nodes, self.agents) == home(other, self.nodes, self.agents)
+    }
+
     /// The outer ends of a link from one agent to another in a different node: the tail for the
     /// cell that sends, and the head for the one that takes. The plan keeps the two inner ends until
     /// [`run_nodes`](crate::run_nodes) returns. Links may be made in any order; it is done soonest

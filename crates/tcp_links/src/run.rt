@@ -1,24 +1,25 @@
 //! A run of cells in nodes.
 
-ghost use Rattle.std.specs.Prelude.{◌≡◌, ◌<◌, ◌≤◌, length, false, IfOk, OnOk, IfErr};
+ghost use Rattle.std.specs.Prelude.{◌≡◌, ◌<◌, ◌≤◌, length, false, IfOk, OnOk, IfErr, MatchOption};
 ghost use Rattle.dcop_base.specs.Limits.{variable_limit, budget_limit};
 ghost use Rattle.worker_runs.specs.CellRuns.{MakesARun};
+ghost use Rattle.node_runs.specs.Wires.{HaveHeld};
 ghost use Rattle.agent_cells.specs.State.{begun_in, IsCell};
 ghost use Rattle.agent_workers.specs.Joined.{states_of, EachIs, IsJoined};
-ghost use Rattle.agent_workers.specs.Run.{views_of, AreDulyPlayed};
+ghost use Rattle.agent_workers.specs.Run.{views_of, AreDulyPlayed, RestsAtStill};
 ghost use Rattle.tcp_links.specs.Plans.{node_limit, pair_count, IsPlan, IsHonest, IsNewPlan};
 ghost use Rattle.tcp_links.specs.Linked.{AreLinkedOver};
 ghost use Rattle.tcp_links.specs.Ends.{HasHeldOver, DiffersOver};
-ghost use Rattle.tcp_links.specs.Faults.{HasNodeCause, IsNoDifference};
+ghost use Rattle.tcp_links.specs.Faults.{HasNodeCause, IsNoDifference, IsKeptDifference};
 
 use crate::exchange::exchange;
-use crate::fault::NodeFault;
+use crate::fault::{Difference, NodeFault};
 use crate::over::play_over;
 use crate::plan::NodePlan;
 use agent_cells::Cell;
 use agent_workers::{CellsList, begin_all, settle_all};
 use dcop_edge::Gate;
-use kept_wires::take_difference;
+use kept_wires::{KeptLink, take_difference};
 use protocol_steps::RunEnd;
 use std::alloc::{AllocGlobal, Global};
 use std::net::Net;
@@ -63,6 +64,8 @@ where
     ensures run { IfOk result (λ end. MakesARun budget (views_of (λ b. meaning (b.vtable, b.value)) cells.old.items)
         (states_of (λ b. meaning (b.vtable, b.value)) cells.new.items) end) }
     ensures rounds { OnOk result (AreDulyPlayed budget (views_of (λ b. meaning (b.vtable, b.value)) cells.old.items) (states_of (λ b. meaning (b.vtable, b.value)) cells.new.items)) }
+    ensures still { IfOk result (λ end. RestsAtStill budget (views_of (λ b. meaning (b.vtable, b.value)) cells.old.items)
+        (states_of (λ b. meaning (b.vtable, b.value)) cells.new.items) end) }
     ensures held { OnOk result (HasHeldOver budget (views_of (λ b. meaning (b.vtable, b.value)) cells.old.items) plan.old (states_of (λ b. meaning (b.vtable, b.value)) cells.new.items)) }
     ensures differs { IfErr result (DiffersOver budget (views_of (λ b. meaning (b.vtable, b.value)) cells.old.items) plan.old (states_of (λ b. meaning (b.vtable, b.value)) cells.new.items)) }
     ensures cause { HasNodeCause (D.faults dialer.old) (D.faults dialer.new) result }
@@ -108,6 +111,8 @@ where
     ensures run { IfOk result (λ end. MakesARun budget (views_of (λ b. meaning (b.vtable, b.value)) cells.old)
         (states_of (λ b. meaning (b.vtable, b.value)) cells.new) end) }
     ensures rounds { OnOk result (AreDulyPlayed budget (views_of (λ b. meaning (b.vtable, b.value)) cells.old) (states_of (λ b. meaning (b.vtable, b.value)) cells.new)) }
+    ensures still { IfOk result (λ end. RestsAtStill budget (views_of (λ b. meaning (b.vtable, b.value)) cells.old)
+        (states_of (λ b. meaning (b.vtable, b.value)) cells.new) end) }
     ensures held { OnOk result (HasHeldOver budget (views_of (λ b. meaning (b.vtable, b.value)) cells.old) plan.old (states_of (λ b. meaning (b.vtable, b.value)) cells.new)) }
     ensures differs { IfErr result (DiffersOver budget (views_of (λ b. meaning (b.vtable, b.value)) cells.old) plan.old (states_of (λ b. meaning (b.vtable, b.value)) cells.new)) }
     ensures cause { HasNodeCause (D.faults dialer.old) (D.faults dialer.new) result }
@@ -119,8 +124,8 @@ where
     let play = play_over(rt, alloc, cells, plan, dialer, workers, budget, gate)?;
     exchange(rt, alloc, dialer, cells, plan, play.rounds)?;
     settle_all(cells, plan.nodes, 1);
-    if let Some(difference) = take_difference(plan.kept.as_mut_slice()) {
-        return Err(NodeFault::Differs(difference.into()));
+    if let Some(difference) = compare(plan.kept.as_mut_slice()) {
+        return Err(NodeFault::Differs(difference));
     }
     clear_links(plan);
     match play.end {
@@ -128,6 +133,15 @@ where
         // Where every exchange took just what it sent, no stamp is so great.
         None => unreachable!(),
     }
+}
+
+/// The first difference between what an exchange drained of a link and what arrived on it. Its
+/// envelopes are taken out of the kept links; it takes no memory.
+fn compare(kept: &mut [KeptLink]) -> Option<Difference>
+    ensures { MatchOption result (HaveHeld kept.old) (IsKeptDifference kept.old) }
+{
+    let found = take_difference(kept)?;
+    Some(found.into())
 }
 
 /// Takes all links off a plan.

@@ -34,7 +34,7 @@ returns-in_err-pass_from-clause-dialer g c = λ d. c.pass_from.ensures.dialer (c
 
 pub returns-in_err-pass_from-clause-differs : goal.returns-in_err-pass_from-clause-differs
 returns-in_err-pass_from-clause-differs g c =
-    err_on c.from_residual.result _ (IsByteFault c.args.passings.now) c.from_residual.ensures.1 (fault_still c.args.passings.now c.loop-first.passings _ c.loop-first.invariant.same c.in_err-pass_from.ensures.differs)
+    err_on c.from_residual.result _ (IsByteFault c.args.nodes c.args.passings.now) c.from_residual.ensures.1 (fault_still c.args.nodes c.args.passings.now c.loop-first.passings _ c.loop-first.invariant.same c.in_err-pass_from.ensures.differs)
 
 pub returns-in_err-pass_from-clause-honest : goal.returns-in_err-pass_from-clause-honest
 returns-in_err-pass_from-clause-honest g c = λ h none.

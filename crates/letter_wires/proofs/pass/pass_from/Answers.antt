@@ -3,7 +3,7 @@ use Rattle.letter_wires.specs.Faults.{IsByteFault, IsNoDifference}
 use Rattle.node_letters.proofs.LetterLaws.{all_same, all_same_then}
 use Rattle.node_letters.proofs.ReceiveLaws.{still_across}
 use Rattle.node_letters.proofs.ComeLaws.{next_row}
-use Rattle.letter_wires.proofs.PassLaws.{err_on, nothing_on, fault_still, cause_on}
+use Rattle.letter_wires.proofs.PassLaws.{err_on, nothing_on, fault_still, two_in_order, cause_on}
 use Rattle.letter_wires.proofs.pass.pass_from.Goals as goal
 
 pub loop-second-init : goal.loop-second-init
@@ -40,7 +40,10 @@ returns-in_err-pass_pair-clause-dialer g c = λ d. c.pass_pair.ensures.dialer (c
 
 pub returns-in_err-pass_pair-clause-differs : goal.returns-in_err-pass_pair-clause-differs
 returns-in_err-pass_pair-clause-differs g c =
-    err_on c.from_residual.result _ (IsByteFault c.args.passings.now) c.from_residual.ensures.1 (fault_still c.args.passings.now c.loop-second.passings _ c.loop-second.invariant.same c.in_err-pass_pair.ensures.differs)
+    let after = c.loop-second.invariant.after in
+    err_on c.from_residual.result _ (IsByteFault c.args.nodes c.args.passings.now) c.from_residual.ensures.1
+    (fault_still c.args.nodes c.args.passings.now c.loop-second.passings _ c.loop-second.invariant.same
+    (c.in_err-pass_pair.ensures.differs c.args.nodes (two_in_order c.args.nodes c.args.first c.loop-second.second (omega (arith, after)) c.loop-second-test.true)))
 
 pub returns-in_err-pass_pair-clause-honest : goal.returns-in_err-pass_pair-clause-honest
 returns-in_err-pass_pair-clause-honest g c = λ h come.

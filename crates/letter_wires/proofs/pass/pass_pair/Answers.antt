@@ -3,7 +3,7 @@ use Rattle.letter_wires.specs.Faults.{IsByteFault, IsNoDifference}
 use Rattle.letter_wires.specs.Honest.{AreHonest}
 use Rattle.node_letters.proofs.LetterLaws.{all_same, all_same_then}
 use Rattle.node_letters.proofs.ReceiveLaws.{still_apart}
-use Rattle.letter_wires.proofs.PassLaws.{err_on, nothing_on, fault_still, first_joined, first_all, turned_honest, back_frames, back_letters, turn_come}
+use Rattle.letter_wires.proofs.PassLaws.{err_on, nothing_on, fault_still, turned_two, first_joined, first_all, turned_honest, back_frames, back_letters, turn_come}
 use Rattle.letter_wires.proofs.pass.pass_pair.Goals as goal
 
 pub returns-in_err-there-clause-same : goal.returns-in_err-there-clause-same
@@ -15,6 +15,10 @@ returns-in_err-back-clause-same g c = all_same c.args.passings.now
 pub returns-in_err-came-clause-same : goal.returns-in_err-came-clause-same
 returns-in_err-came-clause-same g c = all_same c.args.passings.now
 
+pub returns-in_err-take_in-clause-differs : goal.returns-in_err-take_in-clause-differs
+returns-in_err-take_in-clause-differs g c = λ nodes two.
+    err_on c.from_residual-in_err-take_in.result _ (IsByteFault nodes c.args.passings.now) c.from_residual-in_err-take_in.ensures.1 (c.in_err-take_in.ensures.differs nodes two)
+
 pub take_in-requires-2 : goal.take_in-requires-2
 take_in-requires-2 g c = record { apart = still_apart c.args.passings.now c.take_in.new.passings c.take_in.ensures.same c.requires.across.1.apart }
 
@@ -22,9 +26,9 @@ pub returns-in_err-take_in-2-clause-same : goal.returns-in_err-take_in-2-clause-
 returns-in_err-take_in-2-clause-same g c = all_same_then c.args.passings.now c.take_in.new.passings c.take_in-2.new.passings c.take_in.ensures.same c.take_in-2.ensures.same
 
 pub returns-in_err-take_in-2-clause-differs : goal.returns-in_err-take_in-2-clause-differs
-returns-in_err-take_in-2-clause-differs g c =
-    err_on c.from_residual-in_err-take_in-2.result _ (IsByteFault c.args.passings.now) c.from_residual-in_err-take_in-2.ensures.1
-    (fault_still c.args.passings.now c.take_in.new.passings _ c.take_in.ensures.same c.in_err-take_in-2.ensures.differs)
+returns-in_err-take_in-2-clause-differs g c = λ nodes two.
+    err_on c.from_residual-in_err-take_in-2.result _ (IsByteFault nodes c.args.passings.now) c.from_residual-in_err-take_in-2.ensures.1
+    (fault_still nodes c.args.passings.now c.take_in.new.passings _ c.take_in.ensures.same (c.in_err-take_in-2.ensures.differs nodes (turned_two nodes c.args.first c.args.second two)))
 
 pub returns-in_err-take_in-2-clause-honest : goal.returns-in_err-take_in-2-clause-honest
 returns-in_err-take_in-2-clause-honest g c = λ h come.

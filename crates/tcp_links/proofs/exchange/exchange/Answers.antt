@@ -25,7 +25,7 @@ pub returns-in-Err-clause-differs : goal.returns-in-Err-clause-differs
 returns-in-Err-clause-differs g c =
     let drained = drained_slices (λ b. (goal.Machine-dyn g (b.vtable, b.value)).meaning b.value) (home c.args.plan.now.nodes c.args.plan.now.agents) c.args.cells.now c.args.plan.now.kept.items c.as_slice.result.now c.args.plan.now.ends.items c.as_mut_slice.result.now c.drain_all.new.ends c.in_ok-passings.passings.items c.as_slice.ensures.value c.as_mut_slice.ensures.value c.in_ok-passings.ensures.drained in
     subst (IsExchangeFault (λ b. (goal.Machine-dyn g (b.vtable, b.value)).meaning b.value) c.args.round c.args.plan.now c.args.cells.now) (sym c.node_fault.ensures)
-    (fault_on (λ b. (goal.Machine-dyn g (b.vtable, b.value)).meaning b.value) c.args.plan.now.nodes c.args.plan.now.agents c.args.plan.now.kept.items c.args.plan.now.ends.items c.drain_all.new.ends c.args.cells.now c.drain_all.new.cells c.in_ok-passings.passings.items c.requires.woven c.drain_all.ensures.quiet drained c.args.round c.args.plan.now c.in-Err.fault refl refl refl (subst (λ ps. IsByteFault ps c.in-Err.fault) c.as_mut_slice-2.ensures.value c.in-Err.ensures.differs))
+    (fault_on (λ b. (goal.Machine-dyn g (b.vtable, b.value)).meaning b.value) c.args.plan.now.nodes c.args.plan.now.agents c.args.plan.now.kept.items c.args.plan.now.ends.items c.drain_all.new.ends c.args.cells.now c.drain_all.new.cells c.in_ok-passings.passings.items c.requires.woven c.drain_all.ensures.quiet drained c.args.round c.args.plan.now c.in-Err.fault refl refl refl (subst (λ ps. IsByteFault c.args.plan.now.nodes ps c.in-Err.fault) c.as_mut_slice-2.ensures.value c.in-Err.ensures.differs))
 
 pub returns-in-Err-clause-honest : goal.returns-in-Err-clause-honest
 returns-in-Err-clause-honest g c =

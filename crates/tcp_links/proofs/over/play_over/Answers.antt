@@ -5,7 +5,7 @@ use Rattle.agent_workers.proofs.RunLaws.{ended_states}
 use Rattle.tcp_links.specs.Faults.{IsNoDifference}
 use Rattle.tcp_links.specs.Over.{IsRoundOver}
 use Rattle.tcp_links.specs.Ends.{IsFaultOver}
-use Rattle.tcp_links.proofs.OverLaws.{err_on, nothing_on, cause_on, joined_over, joined_back, over_self, over_then, none_over, all_over, ended_to, broken_to, fault_over, due_on, busy_on, idle_on, broken_on}
+use Rattle.tcp_links.proofs.OverLaws.{err_on, nothing_on, cause_on, joined_over, joined_back, over_self, over_then, none_over, all_over, ended_to, broken_to, fault_over, due_on, busy_on, rest_on, idle_on, broken_on}
 use Rattle.tcp_links.proofs.over.play_over.Goals as goal
 
 pub loop-round-init : goal.loop-round-init
@@ -35,6 +35,7 @@ pub returns-then-all_ended-clause-played : goal.returns-then-all_ended-clause-pl
 returns-then-all_ended-clause-played g c = ended_to (λ b. (goal.Machine-dyn g (b.vtable, b.value)).meaning b.value) (home c.args.plan.now.nodes c.args.plan.now.agents) c.args.budget c.args.plan.now.kept.items (states_of (λ b. (goal.Machine-dyn g (b.vtable, b.value)).meaning b.value) c.args.cells.now) c.args.plan.now.kept.items c.args.cells.now 0 _ _ _ c.ended.ensures (record {
   played = all_over (home c.args.plan.now.nodes c.args.plan.now.agents) c.args.budget 0 c.args.plan.now.kept.items (states_of (λ b. (goal.Machine-dyn g (b.vtable, b.value)).meaning b.value) c.args.cells.now) c.args.plan.now.kept.items (states_of (λ b. (goal.Machine-dyn g (b.vtable, b.value)).meaning b.value) c.args.cells.now) (none_over (home c.args.plan.now.nodes c.args.plan.now.agents) c.args.budget c.args.plan.now.kept.items (states_of (λ b. (goal.Machine-dyn g (b.vtable, b.value)).meaning b.value) c.args.cells.now));
   stopped = (sym c.requires.none, ended_states (λ b. (goal.Machine-dyn g (b.vtable, b.value)).meaning b.value) c.args.cells.now ∙ sym c.if-all_ended.ensures);
+  idle = tt;
 })
 
 pub returns-then-all_ended-clause-honest : goal.returns-then-all_ended-clause-honest
@@ -59,7 +60,7 @@ pub returns-in_err-taken-clause-dialer : goal.returns-in_err-taken-clause-dialer
 returns-in_err-taken-clause-dialer g c = λ d. c.round_over.ensures.dialer (c.loop-round.invariant.dialer d)
 
 pub returns-in_err-taken-clause-differs : goal.returns-in_err-taken-clause-differs
-returns-in_err-taken-clause-differs g c = err_on c.from_residual.result _ (IsFaultOver (home c.args.plan.now.nodes c.args.plan.now.agents) c.args.budget c.args.plan.now.kept.items (states_of (λ b. (goal.Machine-dyn g (b.vtable, b.value)).meaning b.value) c.args.cells.now)) c.from_residual.ensures.1 (fault_over (λ b. (goal.Machine-dyn g (b.vtable, b.value)).meaning b.value) c.args.budget c.loop-round.round c.args.plan.now.kept.items (states_of (λ b. (goal.Machine-dyn g (b.vtable, b.value)).meaning b.value) c.args.cells.now) c.args.plan.now c.loop-round.plan c.loop-round.cells c.loop-round.invariant.over c.loop-round.invariant.played _ c.in_err-taken.ensures.differs)
+returns-in_err-taken-clause-differs g c = err_on c.from_residual.result _ (IsFaultOver c.args.plan.now.nodes (home c.args.plan.now.nodes c.args.plan.now.agents) c.args.budget c.args.plan.now.kept.items (states_of (λ b. (goal.Machine-dyn g (b.vtable, b.value)).meaning b.value) c.args.cells.now)) c.from_residual.ensures.1 (fault_over (λ b. (goal.Machine-dyn g (b.vtable, b.value)).meaning b.value) c.args.budget c.loop-round.round c.args.plan.now.kept.items (states_of (λ b. (goal.Machine-dyn g (b.vtable, b.value)).meaning b.value) c.args.cells.now) c.args.plan.now c.loop-round.plan c.loop-round.cells c.loop-round.invariant.over c.loop-round.invariant.played _ c.in_err-taken.ensures.differs)
 
 pub returns-in_err-taken-clause-honest : goal.returns-in_err-taken-clause-honest
 returns-in_err-taken-clause-honest g c = λ h held. (nothing_on c.from_residual.result _ _ c.from_residual.ensures.1, err_on c.from_residual.result _ IsNoDifference c.from_residual.ensures.1 (c.in_err-taken.ensures.honest (c.loop-round.invariant.honest h held)).1)
@@ -105,7 +106,7 @@ returns-then-all_ended-2-clause-honest g c = λ h held. let on = (c.in_ok-taken.
 
 pub returns-then-all_ended-2-clause-played : goal.returns-then-all_ended-2-clause-played
 returns-then-all_ended-2-clause-played g c = let was = c.loop-round.invariant.deliveries in let made = (subst (λ o. IsRoundOver (λ b. (goal.Machine-dyn g (b.vtable, b.value)).meaning b.value) c.loop-round.plan c.loop-round.cells c.round_over.new.plan c.round_over.new.cells o) c.in-Some.is c.in_ok-taken.ensures.round) in let more = made.counted in
-    ended_to (λ b. (goal.Machine-dyn g (b.vtable, b.value)).meaning b.value) (home c.args.plan.now.nodes c.args.plan.now.agents) c.args.budget c.args.plan.now.kept.items (states_of (λ b. (goal.Machine-dyn g (b.vtable, b.value)).meaning b.value) c.args.cells.now) c.round_over.new.plan.kept.items c.round_over.new.cells (c.loop-round.round + 1) _ _ _ c.ended-then-all_ended-2.ensures (record { played = (due_on (λ b. (goal.Machine-dyn g (b.vtable, b.value)).meaning b.value) c.args.budget c.loop-round.round c.args.plan.now.kept.items (states_of (λ b. (goal.Machine-dyn g (b.vtable, b.value)).meaning b.value) c.args.cells.now) c.args.plan.now c.loop-round.plan c.loop-round.cells c.loop-round.invariant.over c.loop-round.invariant.played c.loop-round.deliveries c.loop-round.invariant.deliveries (c.loop-round.invariant.within c.loop-round-test.true) c.round_over.new.plan c.round_over.new.cells c.in-Some.taken (subst (λ o. IsRoundOver (λ b. (goal.Machine-dyn g (b.vtable, b.value)).meaning b.value) c.loop-round.plan c.loop-round.cells c.round_over.new.plan c.round_over.new.cells o) c.in-Some.is c.in_ok-taken.ensures.round) c.loop-round.invariant.awake); stopped = (omega (arith, was, more), ended_states (λ b. (goal.Machine-dyn g (b.vtable, b.value)).meaning b.value) c.round_over.new.cells ∙ sym c.if-all_ended-2.ensures) })
+    ended_to (λ b. (goal.Machine-dyn g (b.vtable, b.value)).meaning b.value) (home c.args.plan.now.nodes c.args.plan.now.agents) c.args.budget c.args.plan.now.kept.items (states_of (λ b. (goal.Machine-dyn g (b.vtable, b.value)).meaning b.value) c.args.cells.now) c.round_over.new.plan.kept.items c.round_over.new.cells (c.loop-round.round + 1) _ _ _ c.ended-then-all_ended-2.ensures (record { played = (due_on (λ b. (goal.Machine-dyn g (b.vtable, b.value)).meaning b.value) c.args.budget c.loop-round.round c.args.plan.now.kept.items (states_of (λ b. (goal.Machine-dyn g (b.vtable, b.value)).meaning b.value) c.args.cells.now) c.args.plan.now c.loop-round.plan c.loop-round.cells c.loop-round.invariant.over c.loop-round.invariant.played c.loop-round.deliveries c.loop-round.invariant.deliveries (c.loop-round.invariant.within c.loop-round-test.true) c.round_over.new.plan c.round_over.new.cells c.in-Some.taken (subst (λ o. IsRoundOver (λ b. (goal.Machine-dyn g (b.vtable, b.value)).meaning b.value) c.loop-round.plan c.loop-round.cells c.round_over.new.plan c.round_over.new.cells o) c.in-Some.is c.in_ok-taken.ensures.round) c.loop-round.invariant.awake); stopped = (omega (arith, was, more), ended_states (λ b. (goal.Machine-dyn g (b.vtable, b.value)).meaning b.value) c.round_over.new.cells ∙ sym c.if-all_ended-2.ensures); idle = tt })
 
 pub returns-then-deliveries-budget-clause-size : goal.returns-then-deliveries-budget-clause-size
 returns-then-deliveries-budget-clause-size g c = c.round_over.ensures.size ∙ c.loop-round.invariant.size
@@ -127,7 +128,7 @@ returns-then-deliveries-budget-clause-honest g c = λ h held. let on = (c.in_ok-
 
 pub returns-then-deliveries-budget-clause-played : goal.returns-then-deliveries-budget-clause-played
 returns-then-deliveries-budget-clause-played g c = let was = c.loop-round.invariant.deliveries in let made = (subst (λ o. IsRoundOver (λ b. (goal.Machine-dyn g (b.vtable, b.value)).meaning b.value) c.loop-round.plan c.loop-round.cells c.round_over.new.plan c.round_over.new.cells o) c.in-Some.is c.in_ok-taken.ensures.round) in let more = made.counted in
-    ended_to (λ b. (goal.Machine-dyn g (b.vtable, b.value)).meaning b.value) (home c.args.plan.now.nodes c.args.plan.now.agents) c.args.budget c.args.plan.now.kept.items (states_of (λ b. (goal.Machine-dyn g (b.vtable, b.value)).meaning b.value) c.args.cells.now) c.round_over.new.plan.kept.items c.round_over.new.cells (c.loop-round.round + 1) _ _ _ c.ended-then-deliveries-budget.ensures (record { played = (due_on (λ b. (goal.Machine-dyn g (b.vtable, b.value)).meaning b.value) c.args.budget c.loop-round.round c.args.plan.now.kept.items (states_of (λ b. (goal.Machine-dyn g (b.vtable, b.value)).meaning b.value) c.args.cells.now) c.args.plan.now c.loop-round.plan c.loop-round.cells c.loop-round.invariant.over c.loop-round.invariant.played c.loop-round.deliveries c.loop-round.invariant.deliveries (c.loop-round.invariant.within c.loop-round-test.true) c.round_over.new.plan c.round_over.new.cells c.in-Some.taken (subst (λ o. IsRoundOver (λ b. (goal.Machine-dyn g (b.vtable, b.value)).meaning b.value) c.loop-round.plan c.loop-round.cells c.round_over.new.plan c.round_over.new.cells o) c.in-Some.is c.in_ok-taken.ensures.round) c.loop-round.invariant.awake); stopped = (omega (arith, was, more), ended_states (λ b. (goal.Machine-dyn g (b.vtable, b.value)).meaning b.value) c.round_over.new.cells ∙ sym c.if-all_ended-2.ensures, (let spent = c.if-deliveries-budget.true in omega (arith, was, more, spent))) })
+    ended_to (λ b. (goal.Machine-dyn g (b.vtable, b.value)).meaning b.value) (home c.args.plan.now.nodes c.args.plan.now.agents) c.args.budget c.args.plan.now.kept.items (states_of (λ b. (goal.Machine-dyn g (b.vtable, b.value)).meaning b.value) c.args.cells.now) c.round_over.new.plan.kept.items c.round_over.new.cells (c.loop-round.round + 1) _ _ _ c.ended-then-deliveries-budget.ensures (record { played = (due_on (λ b. (goal.Machine-dyn g (b.vtable, b.value)).meaning b.value) c.args.budget c.loop-round.round c.args.plan.now.kept.items (states_of (λ b. (goal.Machine-dyn g (b.vtable, b.value)).meaning b.value) c.args.cells.now) c.args.plan.now c.loop-round.plan c.loop-round.cells c.loop-round.invariant.over c.loop-round.invariant.played c.loop-round.deliveries c.loop-round.invariant.deliveries (c.loop-round.invariant.within c.loop-round-test.true) c.round_over.new.plan c.round_over.new.cells c.in-Some.taken (subst (λ o. IsRoundOver (λ b. (goal.Machine-dyn g (b.vtable, b.value)).meaning b.value) c.loop-round.plan c.loop-round.cells c.round_over.new.plan c.round_over.new.cells o) c.in-Some.is c.in_ok-taken.ensures.round) c.loop-round.invariant.awake); stopped = (omega (arith, was, more), ended_states (λ b. (goal.Machine-dyn g (b.vtable, b.value)).meaning b.value) c.round_over.new.cells ∙ sym c.if-all_ended-2.ensures, (let spent = c.if-deliveries-budget.true in omega (arith, was, more, spent))); idle = tt })
 
 pub returns-then-taken-eq0-clause-size : goal.returns-then-taken-eq0-clause-size
 returns-then-taken-eq0-clause-size g c = c.round_over.ensures.size ∙ c.loop-round.invariant.size
@@ -149,7 +150,7 @@ returns-then-taken-eq0-clause-honest g c = λ h held. let on = (c.in_ok-taken.en
 
 pub returns-then-taken-eq0-clause-played : goal.returns-then-taken-eq0-clause-played
 returns-then-taken-eq0-clause-played g c = let was = c.loop-round.invariant.deliveries in let made = (subst (λ o. IsRoundOver (λ b. (goal.Machine-dyn g (b.vtable, b.value)).meaning b.value) c.loop-round.plan c.loop-round.cells c.round_over.new.plan c.round_over.new.cells o) c.in-Some.is c.in_ok-taken.ensures.round) in let more = made.counted in
-    ended_to (λ b. (goal.Machine-dyn g (b.vtable, b.value)).meaning b.value) (home c.args.plan.now.nodes c.args.plan.now.agents) c.args.budget c.args.plan.now.kept.items (states_of (λ b. (goal.Machine-dyn g (b.vtable, b.value)).meaning b.value) c.args.cells.now) c.round_over.new.plan.kept.items c.round_over.new.cells (c.loop-round.round + 1) _ _ _ c.ended-then-taken-eq0.ensures (record { played = (due_on (λ b. (goal.Machine-dyn g (b.vtable, b.value)).meaning b.value) c.args.budget c.loop-round.round c.args.plan.now.kept.items (states_of (λ b. (goal.Machine-dyn g (b.vtable, b.value)).meaning b.value) c.args.cells.now) c.args.plan.now c.loop-round.plan c.loop-round.cells c.loop-round.invariant.over c.loop-round.invariant.played c.loop-round.deliveries c.loop-round.invariant.deliveries (c.loop-round.invariant.within c.loop-round-test.true) c.round_over.new.plan c.round_over.new.cells c.in-Some.taken (subst (λ o. IsRoundOver (λ b. (goal.Machine-dyn g (b.vtable, b.value)).meaning b.value) c.loop-round.plan c.loop-round.cells c.round_over.new.plan c.round_over.new.cells o) c.in-Some.is c.in_ok-taken.ensures.round) c.loop-round.invariant.awake); stopped = (omega (arith, was, more), ended_states (λ b. (goal.Machine-dyn g (b.vtable, b.value)).meaning b.value) c.round_over.new.cells ∙ sym c.if-all_ended-2.ensures, idle_on (λ b. (goal.Machine-dyn g (b.vtable, b.value)).meaning b.value) c.args.budget c.loop-round.round c.args.plan.now.kept.items (states_of (λ b. (goal.Machine-dyn g (b.vtable, b.value)).meaning b.value) c.args.cells.now) c.args.plan.now c.loop-round.plan c.loop-round.cells c.loop-round.invariant.over c.loop-round.invariant.played c.loop-round.deliveries c.loop-round.invariant.deliveries (c.loop-round.invariant.within c.loop-round-test.true) c.round_over.new.plan c.round_over.new.cells c.in-Some.taken (subst (λ o. IsRoundOver (λ b. (goal.Machine-dyn g (b.vtable, b.value)).meaning b.value) c.loop-round.plan c.loop-round.cells c.round_over.new.plan c.round_over.new.cells o) c.in-Some.is c.in_ok-taken.ensures.round) c.loop-round.invariant.awake c.if-taken-eq0.true) })
+    ended_to (λ b. (goal.Machine-dyn g (b.vtable, b.value)).meaning b.value) (home c.args.plan.now.nodes c.args.plan.now.agents) c.args.budget c.args.plan.now.kept.items (states_of (λ b. (goal.Machine-dyn g (b.vtable, b.value)).meaning b.value) c.args.cells.now) c.round_over.new.plan.kept.items c.round_over.new.cells (c.loop-round.round + 1) _ _ _ c.ended-then-taken-eq0.ensures (record { played = (due_on (λ b. (goal.Machine-dyn g (b.vtable, b.value)).meaning b.value) c.args.budget c.loop-round.round c.args.plan.now.kept.items (states_of (λ b. (goal.Machine-dyn g (b.vtable, b.value)).meaning b.value) c.args.cells.now) c.args.plan.now c.loop-round.plan c.loop-round.cells c.loop-round.invariant.over c.loop-round.invariant.played c.loop-round.deliveries c.loop-round.invariant.deliveries (c.loop-round.invariant.within c.loop-round-test.true) c.round_over.new.plan c.round_over.new.cells c.in-Some.taken (subst (λ o. IsRoundOver (λ b. (goal.Machine-dyn g (b.vtable, b.value)).meaning b.value) c.loop-round.plan c.loop-round.cells c.round_over.new.plan c.round_over.new.cells o) c.in-Some.is c.in_ok-taken.ensures.round) c.loop-round.invariant.awake); stopped = (omega (arith, was, more), ended_states (λ b. (goal.Machine-dyn g (b.vtable, b.value)).meaning b.value) c.round_over.new.cells ∙ sym c.if-all_ended-2.ensures, idle_on (λ b. (goal.Machine-dyn g (b.vtable, b.value)).meaning b.value) c.args.budget c.loop-round.round c.args.plan.now.kept.items (states_of (λ b. (goal.Machine-dyn g (b.vtable, b.value)).meaning b.value) c.args.cells.now) c.args.plan.now c.loop-round.plan c.loop-round.cells c.loop-round.invariant.over c.loop-round.invariant.played c.loop-round.deliveries c.loop-round.invariant.deliveries (c.loop-round.invariant.within c.loop-round-test.true) c.round_over.new.plan c.round_over.new.cells c.in-Some.taken (subst (λ o. IsRoundOver (λ b. (goal.Machine-dyn g (b.vtable, b.value)).meaning b.value) c.loop-round.plan c.loop-round.cells c.round_over.new.plan c.round_over.new.cells o) c.in-Some.is c.in_ok-taken.ensures.round) c.loop-round.invariant.awake c.if-taken-eq0.true); idle = rest_on (λ b. (goal.Machine-dyn g (b.vtable, b.value)).meaning b.value) c.args.budget c.loop-round.round c.args.plan.now.kept.items (states_of (λ b. (goal.Machine-dyn g (b.vtable, b.value)).meaning b.value) c.args.cells.now) c.args.plan.now c.loop-round.plan c.loop-round.cells c.loop-round.invariant.over c.loop-round.invariant.played c.loop-round.deliveries c.loop-round.invariant.deliveries (c.loop-round.invariant.within c.loop-round-test.true) c.round_over.new.plan c.round_over.new.cells c.in-Some.taken (subst (λ o. IsRoundOver (λ b. (goal.Machine-dyn g (b.vtable, b.value)).meaning b.value) c.loop-round.plan c.loop-round.cells c.round_over.new.plan c.round_over.new.cells o) c.in-Some.is c.in_ok-taken.ensures.round) c.loop-round.invariant.awake c.if-taken-eq0.true })
 
 pub loop-round-preserved : goal.loop-round-preserved
 loop-round-preserved g c = let i = c.loop-round.invariant in let was = i.deliveries in let made = (subst (λ o. IsRoundOver (λ b. (goal.Machine-dyn g (b.vtable, b.value)).meaning b.value) c.loop-round.plan c.loop-round.cells c.round_over.new.plan c.round_over.new.cells o) c.in-Some.is c.in_ok-taken.ensures.round) in let more = made.counted in let some = c.if-taken-eq0.false in let less = c.if-deliveries-budget.false in let grown = i.progress in let test = c.loop-round-test.true in record {
@@ -194,4 +195,5 @@ returns-clause-played g c = let i = c.loop-round.invariant in let was = i.delive
     ended_to (λ b. (goal.Machine-dyn g (b.vtable, b.value)).meaning b.value) (home c.args.plan.now.nodes c.args.plan.now.agents) c.args.budget c.args.plan.now.kept.items (states_of (λ b. (goal.Machine-dyn g (b.vtable, b.value)).meaning b.value) c.args.cells.now) c.loop-round.plan.kept.items c.loop-round.cells c.loop-round.round _ _ _ (let is = c.ended-2.ensures in (omega (arith, is.0, most, test), is.1)) (record {
       played = all_over (home c.args.plan.now.nodes c.args.plan.now.agents) c.args.budget c.loop-round.round c.args.plan.now.kept.items (states_of (λ b. (goal.Machine-dyn g (b.vtable, b.value)).meaning b.value) c.args.cells.now) c.loop-round.plan.kept.items (states_of (λ b. (goal.Machine-dyn g (b.vtable, b.value)).meaning b.value) c.loop-round.cells) i.played;
       stopped = (was, i.awake, omega (arith, was, grown, test));
+      idle = tt;
     })

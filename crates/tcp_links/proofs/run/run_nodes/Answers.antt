@@ -4,7 +4,7 @@ use Rattle.worker_runs.specs.CellRuns.{MakesARun}
 use Rattle.agent_cells.specs.State.{begun_in, IsCell}
 use Rattle.agent_cells.proofs.CellLaws.{written}
 use Rattle.agent_workers.specs.Joined.{states_of, EachIs, IsJoined}
-use Rattle.agent_workers.specs.Run.{views_of, AreDulyPlayed}
+use Rattle.agent_workers.specs.Run.{views_of, AreDulyPlayed, RestsAtStill}
 use Rattle.agent_workers.proofs.ListLaws.{carry}
 use Rattle.tcp_links.specs.Linked.{AreLinkedOver}
 use Rattle.tcp_links.specs.Ends.{HasHeldOver, DiffersOver}
@@ -27,6 +27,9 @@ returns-clause-run g c = carry (λ old new. IfOk c.run_over.result (λ end. Make
 
 pub returns-clause-rounds : goal.returns-clause-rounds
 returns-clause-rounds g c = carry (λ old new. OnOk c.run_over.result (AreDulyPlayed c.args.budget (views_of (λ b. (goal.Machine-dyn g (b.vtable, b.value)).meaning b.value) old) (states_of (λ b. (goal.Machine-dyn g (b.vtable, b.value)).meaning b.value) new))) _ _ _ _ c.as_mut_slice.ensures.value (written _ c.args.cells.now.items c.run_over.new.cells c.as_mut_slice.result.now c.args.cells.now.ok.0 c.run_over.ensures.size c.as_mut_slice.ensures.value) c.run_over.ensures.rounds
+
+pub returns-clause-still : goal.returns-clause-still
+returns-clause-still g c = carry (λ old new. IfOk c.run_over.result (λ end. RestsAtStill c.args.budget (views_of (λ b. (goal.Machine-dyn g (b.vtable, b.value)).meaning b.value) old) (states_of (λ b. (goal.Machine-dyn g (b.vtable, b.value)).meaning b.value) new) end)) _ _ _ _ c.as_mut_slice.ensures.value (written _ c.args.cells.now.items c.run_over.new.cells c.as_mut_slice.result.now c.args.cells.now.ok.0 c.run_over.ensures.size c.as_mut_slice.ensures.value) c.run_over.ensures.still
 
 pub returns-clause-held : goal.returns-clause-held
 returns-clause-held g c = carry (λ old new. OnOk c.run_over.result (HasHeldOver c.args.budget (views_of (λ b. (goal.Machine-dyn g (b.vtable, b.value)).meaning b.value) old) c.args.plan.now (states_of (λ b. (goal.Machine-dyn g (b.vtable, b.value)).meaning b.value) new))) _ _ _ _ c.as_mut_slice.ensures.value (written _ c.args.cells.now.items c.run_over.new.cells c.as_mut_slice.result.now c.args.cells.now.ok.0 c.run_over.ensures.size c.as_mut_slice.ensures.value) c.run_over.ensures.held

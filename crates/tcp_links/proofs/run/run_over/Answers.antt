@@ -9,7 +9,7 @@ use Rattle.tcp_links.specs.declared.over.Played.{Played}
 use Rattle.tcp_links.specs.Ends.{DiffersOver}
 use Rattle.tcp_links.specs.Faults.{IsNoDifference}
 use Rattle.tcp_links.proofs.OverLaws.{err_on, nothing_on, cause_on, joined_over, joined_quiet}
-use Rattle.tcp_links.proofs.RunLaws.{held_in, differs_in, never_differ, starts_over, joined_start, none_start, over_start, held_start, new_over, differs_played, differs_last, differs_kept, no_break, last_run, last_duly, last_held}
+use Rattle.tcp_links.proofs.RunLaws.{held_in, differs_in, never_differ, starts_over, joined_start, none_start, over_start, held_start, new_over, differs_played, differs_last, differs_kept, no_break, last_run, last_duly, last_still, last_held}
 use Rattle.tcp_links.proofs.run.run_over.Goals as goal
 
 pub play_over-requires-clause-over : goal.play_over-requires-clause-over
@@ -94,10 +94,10 @@ pub returns-in-Some-clause-dialer : goal.returns-in-Some-clause-dialer
 returns-in-Some-clause-dialer g c = λ d. c.exchange.ensures.dialer (c.play_over.ensures.dialer d)
 
 pub returns-in-Some-clause-differs : goal.returns-in-Some-clause-differs
-returns-in-Some-clause-differs g c = differs_kept (λ b. (goal.Machine-dyn g (b.vtable, b.value)).meaning b.value) c.args.budget c.in_ok-play.play.rounds (views_of (λ b. (goal.Machine-dyn g (b.vtable, b.value)).meaning b.value) c.args.cells.now) (states_of (λ b. (goal.Machine-dyn g (b.vtable, b.value)).meaning b.value) c.begin_all.new.cells) c.args.plan.now c.play_over.new.plan c.play_over.new.cells c.in_ok-play.play.end (starts_over (λ b. (goal.Machine-dyn g (b.vtable, b.value)).meaning b.value) c.args.plan.now.nodes c.args.cells.now c.begin_all.new.cells c.requires.joined c.in_ok-begin_all.ensures.started) c.in_ok-play.ensures.over c.in_ok-play.ensures.played c.exchange.new.plan c.exchange.new.cells c.settle_all.new.cells c.in_ok-exchange.ensures.exchanged c.settle_all.ensures.settled _ _ _ _ _ _ c.into.ensures (differs_in _ _ _ _ _ _ _ c.as_mut_slice.ensures.value c.in-Some.ensures)
+returns-in-Some-clause-differs g c = differs_kept (λ b. (goal.Machine-dyn g (b.vtable, b.value)).meaning b.value) c.args.budget c.in_ok-play.play.rounds (views_of (λ b. (goal.Machine-dyn g (b.vtable, b.value)).meaning b.value) c.args.cells.now) (states_of (λ b. (goal.Machine-dyn g (b.vtable, b.value)).meaning b.value) c.begin_all.new.cells) c.args.plan.now c.play_over.new.plan c.play_over.new.cells c.in_ok-play.play.end (starts_over (λ b. (goal.Machine-dyn g (b.vtable, b.value)).meaning b.value) c.args.plan.now.nodes c.args.cells.now c.begin_all.new.cells c.requires.joined c.in_ok-begin_all.ensures.started) c.in_ok-play.ensures.over c.in_ok-play.ensures.played c.exchange.new.plan c.exchange.new.cells c.settle_all.new.cells c.in_ok-exchange.ensures.exchanged c.settle_all.ensures.settled _ (differs_in _ _ _ c.as_mut_slice.ensures.value c.in-Some.ensures)
 
 pub returns-in-Some-clause-honest : goal.returns-in-Some-clause-honest
-returns-in-Some-clause-honest g c = λ h. absurd (never_differ c.as_mut_slice.result.now _ _ _ _ _ (held_in _ _ (sym c.as_mut_slice.ensures.value) ((c.in_ok-exchange.ensures.honest (c.in_ok-play.ensures.honest h (held_start (λ b. (goal.Machine-dyn g (b.vtable, b.value)).meaning b.value) c.args.plan.now c.args.cells.now c.requires.plan c.requires.linked)).0.0).0.1 (c.in_ok-play.ensures.honest h (held_start (λ b. (goal.Machine-dyn g (b.vtable, b.value)).meaning b.value) c.args.plan.now c.args.cells.now c.requires.plan c.requires.linked)).0.1)) c.in-Some.ensures)
+returns-in-Some-clause-honest g c = λ h. absurd (never_differ c.as_mut_slice.result.now _ (held_in _ _ (sym c.as_mut_slice.ensures.value) ((c.in_ok-exchange.ensures.honest (c.in_ok-play.ensures.honest h (held_start (λ b. (goal.Machine-dyn g (b.vtable, b.value)).meaning b.value) c.args.plan.now c.args.cells.now c.requires.plan c.requires.linked)).0.0).0.1 (c.in_ok-play.ensures.honest h (held_start (λ b. (goal.Machine-dyn g (b.vtable, b.value)).meaning b.value) c.args.plan.now c.args.cells.now c.requires.plan c.requires.linked)).0.1)) c.in-Some.ensures)
 
 pub unreachable-requires : goal.unreachable-requires
 unreachable-requires g c = no_break (λ b. (goal.Machine-dyn g (b.vtable, b.value)).meaning b.value) c.args.budget c.in_ok-play.play.rounds (views_of (λ b. (goal.Machine-dyn g (b.vtable, b.value)).meaning b.value) c.args.cells.now) (states_of (λ b. (goal.Machine-dyn g (b.vtable, b.value)).meaning b.value) c.begin_all.new.cells) c.args.plan.now c.play_over.new.plan c.play_over.new.cells c.in_ok-play.play.end (starts_over (λ b. (goal.Machine-dyn g (b.vtable, b.value)).meaning b.value) c.args.plan.now.nodes c.args.cells.now c.begin_all.new.cells c.requires.joined c.in_ok-begin_all.ensures.started) c.in_ok-play.ensures.over c.in_ok-play.ensures.played c.exchange.new.plan c.exchange.new.cells c.settle_all.new.cells c.in_ok-exchange.ensures.exchanged c.settle_all.ensures.settled (held_in _ _ c.as_mut_slice.ensures.value c.in_default.ensures) c.in-None.is
@@ -116,6 +116,9 @@ returns-clause-run g c = last_run (λ b. (goal.Machine-dyn g (b.vtable, b.value)
 
 pub returns-clause-rounds : goal.returns-clause-rounds
 returns-clause-rounds g c = last_duly (λ b. (goal.Machine-dyn g (b.vtable, b.value)).meaning b.value) c.args.budget c.in_ok-play.play.rounds (views_of (λ b. (goal.Machine-dyn g (b.vtable, b.value)).meaning b.value) c.args.cells.now) (states_of (λ b. (goal.Machine-dyn g (b.vtable, b.value)).meaning b.value) c.begin_all.new.cells) c.args.plan.now c.play_over.new.plan c.play_over.new.cells c.in_ok-play.play.end (starts_over (λ b. (goal.Machine-dyn g (b.vtable, b.value)).meaning b.value) c.args.plan.now.nodes c.args.cells.now c.begin_all.new.cells c.requires.joined c.in_ok-begin_all.ensures.started) c.in_ok-play.ensures.over c.in_ok-play.ensures.played c.exchange.new.plan c.exchange.new.cells c.settle_all.new.cells c.in_ok-exchange.ensures.exchanged c.settle_all.ensures.settled (held_in _ _ c.as_mut_slice.ensures.value c.in_default.ensures) c.in-Some-end.end c.in-Some-end.is
+
+pub returns-clause-still : goal.returns-clause-still
+returns-clause-still g c = last_still (λ b. (goal.Machine-dyn g (b.vtable, b.value)).meaning b.value) c.args.budget c.in_ok-play.play.rounds (views_of (λ b. (goal.Machine-dyn g (b.vtable, b.value)).meaning b.value) c.args.cells.now) (states_of (λ b. (goal.Machine-dyn g (b.vtable, b.value)).meaning b.value) c.begin_all.new.cells) c.args.plan.now c.play_over.new.plan c.play_over.new.cells c.in_ok-play.play.end (starts_over (λ b. (goal.Machine-dyn g (b.vtable, b.value)).meaning b.value) c.args.plan.now.nodes c.args.cells.now c.begin_all.new.cells c.requires.joined c.in_ok-begin_all.ensures.started) c.in_ok-play.ensures.over c.in_ok-play.ensures.played c.exchange.new.plan c.exchange.new.cells c.settle_all.new.cells c.in_ok-exchange.ensures.exchanged c.settle_all.ensures.settled (held_in _ _ c.as_mut_slice.ensures.value c.in_default.ensures) c.in-Some-end.end c.in-Some-end.is
 
 pub returns-clause-held : goal.returns-clause-held
 returns-clause-held g c = last_held (λ b. (goal.Machine-dyn g (b.vtable, b.value)).meaning b.value) c.args.budget c.in_ok-play.play.rounds (views_of (λ b. (goal.Machine-dyn g (b.vtable, b.value)).meaning b.value) c.args.cells.now) (states_of (λ b. (goal.Machine-dyn g (b.vtable, b.value)).meaning b.value) c.begin_all.new.cells) c.args.plan.now c.play_over.new.plan c.play_over.new.cells c.in_ok-play.play.end (starts_over (λ b. (goal.Machine-dyn g (b.vtable, b.value)).meaning b.value) c.args.plan.now.nodes c.args.cells.now c.begin_all.new.cells c.requires.joined c.in_ok-begin_all.ensures.started) c.in_ok-play.ensures.over c.in_ok-play.ensures.played c.exchange.new.plan c.exchange.new.cells c.settle_all.new.cells c.in_ok-exchange.ensures.exchanged c.settle_all.ensures.settled (held_in _ _ c.as_mut_slice.ensures.value c.in_default.ensures) c.in-Some-end.end c.in-Some-end.is
