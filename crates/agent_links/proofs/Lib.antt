@@ -1,5 +1,5 @@
-mod ListLaws
-mod PairLaws
-mod LinkLaws
+pub mod ListLaws
+pub mod PairLaws
+pub mod LinkLaws
 mod OutcomeLaws
 pub mod ReadyLaws

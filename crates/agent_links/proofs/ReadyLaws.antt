@@ -12,14 +12,15 @@ use Rattle.dcop_base.proofs.FirstLaws.{Contains-filter, Contains-range, IsStrict
 use Rattle.dcop_base.proofs.KnowledgeLaws.{All-filter-range}
 use Rattle.protocol_steps.specs.View.{View}
 use Rattle.worker_runs.specs.Cells.{peers, IsWired}
+use Rattle.worker_runs.specs.NodeRounds.{home}
 use Rattle.agent_cells.specs.declared.cell.Cell.{Cell}
 use Rattle.agent_cells.specs.Links.{Tail, Head, lanes_sent, lanes_taken}
 use Rattle.agent_cells.specs.Settled.{EndsJoin}
 use Rattle.agent_cells.specs.State.{state_of, tails_in, heads_in}
 use Rattle.agent_workers.specs.Joined.{IsJoined}
 use Rattle.agent_links.specs.Beside.{AreBeside, near}
-use Rattle.agent_links.specs.Links.{AreLinks}
-use Rattle.agent_links.specs.Ready.{IsNewCell, AreReady}
+use Rattle.agent_links.specs.Links.{one_node, AreLinksIn, AreLinks}
+use Rattle.agent_links.specs.Ready.{IsNewCell, AreReadyIn, AreReady}
 use Rattle.agent_links.proofs.ListLaws.{from_filter}
 use Rattle.agent_links.proofs.PairLaws.{list_at}
 
@@ -36,9 +37,10 @@ read_off f [] (y ∷ ys) long each = absurd (omega (arith, long))
 read_off f (x ∷ xs) [] long each = absurd (omega (arith, long))
 read_off f (x ∷ xs) (y ∷ ys) long each = ap₂ (λ b bs. b ∷ bs) (each 0 x y refl refl) (read_off f xs ys (omega (arith, long)) (λ i a b e h. each (suc i) a b e h))
 
-module _ {X : Type 0} {F : X → Type 0} (M : DynBox X Global F → View) (lists : List (List ℕ)) (b : AreBeside lists) (ts : List (List Tail)) (hs : List (List Head)) (l : AreLinks lists ts hs)
+module _ {X : Type 0} {F : X → Type 0} (M : DynBox X Global F → View) (lists : List (List ℕ)) (b : AreBeside lists) (ts : List (List Tail)) (hs : List (List Head)) (nodes : ℕ) (node : ℕ → ℕ) (l : AreLinksIn node lists ts hs)
     (made : List View) (cells : List (Cell X F)) (few : length lists ≤ variable_limit) (made_size : length made ≡ length lists) (size : length cells ≡ length lists)
-    (new : (i : ℕ) (v : View) (c : Cell X F) → slice_get made i ≡ Some v → slice_get cells i ≡ Some c → IsNewCell M v i (slice_index_or ts i []) (slice_index_or hs i []) c) where
+    (new : (i : ℕ) (v : View) (c : Cell X F) → slice_get made i ≡ Some v → slice_get cells i ≡ Some c → IsNewCell M v i (slice_index_or ts i []) (slice_index_or hs i []) c)
+    (homes : (i j : ℕ) → i < length lists → j < length lists → home nodes (length cells) i ≡ home nodes (length cells) j → node i ≡ node j) where
   abbrev n : ℕ
   n = length lists
 
@@ -65,7 +67,7 @@ module _ {X : Type 0} {F : X → Type 0} (M : DynBox X Global F → View) (lists
     below = subst (λ (ns : List ℕ). All (λ (j : ℕ). j < length cells) ns) (sym (taken_of i c e)) (subst (λ (m : ℕ). All (λ (j : ℕ). j < m) (near b.edge n i)) (sym size) (All-filter-range (b.edge i) n));
   }
 
-  joined : IsJoined M 1 cells
+  joined : IsJoined M nodes cells
   joined = record {
     few = omega (arith, few, size);
     wired = wired;
@@ -81,13 +83,19 @@ module _ {X : Type 0} {F : X → Type 0} (M : DynBox X Global F → View) (lists
         subst (λ (k : ℕ). EndsJoin (tails_in x) k (heads_in y) x.me) (sym q.me_is)
         (subst (λ (k : ℕ). EndsJoin (tails_in x) j (heads_in y) k) (sym p.me_is)
         (subst (λ (us : List Tail). EndsJoin us j (heads_in y) i) (sym p.tails_are)
-        (subst (λ (gs : List Head). EndsJoin (slice_index_or ts i []) j gs i) (sym q.heads_are) (l.joined i j (inside i x e) (inside j y f)))));
+        (subst (λ (gs : List Head). EndsJoin (slice_index_or ts i []) j gs i) (sym q.heads_are) (l.joined i j (inside i x e) (inside j y f) (homes i j (inside i x e) (inside j y f) same)))));
   }
 
-  pub new_ready : AreReady M made cells
-  new_ready = record {
+  pub new_ready_in : AreReadyIn M nodes made cells
+  new_ready_in = record {
     joined = joined;
     sound = record { each = λ i c e. (at i c e).1.cell };
     fresh = record { each = λ i c e. (at i c e).1.begun };
     views = read_off (λ c. (state_of M c).view) cells made (made_size ∙ sym size) (λ i c v e f. (new i v c f e).view_is);
   }
+
+-- in one node all links are inside it
+pub new_ready : {X : Type 0} {F : X → Type 0} (M : DynBox X Global F → View) (lists : List (List ℕ)) → AreBeside lists → (ts : List (List Tail)) (hs : List (List Head)) → AreLinks lists ts hs → (made : List View) (cells : List (Cell X F))
+    → length lists ≤ variable_limit → length made ≡ length lists → length cells ≡ length lists
+    → ((i : ℕ) (v : View) (c : Cell X F) → slice_get made i ≡ Some v → slice_get cells i ≡ Some c → IsNewCell M v i (slice_index_or ts i []) (slice_index_or hs i []) c) → AreReady M made cells
+new_ready M lists b ts hs l made cells few made_size size new = new_ready_in M lists b ts hs 1 one_node l made cells few made_size size new (λ i j in_i in_j same. refl)

@@ -20,40 +20,48 @@ module _ {T : Type 0} where
   abbrev pub pushed : ℕ → T → List (List T) → List (List T)
   pushed at item rows = slice_set rows at (slice_index_or rows at [] ++ item ∷ [])
 
--- agents are linked that have these neighbours: the tails and the heads of each are its neighbours'; nothing was sent on them; and the tail of one agent to another and the head of the other from the one are the ends of one link
-pub record AreLinks (lists : List (List ℕ)) (tails : List (List Tail)) (heads : List (List Head)) : Type 0 where
+-- agents in nodes are linked that have these neighbours: the tails and the heads of each are its neighbours'; nothing was sent on them; and inside a node the tail of one agent to another and the head of the other from the one are the ends of one link
+pub record AreLinksIn (node : ℕ → ℕ) (lists : List (List ℕ)) (tails : List (List Tail)) (heads : List (List Head)) : Type 0 where
   pub tails_size : length tails ≡ length lists
   pub heads_size : length heads ≡ length lists
   pub tail_peers : (i : ℕ) → i < length lists → peers (lanes_sent (slice_index_or tails i [])) ≡ slice_index_or lists i []
   pub head_peers : (i : ℕ) → i < length lists → peers (lanes_taken (slice_index_or heads i [])) ≡ slice_index_or lists i []
   pub unsent : (i : ℕ) → i < length lists → All (λ l. l.messages ≡ []) (lanes_sent (slice_index_or tails i []))
   pub untaken : (i : ℕ) → i < length lists → All (λ l. l.messages ≡ []) (lanes_taken (slice_index_or heads i []))
-  pub joined : (i j : ℕ) → i < length lists → j < length lists → EndsJoin (slice_index_or tails i []) j (slice_index_or heads j []) i
+  pub joined : (i j : ℕ) → i < length lists → j < length lists → node i ≡ node j → EndsJoin (slice_index_or tails i []) j (slice_index_or heads j []) i
 
--- a new link from one agent to another
-pub record NewLink : Type 0 where
+-- all agents are in one node
+abbrev pub one_node : ℕ → ℕ
+one_node agent = 0
+
+abbrev pub AreLinks : List (List ℕ) → List (List Tail) → List (List Head) → Type 0
+AreLinks lists tails heads = AreLinksIn one_node lists tails heads
+
+-- the two outer ends of new links from one agent to another: inside a node they are those of one link
+pub record NewLink (node : ℕ → ℕ) : Type 0 where
   pub from : ℕ
   pub to : ℕ
   pub tail : LinkTail (ℕ × Message)
   pub head : LinkHead (ℕ × Message)
-  pub ends : AreEnds tail head
+  pub ends : node from ≡ node to → AreEnds tail head
   pub sent : sent_on tail ≡ []
   pub taken : taken_from head ≡ []
 
--- from whom to whom a link leads
-abbrev pub pair_of : NewLink → ℕ × ℕ
-pair_of l = (l.from, l.to)
+module _ {node : ℕ → ℕ} where
+  -- from whom to whom a link leads
+  abbrev pub pair_of : NewLink node → ℕ × ℕ
+  pair_of l = (l.from, l.to)
 
--- the tails of the links from agent i, and the heads of those to it
-abbrev pub tails_of : ℕ → List NewLink → List Tail
-tails_of i ls = flat_map (λ l. if l.from == i then (l.to, l.tail) ∷ [] else []) ls
+  -- the tails of the links from agent i, and the heads of those to it
+  abbrev pub tails_of : ℕ → List (NewLink node) → List Tail
+  tails_of i ls = flat_map (λ l. if l.from == i then (l.to, l.tail) ∷ [] else []) ls
 
-abbrev pub heads_of : ℕ → List NewLink → List Head
-heads_of i ls = flat_map (λ l. if l.to == i then (l.from, l.head) ∷ [] else []) ls
+  abbrev pub heads_of : ℕ → List (NewLink node) → List Head
+  heads_of i ls = flat_map (λ l. if l.to == i then (l.from, l.head) ∷ [] else []) ls
 
--- these are the ends of new links that lead from whom to whom these pairs tell, of so many agents
-pub record AreNewLinks (pairs : List (ℕ × ℕ)) (count : ℕ) (tails : List (List Tail)) (heads : List (List Head)) : Type 0 where
-  pub links : List NewLink
+-- these are the outer ends of new links that lead from whom to whom these pairs tell, of so many agents
+pub record AreNewLinks (node : ℕ → ℕ) (pairs : List (ℕ × ℕ)) (count : ℕ) (tails : List (List Tail)) (heads : List (List Head)) : Type 0 where
+  pub links : List (NewLink node)
   pub pairs_are : map pair_of links ≡ pairs
   pub tails_size : length tails ≡ count
   pub heads_size : length heads ≡ count
@@ -69,11 +77,11 @@ abbrev pub pairs_to : List (List ℕ) → ℕ → List (ℕ × ℕ)
 pairs_to lists count = flat_map (λ i. row i (slice_index_or lists i [])) (range_with_len 0 count)
 
 -- links from one agent to these were added to new links
-abbrev pub AddLinks : ℕ → List ℕ → List (List Tail) → List (List Head) → List (List Tail) → List (List Head) → Type 0
-AddLinks from tos tails heads more_tails more_heads =
-    (pairs : List (ℕ × ℕ)) (count : ℕ) → AreNewLinks pairs count tails heads → AreNewLinks (pairs ++ row from tos) count more_tails more_heads
+abbrev pub AddLinks : (ℕ → ℕ) → ℕ → List ℕ → List (List Tail) → List (List Head) → List (List Tail) → List (List Head) → Type 0
+AddLinks node from tos tails heads more_tails more_heads =
+    (pairs : List (ℕ × ℕ)) (count : ℕ) → AreNewLinks node pairs count tails heads → AreNewLinks node (pairs ++ row from tos) count more_tails more_heads
 
 -- links from each agent to its neighbours were added, where there was none
-abbrev pub AddAllLinks : List (List ℕ) → List (List Tail) → List (List Head) → List (List Tail) → List (List Head) → Type 0
-AddAllLinks lists tails heads more_tails more_heads =
-    AreNewLinks (pairs_to lists 0) (length lists) tails heads → AreNewLinks (pairs_to lists (length lists)) (length lists) more_tails more_heads
+abbrev pub AddAllLinks : (ℕ → ℕ) → List (List ℕ) → List (List Tail) → List (List Head) → List (List Tail) → List (List Head) → Type 0
+AddAllLinks node lists tails heads more_tails more_heads =
+    AreNewLinks node (pairs_to lists 0) (length lists) tails heads → AreNewLinks node (pairs_to lists (length lists)) (length lists) more_tails more_heads

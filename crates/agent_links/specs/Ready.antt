@@ -27,9 +27,13 @@ module _ {X : Type 0} {F : X → Type 0} where
     pub tails_are : tails_in c ≡ tails
     pub heads_are : heads_in c ≡ heads
 
-  -- sound cells of agents with these views, none of which has begun, joined by one node
-  pub record AreReady (meaning : DynBox X Global F → View) (made : List View) (cells : List (Cell X F)) : Type 0 where
-    pub joined : IsJoined meaning 1 cells
+  -- sound cells of agents with these views, none of which has begun, joined by so many nodes
+  pub record AreReadyIn (meaning : DynBox X Global F → View) (nodes : ℕ) (made : List View) (cells : List (Cell X F)) : Type 0 where
+    pub joined : IsJoined meaning nodes cells
     pub sound : EachIs (λ c. IsCell meaning c) cells
     pub fresh : EachIs (λ c. begun_in c ≡ false) cells
     pub views : views_of meaning cells ≡ made
+
+  -- the same, joined by one node
+  abbrev pub AreReady : (DynBox X Global F → View) → List View → List (Cell X F) → Type 0
+  AreReady meaning made cells = AreReadyIn meaning 1 made cells

@@ -4,7 +4,7 @@ ghost use Rattle.std.specs.Prelude.{◌≡◌, ◌<◌, ◌≤◌, ◌∷◌, []
 ghost use Rattle.std.specs.List.{All};
 ghost use Rattle.dcop_base.specs.Limits.{variable_limit};
 ghost use Rattle.agent_links.specs.Beside.{AreBeside, neighbours_in};
-ghost use Rattle.agent_links.specs.Links.{rows_in, pushed, AreLinks, AddLinks, AddAllLinks};
+ghost use Rattle.agent_links.specs.Links.{rows_in, pushed, one_node, AreLinks, AddLinks, AddAllLinks};
 
 use agent_cells::{HeadList, Sealed, TailList};
 use dcop_base::{NoMemory, Private, VarId};
@@ -60,7 +60,7 @@ fn link_rows(
     requires beside { AreBeside (neighbours_in known.now) }
     requires tails { length tails.old ≡ length known.now }
     requires heads { length heads.old ≡ length known.now }
-    ensures added { OnOk result (AddAllLinks (neighbours_in known.now) (rows_in tails.old) (rows_in heads.old) (rows_in tails.new) (rows_in heads.new)) }
+    ensures added { OnOk result (AddAllLinks one_node (neighbours_in known.now) (rows_in tails.old) (rows_in heads.old) (rows_in tails.new) (rows_in heads.new)) }
     ensures tails { length tails.new ≡ length tails.old }
     ensures heads { length heads.new ≡ length heads.old }
 {
@@ -82,7 +82,7 @@ fn link_row(
     requires alike { length heads.old ≡ length tails.old }
     requires from { from < length tails.old }
     requires to { All (λ j. j < length tails.old) neighbours.now }
-    ensures added { OnOk result (AddLinks from neighbours.now (rows_in tails.old) (rows_in heads.old) (rows_in tails.new) (rows_in heads.new)) }
+    ensures added { OnOk result (AddLinks one_node from neighbours.now (rows_in tails.old) (rows_in heads.old) (rows_in tails.new) (rows_in heads.new)) }
     ensures tails { length tails.new ≡ length tails.old }
     ensures heads { length heads.new ≡ length heads.old }
 {
@@ -104,7 +104,7 @@ fn link_one(
     requires alike { length heads.old ≡ length tails.old }
     requires from { from < length tails.old }
     requires to { to < length tails.old }
-    ensures added { OnOk result (AddLinks from (to ∷ []) (rows_in tails.old) (rows_in heads.old) (rows_in tails.new) (rows_in heads.new)) }
+    ensures added { OnOk result (AddLinks one_node from (to ∷ []) (rows_in tails.old) (rows_in heads.old) (rows_in tails.new) (rows_in heads.new)) }
     ensures tails { length tails.new ≡ length tails.old }
     ensures heads { length heads.new ≡ length heads.old }
 {

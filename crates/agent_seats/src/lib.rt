@@ -11,4 +11,4 @@ mod seats;
 
 pub use agent::Agent;
 pub use seat::Seat;
-pub use seats::seats_of;
+pub use seats::{known_in, seat_all, seats_of};

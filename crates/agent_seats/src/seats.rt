@@ -8,11 +8,11 @@ ghost use Rattle.protocol_steps.specs.Placing.{IsPlaceFor};
 ghost use Rattle.protocol_steps.specs.TreeAgents.{place_at};
 ghost use Rattle.worker_runs.specs.Cells.{peers};
 ghost use Rattle.agent_cells.specs.Links.{lanes_sent, lanes_taken};
-ghost use Rattle.agent_links.specs.Links.{rows_in, AreLinks};
+ghost use Rattle.agent_links.specs.Links.{rows_in};
 ghost use Rattle.delivery_core.specs.Agents.{IsTreeFor, IsStartFor};
 ghost use Rattle.delivery_core.specs.Starts.{agent_of, knowledge_for};
 ghost use Rattle.agent_seats.specs.Kinds.{view_of};
-ghost use Rattle.agent_seats.specs.Seats.{all_neighbours, IsSeat, AreSeats};
+ghost use Rattle.agent_seats.specs.Seats.{all_neighbours, HaveEnds, IsSeat, AreSeated, AreSeats};
 
 use crate::agent::Agent;
 use crate::seat::Seat;
@@ -40,7 +40,7 @@ pub fn seats_of(alloc: Global, problem: &Problem, start: &Start) -> Result<Vec<S
 }
 
 /// What each agent knows of a problem.
-fn known_in(alloc: Global, problem: &Problem) -> Result<Vec<Private>, NoMemory>
+pub fn known_in(alloc: Global, problem: &Problem) -> Result<Vec<Private>, NoMemory>
     ensures { IfOk result (λ known. known.items ≡ map (known_by problem.now) (range_with_len 0 (length problem.now.sizes))) }
 {
     let mut known = Vec::new(alloc);
@@ -66,18 +66,18 @@ fn known_for(
     }
 }
 
-/// The agents of a start, each with the ends of its links.
-fn seat_all(
+/// The agents of a start, each with the ends of its links, whatever links these are.
+pub fn seat_all(
     alloc: Global,
     problem: &Problem,
     start: &Start,
     links: Links,
 ) -> Result<Vec<Seat>, NoMemory>
-    requires whole { IsProblem problem.now }
     requires start { IsStartFor problem.now start.now }
-    requires linked { AreLinks (all_neighbours problem.now) (rows_in links.tails.items) (rows_in links.heads.items) }
-    ensures { IfOk result (λ seats. AreSeats problem.now start.now seats.items) }
+    requires ends { HaveEnds (all_neighbours problem.now) (rows_in links.tails.items) (rows_in links.heads.items) }
+    ensures { IfOk result (λ seats. AreSeated problem.now start.now (rows_in links.tails.items) (rows_in links.heads.items) seats.items) }
 {
+    problem_is_whole(problem);
     let Links {
         mut tails,
         mut heads,

@@ -16,7 +16,7 @@ take_row-own_tails-requires c =
     let all : length c.as_slice-me-end.result.now ≡ length c.problem.inside.sizes = ap (λ (xs : List ℕ). length xs) c.as_slice-me-end.ensures in
     let size : length c.problem.inside.sizes ≡ length p.sizes = ap (λ (q : Dcop). length q.sizes) c.problem.view_is in
     let lt : c.loop-me.me < length p.sizes = omega (arith, all, size, c.loop-me-test.true, c.loop-me.auto.me-end) in
-    let rows : length c.args.links.tails.items ≡ length p.sizes = sym (length-map c.args.links.tails.items (λ r. r.items)) ∙ c.requires.linked.tails_size ∙ lists_size p in
+    let rows : length c.args.links.tails.items ≡ length p.sizes = sym (length-map c.args.links.tails.items (λ r. r.items)) ∙ c.requires.ends.tails_size ∙ lists_size p in
     let still = c.loop-me.invariant.tails_size in
     omega (arith, lt, rows, still)
 
@@ -26,7 +26,7 @@ take_row-own_heads-requires c =
     let all : length c.as_slice-me-end.result.now ≡ length c.problem.inside.sizes = ap (λ (xs : List ℕ). length xs) c.as_slice-me-end.ensures in
     let size : length c.problem.inside.sizes ≡ length p.sizes = ap (λ (q : Dcop). length q.sizes) c.problem.view_is in
     let lt : c.loop-me.me < length p.sizes = omega (arith, all, size, c.loop-me-test.true, c.loop-me.auto.me-end) in
-    let rows : length c.args.links.heads.items ≡ length p.sizes = sym (length-map c.args.links.heads.items (λ r. r.items)) ∙ c.requires.linked.heads_size ∙ lists_size p in
+    let rows : length c.args.links.heads.items ≡ length p.sizes = sym (length-map c.args.links.heads.items (λ r. r.items)) ∙ c.requires.ends.heads_size ∙ lists_size p in
     let still = c.loop-me.invariant.heads_size in
     omega (arith, lt, rows, still)
 
@@ -38,9 +38,9 @@ seat_for-requires-clause-tail_peers c =
     let lt : c.loop-me.me < length p.sizes = omega (arith, all, size, c.loop-me-test.true, c.loop-me.auto.me-end) in
     let lists = lists_size p in
     let in_lists : c.loop-me.me < length (all_neighbours p) = omega (arith, lt, lists) in
-    let tail_rows : length c.args.links.tails.items ≡ length p.sizes = sym (length-map c.args.links.tails.items (λ r. r.items)) ∙ c.requires.linked.tails_size ∙ lists in
+    let tail_rows : length c.args.links.tails.items ≡ length p.sizes = sym (length-map c.args.links.tails.items (λ r. r.items)) ∙ c.requires.ends.tails_size ∙ lists in
     let tail_row = row_is c.args.links.tails.items c.loop-me.tails.items c.loop-me.me c.take_row-own_tails.result (omega (arith, lt, tail_rows)) c.take_row-own_tails.ensures.row (λ d. c.loop-me.invariant.tails_rest c.loop-me.me d (omega arith)) in
-    ap (λ (xs : List Tail). peers (lanes_sent xs)) tail_row ∙ c.requires.linked.tail_peers c.loop-me.me in_lists ∙ list_at p c.loop-me.me lt ∙ sym (ap (λ (o : Private). o.neighbours) c.in_ok-own.ensures ∙ knows_neighbours p c.args.start.now c.loop-me.me)
+    ap (λ (xs : List Tail). peers (lanes_sent xs)) tail_row ∙ c.requires.ends.tail_peers c.loop-me.me in_lists ∙ list_at p c.loop-me.me lt ∙ sym (ap (λ (o : Private). o.neighbours) c.in_ok-own.ensures ∙ knows_neighbours p c.args.start.now c.loop-me.me)
 
 pub seat_for-requires-clause-head_peers : goal.seat_for-requires-clause-head_peers
 seat_for-requires-clause-head_peers c =
@@ -50,9 +50,9 @@ seat_for-requires-clause-head_peers c =
     let lt : c.loop-me.me < length p.sizes = omega (arith, all, size, c.loop-me-test.true, c.loop-me.auto.me-end) in
     let lists = lists_size p in
     let in_lists : c.loop-me.me < length (all_neighbours p) = omega (arith, lt, lists) in
-    let head_rows : length c.args.links.heads.items ≡ length p.sizes = sym (length-map c.args.links.heads.items (λ r. r.items)) ∙ c.requires.linked.heads_size ∙ lists in
+    let head_rows : length c.args.links.heads.items ≡ length p.sizes = sym (length-map c.args.links.heads.items (λ r. r.items)) ∙ c.requires.ends.heads_size ∙ lists in
     let head_row = row_is c.args.links.heads.items c.loop-me.heads.items c.loop-me.me c.take_row-own_heads.result (omega (arith, lt, head_rows)) c.take_row-own_heads.ensures.row (λ d. c.loop-me.invariant.heads_rest c.loop-me.me d (omega arith)) in
-    ap (λ (xs : List Head). peers (lanes_taken xs)) head_row ∙ c.requires.linked.head_peers c.loop-me.me in_lists ∙ list_at p c.loop-me.me lt ∙ sym (ap (λ (o : Private). o.neighbours) c.in_ok-own.ensures ∙ knows_neighbours p c.args.start.now c.loop-me.me)
+    ap (λ (xs : List Head). peers (lanes_taken xs)) head_row ∙ c.requires.ends.head_peers c.loop-me.me in_lists ∙ list_at p c.loop-me.me lt ∙ sym (ap (λ (o : Private). o.neighbours) c.in_ok-own.ensures ∙ knows_neighbours p c.args.start.now c.loop-me.me)
 
 pub seat_for-requires-clause-unsent : goal.seat_for-requires-clause-unsent
 seat_for-requires-clause-unsent c =
@@ -62,9 +62,9 @@ seat_for-requires-clause-unsent c =
     let lt : c.loop-me.me < length p.sizes = omega (arith, all, size, c.loop-me-test.true, c.loop-me.auto.me-end) in
     let lists = lists_size p in
     let in_lists : c.loop-me.me < length (all_neighbours p) = omega (arith, lt, lists) in
-    let tail_rows : length c.args.links.tails.items ≡ length p.sizes = sym (length-map c.args.links.tails.items (λ r. r.items)) ∙ c.requires.linked.tails_size ∙ lists in
+    let tail_rows : length c.args.links.tails.items ≡ length p.sizes = sym (length-map c.args.links.tails.items (λ r. r.items)) ∙ c.requires.ends.tails_size ∙ lists in
     let tail_row = row_is c.args.links.tails.items c.loop-me.tails.items c.loop-me.me c.take_row-own_tails.result (omega (arith, lt, tail_rows)) c.take_row-own_tails.ensures.row (λ d. c.loop-me.invariant.tails_rest c.loop-me.me d (omega arith)) in
-    subst (λ (xs : List Tail). All (λ (l : Lane). l.messages ≡ []) (lanes_sent xs)) (sym tail_row) (c.requires.linked.unsent c.loop-me.me in_lists)
+    subst (λ (xs : List Tail). All (λ (l : Lane). l.messages ≡ []) (lanes_sent xs)) (sym tail_row) (c.requires.ends.unsent c.loop-me.me in_lists)
 
 pub seat_for-requires-clause-untaken : goal.seat_for-requires-clause-untaken
 seat_for-requires-clause-untaken c =
@@ -74,9 +74,9 @@ seat_for-requires-clause-untaken c =
     let lt : c.loop-me.me < length p.sizes = omega (arith, all, size, c.loop-me-test.true, c.loop-me.auto.me-end) in
     let lists = lists_size p in
     let in_lists : c.loop-me.me < length (all_neighbours p) = omega (arith, lt, lists) in
-    let head_rows : length c.args.links.heads.items ≡ length p.sizes = sym (length-map c.args.links.heads.items (λ r. r.items)) ∙ c.requires.linked.heads_size ∙ lists in
+    let head_rows : length c.args.links.heads.items ≡ length p.sizes = sym (length-map c.args.links.heads.items (λ r. r.items)) ∙ c.requires.ends.heads_size ∙ lists in
     let head_row = row_is c.args.links.heads.items c.loop-me.heads.items c.loop-me.me c.take_row-own_heads.result (omega (arith, lt, head_rows)) c.take_row-own_heads.ensures.row (λ d. c.loop-me.invariant.heads_rest c.loop-me.me d (omega arith)) in
-    subst (λ (xs : List Head). All (λ (l : Lane). l.messages ≡ []) (lanes_taken xs)) (sym head_row) (c.requires.linked.untaken c.loop-me.me in_lists)
+    subst (λ (xs : List Head). All (λ (l : Lane). l.messages ≡ []) (lanes_taken xs)) (sym head_row) (c.requires.ends.untaken c.loop-me.me in_lists)
 
 pub loop-me-preserved : goal.loop-me-preserved
 loop-me-preserved c =
@@ -86,9 +86,9 @@ loop-me-preserved c =
     let lt : c.loop-me.me < length p.sizes = omega (arith, all, size, c.loop-me-test.true, c.loop-me.auto.me-end) in
     let lists = lists_size p in
     let in_lists : c.loop-me.me < length (all_neighbours p) = omega (arith, lt, lists) in
-    let tail_rows : length c.args.links.tails.items ≡ length p.sizes = sym (length-map c.args.links.tails.items (λ r. r.items)) ∙ c.requires.linked.tails_size ∙ lists in
+    let tail_rows : length c.args.links.tails.items ≡ length p.sizes = sym (length-map c.args.links.tails.items (λ r. r.items)) ∙ c.requires.ends.tails_size ∙ lists in
     let tail_row = row_is c.args.links.tails.items c.loop-me.tails.items c.loop-me.me c.take_row-own_tails.result (omega (arith, lt, tail_rows)) c.take_row-own_tails.ensures.row (λ d. c.loop-me.invariant.tails_rest c.loop-me.me d (omega arith)) in
-    let head_rows : length c.args.links.heads.items ≡ length p.sizes = sym (length-map c.args.links.heads.items (λ r. r.items)) ∙ c.requires.linked.heads_size ∙ lists in
+    let head_rows : length c.args.links.heads.items ≡ length p.sizes = sym (length-map c.args.links.heads.items (λ r. r.items)) ∙ c.requires.ends.heads_size ∙ lists in
     let head_row = row_is c.args.links.heads.items c.loop-me.heads.items c.loop-me.me c.take_row-own_heads.result (omega (arith, lt, head_rows)) c.take_row-own_heads.ensures.row (λ d. c.loop-me.invariant.heads_rest c.loop-me.me d (omega arith)) in
     let before = c.loop-me.invariant in
     let pushed = c.in_ok-push.ensures.items in

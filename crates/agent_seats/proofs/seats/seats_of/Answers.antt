@@ -1,6 +1,7 @@
 use Rattle.std.proofs.Common.{subst, ◌∙◌}
-use Rattle.agent_links.specs.Links.{rows_in, AreLinks}
+use Rattle.agent_links.specs.Links.{rows_in, one_node, AreLinks}
 use Rattle.agent_seats.proofs.SeatLaws.{known_few, known_beside, known_lists}
+use Rattle.agent_seats.proofs.EndLaws.{links_end, all_linked}
 use Rattle.agent_seats.proofs.seats.seats_of.Goals as goal
 
 pub link_all-requires-clause-few : goal.link_all-requires-clause-few
@@ -9,6 +10,10 @@ link_all-requires-clause-few c = known_few c.args.problem.now c.as_slice.result.
 pub link_all-requires-clause-beside : goal.link_all-requires-clause-beside
 link_all-requires-clause-beside c = known_beside c.args.problem.now c.as_slice.result.now (c.as_slice.ensures.value ∙ c.in_ok-known.ensures)
 
-pub seat_all-requires-clause-linked : goal.seat_all-requires-clause-linked
-seat_all-requires-clause-linked c =
-    subst (λ ls. AreLinks ls (rows_in c.in_ok-links.links.tails.items) (rows_in c.in_ok-links.links.heads.items)) (known_lists c.args.problem.now c.as_slice.result.now (c.as_slice.ensures.value ∙ c.in_ok-known.ensures)) c.in_ok-links.ensures
+pub seat_all-requires-clause-ends : goal.seat_all-requires-clause-ends
+seat_all-requires-clause-ends c =
+    links_end one_node _ _ _ (subst (λ ls. AreLinks ls (rows_in c.in_ok-links.links.tails.items) (rows_in c.in_ok-links.links.heads.items)) (known_lists c.args.problem.now c.as_slice.result.now (c.as_slice.ensures.value ∙ c.in_ok-known.ensures)) c.in_ok-links.ensures)
+
+pub returns : goal.returns
+returns c =
+    all_linked c.args.problem.now c.args.start.now _ _ c.seat_all.result (subst (λ ls. AreLinks ls (rows_in c.in_ok-links.links.tails.items) (rows_in c.in_ok-links.links.heads.items)) (known_lists c.args.problem.now c.as_slice.result.now (c.as_slice.ensures.value ∙ c.in_ok-known.ensures)) c.in_ok-links.ensures) c.seat_all.ensures

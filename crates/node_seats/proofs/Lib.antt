@@ -1,0 +1,5 @@
+mod LeadLaws
+mod KeepLaws
+mod OverLaws
+mod SeatedLaws
+pub mod CellLaws
