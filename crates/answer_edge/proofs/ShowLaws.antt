@@ -43,3 +43,17 @@ pub status-so : (P : Status → Type 0) (answer : Answer) (sink sink' : SinkStat
 status-so P answer sink sink' faults faults' status (inl none) quiet wanted well = subst P (sym none.0) wanted
 status-so P answer sink sink' faults faults' status (inr (inl shown)) quiet wanted well = subst P (sym shown.0.same) well
 status-so P answer sink sink' faults faults' status (inr (inr cut)) quiet wanted well = absurd (quiet cut.1)
+
+-- a status that is neither want of memory nor the sink's fault is the answer's
+pub told-so : (told : Status) → told ≢ NoMemory → told ≢ WriteFault → (answer : Answer) (sink sink' : SinkState) (faults faults' : ℕ) (status : Status) → Shows answer sink sink' faults faults' status → status ≡ told
+    → status_of answer ≡ told
+told-so told some whole answer sink sink' faults faults' status (inl none) same = absurd (some (sym same ∙ none.0))
+told-so told some whole answer sink sink' faults faults' status (inr (inl shown)) same = sym shown.0.same ∙ same
+told-so told some whole answer sink sink' faults faults' status (inr (inr cut)) same = absurd (whole (sym same ∙ cut.0.fault))
+
+-- where the answer has a status, the call has it, or one that goes before it
+pub comes-so : (told : Status) (answer : Answer) (sink sink' : SinkState) (faults faults' : ℕ) (status : Status) → Shows answer sink sink' faults faults' status → status_of answer ≡ told
+    → (status ≡ told) ⊎ (status ≡ WriteFault) ⊎ (status ≡ NoMemory)
+comes-so told answer sink sink' faults faults' status (inl none) is = inr (inr none.0)
+comes-so told answer sink sink' faults faults' status (inr (inl shown)) is = inl (shown.0.same ∙ is)
+comes-so told answer sink sink' faults faults' status (inr (inr cut)) is = inr (inl cut.0.fault)

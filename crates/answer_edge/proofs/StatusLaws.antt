@@ -6,7 +6,7 @@ use Rattle.certificate_text.specs.declared.verdict.Verdict.{Verdict}
 use Rattle.certificate_text.specs.declared.verdict.Verdict.TheVariants as verdicts
 use Rattle.solve_report.specs.declared.answer.Answer.{Answer}
 use Rattle.solve_report.specs.declared.answer.Answer.TheVariants as answers
-use Rattle.answer_edge.specs.declared.status.Status.TheVariants.{ReadFault, WriteFault, NoMemory as no_memory}
+use Rattle.answer_edge.specs.declared.status.Status.TheVariants.{ReadFault, WriteFault, LinkFault, LinkDiffers, NoMemory as no_memory}
 use Rattle.answer_edge.specs.Statuses.{status_of, status_of_ending, status_of_verdict}
 
 -- the status of a report is no fault
@@ -39,6 +39,9 @@ told-status (answers.ManyTurns n limit) = (λ e. cc, λ e. cc)
 told-status (answers.WideAgent var cells names) = (λ e. cc, λ e. cc)
 told-status (answers.WideTotal cells) = (λ e. cc, λ e. cc)
 told-status answers.Read = (λ e. cc, λ e. cc)
+told-status answers.Link = (λ e. cc, λ e. cc)
+told-status (answers.LinkDiffers from to at sent taken names) = (λ e. cc, λ e. cc)
+told-status (answers.LinkBytes round from_node to_node place sent taken) = (λ e. cc, λ e. cc)
 told-status answers.NotYet = (λ e. cc, λ e. cc)
 
 -- one answer alone has the status of a source that failed
@@ -61,4 +64,81 @@ read-alone (answers.Many n) e = cc
 read-alone (answers.ManyTurns n limit) e = cc
 read-alone (answers.WideAgent var cells names) e = cc
 read-alone (answers.WideTotal cells) e = cc
+read-alone answers.Link e = cc
+read-alone (answers.LinkDiffers from to at sent taken names) e = cc
+read-alone (answers.LinkBytes round from_node to_node place sent taken) e = cc
 read-alone answers.NotYet e = cc
+
+-- a report has no status of links
+ending-fine : (ending : Ending) → status_of_ending ending ≢ LinkFault
+ending-fine endings.Solved e = cc
+ending-fine endings.Spent e = cc
+
+ending-same : (ending : Ending) → status_of_ending ending ≢ LinkDiffers
+ending-same endings.Solved e = cc
+ending-same endings.Spent e = cc
+
+-- nor has a verdict
+verdict-fine : (verdict : Verdict) → status_of_verdict verdict ≢ LinkFault
+verdict-fine (verdicts.Yes cost error) e = cc
+verdict-fine (verdicts.No differs) e = cc
+
+verdict-same : (verdict : Verdict) → status_of_verdict verdict ≢ LinkDiffers
+verdict-same (verdicts.Yes cost error) e = cc
+verdict-same (verdicts.No differs) e = cc
+
+-- one answer alone has the status of links that failed
+pub link-alone : (answer : Answer) → status_of answer ≡ LinkFault → answer ≡ answers.Link
+link-alone (answers.Report report file) e = absurd (ending-fine report.status e)
+link-alone (answers.Drill summary) e = absurd (ending-fine summary.status e)
+link-alone (answers.Verdict verdict names) e = absurd (verdict-fine verdict e)
+link-alone answers.Read e = cc
+link-alone (answers.Tree deliveries nodes names) e = cc
+link-alone (answers.Replay events agents names) e = cc
+link-alone (answers.Upgraded file) e = cc
+link-alone (answers.UpgradedWcsp bar file) e = cc
+link-alone (answers.Edits optima file) e = cc
+link-alone (answers.Words at kind) e = cc
+link-alone (answers.ProblemText line kind problem) e = cc
+link-alone (answers.WcspText line kind problem) e = cc
+link-alone (answers.ReportText line kind) e = cc
+link-alone (answers.EditText line kind) e = cc
+link-alone (answers.Many n) e = cc
+link-alone (answers.ManyTurns n limit) e = cc
+link-alone (answers.WideAgent var cells names) e = cc
+link-alone (answers.WideTotal cells) e = cc
+link-alone answers.Link e = refl
+link-alone (answers.LinkDiffers from to at sent taken names) e = cc
+link-alone (answers.LinkBytes round from_node to_node place sent taken) e = cc
+link-alone answers.NotYet e = cc
+
+-- an answer that tells a difference between what was sent on a link and what was taken
+abbrev pub IsOfDifference : Answer → Type 0
+IsOfDifference (answers.LinkDiffers from to at sent taken names) = Unit {0}
+IsOfDifference (answers.LinkBytes round from_node to_node place sent taken) = Unit {0}
+IsOfDifference answer = ⊥
+
+-- such an answer alone has the status of links that differ
+pub differs-alone : (answer : Answer) → status_of answer ≡ LinkDiffers → IsOfDifference answer
+differs-alone (answers.Report report file) e = absurd (ending-same report.status e)
+differs-alone (answers.Drill summary) e = absurd (ending-same summary.status e)
+differs-alone (answers.Verdict verdict names) e = absurd (verdict-same verdict e)
+differs-alone answers.Read e = cc
+differs-alone (answers.Tree deliveries nodes names) e = cc
+differs-alone (answers.Replay events agents names) e = cc
+differs-alone (answers.Upgraded file) e = cc
+differs-alone (answers.UpgradedWcsp bar file) e = cc
+differs-alone (answers.Edits optima file) e = cc
+differs-alone (answers.Words at kind) e = cc
+differs-alone (answers.ProblemText line kind problem) e = cc
+differs-alone (answers.WcspText line kind problem) e = cc
+differs-alone (answers.ReportText line kind) e = cc
+differs-alone (answers.EditText line kind) e = cc
+differs-alone (answers.Many n) e = cc
+differs-alone (answers.ManyTurns n limit) e = cc
+differs-alone (answers.WideAgent var cells names) e = cc
+differs-alone (answers.WideTotal cells) e = cc
+differs-alone answers.Link e = cc
+differs-alone (answers.LinkDiffers from to at sent taken names) e = tt
+differs-alone (answers.LinkBytes round from_node to_node place sent taken) e = tt
+differs-alone answers.NotYet e = cc

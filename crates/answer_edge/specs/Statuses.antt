@@ -7,7 +7,7 @@ use Rattle.certificate_text.specs.declared.verdict.Verdict.TheVariants as verdic
 use Rattle.solve_report.specs.declared.answer.Answer.{Answer}
 use Rattle.solve_report.specs.declared.answer.Answer.TheVariants as answers
 use Rattle.answer_edge.specs.declared.status.Status.{Status}
-use Rattle.answer_edge.specs.declared.status.Status.TheVariants.{Solved, Spent, No, BadWords, BadText, TooWide, ReadFault, WriteFault, NoMemory, TooMany}
+use Rattle.answer_edge.specs.declared.status.Status.TheVariants.{Solved, Spent, No, BadWords, BadText, TooWide, ReadFault, WriteFault, NoMemory, LinkFault, LinkDiffers, TooMany}
 
 -- the status of a report
 abbrev pub status_of_ending : Ending → Status
@@ -38,6 +38,9 @@ status_of (answers.EditText line kind) = BadText
 status_of (answers.WideAgent var cells names) = TooWide
 status_of (answers.WideTotal cells) = TooWide
 status_of answers.Read = ReadFault
+status_of answers.Link = LinkFault
+status_of (answers.LinkDiffers from to at sent taken names) = LinkDiffers
+status_of (answers.LinkBytes round from_node to_node place sent taken) = LinkDiffers
 status_of (answers.Many assignments) = TooMany
 status_of (answers.ManyTurns turns limit) = TooMany
 
@@ -51,5 +54,7 @@ code_of TooWide = 4
 code_of ReadFault = 5
 code_of WriteFault = 6
 code_of NoMemory = 7
+code_of LinkFault = 8
+code_of LinkDiffers = 9
 code_of No = 10
 code_of TooMany = 11

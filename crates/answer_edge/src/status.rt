@@ -26,6 +26,10 @@ pub enum Status {
     WriteFault,
     /// Memory was wanted and not had. Nothing is written.
     NoMemory,
+    /// The nodes of the agents could not talk: no wires were to be had between them, or one failed.
+    LinkFault,
+    /// What one node received of another is not what was sent.
+    LinkDiffers,
     /// The report does not hold.
     No,
     /// The plain method would have more assignments to try than it tries.
@@ -46,6 +50,8 @@ impl Status {
             Status::ReadFault => 5,
             Status::WriteFault => 6,
             Status::NoMemory => 7,
+            Status::LinkFault => 8,
+            Status::LinkDiffers => 9,
             Status::No => 10,
             Status::TooMany => 11,
         }
@@ -87,6 +93,8 @@ impl Status {
             Answer::ReportText { .. } | Answer::EditText { .. } => Status::BadText,
             Answer::WideAgent { .. } | Answer::WideTotal { .. } => Status::TooWide,
             Answer::Read => Status::ReadFault,
+            Answer::Link => Status::LinkFault,
+            Answer::LinkDiffers { .. } | Answer::LinkBytes { .. } => Status::LinkDiffers,
             Answer::Many { .. } | Answer::ManyTurns { .. } => Status::TooMany,
         }
     }

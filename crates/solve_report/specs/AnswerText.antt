@@ -5,6 +5,7 @@ use Rattle.problem_text.specs.Canonical.{line, canonical}
 use Rattle.certificate_text.specs.Named.{CanTell}
 use Rattle.certificate_text.specs.ReportText.{report_text}
 use Rattle.solve_report.specs.Edits.{IsNamedOptimum, edits_text}
+use Rattle.solve_report.specs.Links.{link_refusal, differs_refusal, bytes_refusal}
 use Rattle.solve_report.specs.Refusal.{words_refusal, text_refusal, wcsp_refusal, report_refusal, edit_refusal}
 use Rattle.solve_report.specs.Refusal.{many_refusal, turns_refusal, wide_refusal, total_refusal, read_refusal, not_yet_refusal}
 use Rattle.solve_report.specs.Replay.{IsNamedAgent, replay_text}
@@ -14,9 +15,9 @@ use Rattle.solve_report.specs.Upgrade.{barred_text}
 use Rattle.solve_report.specs.Verdict.{IsNamedVerdict, verdict_text}
 use Rattle.solve_report.specs.declared.answer.Answer.{Answer}
 use Rattle.solve_report.specs.declared.answer.Answer.TheVariants.{Report, Tree, Verdict, Replay, Drill, Upgraded, UpgradedWcsp, Edits}
-use Rattle.solve_report.specs.declared.answer.Answer.TheVariants.{Words, ProblemText, WcspText, ReportText, EditText, Many, ManyTurns, WideAgent, WideTotal, Read, NotYet}
+use Rattle.solve_report.specs.declared.answer.Answer.TheVariants.{Words, ProblemText, WcspText, ReportText, EditText, Many, ManyTurns, WideAgent, WideTotal, Read, Link, LinkDiffers, LinkBytes, NotYet}
 
--- an answer that has a text: the file beside a report or beside optima can tell them, and each variable of a tree or of a replay has its name, as has an agent whose table is too wide, or of which a verdict speaks
+-- an answer that has a text: the file beside a report or beside optima can tell them, and each variable of a tree or of a replay has its name, as has an agent whose table is too wide, one of which a verdict speaks, or one at an end of a link
 abbrev pub HasText : Answer → Type 0
 HasText (Report report file) = CanTell report file
 HasText (Tree deliveries nodes names) = All (IsNamedRow (length names)) nodes
@@ -24,6 +25,7 @@ HasText (Verdict verdict names) = IsNamedVerdict (length names) verdict
 HasText (Replay events agents names) = All (IsNamedAgent (length names)) agents
 HasText (Edits answers file) = All (IsNamedOptimum file) answers
 HasText (WideAgent var cells names) = var < length names
+HasText (LinkDiffers from to at sent taken names) = (from < length names) × (to < length names)
 HasText _ = ⊤
 
 -- the text of an answer
@@ -46,4 +48,7 @@ answer_text (ManyTurns turns limit) = line (turns_refusal turns limit)
 answer_text (WideAgent var cells names) = line (wide_refusal (slice_index_or names var []) cells)
 answer_text (WideTotal cells) = line (total_refusal cells)
 answer_text Read = line read_refusal
+answer_text Link = line link_refusal
+answer_text (LinkDiffers from to at sent taken names) = line (differs_refusal (slice_index_or names from []) (slice_index_or names to []) at sent taken)
+answer_text (LinkBytes round from_node to_node place sent taken) = line (bytes_refusal round from_node to_node place sent taken)
 answer_text NotYet = line not_yet_refusal

@@ -1,4 +1,5 @@
 pub mod Refusal
+pub mod Links
 pub mod Tree
 pub mod Replay
 pub mod Verdict

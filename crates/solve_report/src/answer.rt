@@ -4,6 +4,7 @@ ghost use Rattle.std.specs.Prelude.{◌≡◌, IfOk};
 ghost use Rattle.solve_report.specs.AnswerText.{HasText, answer_text};
 
 use crate::edits::write_edits;
+use crate::links::{refuse_bytes, refuse_differs, refuse_link};
 use crate::refusal::{
     refuse_edit, refuse_many, refuse_not_yet, refuse_read, refuse_report, refuse_text,
     refuse_total, refuse_turns, refuse_wcsp, refuse_wide, refuse_words,
@@ -120,6 +121,31 @@ pub enum Answer {
     },
     /// The input could not be read.
     Read,
+    /// The nodes could not talk: no wires were to be had between them, or one failed.
+    Link,
+    /// On the link between two agents of different nodes arrived, at this place, another envelope
+    /// than was sent there. Places count from 0 within a phase. `sent` and `taken` are the codes of
+    /// the two envelopes; where no envelope was sent or none arrived, its code is `None`. `names` are
+    /// those of all variables.
+    LinkDiffers {
+        from: VarId,
+        to: VarId,
+        at: u64,
+        sent: Option<Bytes>,
+        taken: Option<Bytes>,
+        names: Names,
+    },
+    /// What one node received of another is not what was sent: in the exchange behind so many rounds
+    /// this is the first byte that differs. Places count from 0 within the bytes of the exchange from
+    /// the one node to the other. Where no byte was sent or none arrived, it is `None`.
+    LinkBytes {
+        round: u64,
+        from_node: u32,
+        to_node: u32,
+        place: u64,
+        sent: Option<u8>,
+        taken: Option<u8>,
+    },
     /// The words are accepted, and what they ask for is not served yet.
     NotYet,
 }
@@ -167,6 +193,23 @@ pub fn text_of(alloc: Global, answer: &Answer) -> Result<Bytes, NoMemory>
         Answer::WideAgent { var, cells, names } => refuse_wide(alloc, names.name(*var), *cells),
         Answer::WideTotal { cells } => refuse_total(alloc, *cells),
         Answer::Read => refuse_read(alloc),
+        Answer::Link => refuse_link(alloc),
+        Answer::LinkDiffers {
+            from,
+            to,
+            at,
+            sent,
+            taken,
+            names,
+        } => refuse_differs(alloc, names.name(*from), names.name(*to), *at, sent, taken),
+        Answer::LinkBytes {
+            round,
+            from_node,
+            to_node,
+            place,
+            sent,
+            taken,
+        } => refuse_bytes(alloc, *round, *from_node, *to_node, *place, *sent, *taken),
         Answer::NotYet => refuse_not_yet(alloc),
     }
 }

@@ -6,6 +6,7 @@
 
 mod answer;
 mod edits;
+mod links;
 mod refusal;
 mod replay;
 mod summary;
