@@ -1,6 +1,6 @@
 //! The program `dcop`: answers the words that it is given, from standard input to standard output.
 //!
-//! All of its work is [`solve`]. It ends with the code of the status, or with 12 and nothing
+//! All of its work is [`solve`]; between the nodes of agents it dials sockets on 127.0.0.1. It ends with the code of the status, or with 12 and nothing
 //! printed where it is refused its arguments.
 #![tactic(auto)]
 
@@ -9,6 +9,7 @@ use solve_top::solve;
 use std::process::ExitCode;
 use std::rt::Env;
 use std::{env, io};
+use tcp_wire::TcpDialer;
 
 /// The code with which the program ends where it is refused its arguments, which no status has.
 const REFUSED_ARGUMENTS: u8 = 12;
@@ -19,7 +20,16 @@ fn main(rt: HostRuntime) -> ExitCode {
     };
     let mut source = StdSource::new(rt.stdin());
     let mut sink = StdSink::new(rt.stdout());
-    let status = solve(&rt, rt.alloc(), &words, &mut source, &mut sink, &OpenGate);
+    let mut dialer = TcpDialer::new();
+    let status = solve(
+        &rt,
+        rt.alloc(),
+        &words,
+        &mut source,
+        &mut sink,
+        &mut dialer,
+        &OpenGate,
+    );
     ExitCode::from(status.code())
 }
 

@@ -1,5 +1,5 @@
 -- Which answer belongs to which words and input, case by case; and what its status says of the source.
-use Rattle.std.proofs.Common.{take, drop, ◌≡◌, ℕ, ◌<◌, Bool, List, Option, Some, None, Result, Ok, Err, IfOk, sym, ap, subst, arith, refl, ◌∙◌}
+use Rattle.std.proofs.Common.{take, drop, ◌≡◌, ◌≢◌, ℕ, ◌<◌, ◌⊎◌, inl, inr, Bool, List, Option, Some, None, Result, Ok, Err, IfOk, sym, ap, subst, arith, refl, ◌∙◌}
 use Rattle.dcop_edge.specs.Faults.{Rose}
 use Rattle.dcop_base.specs.Whole.{IsProblem}
 use Rattle.pseudotree.specs.declared.width.Wide.{Wide}
@@ -21,12 +21,14 @@ use Rattle.certificate_text.specs.ReportReading.{report_read}
 use Rattle.solve_report.specs.declared.answer.Answer.{Answer}
 use Rattle.solve_report.specs.declared.answer.Answer.TheVariants as answers
 use Rattle.answer_edge.specs.declared.status.Status.{Status}
-use Rattle.answer_edge.specs.declared.status.Status.TheVariants.{Solved, TooWide, ReadFault}
+use Rattle.answer_edge.specs.declared.status.Status.TheVariants.{Solved, TooWide, ReadFault, LinkFault, LinkDiffers}
 use Rattle.solve_top.specs.declared.task.Task.{Task}
 use Rattle.solve_top.specs.declared.task.Task.TheVariants.{File, Check, Replay, Edit}
 use Rattle.solve_top.specs.declared.task.FileTask.{FileTask}
 use Rattle.solve_top.specs.declared.task.FileTask.TheVariants as tasks
 use Rattle.solve_top.specs.Answering.{lines_in, IsUpgraded, IsFileAnswer, IsTextAnswer, IsReportAnswer, IsReplayAnswer, IsEditsAnswer, IsTaskAnswer, IsInputAnswer, IsDrillAnswer, IsUnreadAnswer, IsServedAnswer, IsCommandAnswer, IsAnswer}
+use Rattle.solve_top.specs.Nodes.{nodes_of, AskForNodes, IsOfLinks, TellsProblem, IsLinkAnswer, IsAnswerRead, IsTaskAnswerIn, IsUnreadAnswerIn}
+use Rattle.solve_top.specs.Same.{IsGiven}
 use Rattle.solve_methods.specs.Adopt.{IsAdoptAnswer}
 use Rattle.solve_methods.specs.Auto.{IsAutoBy, IsAutoAnswer}
 use Rattle.solve_methods.specs.Drill.{drilled}
@@ -51,6 +53,7 @@ use Rattle.certificate_text.specs.declared.certificate.Certificate.{Certificate}
 use Rattle.certificate_text.specs.declared.certificate.Certificate.TheVariants.{Tables, Log}
 use Rattle.answer_edge.proofs.StatusLaws.{ending-told, read-alone}
 use Rattle.solve_inputs.proofs.RefusalLaws.{input_told, front_told}
+use Rattle.solve_top.proofs.GivenLaws.{links-status, linkless-belongs}
 use Rattle.solve_top.proofs.SameLaws.{one_file, report_in}
 use Rattle.solve_top.proofs.PrintedLaws.{printed_solved, logged_solved}
 use Rattle.solve_top.proofs.EditLaws.{edits_solved, edits_sound}
@@ -81,34 +84,92 @@ pub Answered-task : (words : List (List ℕ)) (command : Command) (task : Task) 
 Answered-task words command task before after input answer asked served read is right = record {
   input = input;
   read = read;
-  belongs = IsAnswer-task words command task input answer asked served is;
+  belongs = inl (IsAnswer-task words command task input answer asked served is);
   right = right;
 }
 
--- the same on all bytes that were read, unless memory was wanted
-pub Answered-text : (words : List (List ℕ)) (command : Command) (task : Task) (before after : SourceState) (bytes slice : List ℕ) (result : Result Answer NoMemory)
-    → answer_to words ≡ Ok command → task_of command ≡ Some task → IsReadFrom (Whole bytes) before after → slice ≡ bytes
-    → IfOk result (IsTaskAnswer task slice) → IfOk result TellsRight → IfOk result (Answered words before after)
-Answered-text words command task before after bytes slice (Ok answer) asked served read same is right =
-    Answered-task words command task before after (Whole bytes) answer asked served read (subst (λ (t : List ℕ). IsTaskAnswer task t answer) same is) right
-Answered-text words command task before after bytes slice (Err none) asked served read same is right = tt
+-- words ask for a command, and its agents are in so many nodes where these are more than one
+module _ (words : List (List ℕ)) (command : Command) (nodes : ℕ) (asked : answer_to words ≡ Ok command) (so_many : 1 < nodes → nodes ≡ nodes_of command) where
+  abbrev pub asks_nodes : 1 < nodes → AskForNodes words
+  asks_nodes many = record {
+    command = command;
+    asked = asked;
+    many = subst (λ (k : ℕ). 1 < k) (so_many many) many;
+  }
 
--- the answer where nothing is read, unless memory was wanted
-pub Answered-unread : (words : List (List ℕ)) (command : Command) (before after : SourceState) (result : Result Answer NoMemory)
-    → answer_to words ≡ Ok command → task_of command ≡ None → after ≡ before → IfOk result (IsUnreadAnswer (drill_of command)) → IfOk result TellsRight
-    → IfOk result (Answered words before after)
-Answered-unread words command before after (Ok answer) asked unread same is right = record {
-  input = Unread;
-  read = same;
-  belongs =
+  -- an answer of the links between them is one to the words, on an input that tells their problem
+  links_given : (input : Input) (told : Told) (answer : Answer) → TellsProblem (task_of command) (drill_of command) input told → 1 < nodes → IsOfLinks nodes told.declared answer → IsLinkAnswer words input answer
+  links_given input told answer read many links = record {
+    asks = asks_nodes many;
+    told = told;
+    read = read;
+    links = subst (λ (k : ℕ). IsOfLinks k told.declared answer) (so_many many) links;
+  }
+
+  -- the answer to a task on a text, where the words ask for it
+  module _ (format : Format) (task : FileTask) (bytes : List ℕ) (answer : Answer) (served : task_of command ≡ Some (File format task)) where
+    told_problem : (told : Told) → input_read format bytes ≡ Ok told → TellsProblem (task_of command) (drill_of command) (Whole bytes) told
+    told_problem told read = subst (λ (t : Option Task). TellsProblem t (drill_of command) (Whole bytes) told) (sym served) read
+
+    told_given : (told : Told) → input_read format bytes ≡ Ok told → IsTextAnswer task (input_read format bytes) answer ⊎ ((1 < nodes) × IsOfLinks nodes told.declared answer) → IsGiven words (Whole bytes) answer
+    told_given told read (inl is) = inl (IsAnswer-task words command (File format task) (Whole bytes) answer asked served is)
+    told_given told read (inr links) = inr (links_given (Whole bytes) told answer (told_problem told read) links.0 links.1)
+
+    read_given : (read : Result Told Answer) → input_read format bytes ≡ read → IsAnswerRead nodes read (IsTextAnswer task (input_read format bytes)) answer → IsGiven words (Whole bytes) answer
+    read_given (Ok told) read is = told_given told read is
+    read_given (Err refusal) read is = inl (IsAnswer-task words command (File format task) (Whole bytes) answer asked served is)
+
+  task_given : (task : Task) (bytes : List ℕ) (answer : Answer) → task_of command ≡ Some task → IsTaskAnswerIn nodes task bytes answer → IsGiven words (Whole bytes) answer
+  task_given (File format task) bytes answer served is = read_given format task bytes answer served (input_read format bytes) refl is
+  task_given (Check format) bytes answer served is = inl (IsAnswer-task words command (Check format) (Whole bytes) answer asked served is)
+  task_given (Replay format after) bytes answer served is = inl (IsAnswer-task words command (Replay format after) (Whole bytes) answer asked served is)
+  task_given Edit bytes answer served is = inl (IsAnswer-task words command Edit (Whole bytes) answer asked served is)
+
+  -- the same on all bytes that were read, unless memory was wanted
+  pub Answered-text : (task : Task) (before after : SourceState) (bytes slice : List ℕ) (result : Result Answer NoMemory)
+      → task_of command ≡ Some task → IsReadFrom (Whole bytes) before after → slice ≡ bytes
+      → IfOk result (IsTaskAnswerIn nodes task slice) → IfOk result TellsRight → IfOk result (Answered words before after)
+  Answered-text task before after bytes slice (Ok answer) served read same is right = record {
+    input = Whole bytes;
+    read = read;
+    belongs = task_given task bytes answer served (subst (λ (t : List ℕ). IsTaskAnswerIn nodes task t answer) same is);
+    right = right;
+  }
+  Answered-text task before after bytes slice (Err none) served read same is right = tt
+
+  -- the answer where nothing is read
+  unread-IsAnswer : (answer : Answer) → task_of command ≡ None → IsUnreadAnswer (drill_of command) answer → IsAnswer words Unread answer
+  unread-IsAnswer answer unread is =
       subst (λ (r : Result Command WordFault). IsCommandAnswer r Unread answer) (sym asked)
-      (subst (λ (t : Option Task). IsServedAnswer command t Unread answer) (sym unread) (refl, is));
-  right = right;
-}
-Answered-unread words command before after (Err none) asked unread same is right = tt
+      (subst (λ (t : Option Task). IsServedAnswer command t Unread answer) (sym unread) (refl, is))
+
+  drill_problem : (drill : Drill) → task_of command ≡ None → drill_of command ≡ Some drill → TellsProblem (task_of command) (drill_of command) Unread (told_of (made_for drill) None)
+  drill_problem drill unread drills =
+      subst (λ (t : Option Task). TellsProblem t (drill_of command) Unread (told_of (made_for drill) None)) (sym unread)
+      (subst (λ (d : Option Drill). TellsProblem None d Unread (told_of (made_for drill) None)) (sym drills) refl)
+
+  drill_given : (drill : Drill) (answer : Answer) → task_of command ≡ None → drill_of command ≡ Some drill → IsDrillAnswer drill answer ⊎ ((1 < nodes) × IsOfLinks nodes (declared_by (made_for drill)) answer) → IsGiven words Unread answer
+  drill_given drill answer unread drills (inl is) = inl (unread-IsAnswer answer unread (subst (λ (d : Option Drill). IsUnreadAnswer d answer) (sym drills) is))
+  drill_given drill answer unread drills (inr links) =
+      inr (links_given Unread (told_of (made_for drill) None) answer (drill_problem drill unread drills) links.0 links.1)
+
+  unread_given : (drill : Option Drill) (answer : Answer) → task_of command ≡ None → drill_of command ≡ drill → IsUnreadAnswerIn nodes drill answer → IsGiven words Unread answer
+  unread_given (Some drill) answer unread drills is = drill_given drill answer unread drills is
+  unread_given None answer unread drills is = inl (unread-IsAnswer answer unread (subst (λ (d : Option Drill). IsUnreadAnswer d answer) (sym drills) is))
+
+  -- the same, unless memory was wanted
+  pub Answered-unread : (before after : SourceState) (result : Result Answer NoMemory)
+      → task_of command ≡ None → after ≡ before → IfOk result (IsUnreadAnswerIn nodes (drill_of command)) → IfOk result TellsRight → IfOk result (Answered words before after)
+  Answered-unread before after (Ok answer) unread same is right = record {
+    input = Unread;
+    read = same;
+    belongs = unread_given (drill_of command) answer unread refl is;
+    right = right;
+  }
+  Answered-unread before after (Err none) unread same is right = tt
 
 -- an answer of `tree` is solved
-tree-solved : (file : TextFile) (answer : Answer) → IsTreeAnswer file answer → status_of answer ≡ Solved
+pub tree-solved : (file : TextFile) (answer : Answer) → IsTreeAnswer file answer → status_of answer ≡ Solved
 tree-solved file (answers.Tree deliveries nodes names) is = refl
 tree-solved file (answers.Report report same) is = absurd is
 tree-solved file (answers.Verdict verdict names) is = absurd is
@@ -127,10 +188,13 @@ tree-solved file (answers.ManyTurns n limit) is = absurd is
 tree-solved file (answers.WideAgent var cells names) is = absurd is
 tree-solved file (answers.WideTotal cells) is = absurd is
 tree-solved file answers.Read is = absurd is
+tree-solved file answers.Link is = absurd is
+tree-solved file (answers.LinkDiffers from to at sent taken links) is = absurd is
+tree-solved file (answers.LinkBytes round from_node to_node place sent taken) is = absurd is
 tree-solved file answers.NotYet is = absurd is
 
 -- an answer with a report of DPOP is solved
-report-solved : (file : TextFile) (certified : Bool) (answer : Answer) → IsDpopSolved file certified answer → status_of answer ≡ Solved
+pub report-solved : (file : TextFile) (certified : Bool) (answer : Answer) → IsDpopSolved file certified answer → status_of answer ≡ Solved
 report-solved file certified answer is = let parts = report_in file certified answer is in ap status_of parts.1 ∙ ap status_of_ending parts.2.status
 
 -- and so is one of DPOP where nothing is too wide
@@ -138,7 +202,7 @@ dpop-solved : (file : TextFile) (certified : Bool) (answer : Answer) → wide_in
 dpop-solved file certified answer none is = report-solved file certified answer (subst (λ (wide : Option Wide). IsAnswerBy file certified wide answer) none is)
 
 -- what is too wide is told by another status than that of a failed source
-wide-status : (names : List (List ℕ)) (wide : Wide) → status_of (wide_answer names wide) ≡ TooWide
+pub wide-status : (names : List (List ℕ)) (wide : Wide) → status_of (wide_answer names wide) ≡ TooWide
 wide-status names (Agent var cells) = refl
 wide-status names (Total cells) = refl
 
@@ -153,7 +217,7 @@ fit-none d fit file whole declared =
     fit.fits
 
 -- an answer of ADOPT has the status of a report
-adopt-status : (file : TextFile) (error budget : ℕ) (certified : Bool) (answer : Answer) → IsAdoptAnswer file error budget certified answer → (ending : Ending) × (status_of answer ≡ status_of_ending ending)
+pub adopt-status : (file : TextFile) (error budget : ℕ) (certified : Bool) (answer : Answer) → IsAdoptAnswer file error budget certified answer → (ending : Ending) × (status_of answer ≡ status_of_ending ending)
 adopt-status file error budget certified (answers.Report report same) is = (report.status, refl)
 adopt-status file error budget certified (answers.Tree deliveries nodes names) is = absurd is
 adopt-status file error budget certified (answers.Verdict verdict names) is = absurd is
@@ -172,6 +236,9 @@ adopt-status file error budget certified (answers.ManyTurns n limit) is = absurd
 adopt-status file error budget certified (answers.WideAgent var cells names) is = absurd is
 adopt-status file error budget certified (answers.WideTotal cells) is = absurd is
 adopt-status file error budget certified answers.Read is = absurd is
+adopt-status file error budget certified answers.Link is = absurd is
+adopt-status file error budget certified (answers.LinkDiffers from to at sent taken links) is = absurd is
+adopt-status file error budget certified (answers.LinkBytes round from_node to_node place sent taken) is = absurd is
 adopt-status file error budget certified answers.NotYet is = absurd is
 
 -- a report of ADOPT goes well
@@ -189,7 +256,7 @@ auto-ending : (format : Format) (error budget : ℕ) (certified : Bool) (ending 
 auto-ending format error budget certified endings.Solved = tt
 auto-ending format error budget certified endings.Spent = tt
 
-auto-status : (file : TextFile) (error budget : ℕ) (certified : Bool) (wide : Option Wide) (answer : Answer) → IsAutoBy file error budget certified wide answer → (ending : Ending) × (status_of answer ≡ status_of_ending ending)
+pub auto-status : (file : TextFile) (error budget : ℕ) (certified : Bool) (wide : Option Wide) (answer : Answer) → IsAutoBy file error budget certified wide answer → (ending : Ending) × (status_of answer ≡ status_of_ending ending)
 auto-status file error budget certified None answer is = (endings.Solved, report-solved file certified answer is)
 auto-status file error budget certified (Some wide) answer is = adopt-status file error budget certified answer is
 
@@ -199,7 +266,7 @@ auto-well format file error budget certified answer is =
     subst (λ (s : Status). GoesWell s (File format (tasks.Auto error budget certified))) (sym told.1) (auto-ending format error budget certified told.0)
 
 -- an upgraded file is solved
-upgraded-solved : (d : Declared) (bar : Option ℕ) (answer : Answer) → IsUpgraded d bar answer → status_of answer ≡ Solved
+pub upgraded-solved : (d : Declared) (bar : Option ℕ) (answer : Answer) → IsUpgraded d bar answer → status_of answer ≡ Solved
 upgraded-solved d None (answers.Upgraded file) is = refl
 upgraded-solved d None (answers.UpgradedWcsp bar file) is = absurd is
 upgraded-solved d None (answers.Report report file) is = absurd is
@@ -218,6 +285,9 @@ upgraded-solved d None (answers.ManyTurns n limit) is = absurd is
 upgraded-solved d None (answers.WideAgent var cells names) is = absurd is
 upgraded-solved d None (answers.WideTotal cells) is = absurd is
 upgraded-solved d None answers.Read is = absurd is
+upgraded-solved d None answers.Link is = absurd is
+upgraded-solved d None (answers.LinkDiffers from to at sent taken links) is = absurd is
+upgraded-solved d None (answers.LinkBytes round from_node to_node place sent taken) is = absurd is
 upgraded-solved d None answers.NotYet is = absurd is
 upgraded-solved d (Some bar) (answers.UpgradedWcsp same file) is = refl
 upgraded-solved d (Some bar) (answers.Upgraded file) is = absurd is
@@ -237,6 +307,9 @@ upgraded-solved d (Some bar) (answers.ManyTurns n limit) is = absurd is
 upgraded-solved d (Some bar) (answers.WideAgent var cells names) is = absurd is
 upgraded-solved d (Some bar) (answers.WideTotal cells) is = absurd is
 upgraded-solved d (Some bar) answers.Read is = absurd is
+upgraded-solved d (Some bar) answers.Link is = absurd is
+upgraded-solved d (Some bar) (answers.LinkDiffers from to at sent taken links) is = absurd is
+upgraded-solved d (Some bar) (answers.LinkBytes round from_node to_node place sent taken) is = absurd is
 upgraded-solved d (Some bar) answers.NotYet is = absurd is
 
 -- nor is the answer of a cut
@@ -321,6 +394,9 @@ drilled-status seed (answers.ManyTurns n limit) = refl
 drilled-status seed (answers.WideAgent var cells names) = refl
 drilled-status seed (answers.WideTotal cells) = refl
 drilled-status seed answers.Read = refl
+drilled-status seed answers.Link = refl
+drilled-status seed (answers.LinkDiffers from to at sent taken links) = refl
+drilled-status seed (answers.LinkBytes round from_node to_node place sent taken) = refl
 drilled-status seed answers.NotYet = refl
 
 -- nothing was read for such an answer, so no reading failed
@@ -349,17 +425,38 @@ command-broken (Ok command) answer is = served-broken command (task_of command) 
 command-broken (Err (words.Bad at kind)) answer is = cc is.0
 command-broken (Err words.NoMemory) answer is = absurd is
 
+-- no answer of links tells a failed reading
+given-sound : (words : List (List ℕ)) (input : Input) (answer : Answer) → IsGiven words input answer → status_of answer ≡ ReadFault → input ≡ Broken
+given-sound words input answer (inl is) fault = command-sound (answer_to words) input answer is fault
+given-sound words input answer (inr links) fault = elim (links-status _ _ answer links.links) [
+  | inl failed ↦ let e : LinkFault ≡ ReadFault = sym failed ∙ fault in cc e
+  | inr differs ↦ let e : LinkDiffers ≡ ReadFault = sym differs ∙ fault in cc e
+]
+
 -- an answer by a failed reading comes only where the source failed
 pub Rose-answered : (words : List (List ℕ)) (before after : SourceState) (answer : Answer) → Answered words before after answer
     → status_of answer ≡ ReadFault → Rose before.faults after.faults
 Rose-answered words before after answer done fault =
-    subst (λ (i : Input). IsReadFrom i before after) (command-sound (answer_to words) done.input answer done.belongs fault) done.read
+    subst (λ (i : Input). IsReadFrom i before after) (given-sound words done.input answer done.belongs fault) done.read
+
+-- a broken input tells no problem
+broken-untold : (task : Option Task) (drill : Option Drill) (told : Told) → ¬ TellsProblem task drill Broken told
+broken-untold (Some (File format task)) drill told is = is
+broken-untold (Some (Check format)) drill told is = is
+broken-untold (Some (Replay format after)) drill told is = is
+broken-untold (Some Edit) drill told is = is
+broken-untold None (Some drill) told is = is
+broken-untold None None told is = is
+
+given-broken : (words : List (List ℕ)) (answer : Answer) → IsGiven words Broken answer → status_of answer ≡ ReadFault
+given-broken words answer (inl is) = command-broken (answer_to words) answer is
+given-broken words answer (inr links) = absurd (broken-untold (task_of links.asks.command) (drill_of links.asks.command) links.told links.read)
 
 -- and it comes wherever the source failed
-failed-input : (words : List (List ℕ)) (before after : SourceState) (input : Input) (answer : Answer) → IsReadFrom input before after → IsAnswer words input answer
+failed-input : (words : List (List ℕ)) (before after : SourceState) (input : Input) (answer : Answer) → IsReadFrom input before after → IsGiven words input answer
     → before.faults < after.faults → status_of answer ≡ ReadFault
 failed-input words before after Unread answer read is more = absurd (omega (arith, more, ap (λ (s : SourceState). s.faults) read))
-failed-input words before after Broken answer read is more = command-broken (answer_to words) answer is
+failed-input words before after Broken answer read is more = given-broken words answer is
 failed-input words before after TooLong answer read is more = absurd (omega (arith, more, read.1))
 failed-input words before after (Whole bytes) answer read is more = absurd (omega (arith, more, read.2))
 
@@ -395,6 +492,9 @@ file-well format tasks.Plain t (answers.EditText line kind) few is = absurd is
 file-well format tasks.Plain t (answers.WideAgent var cells names) few is = absurd is
 file-well format tasks.Plain t (answers.WideTotal cells) few is = absurd is
 file-well format tasks.Plain t answers.Read few is = absurd is
+file-well format tasks.Plain t answers.Link few is = absurd is
+file-well format tasks.Plain t (answers.LinkDiffers from to at sent taken links) few is = absurd is
+file-well format tasks.Plain t (answers.LinkBytes round from_node to_node place sent taken) few is = absurd is
 file-well format tasks.Plain t answers.NotYet few is = absurd is
 file-well format (tasks.Dpop certified) t answer few is =
     solved-well (status_of answer) (File format (tasks.Dpop certified)) (dpop-solved is.file certified answer (fit-none t.declared few is.file is.whole is.declared) is.is)
@@ -424,10 +524,11 @@ input-well text words accepts before after (Whole bytes) answer told steady read
     task-well accepts.task text answer accepts.fits (subst (λ (t : List ℕ). IsTaskAnswer accepts.task t answer) all.0 is)
 
 pub well-answered : (words : List (List ℕ)) (text : List ℕ) (before after : SourceState) (answer : Answer) → Answered words before after answer
-    → before.left ≡ Some text → (accepts : Accepts words text) → ¬ Rose before.faults after.faults → GoesWell (status_of answer) accepts.task
-well-answered words text before after answer done told accepts steady =
+    → before.left ≡ Some text → (accepts : Accepts words text) → ¬ Rose before.faults after.faults → status_of answer ≢ LinkFault → status_of answer ≢ LinkDiffers
+    → GoesWell (status_of answer) accepts.task
+well-answered words text before after answer done told accepts steady fine same =
     input-well text words accepts before after done.input answer told steady done.read
-    (task-IsAnswer words accepts.command accepts.task done.input answer accepts.asked accepts.served done.belongs)
+    (task-IsAnswer words accepts.command accepts.task done.input answer accepts.asked accepts.served (linkless-belongs words done.input answer done.belongs fine same))
 
 -- the answer where words ask for a drill
 drill-IsAnswer : (words : List (List ℕ)) (asks : AsksDrill words) (input : Input) (answer : Answer) → IsAnswer words input answer → IsDrillAnswer asks.drill answer
@@ -438,8 +539,8 @@ drill-IsAnswer words asks input answer is =
 
 -- a drill goes well
 pub drill-well : (words : List (List ℕ)) (before after : SourceState) (answer : Answer) → Answered words before after answer → (asks : AsksDrill words)
-    → GoesWell (status_of answer) (File Own asks.drill.task)
-drill-well words before after answer done asks =
-    let is = drill-IsAnswer words asks done.input answer done.belongs in
-    let same : status_of answer ≡ status_of is.solved = ap status_of is.told ∙ drilled-status asks.drill.seed is.solved in
-    subst (λ (s : Status). GoesWell s (File Own asks.drill.task)) (sym same) (file-well Own asks.drill.task (told_of (made_for asks.drill) None) is.solved asks.within is.is)
+    → status_of answer ≢ LinkFault → status_of answer ≢ LinkDiffers → GoesWell (status_of answer) (File Own asks.drill.task)
+drill-well words before after answer done asks fine same =
+    let is = drill-IsAnswer words asks done.input answer (linkless-belongs words done.input answer done.belongs fine same) in
+    let told : status_of answer ≡ status_of is.solved = ap status_of is.told ∙ drilled-status asks.drill.seed is.solved in
+    subst (λ (s : Status). GoesWell s (File Own asks.drill.task)) (sym told) (file-well Own asks.drill.task (told_of (made_for asks.drill) None) is.solved asks.within is.is)

@@ -1,11 +1,12 @@
 -- What agents come to that cells are run of.
-use Rattle.std.proofs.Common.{◌≡◌, ℕ, ◌≤◌, Bool, ◌==◌, if◌then◌else◌, List, [], ◌∷◌, ◌++◌, map, length, Option, Some, None, IfSome, is_some, refl, sym, ap, subst, ◌∙◌, inl, inr, arith}
+use Rattle.std.proofs.Common.{◌≡◌, ℕ, ◌<◌, ◌≤◌, Bool, ◌==◌, if◌then◌else◌, List, [], ◌∷◌, ◌++◌, map, length, Option, Some, None, IfSome, is_some, Result, Ok, Err, IfOk, refl, sym, ap, subst, ◌∙◌, inl, inr, arith}
 use Rattle.std.proofs.lemmas.Bool.{cases_Bool}
 use Rattle.std.proofs.lemmas.List.{length-map, length-set}
 use Rattle.std.proofs.lemmas.Option.{same_Some}
 use Rattle.std.specs.declared.dyn_box.DynBox.{DynBox}
 use Rattle.std.specs.declared.alloc.Global.{Global}
 use Rattle.dcop_base.specs.Limits.{variable_limit}
+use Rattle.dcop_base.specs.declared.memory.NoMemory.{NoMemory}
 use Rattle.protocol_steps.specs.declared.run_end.RunEnd.{RunEnd}
 use Rattle.protocol_steps.specs.declared.run_end.RunEnd.TheVariants.{AllEnded, Spent, Still}
 use Rattle.protocol_steps.specs.declared.outcome.Outcome.{Outcome}
@@ -30,6 +31,7 @@ use Rattle.run_log.specs.declared.log.LogEvent.{LogEvent}
 use Rattle.run_log.specs.Laws.{MergedStampsAreRight}
 use Rattle.run_log.specs.Logs.{entry_of, entries_of, events_of}
 use Rattle.solve_methods.specs.Kept.{IsLogOf, HaveLogged}
+use Rattle.solve_methods.specs.declared.adopt.Logged.{Logged}
 use Rattle.agent_cells.specs.declared.cell.Cell.{Cell}
 use Rattle.agent_cells.specs.State.{state_of}
 use Rattle.agent_workers.specs.Joined.{states_of}
@@ -42,7 +44,7 @@ end_tells budget net (Spent n) stops = stops.0
 end_tells budget net (Still n) stops = stops.0
 
 -- a run of cells tells how many messages they took
-pub run_tells : (budget : ℕ) (made : List View) (cells : List CellState) (end : RunEnd) → MakesARun budget made cells end → deliveries_in end ≡ total cells
+run_tells : (budget : ℕ) (made : List View) (cells : List CellState) (end : RunEnd) → MakesARun budget made cells end → deliveries_in end ≡ total cells
 run_tells budget made cells end run = end_tells budget run.0 end run.2 ∙ run.1.delivered
 
 abbrev have_run : (budget : ℕ) (made : List View) (cells : List CellState) (end : RunEnd) (outcome : Outcome) → CellsTellOutcomes → MakesARun budget made cells end → IsCellOutcome cells outcome → HaveRun budget made outcome
@@ -74,13 +76,22 @@ run_sized budget made cells end merges ran =
 
 module _ {X : Type 0} {F : X → Type 0} (M : DynBox X Global F → View) (budget : ℕ) (before after read : List (Cell X F)) (end : RunEnd) (ran : MakesARun budget (views_of M before) (states_of M after) end) (same : read ≡ after) where
   -- cells that are read when they have run are as many as before
-  pub read_few : JournalsMerge → length before ≤ variable_limit → length read ≤ variable_limit
-  read_few merges few =
+  read_sized : JournalsMerge → length read ≡ length before
+  read_sized merges =
       let size : length (states_of M after) ≡ length (views_of M before) = run_sized budget (views_of M before) (states_of M after) end merges ran in
       let old : length (views_of M before) ≡ length before = length-map before (λ c. (state_of M c).view) in
       let new : length (states_of M after) ≡ length after = length-map after (state_of M) in
-      let now : length read ≡ length after = ap (λ (cs : List (Cell X F)). length cs) same in
-      omega (arith, size, old, new, now, few)
+      ap (λ (cs : List (Cell X F)). length cs) same ∙ sym new ∙ size ∙ old
+
+  pub read_few : JournalsMerge → length before ≤ variable_limit → length read ≤ variable_limit
+  read_few merges few = let size = read_sized merges in omega (arith, size, few)
+
+  pub read_some : JournalsMerge → 0 < length before → 0 < length read
+  read_some merges some = let size = read_sized merges in omega (arith, size, some)
+
+  -- they tell how many messages they took
+  pub read_told : deliveries_in end ≡ total (states_of M read)
+  read_told = subst (λ (cs : List (Cell X F)). deliveries_in end ≡ total (states_of M cs)) (sym same) (run_tells budget (views_of M before) (states_of M after) end ran)
 
   -- and the stamps of each journal ascend
   pub read_ascends : (i : ℕ) → AscendsAbove 0 (journal_at (journals_of (states_of M read)) i)
@@ -120,27 +131,35 @@ log_of_run budget made cells net log stamps ran merged = record {
   stamped = stamps budget made cells net log ran merged;
 }
 
--- what agents come to that cells are run of, and the merged journals of the cells, where they are merged, as the log of that run
-have_logged : (budget : ℕ) (made : List View) (cells : List CellState) (end : RunEnd) (outcome : Outcome) (certified : Bool) (log : Option (List LogEvent)) → CellsTellOutcomes → MergedStampsAreRight
-    → MakesARun budget made cells end → IsCellOutcome cells outcome → is_some log ≡ certified → IfSome log (λ events. IsMerge (journals_of cells) (entries_of events))
-    → HaveLogged budget made certified (record { outcome = outcome; log = log })
-have_logged budget made cells end outcome certified None tell stamps ran cell asked merged = record {
-  run = have_run budget made cells end outcome tell ran cell;
-  asked = asked;
-  kept = tt;
-}
-have_logged budget made cells end outcome certified (Some log) tell stamps ran cell asked merged = record {
-  run = have_run budget made cells end outcome tell ran cell;
-  asked = asked;
-  kept = log_of_run budget made cells ran.0 log stamps ran.1 merged;
+-- the merged journals of such cells, where they are merged
+kept_log : (budget : ℕ) (made : List View) (cells : List CellState) (net : Network) (log : Option (List LogEvent)) → MergedStampsAreRight → (ran : IsRunOfCells budget made cells net) → IfSome log (λ events. IsMerge (journals_of cells) (entries_of events))
+    → IfSome log (IsLogOf made ran.in_rounds.pieces net)
+kept_log budget made cells net None stamps ran merged = tt
+kept_log budget made cells net (Some log) stamps ran merged = log_of_run budget made cells net log stamps ran merged
+
+-- what agents come to that cells are run of, with the merged journals of the cells, where they are merged, as the log of that run
+have_logged : (budget : ℕ) (made : List View) (cells : List CellState) (end : RunEnd) (ran : Logged) → CellsTellOutcomes → MergedStampsAreRight
+    → MakesARun budget made cells end → IsCellOutcome cells ran.outcome → IfSome ran.log (λ events. IsMerge (journals_of cells) (entries_of events))
+    → HaveLogged budget made (is_some ran.log) ran
+have_logged budget made cells end ran tell stamps makes cell merged = record {
+  run = have_run budget made cells end ran.outcome tell makes cell;
+  asked = refl;
+  kept = kept_log budget made cells makes.0 ran.log stamps makes.1 merged;
 }
 
 -- the same of what is read from cells that have run
-pub have_logged_of : {X : Type 0} {F : X → Type 0} (M : DynBox X Global F → View) (budget : ℕ) (made : List View) (before after read read' : List (Cell X F)) (end : RunEnd) (outcome : Outcome) (certified : Bool) (log : Option (List LogEvent))
-    → CellsTellOutcomes → MergedStampsAreRight → views_of M before ≡ made → MakesARun budget (views_of M before) (states_of M after) end → read ≡ after → read' ≡ after
-    → IsCellOutcome (states_of M read) outcome → is_some log ≡ certified → IfSome log (λ events. IsMerge (journals_of (states_of M read')) (entries_of events))
-    → HaveLogged budget made certified (record { outcome = outcome; log = log })
-have_logged_of {X} {F} M budget made before after read read' end outcome certified log tell stamps are ran same same' cell asked merged =
-    have_logged budget made (states_of M after) end outcome certified log tell stamps (subst (λ (vs : List View). MakesARun budget vs (states_of M after) end) are ran)
-    (subst (λ (cs : List (Cell X F)). IsCellOutcome (states_of M cs) outcome) same cell) asked
-    (subst (λ (cs : List (Cell X F)). IfSome log (λ events. IsMerge (journals_of (states_of M cs)) (entries_of events))) same' merged)
+module _ {X : Type 0} {F : X → Type 0} (M : DynBox X Global F → View) (budget : ℕ) (made : List View) (before after read : List (Cell X F)) (end : RunEnd) (certified : Bool)
+    (tell : CellsTellOutcomes) (stamps : MergedStampsAreRight) (are : views_of M before ≡ made) (makes : MakesARun budget (views_of M before) (states_of M after) end) (same : read ≡ after) where
+  pub have_logged_of : (ran : Logged) → IsCellOutcome (states_of M read) ran.outcome → is_some ran.log ≡ certified → IfSome ran.log (λ events. IsMerge (journals_of (states_of M read)) (entries_of events))
+      → HaveLogged budget made certified ran
+  have_logged_of ran cell asked merged =
+      subst (λ (b : Bool). HaveLogged budget made b ran) asked
+      (have_logged budget made (states_of M after) end ran tell stamps (subst (λ (vs : List View). MakesARun budget vs (states_of M after) end) are makes)
+      (subst (λ (cs : List (Cell X F)). IsCellOutcome (states_of M cs) ran.outcome) same cell)
+      (subst (λ (cs : List (Cell X F)). IfSome ran.log (λ events. IsMerge (journals_of (states_of M cs)) (entries_of events))) same merged))
+
+  -- unless memory was wanted
+  pub have_logged_by : (r : Result Logged NoMemory) → IfOk r (λ ran. IsCellOutcome (states_of M read) ran.outcome) → IfOk r (λ ran. is_some ran.log ≡ certified)
+      → IfOk r (λ ran. IfSome ran.log (λ events. IsMerge (journals_of (states_of M read)) (entries_of events))) → IfOk r (HaveLogged budget made certified)
+  have_logged_by (Ok ran) cell asked merged = have_logged_of ran cell asked merged
+  have_logged_by (Err refused) cell asked merged = tt

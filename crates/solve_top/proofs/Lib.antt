@@ -3,8 +3,13 @@ mod SameLaws
 mod CertificateLaws
 mod PrintedLaws
 mod EditLaws
+mod GivenLaws
 mod AnswerLaws
 mod OneLaws
 mod NodeLaws
 mod ShowLaws
 mod CrewLaws
+mod WiringLaws
+mod LinkNameLaws
+mod LinkAnswerLaws
+mod LinklessLaws

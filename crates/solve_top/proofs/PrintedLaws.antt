@@ -70,6 +70,9 @@ read_solved file before report (answers.ManyTurns n limit) is holds = absurd is
 read_solved file before report (answers.WideAgent var cells names) is holds = absurd is
 read_solved file before report (answers.WideTotal cells) is holds = absurd is
 read_solved file before report answers.Read is holds = absurd is
+read_solved file before report answers.Link is holds = absurd is
+read_solved file before report (answers.LinkDiffers from to at sent taken links) is holds = absurd is
+read_solved file before report (answers.LinkBytes round from_node to_node place sent taken) is holds = absurd is
 read_solved file before report answers.NotYet is holds = absurd is
 
 -- the first events of a run are lawful
@@ -130,6 +133,9 @@ module _ (file : TextFile) (net : Network) (log : List LogEvent) (none : fault_i
   run_replayed (answers.WideAgent var cells names) is = absurd is
   run_replayed (answers.WideTotal cells) is = absurd is
   run_replayed answers.Read is = absurd is
+  run_replayed answers.Link is = absurd is
+  run_replayed (answers.LinkDiffers from to at sent taken links) is = absurd is
+  run_replayed (answers.LinkBytes round from_node to_node place sent taken) is = absurd is
   run_replayed answers.NotYet is = absurd is
 
 log_replayed : (file : TextFile) (report : Report) (log : List LogEvent) (after : Option ℕ) (answer : Answer) → HoldsLog file report log

@@ -54,6 +54,9 @@ report_in file certified (answers.EditText line kind) is = absurd is
 report_in file certified (answers.Words at kind) is = absurd is
 report_in file certified (answers.ProblemText line kind problem) is = absurd is
 report_in file certified answers.Read is = absurd is
+report_in file certified answers.Link is = absurd is
+report_in file certified (answers.LinkDiffers from to at sent taken links) is = absurd is
+report_in file certified (answers.LinkBytes round from_node to_node place sent taken) is = absurd is
 report_in file certified answers.NotYet is = absurd is
 
 module _ (optima : FirstOptimaOfTreesAreOne) (trees : DepthFirstTreesAreLinked) (certified : Bool) where

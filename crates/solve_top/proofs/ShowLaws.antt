@@ -1,15 +1,17 @@
 -- What follows for a top call from an answer and from how it was shown.
-use Rattle.std.proofs.Common.{◌≡◌, ◌≢◌, ℕ, ◌<◌, ◌⊎◌, List, Some}
+use Rattle.std.proofs.Common.{◌≡◌, ◌≢◌, ℕ, ◌<◌, ◌⊎◌, inl, inr, List, Some, refl, arith}
 use Rattle.dcop_edge.specs.Faults.{Rose}
 use Rattle.solve_report.specs.declared.answer.Answer.{Answer}
 use Rattle.answer_edge.specs.declared.status.Status.{Status}
-use Rattle.answer_edge.specs.declared.status.Status.TheVariants.{ReadFault, WriteFault, NoMemory}
+use Rattle.answer_edge.specs.declared.status.Status.TheVariants.{Solved, Spent, No, BadWords, BadText, TooWide, ReadFault, WriteFault, NoMemory, LinkFault, LinkDiffers, TooMany}
 use Rattle.answer_edge.specs.Input.{SourceState}
 use Rattle.answer_edge.specs.Output.{SinkState}
 use Rattle.answer_edge.specs.Showing.{Shows}
+use Rattle.answer_edge.specs.Statuses.{status_of}
 use Rattle.answer_edge.proofs.ShowLaws as shows
 use Rattle.solve_words.specs.declared.command.Format.TheVariants.{Dcop as Own}
 use Rattle.solve_top.specs.declared.task.Task.TheVariants.{File}
+use Rattle.solve_top.specs.Nodes.{AskForNodes, TellsAnswer}
 use Rattle.solve_top.specs.Solving.{GoesWell, Answered, Accepts, AsksDrill, Solves}
 use Rattle.solve_top.proofs.AnswerLaws.{Rose-answered, ReadFault-answered, well-answered, drill-well}
 
@@ -34,17 +36,54 @@ pub source-so : (words : List (List ℕ)) (source source' : SourceState) (answer
 source-so words source source' answer answered sink sink' faults faults' status shown more =
     shows.source-so answer sink sink' faults faults' status shown (ReadFault-answered words source source' answer answered more)
 
-pub complete-so : (words : List (List ℕ)) (source source' : SourceState) (answer : Answer) → Answered words source source' answer
-    → (sink sink' : SinkState) (faults faults' : ℕ) (status : Status) → Shows answer sink sink' faults faults' status
-    → (text : List ℕ) → source.left ≡ Some text → (accepts : Accepts words text) → ¬ Rose source.faults source'.faults → ¬ Rose faults faults'
-    → GoesWell status accepts.task
-complete-so words source source' answer answered sink sink' faults faults' status shown text told accepts steady quiet =
-    shows.status-so (λ (s : Status). GoesWell s accepts.task) answer sink sink' faults faults' status shown quiet tt
-    (well-answered words text source source' answer answered told accepts steady)
+-- a status is that of links that failed, or not
+is-link : (status : Status) → (status ≡ LinkFault) ⊎ (status ≢ LinkFault)
+is-link Solved = inr (λ e. cc e)
+is-link Spent = inr (λ e. cc e)
+is-link No = inr (λ e. cc e)
+is-link BadWords = inr (λ e. cc e)
+is-link BadText = inr (λ e. cc e)
+is-link TooWide = inr (λ e. cc e)
+is-link ReadFault = inr (λ e. cc e)
+is-link WriteFault = inr (λ e. cc e)
+is-link NoMemory = inr (λ e. cc e)
+is-link LinkFault = inl refl
+is-link LinkDiffers = inr (λ e. cc e)
+is-link TooMany = inr (λ e. cc e)
 
-pub drill-so : (words : List (List ℕ)) (source source' : SourceState) (answer : Answer) → Answered words source source' answer
-    → (sink sink' : SinkState) (faults faults' : ℕ) (status : Status) → Shows answer sink sink' faults faults' status
-    → (asks : AsksDrill words) → ¬ Rose faults faults' → GoesWell status (File Own asks.drill.task)
-drill-so words source source' answer answered sink sink' faults faults' status shown asks quiet =
-    shows.status-so (λ (s : Status). GoesWell s (File Own asks.drill.task)) answer sink sink' faults faults' status shown quiet tt
-    (drill-well words source source' answer answered asks)
+-- what an answer tells of links, the call's status tells
+module _ (words : List (List ℕ)) (honest : Type 0) (old new : ℕ) (answer : Answer) (tells : TellsAnswer (AskForNodes words) honest old new answer) where
+  risen-failed : old < new → status_of answer ≡ LinkFault
+  risen-failed more = elim (is-link (status_of answer)) [
+    | inl failed ↦ failed
+    | inr other ↦ let still = tells.quiet other in absurd (omega (arith, still, more))
+  ]
+
+  -- an answer tells nothing of the links of a dialer that is honest and has not failed
+  unfailed : ¬ Rose old new → status_of answer ≢ LinkFault
+  unfailed still failed = still (tells.failed failed).2
+
+  alike : (AskForNodes words → honest) → status_of answer ≢ LinkDiffers
+  alike so differs = let t = tells.differs differs in t.1 (so t.0)
+
+  module _ (sink sink' : SinkState) (faults faults' : ℕ) (status : Status) (shown : Shows answer sink sink' faults faults' status) where
+    pub link-so : status ≡ LinkFault → AskForNodes words × Rose old new
+    link-so fault = let t = tells.failed (shows.told-so LinkFault (λ e. cc e) (λ e. cc e) answer sink sink' faults faults' status shown fault) in (t.0, t.2)
+
+    pub differs-so : status ≡ LinkDiffers → AskForNodes words × (¬ honest)
+    differs-so fault = tells.differs (shows.told-so LinkDiffers (λ e. cc e) (λ e. cc e) answer sink sink' faults faults' status shown fault)
+
+    pub dialer-so : old < new → (status ≡ LinkFault) ⊎ (status ≡ WriteFault) ⊎ (status ≡ NoMemory)
+    dialer-so more = shows.comes-so LinkFault answer sink sink' faults faults' status shown (risen-failed more)
+
+    pub complete-so : (source source' : SourceState) → Answered words source source' answer → (text : List ℕ) → source.left ≡ Some text → (accepts : Accepts words text)
+        → ¬ Rose source.faults source'.faults → ¬ Rose faults faults' → ¬ Rose old new → (AskForNodes words → honest) → GoesWell status accepts.task
+    complete-so source source' answered text told accepts steady quiet still so =
+        shows.status-so (λ (s : Status). GoesWell s accepts.task) answer sink sink' faults faults' status shown quiet tt
+        (well-answered words text source source' answer answered told accepts steady (unfailed still) (alike so))
+
+    pub drill-so : (source source' : SourceState) → Answered words source source' answer → (asks : AsksDrill words) → ¬ Rose faults faults' → ¬ Rose old new → (AskForNodes words → honest)
+        → GoesWell status (File Own asks.drill.task)
+    drill-so source source' answered asks quiet still so =
+        shows.status-so (λ (s : Status). GoesWell s (File Own asks.drill.task)) answer sink sink' faults faults' status shown quiet tt
+        (drill-well words source source' answer answered asks (unfailed still) (alike so))

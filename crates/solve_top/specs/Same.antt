@@ -1,5 +1,5 @@
 -- The answer of DPOP is one function of what was read, and so is that of auto where DPOP fits; an optimum of `edit` is that of DPOP.
-use Rattle.std.specs.Prelude.{◌≡◌, ℕ, Bool, List, Some, Ok}
+use Rattle.std.specs.Prelude.{◌≡◌, ℕ, ◌⊎◌, Bool, List, Some, Ok}
 use Rattle.solve_words.specs.declared.command.Command.{Command}
 use Rattle.solve_words.specs.declared.command.Format.{Format}
 use Rattle.solve_words.specs.Command.{answer_to}
@@ -14,6 +14,9 @@ use Rattle.edit_session.specs.State.{SessionState, IsAnswerNow}
 use Rattle.solve_top.specs.declared.task.Task.TheVariants.{File}
 use Rattle.solve_top.specs.declared.task.FileTask.TheVariants as tasks
 use Rattle.solve_top.specs.Answering.{IsAnswer}
+use Rattle.solve_top.specs.Nodes.{IsLinkAnswer}
+use Rattle.answer_edge.specs.declared.status.Status.TheVariants.{Solved}
+use Rattle.answer_edge.specs.Statuses.{status_of}
 use Rattle.answer_edge.specs.Input.{Input, Whole}
 use Rattle.solve_top.specs.Served.{task_of}
 use Rattle.solve_top.specs.Solving.{HasFitTree}
@@ -35,6 +38,15 @@ AreReadAlike format format' input input' = input ≡ input'
 abbrev pub DpopAnswersAreOne : Type 0
 DpopAnswersAreOne = (format format' : Format) (certified : Bool) (words words' : List (List ℕ)) (input input' : Input) (a b : Answer) → AskForDpop format certified words → AskForDpop format' certified words'
     → AreReadAlike format format' input input' → IsAnswer words input a → IsAnswer words' input' b → a ≡ b
+
+-- an answer that words are given on an input, also one of links between the nodes that they ask for
+abbrev pub IsGiven : List (List ℕ) → Input → Answer → Type 0
+IsGiven words input answer = IsAnswer words input answer ⊎ IsLinkAnswer words input answer
+
+-- whatever words ask for DPOP, in any number of nodes, all with a certificate or all without: the solved answers on inputs that are read alike are one
+abbrev pub SolvedAnswersAreOne : Type 0
+SolvedAnswersAreOne = (format format' : Format) (certified : Bool) (words words' : List (List ℕ)) (input input' : Input) (a b : Answer) → AskForDpop format certified words → AskForDpop format' certified words'
+    → AreReadAlike format format' input input' → IsGiven words input a → IsGiven words' input' b → status_of a ≡ Solved → status_of b ≡ Solved → a ≡ b
 
 -- words that ask for auto on a problem in this format, with a certificate or without
 pub record AskForAuto (format : Format) (certified : Bool) (words : List (List ℕ)) : Type 0 where

@@ -29,6 +29,7 @@ use Rattle.solve_top.specs.declared.task.Task.TheVariants.{File, Check, Replay, 
 use Rattle.solve_top.specs.declared.task.FileTask.{FileTask}
 use Rattle.solve_top.specs.declared.task.FileTask.TheVariants as tasks
 use Rattle.solve_top.specs.Answering.{IsAnswer, IsFileAnswer, lines_in}
+use Rattle.solve_top.specs.Nodes.{IsLinkAnswer}
 use Rattle.solve_top.specs.Taken.{AreLinesTaken}
 use Rattle.solve_cut.specs.Allowed.{HasAllowedCut}
 use Rattle.solve_methods.specs.Dpop.{wide_in}
@@ -44,11 +45,11 @@ use Rattle.solve_inputs.specs.Told.{Told}
 use Rattle.solve_inputs.specs.Inputs.{input_read}
 use Rattle.solve_inputs.specs.Fronts.{front_read}
 
--- an answer to words, with what was read for it of a source that stood so before and stands so afterwards
+-- an answer to words, or one of links between the nodes that they ask for, with what was read for it of a source that stood so before and stands so afterwards
 pub record Answered (words : List (List ℕ)) (before after : SourceState) (answer : Answer) : Type 0 where
   pub input : Input
   pub read : IsReadFrom input before after
-  pub belongs : IsAnswer words input answer
+  pub belongs : IsAnswer words input answer ⊎ IsLinkAnswer words input answer
   pub right : TellsRight answer
 
 -- a call on these words answered and showed its answer, or its sink failed

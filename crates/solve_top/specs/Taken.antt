@@ -1,5 +1,5 @@
 -- Edit lines none of which is refused.
-use Rattle.std.specs.Prelude.{◌≡◌, ℕ, List, [], ◌∷◌, None, Result, Ok, Err}
+use Rattle.std.specs.Prelude.{◌≡◌, List, [], ◌∷◌, None, Result, Ok, Err}
 use Rattle.problem_text.specs.File.{TextFile}
 use Rattle.problem_text.specs.PlainLines.{Plain}
 use Rattle.edit_session.specs.State.{edited_file}

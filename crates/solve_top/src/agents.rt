@@ -1,8 +1,14 @@
 //! Running agents, and the tree that they find.
 
-ghost use Rattle.std.specs.Prelude.{◌≡◌, ◌≤◌, IfOk};
-ghost use Rattle.dcop_base.specs.Limits.{budget_limit};
-ghost use Rattle.agent_links.specs.Ready.{IsNewCell};
+ghost use Rattle.std.specs.Prelude.{◌≡◌, ◌<◌, ◌≤◌, ℕ, length, is_some, IfOk, IfSome};
+ghost use Rattle.dcop_base.specs.Limits.{budget_limit, variable_limit};
+ghost use Rattle.protocol_steps.specs.JournalStamps.{journal_at};
+ghost use Rattle.worker_runs.specs.CellRounds.{total};
+ghost use Rattle.worker_runs.specs.CellRuns.{journals_of, IsCellOutcome};
+ghost use Rattle.worker_runs.specs.Merges.{AscendsAbove, IsMerge};
+ghost use Rattle.agent_workers.specs.Joined.{states_of};
+ghost use Rattle.agent_links.specs.Ready.{IsNewCell, deliveries_in};
+ghost use Rattle.run_log.specs.Logs.{entries_of};
 ghost use Rattle.delivery_core.specs.Agents.{IsStartFor, agents_of};
 ghost use Rattle.problem_solved.specs.Goal.{problem_solved};
 ghost use Rattle.problem_text.specs.Steps.{declared_by};
@@ -27,7 +33,7 @@ use dcop_edge::Gate;
 use delivery_core::Start;
 use problem_solved::ProblemSolved;
 use problem_text::ProblemFile;
-use protocol_steps::Outcome;
+use protocol_steps::{Outcome, RunEnd};
 use pseudotree::Tree;
 use run_log::merged_stamps_are_right;
 use solve_methods::{Logged, tree_answer};
@@ -54,8 +60,8 @@ pub(crate) fn run_agents<R: Threads + Sync, G: Gate>(
     Ok(ran.outcome)
 }
 
-/// The same, with the log of the run where it is asked for. This is the one place where agents are
-/// run, and where they are boxed.
+/// The same, with the log of the run where it is asked for. Agents are boxed where they are run, since no
+/// call may hand boxes out.
 pub(crate) fn run_logged<R: Threads + Sync, G: Gate>(
     crew: &Crew<R, G>,
     alloc: Global,
@@ -105,8 +111,27 @@ pub(crate) fn run_logged<R: Threads + Sync, G: Gate>(
     let seats = seats_of(alloc, problem, start)?;
     let mut cells = make_each(alloc, seats, &make)?;
     let end = run(crew.rt, &mut cells, crew.workers, budget, crew.gate)?;
-    let outcome = outcome_of(alloc, cells.as_slice(), end)?;
-    let log = log_if(alloc, certified, cells.as_slice())?;
+    logged_of(alloc, cells.as_slice(), end, certified)
+}
+
+/// What the agents of cells have come to that have run to this end, with the log of the run where it
+/// is asked for.
+pub(crate) fn logged_of(
+    alloc: Global,
+    cells: &[Cell],
+    end: RunEnd,
+    certified: bool,
+) -> Result<Logged, NoMemory>
+    requires some { 0 < length cells.now }
+    requires few { length cells.now ≤ variable_limit }
+    requires told { deliveries_in end ≡ total (states_of (λ b. meaning (b.vtable, b.value)) cells.now) }
+    requires ascend { (i : ℕ) → AscendsAbove 0 (journal_at (journals_of (states_of (λ b. meaning (b.vtable, b.value)) cells.now)) i) }
+    ensures outcome { IfOk result (λ ran. IsCellOutcome (states_of (λ b. meaning (b.vtable, b.value)) cells.now) ran.outcome) }
+    ensures asked { IfOk result (λ ran. is_some ran.log ≡ certified) }
+    ensures merged { IfOk result (λ ran. IfSome ran.log (λ events. IsMerge (journals_of (states_of (λ b. meaning (b.vtable, b.value)) cells.now)) (entries_of events))) }
+{
+    let outcome = outcome_of(alloc, cells, end)?;
+    let log = log_if(alloc, certified, cells)?;
     Ok(Logged { outcome, log })
 }
 

@@ -1,12 +1,13 @@
 //! The answer to words and a source.
 
-ghost use Rattle.std.specs.Prelude.{◌≡◌, ◌≤◌, length, map, IfOk, string_bytes};
+ghost use Rattle.std.specs.Prelude.{◌≡◌, ◌<◌, ◌≤◌, length, map, IfOk, string_bytes};
 ghost use Rattle.dcop_base.specs.Limits.{input_limit};
 ghost use Rattle.solve_report.specs.AnswerText.{HasText};
 ghost use Rattle.problem_text.specs.Steps.{declared_by};
 ghost use Rattle.solve_methods.specs.Goal.{TellsRight};
 ghost use Rattle.answer_edge.specs.Input.{source_state};
 ghost use Rattle.solve_top.specs.Answering.{IsFileAnswer, IsTextAnswer, IsReportAnswer, IsTaskAnswer, IsUpgraded, lines_in};
+ghost use Rattle.solve_top.specs.Nodes.{AskForNodes, IsAnswerIn, IsAnswerRead, IsTaskAnswerIn, TellsLinks};
 ghost use Rattle.solve_top.specs.Served.{IsTaskInRange, IsFileTaskInRange};
 ghost use Rattle.solve_top.specs.Solving.{Answered};
 ghost use Rattle.solve_inputs.specs.Told.{told_of};
@@ -22,7 +23,7 @@ use crate::editing::edits_behind;
 use crate::reaching::by_adopt;
 use crate::replaying::replay_behind;
 use crate::settling::by_auto;
-use crate::task::{FileTask, Task, workers_of};
+use crate::task::{FileTask, Task, nodes_of, workers_of};
 use answer_edge::{MAX_INPUT, ReadEnd, fault_answer, read_all, words_answer};
 use dcop_base::NoMemory;
 use dcop_edge::{Gate, Source};
@@ -32,22 +33,34 @@ use solve_inputs::{InputFault, ReadInput, read_front, read_input, wcsp_answer};
 use solve_methods::{Asked, plain_answer};
 use solve_report::Answer;
 use solve_words::{Format, WordFault, WordKind, read_words};
-use std::alloc::Global;
+use std::alloc::{AllocGlobal, Global};
+use std::net::Net;
+use std::random::RandomSource;
+use std::sync::Wait;
 use std::thread::Threads;
+use std::time::Clock;
+use wire_edge::Dialer;
 
 /// The answer to words, and where they are served to all that the source has left. The words are
 /// tested before anything is read.
-pub fn answer_of<R: Threads + Sync, S: Source, G: Gate>(
+pub fn answer_of<R, S, D, G>(
     rt: &R,
     alloc: Global,
     words: &[String],
     source: &mut S,
+    dialer: &mut D,
     gate: &G,
 ) -> Result<Answer, NoMemory>
+where
+    R: Threads + Wait + Clock + RandomSource + Net + AllocGlobal + Sync,
+    S: Source,
+    D: Dialer,
+    G: Gate,
     ensures answered { IfOk result (Answered (map string_bytes words.now)
         (source_state (S.left source.old) (S.faults source.old))
         (source_state (S.left source.new) (S.faults source.new))) }
     ensures told { IfOk result HasText }
+    ensures links { TellsLinks (AskForNodes (map string_bytes words.now)) (D.is_honest dialer.old) (D.faults dialer.old) (D.faults dialer.new) result }
 {
     let command = match read_words(alloc, words) {
         Ok(command) => command,
@@ -55,12 +68,18 @@ pub fn answer_of<R: Threads + Sync, S: Source, G: Gate>(
         Err(WordFault::NoMemory) => return Err(NoMemory),
     };
     let workers = workers_of(&command);
-    let crew = Crew { rt, gate, workers };
+    let nodes = nodes_of(&command);
+    let crew = Crew {
+        rt,
+        gate,
+        workers,
+        nodes,
+    };
     let Some(task) = Task::of(&command) else {
-        return unread_answer(&crew, alloc, &command);
+        return unread_answer(&crew, alloc, dialer, &command);
     };
     match read_all(alloc, source) {
-        Ok(bytes) => task_answer(&crew, alloc, task, bytes.as_slice()),
+        Ok(bytes) => task_answer(&crew, alloc, dialer, task, bytes.as_slice()),
         Err(ReadEnd::Failed) => Ok(Answer::Read),
         Err(ReadEnd::TooLong) => Ok(fault_answer(0, TextKind::TooLong)),
         Err(ReadEnd::NoMemory) => Err(NoMemory),
@@ -68,20 +87,26 @@ pub fn answer_of<R: Threads + Sync, S: Source, G: Gate>(
 }
 
 /// The answer to a task on all bytes of an input.
-fn task_answer<R: Threads + Sync, G: Gate>(
+fn task_answer<R, D, G>(
     crew: &Crew<R, G>,
     alloc: Global,
+    dialer: &mut D,
     task: Task,
     bytes: &[u8],
 ) -> Result<Answer, NoMemory>
+where
+    R: Threads + Wait + Clock + RandomSource + Net + AllocGlobal + Sync,
+    D: Dialer,
+    G: Gate,
     requires range { IsTaskInRange task }
     requires short { length bytes.now ≤ input_limit }
-    ensures belongs { IfOk result (IsTaskAnswer task bytes.now) }
+    ensures belongs { IfOk result (IsTaskAnswerIn crew.now.nodes task bytes.now) }
+    ensures links { TellsLinks (1 < crew.now.nodes) (D.is_honest dialer.old) (D.faults dialer.old) (D.faults dialer.new) result }
     ensures right { IfOk result TellsRight }
     ensures told { IfOk result HasText }
 {
     match task {
-        Task::File { format, task } => text_answer(crew, alloc, format, task, bytes),
+        Task::File { format, task } => text_answer(crew, alloc, dialer, format, task, bytes),
         Task::Check { format } => report_answer(alloc, format, bytes),
         Task::Replay { format, after } => replay_behind(alloc, format, after, bytes),
         Task::Edit => edits_behind(crew, alloc, bytes),
@@ -89,20 +114,26 @@ fn task_answer<R: Threads + Sync, G: Gate>(
 }
 
 /// The answer to a task on the problem that a whole input tells.
-fn text_answer<R: Threads + Sync, G: Gate>(
+fn text_answer<R, D, G>(
     crew: &Crew<R, G>,
     alloc: Global,
+    dialer: &mut D,
     format: Format,
     task: FileTask,
     bytes: &[u8],
 ) -> Result<Answer, NoMemory>
+where
+    R: Threads + Wait + Clock + RandomSource + Net + AllocGlobal + Sync,
+    D: Dialer,
+    G: Gate,
     requires range { IsFileTaskInRange task }
-    ensures belongs { IfOk result (IsTextAnswer task (input_read format bytes.now)) }
+    ensures belongs { IfOk result (IsAnswerRead crew.now.nodes (input_read format bytes.now) (IsTextAnswer task (input_read format bytes.now))) }
+    ensures links { TellsLinks (1 < crew.now.nodes) (D.is_honest dialer.old) (D.faults dialer.old) (D.faults dialer.new) result }
     ensures right { IfOk result TellsRight }
     ensures told { IfOk result HasText }
 {
     match read_input(alloc, format, bytes) {
-        Ok(read) => file_answer(crew, alloc, task, read),
+        Ok(read) => file_answer(crew, alloc, dialer, task, read),
         Err(InputFault::Text { line, kind }) => Ok(fault_answer(line, kind)),
         Err(InputFault::Wcsp { line, kind }) => Ok(wcsp_answer(line, kind)),
         Err(InputFault::NoMemory) => Err(NoMemory),
@@ -110,21 +141,27 @@ fn text_answer<R: Threads + Sync, G: Gate>(
 }
 
 /// The answer to a task on a file, with the bar of a WCSP text.
-pub(crate) fn file_answer<R: Threads + Sync, G: Gate>(
+pub(crate) fn file_answer<R, D, G>(
     crew: &Crew<R, G>,
     alloc: Global,
+    dialer: &mut D,
     task: FileTask,
     read: ReadInput,
 ) -> Result<Answer, NoMemory>
+where
+    R: Threads + Wait + Clock + RandomSource + Net + AllocGlobal + Sync,
+    D: Dialer,
+    G: Gate,
     requires range { IsFileTaskInRange task }
-    ensures belongs { IfOk result (IsFileAnswer task (told_of read.file read.bar)) }
+    ensures belongs { IfOk result (IsAnswerIn crew.now.nodes (declared_by read.file) (IsFileAnswer task (told_of read.file read.bar))) }
+    ensures links { TellsLinks (1 < crew.now.nodes) (D.is_honest dialer.old) (D.faults dialer.old) (D.faults dialer.new) result }
     ensures right { IfOk result TellsRight }
     ensures told { IfOk result HasText }
 {
     let ReadInput { file, bar } = read;
     match task {
         FileTask::Plain => plain_answer(alloc, file),
-        FileTask::Dpop { certified } => by_dpop(crew, alloc, file, certified),
+        FileTask::Dpop { certified } => by_dpop(crew, alloc, dialer, file, certified),
         FileTask::Adopt {
             error,
             budget,
@@ -135,7 +172,7 @@ pub(crate) fn file_answer<R: Threads + Sync, G: Gate>(
                 budget,
                 certified,
             };
-            by_adopt(crew, alloc, file, asked)
+            by_adopt(crew, alloc, dialer, file, asked)
         }
         FileTask::Auto {
             error,
@@ -147,7 +184,7 @@ pub(crate) fn file_answer<R: Threads + Sync, G: Gate>(
                 budget,
                 certified,
             };
-            by_auto(crew, alloc, file, asked)
+            by_auto(crew, alloc, dialer, file, asked)
         }
         FileTask::Cut { limit } => by_cut(crew, alloc, file, limit),
         FileTask::Tree => by_search(crew, alloc, file),

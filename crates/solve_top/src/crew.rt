@@ -1,6 +1,7 @@
 //! What agents are run by.
 
-ghost use Rattle.std.specs.Prelude.{◌<◌};
+ghost use Rattle.std.specs.Prelude.{◌<◌, ◌≤◌};
+ghost use Rattle.tcp_links.specs.Plans.{node_limit};
 
 /// What agents are run by.
 #[derive(Drop)]
@@ -11,5 +12,8 @@ pub(crate) struct Crew<'a, R, G> {
     pub(crate) gate: &'a G,
     /// How many threads the agents share.
     pub(crate) workers: u32,
+    /// Over how many nodes the agents are spread, where their command lets them be.
+    pub(crate) nodes: u32,
     ghost some: { 0 < workers },
+    ghost few: { (0 < nodes) × (nodes ≤ node_limit) },
 }

@@ -1,10 +1,10 @@
 //! Answers for which nothing is read: drills, and commands that are not served yet.
 
-ghost use Rattle.std.specs.Prelude.{◌≡◌, IfOk, IfSome};
+ghost use Rattle.std.specs.Prelude.{◌≡◌, ◌<◌, Some, IfOk, IfSome};
 ghost use Rattle.solve_report.specs.AnswerText.{HasText};
 ghost use Rattle.solve_methods.specs.Goal.{TellsRight};
 ghost use Rattle.solve_words.specs.Ranges.{IsInRange};
-ghost use Rattle.solve_top.specs.Answering.{IsDrillAnswer, IsUnreadAnswer};
+ghost use Rattle.solve_top.specs.Nodes.{IsUnreadAnswerIn, TellsLinks};
 ghost use Rattle.solve_top.specs.Drilling.{drill_of, IsDrillInRange};
 
 use crate::answering::file_answer;
@@ -17,8 +17,13 @@ use solve_inputs::ReadInput;
 use solve_methods::drill_answer;
 use solve_report::Answer;
 use solve_words::{Command, Format};
-use std::alloc::Global;
+use std::alloc::{AllocGlobal, Global};
+use std::net::Net;
+use std::random::RandomSource;
+use std::sync::Wait;
 use std::thread::Threads;
+use std::time::Clock;
+use wire_edge::Dialer;
 
 /// A problem that is to be made from a number, and what is asked on it.
 #[derive(Clone, Copy, Debug, PartialEq, Eq)]
@@ -86,31 +91,43 @@ impl Drill {
 }
 
 /// The answer to a command that reads nothing: a drill's, or that it is not served yet.
-pub(crate) fn unread_answer<R: Threads + Sync, G: Gate>(
+pub(crate) fn unread_answer<R, D, G>(
     crew: &Crew<R, G>,
     alloc: Global,
+    dialer: &mut D,
     command: &Command,
 ) -> Result<Answer, NoMemory>
+where
+    R: Threads + Wait + Clock + RandomSource + Net + AllocGlobal + Sync,
+    D: Dialer,
+    G: Gate,
     requires { IsInRange command.now }
-    ensures belongs { IfOk result (IsUnreadAnswer (drill_of command.now)) }
+    ensures belongs { IfOk result (IsUnreadAnswerIn crew.now.nodes (drill_of command.now)) }
+    ensures links { TellsLinks (1 < crew.now.nodes) (D.is_honest dialer.old) (D.faults dialer.old) (D.faults dialer.new) result }
     ensures right { IfOk result TellsRight }
     ensures told { IfOk result HasText }
 {
     match Drill::of(command) {
-        Some(drill) => made_answer(crew, alloc, drill),
+        Some(drill) => made_answer(crew, alloc, dialer, drill),
         None => Ok(Answer::NotYet),
     }
 }
 
 /// The answer to a drill: the summary of what `solve` reports of the problem that is made, or its
 /// refusal.
-fn made_answer<R: Threads + Sync, G: Gate>(
+fn made_answer<R, D, G>(
     crew: &Crew<R, G>,
     alloc: Global,
+    dialer: &mut D,
     drill: Drill,
 ) -> Result<Answer, NoMemory>
+where
+    R: Threads + Wait + Clock + RandomSource + Net + AllocGlobal + Sync,
+    D: Dialer,
+    G: Gate,
     requires { IsDrillInRange drill }
-    ensures belongs { IfOk result (IsDrillAnswer drill) }
+    ensures belongs { IfOk result (IsUnreadAnswerIn crew.now.nodes (Some drill)) }
+    ensures links { TellsLinks (1 < crew.now.nodes) (D.is_honest dialer.old) (D.faults dialer.old) (D.faults dialer.new) result }
     ensures right { IfOk result TellsRight }
     ensures told { IfOk result HasText }
 {
@@ -123,6 +140,6 @@ fn made_answer<R: Threads + Sync, G: Gate>(
         task,
     } = drill;
     let file = make_problem(alloc, seed, vars, size, degree, top)?;
-    let solved = file_answer(crew, alloc, task, ReadInput { file, bar: None })?;
+    let solved = file_answer(crew, alloc, dialer, task, ReadInput { file, bar: None })?;
     Ok(drill_answer(seed, solved))
 }

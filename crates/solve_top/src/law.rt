@@ -1,6 +1,6 @@
 //! The laws of the answers of DPOP, auto and `edit`.
 
-ghost use Rattle.solve_top.specs.Same.{AutoAnswersAreThoseOfDpop, DpopAnswersAreOne, EditAnswersAreThoseOfDpop};
+ghost use Rattle.solve_top.specs.Same.{AutoAnswersAreThoseOfDpop, DpopAnswersAreOne, EditAnswersAreThoseOfDpop, SolvedAnswersAreOne};
 
 use dcop_optimum::first_optima_of_trees_are_one;
 use pseudotree::depth_first_trees_are_linked;
@@ -12,6 +12,18 @@ use pseudotree::depth_first_trees_are_linked;
 /// It is the contract of a call that does nothing: who needs the law calls it.
 pub fn dpop_answers_are_one()
     ensures { DpopAnswersAreOne }
+{
+    first_optima_of_trees_are_one();
+    depth_first_trees_are_linked();
+}
+
+/// The solved answers of `solve --method dpop` are one function of the file and of whether it is
+/// certified for every number of nodes too: over wires that nobody trusts a call answers the same, or
+/// that links have failed or differ.
+///
+/// It is the contract of a call that does nothing: who needs the law calls it.
+pub fn solved_answers_are_one()
+    ensures { SolvedAnswersAreOne }
 {
     first_optima_of_trees_are_one();
     depth_first_trees_are_linked();

@@ -13,7 +13,9 @@ mod cutting;
 mod drilling;
 mod editing;
 mod law;
+mod linking;
 mod logging;
+mod nodes;
 mod reaching;
 mod replaying;
 mod settling;
@@ -24,5 +26,6 @@ pub use answer_edge::{MAX_INPUT, Status};
 pub use answering::answer_of;
 pub use law::{
     auto_answers_are_those_of_dpop, dpop_answers_are_one, edit_answers_are_those_of_dpop,
+    solved_answers_are_one,
 };
 pub use top::solve;

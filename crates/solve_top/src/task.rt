@@ -1,6 +1,8 @@
 //! The commands that are served.
 
-ghost use Rattle.std.specs.Prelude.{◌≡◌, ◌<◌, IfSome};
+ghost use Rattle.std.specs.Prelude.{◌≡◌, ◌<◌, ◌≤◌, IfSome};
+ghost use Rattle.tcp_links.specs.Plans.{node_limit};
+ghost use Rattle.solve_top.specs.Nodes.{nodes_of};
 ghost use Rattle.solve_words.specs.Ranges.{IsInRange};
 ghost use Rattle.solve_top.specs.Served.{task_of, IsTaskInRange};
 
@@ -67,7 +69,6 @@ impl Task {
             } => Some(Task::on_file(format, FileTask::Plain)),
             Command::Solve {
                 method: Choice::Dpop,
-                nodes: 1,
                 certificate: certified,
                 format,
                 ..
@@ -76,7 +77,6 @@ impl Task {
                 method: Choice::Adopt,
                 error,
                 budget,
-                nodes: 1,
                 certificate: certified,
                 format,
                 ..
@@ -92,7 +92,6 @@ impl Task {
                 method: Choice::Auto,
                 error,
                 budget,
-                nodes: 1,
                 certificate: certified,
                 format,
                 ..
@@ -135,6 +134,18 @@ pub(crate) fn workers_of(command: &Command) -> u32
     match command {
         Command::Solve { workers, .. } => (*workers).max(1),
         Command::Tree { workers, .. } | Command::Drill { workers, .. } => (*workers).max(1),
+        _ => 1,
+    }
+}
+
+/// Over how many nodes the agents of a command are spread.
+pub(crate) fn nodes_of(command: &Command) -> u32
+    requires { IsInRange command.now }
+    ensures few { (0 < result) × (result ≤ node_limit) }
+    ensures same { 1 < result → result ≡ nodes_of command.now }
+{
+    match command {
+        Command::Solve { nodes, .. } | Command::Drill { nodes, .. } => (*nodes).max(1),
         _ => 1,
     }
 }

@@ -4,6 +4,7 @@ ghost use Rattle.std.specs.Prelude.{◌≡◌, ◌≢◌, ◌<◌, ◌⊎◌, �
 ghost use Rattle.dcop_edge.specs.Faults.{Rose};
 ghost use Rattle.answer_edge.specs.Input.{source_state};
 ghost use Rattle.answer_edge.specs.Output.{sink_state};
+ghost use Rattle.solve_top.specs.Nodes.{AskForNodes};
 ghost use Rattle.solve_top.specs.Solving.{Solves, Accepts, AsksDrill, GoesWell};
 
 use crate::answering::answer_of;
@@ -17,6 +18,7 @@ use std::random::RandomSource;
 use std::sync::Wait;
 use std::thread::Threads;
 use std::time::Clock;
+use wire_edge::Dialer;
 
 /// Answers these words, which are the arguments of the program: reads the source as they ask,
 /// writes the answer to the sink, and says how it went.
@@ -36,18 +38,31 @@ use std::time::Clock;
 /// all of these but `drill` read a WCSP text as their problem. `edit` reads a problem and edit lines
 /// behind it, and writes the optimum of the problem as it is at each line that asks for it: the
 /// values and the cost that DPOP gives.
+///
+/// With `--nodes` the agents of `dpop`, `adopt` and `auto` are spread over so many nodes, which talk
+/// over wires that the dialer gives; what is answered then stands on no trust in these wires.
 /// Refusals are written to the sink too.
 ///
-/// [`Status::ReadFault`] and [`Status::WriteFault`] come only where the source or the sink failed
-/// in this call. With `WriteFault` a prefix of the answer is written, with [`Status::NoMemory`],
-/// where memory was wanted and not had, nothing, and otherwise the whole answer, and the sink is
-/// finished.
+/// [`Status::ReadFault`], [`Status::WriteFault`] and [`Status::LinkFault`] come only where the
+/// source, the sink or the dialer failed in this call, and [`Status::LinkDiffers`] only over a dialer
+/// that is not honest; the last two only with more nodes than one. With `WriteFault` a prefix of the
+/// answer is written, with [`Status::NoMemory`], where memory was wanted and not had, nothing, and
+/// otherwise the whole answer, and the sink is finished.
 pub fn solve<
     R: Threads + Wait + Clock + RandomSource + Net + AllocGlobal + Sync,
     S: Source,
     K: Sink,
+    D: Dialer,
     G: Gate,
->(rt: &R, alloc: Global, words: &[String], source: &mut S, sink: &mut K, gate: &G) -> Status
+>(
+    rt: &R,
+    alloc: Global,
+    words: &[String],
+    source: &mut S,
+    sink: &mut K,
+    dialer: &mut D,
+    gate: &G,
+) -> Status
     ensures answered { result ≢ Status.NoMemory → Solves (map string_bytes words.now)
         (source_state (S.left source.old) (S.faults source.old))
         (source_state (S.left source.new) (S.faults source.new))
@@ -58,18 +73,29 @@ pub fn solve<
         Rose (S.faults source.old) (S.faults source.new) }
     ensures write_fault { result ≡ Status.WriteFault →
         Rose (K.faults sink.old) (K.faults sink.new) }
+    ensures link_fault { result ≡ Status.LinkFault →
+        AskForNodes (map string_bytes words.now) × Rose (D.faults dialer.old) (D.faults dialer.new) }
+    ensures link_differs { result ≡ Status.LinkDiffers →
+        AskForNodes (map string_bytes words.now) × (¬ D.is_honest dialer.old) }
     ensures source_failed { S.faults source.old < S.faults source.new →
         (result ≡ Status.ReadFault) ⊎ (result ≡ Status.WriteFault) ⊎ (result ≡ Status.NoMemory) }
     ensures sink_failed { K.faults sink.old < K.faults sink.new → result ≡ Status.WriteFault }
+    ensures dialer_failed { D.faults dialer.old < D.faults dialer.new →
+        (result ≡ Status.LinkFault) ⊎ (result ≡ Status.WriteFault) ⊎ (result ≡ Status.NoMemory) }
     ensures complete { (text : List ℕ) → S.left source.old ≡ Some text →
         (accepts : Accepts (map string_bytes words.now) text) →
         ¬ Rose (S.faults source.old) (S.faults source.new) →
         ¬ Rose (K.faults sink.old) (K.faults sink.new) →
+        ¬ Rose (D.faults dialer.old) (D.faults dialer.new) →
+        (AskForNodes (map string_bytes words.now) → D.is_honest dialer.old) →
         GoesWell result accepts.task }
     ensures drilled { (asks : AsksDrill (map string_bytes words.now)) →
-        ¬ Rose (K.faults sink.old) (K.faults sink.new) → GoesWell result (Task.File Format.Dcop asks.drill.task) }
+        ¬ Rose (K.faults sink.old) (K.faults sink.new) →
+        ¬ Rose (D.faults dialer.old) (D.faults dialer.new) →
+        (AskForNodes (map string_bytes words.now) → D.is_honest dialer.old) →
+        GoesWell result (Task.File Format.Dcop asks.drill.task) }
 {
-    let Ok(answer) = answer_of(rt, alloc, words, source, gate) else {
+    let Ok(answer) = answer_of(rt, alloc, words, source, dialer, gate) else {
         return Status::NoMemory;
     };
     show(alloc, &answer, sink)

@@ -1,6 +1,7 @@
 //! What a case file says.
 
 use std::alloc::Global;
+use wire_edge::{Alter, PollFail};
 
 /// The program that a case is for.
 #[derive(Clone, Copy)]
@@ -25,6 +26,12 @@ pub struct Case {
     pub failing_reads: Vec<u64>,
     /// The numbers of the writes that fail, from 0, the finish counted among them.
     pub failing_writes: Vec<u64>,
+    /// The numbers of the pairs of wires whose dialling fails, from 0.
+    pub failing_dials: Vec<u64>,
+    /// The polls of wires that fail.
+    pub failing_polls: Vec<PollFail>,
+    /// The bytes that are altered on wires.
+    pub alters: Vec<Alter>,
     /// What is expected, of the whole input or of prefixes of it.
     pub answers: Vec<Answer>,
 }
@@ -77,6 +84,9 @@ impl Case {
             changes: Vec::new(alloc),
             failing_reads: Vec::new(alloc),
             failing_writes: Vec::new(alloc),
+            failing_dials: Vec::new(alloc),
+            failing_polls: Vec::new(alloc),
+            alters: Vec::new(alloc),
             answers: Vec::new(alloc),
         }
     }

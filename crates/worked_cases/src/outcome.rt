@@ -6,13 +6,14 @@ use crate::input::{case_at, input_of};
 use anyhow::{Result, bail};
 use dcop_edge::{MemorySink, MemorySource, OpenGate};
 use order_top::order;
-use solve_top::solve;
+use solve_top::{Status, solve};
 use std::net::Net;
 use std::random::RandomSource;
 use std::rt::Files;
 use std::sync::Wait;
 use std::thread::Threads;
 use std::time::Clock;
+use wire_edge::{MemoryDialer, SteadyDialer};
 
 /// How often cases were run, and how many of these runs differ.
 #[derive(Clone, Copy, Default)]
@@ -74,13 +75,35 @@ fn found_on<R: Threads + Wait + Clock + RandomSource + Net + AllocGlobal + Sync>
     let mut source = MemorySource::new(input, case.failing_reads.clone()?);
     let mut sink = MemorySink::new(alloc, case.failing_writes.clone()?);
     let status = match case.program {
-        Program::Dcop => solve(rt, alloc, &case.words, &mut source, &mut sink, &OpenGate),
+        Program::Dcop => solved(rt, case, &mut source, &mut sink)?,
         Program::DcopOrder => order(alloc, &case.words, &mut source, &mut sink),
     };
     Ok(Found {
         status: status.code(),
         output: sink.bytes().to_vec(alloc)?,
     })
+}
+
+/// How `dcop` answers a case: over wires that never fail, unless the case lets some fail or alters a
+/// byte on one.
+fn solved<R: Threads + Wait + Clock + RandomSource + Net + AllocGlobal + Sync>(
+    rt: &R,
+    case: &Case,
+    source: &mut MemorySource,
+    sink: &mut MemorySink,
+) -> Result<Status> {
+    let alloc = rt.alloc();
+    let words = &case.words;
+    if case.failing_dials.is_empty() && case.failing_polls.is_empty() && case.alters.is_empty() {
+        let mut dialer = SteadyDialer::new();
+        return Ok(solve(rt, alloc, words, source, sink, &mut dialer, &OpenGate));
+    }
+    let mut dialer = MemoryDialer::new(
+        case.failing_dials.clone()?,
+        case.failing_polls.clone()?,
+        case.alters.clone()?,
+    );
+    Ok(solve(rt, alloc, words, source, sink, &mut dialer, &OpenGate))
 }
 
 fn is_as_expected(answer: &Answer, found: &Found) -> bool {

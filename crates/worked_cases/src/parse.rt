@@ -4,6 +4,7 @@ use crate::case::{Answer, Case, Change, Output, Piece, Program};
 use crate::escape::add_escaped;
 use anyhow::{Context, Result, bail, ensure};
 use std::alloc::Global;
+use wire_edge::{Alter, PollFail};
 
 /// What lines of text belong to.
 #[derive(Clone, Copy, PartialEq, Eq)]
@@ -104,6 +105,9 @@ impl Reading {
             },
             "failing-reads" => add_numbers(&mut self.case.failing_reads, value)?,
             "failing-writes" => add_numbers(&mut self.case.failing_writes, value)?,
+            "failing-dials" => add_numbers(&mut self.case.failing_dials, value)?,
+            "failing-poll" => self.case.failing_polls.push(poll_fail(value)?)?,
+            "alter" => self.case.alters.push(alter(value)?)?,
             "prefix" => self.lengths = Some(lengths(value)?),
             "status" => self.status(value)?,
             "output" => self.output(Output::Whole(Vec::new(self.alloc)))?,
@@ -191,6 +195,44 @@ fn add_numbers(numbers: &mut Vec<u64>, value: &str) -> Result<()> {
         numbers.push(number(word)?)?;
     }
     Ok(())
+}
+
+/// The poll that `PAIR first N` or `PAIR second N` names.
+fn poll_fail(value: &str) -> Result<PollFail> {
+    let Some((pair, end_and_poll)) = value.split_once(' ') else {
+        bail!("no end of the pair");
+    };
+    let Some((end, poll)) = end_and_poll.split_once(' ') else {
+        bail!("no poll of the end");
+    };
+    Ok(PollFail {
+        pair: pair.parse::<u32>().context("pair")?,
+        first_end: is_first(end)?,
+        poll: number(poll)?,
+    })
+}
+
+/// The byte that `PAIR first PLACE BYTE` or `PAIR second PLACE BYTE` alters, with the end that sends.
+fn alter(value: &str) -> Result<Alter> {
+    let Some((from, byte)) = value.rsplit_once(' ') else {
+        bail!("no byte");
+    };
+    let named = poll_fail(from)?;
+    Ok(Alter {
+        pair: named.pair,
+        from_first: named.first_end,
+        place: named.poll,
+        byte: byte.parse::<u8>().context("byte")?,
+    })
+}
+
+/// Whether an end is the first of its pair.
+fn is_first(end: &str) -> Result<bool> {
+    match end {
+        "first" => Ok(true),
+        "second" => Ok(false),
+        _ => bail!("{end} is no end"),
+    }
 }
 
 /// The first and the last length that `A` or `A to B` says.

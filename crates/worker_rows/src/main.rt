@@ -14,12 +14,25 @@ use std::thread::Threads;
 use std::time::Clock;
 
 fn main(rt: HostRuntime) -> io::Result<()> {
-    match missed_by_two_workers(&rt) {
-        Some(missed) => println!(rt; "two-workers-meet, visits that saw no other agent: {missed}")?,
-        None => println!(rt; "two-workers-meet: otherwise")?,
-    }
+    print_missed(&rt, "two-workers-meet", "solve --method dpop --workers 2")?;
+    print_missed(
+        &rt,
+        "two-workers-meet-over-nodes",
+        "solve --method dpop --workers 2 --nodes 2",
+    )?;
     print_visits(&rt, "solve --method dpop")?;
     print_visits(&rt, "tree")
+}
+
+// How many visits of two workers on these words saw no other agent.
+fn print_missed<R>(rt: &R, row: &str, words: &str) -> io::Result<()>
+where
+    R: Print + Threads + Wait + Clock + RandomSource + Net + AllocGlobal + Sync,
+{
+    match missed_by_two_workers(rt, words) {
+        Some(missed) => println!(rt; "{row}, visits that saw no other agent: {missed}"),
+        None => println!(rt; "{row}: otherwise"),
+    }
 }
 
 // How often each agent is visited on these words.

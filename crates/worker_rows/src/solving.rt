@@ -8,6 +8,7 @@ use std::random::RandomSource;
 use std::sync::Wait;
 use std::thread::Threads;
 use std::time::Clock;
+use wire_edge::SteadyDialer;
 
 /// The problem.
 const PAIR: &str = "dcop 1\nvar x 2\nvar y 2\ntable x y : 5 3 2 7\nend\n";
@@ -16,14 +17,14 @@ const PAIR: &str = "dcop 1\nvar x 2\nvar y 2\ntable x y : 5 3 2 7\nend\n";
 const SOLVED: &str =
     "status solved\nmethod dpop\nerror 0\ndeliveries 2\ncost 2\nlower 2\nupper 2\nvalue x 1\nvalue y 0\nend\n";
 
-/// How many visits of agents went on without the other one, where two workers solve the problem;
-/// None where the answer is another one.
-pub(crate) fn missed_by_two_workers<R>(rt: &R) -> Option<u64>
+/// How many visits of agents went on without the other one, where two workers solve the problem on
+/// these words; None where the answer is another one.
+pub(crate) fn missed_by_two_workers<R>(rt: &R, words: &str) -> Option<u64>
 where
     R: Threads + Wait + Clock + RandomSource + Net + AllocGlobal + Sync,
 {
     let gate = MeetingGate::new();
-    let answer = answer_to(rt, "solve --method dpop --workers 2", &gate)?;
+    let answer = answer_to(rt, words, &gate)?;
     if answer.as_slice() != SOLVED.as_bytes() {
         return None;
     }
@@ -54,7 +55,8 @@ where
     let problem = PAIR.as_bytes().to_vec(alloc).ok()?;
     let mut source = MemorySource::new(problem, Vec::new(alloc));
     let mut sink = MemorySink::new(alloc, Vec::new(alloc));
-    let status = solve(rt, alloc, &list, &mut source, &mut sink, gate);
+    let mut dialer = SteadyDialer::new();
+    let status = solve(rt, alloc, &list, &mut source, &mut sink, &mut dialer, gate);
     if status != Status::Solved {
         return None;
     }

@@ -1,5 +1,6 @@
+use Rattle.std.proofs.Common.{arith}
 use Rattle.agent_seats.proofs.CellLaws.{seats_ready}
-use Rattle.solve_top.proofs.CrewLaws.{have_logged_of, read_ascends, read_few}
+use Rattle.solve_top.proofs.CrewLaws.{have_logged_by, read_ascends, read_few, read_some, read_told}
 use Rattle.solve_top.proofs.agents.run_logged.Goals as goal
 
 pub run-requires-clause-joined : goal.run-requires-clause-joined
@@ -14,16 +15,24 @@ pub run-requires-clause-fresh : goal.run-requires-clause-fresh
 run-requires-clause-fresh g c κs within =
     (seats_ready _ c.args.problem.now c.args.start.now c.in_ok-seats.seats.items c.in_ok-cells.cells.items c.problem_is_whole.ensures c.in_ok-seats.ensures c.in_ok-cells.ensures.size (λ k s x lt. c.in_ok-cells.ensures.each k s x lt)).fresh
 
-pub log_if-requires-clause-few : goal.log_if-requires-clause-few
-log_if-requires-clause-few g c =
-    read_few _ c.args.budget c.in_ok-cells.cells.items c.run.new.cells.items c.as_slice-2.result.now c.in_ok-end.end c.in_ok-end.ensures.run c.as_slice-2.ensures.value c.journals_merge.ensures
-    (seats_ready _ c.args.problem.now c.args.start.now c.in_ok-seats.seats.items c.in_ok-cells.cells.items c.problem_is_whole.ensures c.in_ok-seats.ensures c.in_ok-cells.ensures.size (λ k s x lt. c.in_ok-cells.ensures.each k s x lt)).joined.few
+pub logged_of-requires-clause-some : goal.logged_of-requires-clause-some
+logged_of-requires-clause-some g c =
+    read_some _ c.args.budget c.in_ok-cells.cells.items c.run.new.cells.items c.as_slice.result.now c.in_ok-end.end c.in_ok-end.ensures.run c.as_slice.ensures.value c.journals_merge.ensures
+    (omega (arith, c.in_ok-cells.ensures.size, c.in_ok-seats.ensures.size, c.problem_is_whole.ensures.some))
 
-pub log_if-requires-clause-ascend : goal.log_if-requires-clause-ascend
-log_if-requires-clause-ascend g c = read_ascends _ c.args.budget c.in_ok-cells.cells.items c.run.new.cells.items c.as_slice-2.result.now c.in_ok-end.end c.in_ok-end.ensures.run c.as_slice-2.ensures.value
+pub logged_of-requires-clause-few : goal.logged_of-requires-clause-few
+logged_of-requires-clause-few g c =
+    read_few _ c.args.budget c.in_ok-cells.cells.items c.run.new.cells.items c.as_slice.result.now c.in_ok-end.end c.in_ok-end.ensures.run c.as_slice.ensures.value c.journals_merge.ensures
+    (omega (arith, c.in_ok-cells.ensures.size, c.in_ok-seats.ensures.size, c.problem_is_whole.ensures.few))
+
+pub logged_of-requires-clause-told : goal.logged_of-requires-clause-told
+logged_of-requires-clause-told g c = read_told _ c.args.budget c.in_ok-cells.cells.items c.run.new.cells.items c.as_slice.result.now c.in_ok-end.end c.in_ok-end.ensures.run c.as_slice.ensures.value
+
+pub logged_of-requires-clause-ascend : goal.logged_of-requires-clause-ascend
+logged_of-requires-clause-ascend g c = read_ascends _ c.args.budget c.in_ok-cells.cells.items c.run.new.cells.items c.as_slice.result.now c.in_ok-end.end c.in_ok-end.ensures.run c.as_slice.ensures.value
 
 pub returns : goal.returns
 returns g c =
-    have_logged_of _ c.args.budget _ c.in_ok-cells.cells.items c.run.new.cells.items c.as_slice.result.now c.as_slice-2.result.now c.in_ok-end.end c.in_ok-outcome.outcome c.args.certified c.in_ok-log.log c.cells_tell_outcomes.ensures c.merged_stamps_are_right.ensures
+    have_logged_by _ c.args.budget _ c.in_ok-cells.cells.items c.run.new.cells.items c.as_slice.result.now c.in_ok-end.end c.args.certified c.cells_tell_outcomes.ensures c.merged_stamps_are_right.ensures
     (seats_ready _ c.args.problem.now c.args.start.now c.in_ok-seats.seats.items c.in_ok-cells.cells.items c.problem_is_whole.ensures c.in_ok-seats.ensures c.in_ok-cells.ensures.size (λ k s x lt. c.in_ok-cells.ensures.each k s x lt)).views
-    c.in_ok-end.ensures.run c.as_slice.ensures.value c.as_slice-2.ensures.value c.in_ok-outcome.ensures c.in_ok-log.ensures.asked c.in_ok-log.ensures.merged
+    c.in_ok-end.ensures.run c.as_slice.ensures.value c.logged_of.result c.logged_of.ensures.outcome c.logged_of.ensures.asked c.logged_of.ensures.merged

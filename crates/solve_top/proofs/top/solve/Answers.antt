@@ -1,5 +1,5 @@
 use Rattle.answer_edge.proofs.ShowLaws.{write-so}
-use Rattle.solve_top.proofs.ShowLaws.{solved-so, read-so, source-so, complete-so, drill-so}
+use Rattle.solve_top.proofs.ShowLaws.{solved-so, read-so, source-so, link-so, differs-so, dialer-so, complete-so, drill-so}
 use Rattle.solve_top.proofs.top.solve.Goals as goal
 
 pub returns-clause-answered : goal.returns-clause-answered
@@ -18,9 +18,19 @@ pub returns-clause-source_failed : goal.returns-clause-source_failed
 returns-clause-source_failed g c = λ more.
     source-so _ _ _ c.in-Ok.answer c.in-Ok.ensures.answered _ _ _ _ _ c.show.ensures.shows more
 
+pub returns-clause-link_fault : goal.returns-clause-link_fault
+returns-clause-link_fault g c = λ fault. link-so _ _ _ _ c.in-Ok.answer c.in-Ok.ensures.links _ _ _ _ _ c.show.ensures.shows fault
+
+pub returns-clause-link_differs : goal.returns-clause-link_differs
+returns-clause-link_differs g c = λ fault. differs-so _ _ _ _ c.in-Ok.answer c.in-Ok.ensures.links _ _ _ _ _ c.show.ensures.shows fault
+
+pub returns-clause-dialer_failed : goal.returns-clause-dialer_failed
+returns-clause-dialer_failed g c = λ more. dialer-so _ _ _ _ c.in-Ok.answer c.in-Ok.ensures.links _ _ _ _ _ c.show.ensures.shows more
+
 pub returns-clause-complete : goal.returns-clause-complete
-returns-clause-complete g c = λ text told accepts steady quiet.
-    complete-so _ _ _ c.in-Ok.answer c.in-Ok.ensures.answered _ _ _ _ _ c.show.ensures.shows text told accepts steady quiet
+returns-clause-complete g c = λ text told accepts steady quiet still so.
+    complete-so _ _ _ _ c.in-Ok.answer c.in-Ok.ensures.links _ _ _ _ _ c.show.ensures.shows _ _ c.in-Ok.ensures.answered text told accepts steady quiet still so
 
 pub returns-clause-drilled : goal.returns-clause-drilled
-returns-clause-drilled g c = λ asks quiet. drill-so _ _ _ c.in-Ok.answer c.in-Ok.ensures.answered _ _ _ _ _ c.show.ensures.shows asks quiet
+returns-clause-drilled g c = λ asks quiet still so.
+    drill-so _ _ _ _ c.in-Ok.answer c.in-Ok.ensures.links _ _ _ _ _ c.show.ensures.shows _ _ c.in-Ok.ensures.answered asks quiet still so

@@ -1,0 +1,84 @@
+-- How agents are joined, before and behind calls.
+use Rattle.std.proofs.Common.{◌≡◌, ℕ, ◌<◌, ◌≤◌, List, [], length, Result, Ok, Err, IfErr, sym, subst, ◌∙◌}
+use Rattle.std.specs.List.{All}
+use Rattle.std.specs.Result.{IsErrAnd}
+use Rattle.dcop_base.specs.Problem.{Dcop}
+use Rattle.dcop_edge.specs.Faults.{Rose}
+use Rattle.protocol_steps.specs.View.{View}
+use Rattle.delivery_core.specs.declared.start.Start.{Start}
+use Rattle.delivery_core.specs.Agents.{agents_of, IsStartFor}
+use Rattle.worker_runs.specs.Cells.{CellState}
+use Rattle.worker_runs.specs.NodeRounds.{home}
+use Rattle.node_runs.specs.Wires.{Wire}
+use Rattle.agent_links.specs.Links.{pairs_to}
+use Rattle.agent_seats.specs.Seats.{all_neighbours}
+use Rattle.wire_edge.specs.Wire.{Told}
+use Rattle.tcp_links.specs.declared.fault.Difference.{Difference}
+use Rattle.tcp_links.specs.declared.fault.NodeFault.{NodeFault}
+use Rattle.tcp_links.specs.declared.fault.NodeFault.TheVariants.{Failed, Differs, NoMemory}
+use Rattle.tcp_links.specs.declared.plan.NodePlan.{NodePlan}
+use Rattle.tcp_links.specs.Plans.{IsBetween, AreOrdered, IsHonest}
+use Rattle.tcp_links.specs.Ends.{IsDifference, HasDifference, DiffersOver}
+use Rattle.tcp_links.specs.Faults.{IsNoDifference, HasNodeCause}
+use Rattle.letter_wires.specs.Honest.{AreHonest}
+use Rattle.node_seats.specs.Links.{node_in, KeepsPairs}
+use Rattle.node_seats.specs.Seats.{IsSameFrame}
+use Rattle.solve_top.specs.Nodes.{HaveDiffered}
+use Rattle.solve_top.specs.Wiring.{IsFaultOf, MayFail}
+
+-- a fault behind calls that left the dialer's count as it was, in as many nodes, over links that are honest where these are
+fault_behind : (p : Dcop) (nodes nodes' : ℕ) (honest honest' : Type 0) (first old new : ℕ) (e : NodeFault) → old ≡ first → nodes' ≡ nodes → (honest → honest') → IsFaultOf p nodes' honest' old new e → IsFaultOf p nodes honest first new e
+fault_behind p nodes nodes' honest honest' first old new Failed still many so fails =
+    subst (λ (k : ℕ). (1 < nodes) × (k ≤ new) × Rose k new) still (subst (λ (k : ℕ). 1 < k) many fails.0, fails.1, fails.2)
+fault_behind p nodes nodes' honest honest' first old new (Differs d) still many so fails =
+    (subst (λ (k : ℕ). 1 < k) many fails.0, fails.1 ∙ still, (λ (h : honest). fails.2 (so h)), subst (λ (k : ℕ). HaveDiffered p k d) many fails.3)
+fault_behind p nodes nodes' honest honest' first old new NoMemory still many so fails = fails ∙ still
+
+-- so it is with a call
+pub fails_behind : {T : Type 0} (p : Dcop) (nodes nodes' : ℕ) (honest honest' : Type 0) (first old new : ℕ) (r : Result T NodeFault) → old ≡ first → nodes' ≡ nodes → (honest → honest')
+    → MayFail {T = T} p nodes' honest' old new r → MayFail {T = T} p nodes honest first new r
+fails_behind {T} p nodes nodes' honest honest' first old new (Ok value) still many so fails = fails ∙ still
+fails_behind {T} p nodes nodes' honest honest' first old new (Err e) still many so fails = fault_behind p nodes nodes' honest honest' first old new e still many so fails
+
+-- and with a fault that is handed on
+pub fails_on : {T : Type 0} (p : Dcop) (nodes nodes' : ℕ) (honest honest' : Type 0) (first old new : ℕ) (r : Result T NodeFault) (e : NodeFault) → IsErrAnd r (λ x. x ≡ e) → old ≡ first → nodes' ≡ nodes → (honest → honest')
+    → IsFaultOf p nodes' honest' old new e → MayFail {T = T} p nodes honest first new r
+fails_on {T} p nodes nodes' honest honest' first old new (Ok value) e is still many so fails = absurd is
+fails_on {T} p nodes nodes' honest honest' first old new (Err x) e is still many so fails =
+    subst (λ (f : NodeFault). IsFaultOf p nodes honest first new f) (sym is) (fault_behind p nodes nodes' honest honest' first old new e still many so fails)
+
+-- a plan with the same wires is honest where the other is
+pub frame_honest : {W : Type 0} (told : W → Told) (is_joined : W → W → Type 0) (before after : NodePlan W) → IsSameFrame before after → IsHonest told is_joined before → IsHonest told is_joined after
+frame_honest {W} told is_joined before after frame honest = subst (λ (ws : List (W × W)). AreHonest told is_joined ws) (sym frame.wires) honest
+
+-- what a run of nodes says of links: agents of a start were run so over a plan that a frame keeps, whose links were new
+module _ {W : Type 0} (p : Dcop) (start : Start) (fits : IsStartFor p start) (budget : ℕ) (before plan : NodePlan W) (nodes_are : plan.nodes ≡ before.nodes) (agents_are : plan.agents ≡ length p.sizes)
+    (between : All (IsBetween (length p.sizes) plan.nodes) plan.kept.items) (fresh : All (λ (w : Wire). w.passages ≡ []) plan.kept.items)
+    (ordered : AreOrdered plan.kept.items) (pairs : KeepsPairs (node_in plan) plan.kept.items (pairs_to (all_neighbours p) (length (all_neighbours p)))) (last : List CellState) where
+  differed : (d : Difference) → HasDifference budget (agents_of p start) plan last d → HaveDiffered p before.nodes d
+  differed d h = record {
+    start = start;
+    fits = fits;
+    budget = budget;
+    links = plan.kept.items;
+    between = subst (λ (k : ℕ). All (IsBetween (length p.sizes) k) plan.kept.items) nodes_are between;
+    ordered = ordered;
+    pairs =
+        subst (λ (k : ℕ). KeepsPairs (home k (length p.sizes)) plan.kept.items (pairs_to (all_neighbours p) (length (all_neighbours p)))) nodes_are
+        (subst (λ (n : ℕ). KeepsPairs (home plan.nodes n) plan.kept.items (pairs_to (all_neighbours p) (length (all_neighbours p)))) agents_are pairs);
+    fresh = fresh;
+    started = h.started;
+    starts = h.starts;
+    last = last;
+    right =
+        subst (λ (k : ℕ). IsDifference k (home k (length p.sizes)) budget plan.kept.items h.started last d) nodes_are
+        (subst (λ (n : ℕ). IsDifference plan.nodes (home plan.nodes n) budget plan.kept.items h.started last d) agents_are h.right);
+  }
+
+  pub ran_fails : {T : Type 0} (made : List View) → made ≡ agents_of p start → (many : 1 < before.nodes) (honest : Type 0) (old new : ℕ) (r : Result T NodeFault) → HasNodeCause old new r → (honest → IfErr r IsNoDifference) → IfErr r (DiffersOver budget made plan last)
+      → MayFail {T = T} p before.nodes honest old new r
+  ran_fails made are many honest old new (Ok value) cause none differs = cause
+  ran_fails made are many honest old new (Err Failed) cause none differs = (many, cause.0, cause.1)
+  ran_fails made are many honest old new (Err (Differs d)) cause none differs =
+      (many, cause, (λ (h : honest). none h), differed d (subst (λ (vs : List View). HasDifference budget vs plan last d) are differs))
+  ran_fails made are many honest old new (Err NoMemory) cause none differs = cause

@@ -1,0 +1,148 @@
+-- Agents in more nodes than one: which words ask for them, and the answers of the links between nodes.
+use Rattle.std.specs.Prelude.{◌≡◌, ◌≢◌, ℕ, ◌<◌, ◌≤◌, ◌⊎◌, List, [], Option, Some, None, Result, Ok, Err, length, option_map}
+use Rattle.std.specs.List.{All}
+use Rattle.dcop_edge.specs.Faults.{Rose}
+use Rattle.dcop_base.specs.Problem.{Dcop}
+use Rattle.dcop_base.specs.Whole.{IsProblem}
+use Rattle.dcop_base.specs.declared.memory.NoMemory.{NoMemory}
+use Rattle.protocol_steps.specs.declared.message.Message.{Message as Sent}
+use Rattle.delivery_core.specs.declared.start.Start.{Start}
+use Rattle.delivery_core.specs.Agents.{agents_of, IsStartFor}
+use Rattle.worker_runs.specs.Cells.{CellState}
+use Rattle.worker_runs.specs.CellRounds.{AreStarted}
+use Rattle.worker_runs.specs.NodeRounds.{home}
+use Rattle.node_runs.specs.Wires.{Wire}
+use Rattle.agent_links.specs.Links.{pairs_to}
+use Rattle.agent_seats.specs.Seats.{all_neighbours}
+use Rattle.message_code.specs.Code.{code_of}
+use Rattle.tcp_links.specs.declared.fault.Difference.{Difference}
+use Rattle.tcp_links.specs.declared.fault.Difference.TheVariants.{Message, Bytes}
+use Rattle.tcp_links.specs.declared.fault.NodeFault.{NodeFault}
+use Rattle.tcp_links.specs.declared.fault.NodeFault.TheVariants.{Failed, Differs, NoMemory as no_memory}
+use Rattle.tcp_links.specs.Plans.{IsBetween, AreOrdered}
+use Rattle.tcp_links.specs.Ends.{IsDifference}
+use Rattle.node_seats.specs.Links.{KeepsPairs}
+use Rattle.problem_text.specs.Declarations.{Declared}
+use Rattle.problem_text.specs.File.{TextFile}
+use Rattle.problem_text.specs.Steps.{declared_by}
+use Rattle.problem_solved.specs.Goal.{problem_solved}
+use Rattle.solve_words.specs.declared.command.Command.{Command}
+use Rattle.solve_words.specs.declared.command.Command.TheVariants.{Solve, Drill}
+use Rattle.solve_words.specs.Command.{answer_to}
+use Rattle.solve_report.specs.declared.answer.Answer.{Answer}
+use Rattle.solve_report.specs.declared.answer.Answer.TheVariants as answers
+use Rattle.answer_edge.specs.declared.status.Status.TheVariants.{LinkFault, LinkDiffers}
+use Rattle.answer_edge.specs.Statuses.{status_of}
+use Rattle.answer_edge.specs.Input.{Input, Unread, Whole}
+use Rattle.solve_inputs.specs.Told.{Told, told_of}
+use Rattle.solve_inputs.specs.Inputs.{input_read}
+use Rattle.solve_top.specs.Answering.{IsTextAnswer, IsTaskAnswer, IsDrillAnswer, IsUnreadAnswer}
+use Rattle.solve_top.specs.Served.{task_of}
+use Rattle.solve_top.specs.Drilling.{drill_of, made_for}
+use Rattle.solve_top.specs.declared.drilling.Drill.{Drill as Drilled}
+use Rattle.solve_top.specs.declared.task.Task.{Task}
+use Rattle.solve_top.specs.declared.task.Task.TheVariants.{File}
+
+-- how many nodes a command asks for
+abbrev pub nodes_of : Command → ℕ
+nodes_of (Solve method workers error budget nodes certificate format cells) = nodes
+nodes_of (Drill method workers error budget nodes seed vars size degree top cells) = nodes
+nodes_of _ = 1
+
+-- words that ask for more nodes than one
+pub record AskForNodes (words : List (List ℕ)) : Type 0 where
+  pub command : Command
+  pub asked : answer_to words ≡ Ok command
+  pub many : 1 < nodes_of command
+
+-- agents of a problem were run in so many nodes, over links that had passed nothing, one from each agent to each of its neighbours in another node and no other, by sender and then receiver; and they came to this difference between what was sent and what was taken
+pub record HaveDiffered (p : Dcop) (nodes : ℕ) (d : Difference) : Type 0 where
+  pub start : Start
+  pub fits : IsStartFor p start
+  pub budget : ℕ
+  pub links : List Wire
+  pub between : All (IsBetween (length p.sizes) nodes) links
+  pub ordered : AreOrdered links
+  pub pairs : KeepsPairs (home nodes (length p.sizes)) links (pairs_to (all_neighbours p) (length (all_neighbours p)))
+  pub fresh : All (λ (w : Wire). w.passages ≡ []) links
+  pub started : List CellState
+  pub starts : AreStarted (agents_of p start) started
+  pub last : List CellState
+  pub right : IsDifference nodes (home nodes (length p.sizes)) budget links started last d
+
+-- the code of an envelope, where there is one
+abbrev pub code_in : Option (ℕ × Sent) → Option (List ℕ)
+code_in envelope = option_map code_of envelope
+
+-- the answer that tells a difference, beside the names of the variables
+abbrev pub difference_answer : List (List ℕ) → Difference → Answer
+difference_answer names (Message from to at sent taken) = answers.LinkDiffers from to at (code_in sent) (code_in taken) names
+difference_answer names (Bytes round from_node to_node place sent taken) = answers.LinkBytes round from_node to_node place sent taken
+
+-- what comes of telling a fault of agents in nodes, whose variables have these names: that the links failed is told without memory
+abbrev pub TellsFault : List (List ℕ) → NodeFault → Result Answer NoMemory → Type 0
+TellsFault names Failed result = result ≡ Ok answers.Link
+TellsFault names (Differs d) (Ok answer) = answer ≡ difference_answer names d
+TellsFault names no_memory (Ok answer) = ⊥
+TellsFault names fault (Err refused) = Unit {0}
+
+-- a fault whose agents, where it tells a link, are among so many
+abbrev pub IsFaultNamed : ℕ → NodeFault → Type 0
+IsFaultNamed count (Differs (Message from to at sent taken)) = (from < count) × (to < count)
+IsFaultNamed count fault = Unit {0}
+
+-- it tells a difference that agents came to, in so many nodes, who solve a file that declares this
+pub record TellsDifference (nodes : ℕ) (d : Declared) (answer : Answer) : Type 0 where
+  pub file : TextFile
+  pub whole : IsProblem file.problem
+  pub declared : declared_by file ≡ d
+  pub difference : Difference
+  pub differed : HaveDiffered (problem_solved file) nodes difference
+  pub told : answer ≡ difference_answer file.names difference
+
+-- an answer of the links between so many nodes: they failed, or what was taken is not what was sent
+abbrev pub IsOfLinks : ℕ → Declared → Answer → Type 0
+IsOfLinks nodes d answer = (answer ≡ answers.Link) ⊎ TellsDifference nodes d answer
+
+-- an input tells a problem on which agents are run: all of a text that is accepted; or, for a drill, nothing is read and the problem is the one that is made
+abbrev pub TellsProblem : Option Task → Option Drilled → Input → Told → Type 0
+TellsProblem (Some (File format task)) drill (Whole bytes) told = input_read format bytes ≡ Ok told
+TellsProblem None (Some drill) Unread told = told ≡ told_of (made_for drill) None
+TellsProblem task drill input told = ⊥
+
+-- an answer of links to words that ask for more nodes than one, where words and text are accepted
+pub record IsLinkAnswer (words : List (List ℕ)) (input : Input) (answer : Answer) : Type 0 where
+  pub asks : AskForNodes words
+  pub told : Told
+  pub read : TellsProblem (task_of asks.command) (drill_of asks.command) input told
+  pub links : IsOfLinks (nodes_of asks.command) told.declared answer
+
+-- an answer to a task on a text that declares this, by agents in so many nodes: one that belongs to it, or one of the links between them
+abbrev pub IsAnswerIn : ℕ → Declared → (Answer → Type 0) → Answer → Type 0
+IsAnswerIn nodes d belongs answer = belongs answer ⊎ ((1 < nodes) × IsOfLinks nodes d answer)
+
+-- the same, on an input that is read as this
+abbrev pub IsAnswerRead : ℕ → Result Told Answer → (Answer → Type 0) → Answer → Type 0
+IsAnswerRead nodes (Ok told) belongs answer = IsAnswerIn nodes told.declared belongs answer
+IsAnswerRead nodes (Err refusal) belongs answer = belongs answer
+
+-- the answer to a task on a text, by agents in so many nodes
+abbrev pub IsTaskAnswerIn : ℕ → Task → List ℕ → Answer → Type 0
+IsTaskAnswerIn nodes (File format task) bytes answer = IsAnswerRead nodes (input_read format bytes) (IsTextAnswer task (input_read format bytes)) answer
+IsTaskAnswerIn nodes task bytes answer = IsTaskAnswer task bytes answer
+
+-- the answer to a command for which nothing is read, by agents in so many nodes
+abbrev pub IsUnreadAnswerIn : ℕ → Option Drilled → Answer → Type 0
+IsUnreadAnswerIn nodes (Some drill) answer = IsAnswerIn nodes (declared_by (made_for drill)) (IsDrillAnswer drill) answer
+IsUnreadAnswerIn nodes None answer = IsUnreadAnswer None answer
+
+-- what an answer tells of the links between nodes, where this is that there are more nodes than one, and this that the dialer is honest: the dialer's count rose where it tells that they failed, and in no other case; and a difference is told over no honest dialer
+pub record TellsAnswer (many honest : Type 0) (old new : ℕ) (answer : Answer) : Type 0 where
+  pub failed : status_of answer ≡ LinkFault → many × (old ≤ new) × Rose old new
+  pub differs : status_of answer ≡ LinkDiffers → many × (¬ honest)
+  pub quiet : status_of answer ≢ LinkFault → new ≡ old
+
+-- the same, where want of memory leaves the count as it was
+abbrev pub TellsLinks : Type 0 → Type 0 → ℕ → ℕ → Result Answer NoMemory → Type 0
+TellsLinks many honest old new (Ok answer) = TellsAnswer many honest old new answer
+TellsLinks many honest old new (Err refused) = new ≡ old
