@@ -7,6 +7,7 @@ ghost use Rattle.reply_cache.specs.Limits.{reply_limit};
 use dcop_base::{Bytes, NoMemory};
 use std::alloc::Global;
 use std::marker::{Send, Sync};
+use std::sync::Wait;
 use std::thread::Threads;
 
 /// Makes replies to keys. Which bytes are a reply to a key is the same for all makers of a type: a
@@ -25,7 +26,7 @@ pub trait Maker: Send + Drop {
     /// # Errors
     ///
     /// [`NoMemory`] where memory was wanted and not had.
-    fn make<R: Threads + Sync>(
+    fn make<R: Threads + Wait + Sync>(
         &mut self,
         rt: &R,
         alloc: Global,

@@ -3,7 +3,7 @@
 use crate::gate::MeetingGate;
 use crate::pair::{ONCE, replies_in};
 use dcop_edge::{Gate, MemorySink, MemorySource, OpenGate};
-use serve_edge::MemoryListener;
+use serve_edge::{Listener, MemoryListener};
 use serve_top::serve_all;
 use solve_maker::SolveMaker;
 use std::alloc::Global;
@@ -60,15 +60,16 @@ where
     })
 }
 
-// What is answered to these words.
-fn answered_by<R, G>(
+/// What is answered to these words.
+pub(crate) fn answered_by<R, L, G>(
     rt: &R,
     words: &str,
-    listener: &mut MemoryListener,
+    listener: &mut L,
     gate: &G,
 ) -> Option<Answered>
 where
     R: Threads + Wait + AllocGlobal + Sync,
+    L: Listener,
     G: Gate,
 {
     let alloc = rt.alloc();
@@ -77,7 +78,7 @@ where
         list.push(String::from_str(alloc, word).ok()?).ok()?;
     }
     let mut sink = MemorySink::new(alloc, Vec::new(alloc));
-    let status = serve_all::<R, MemoryListener, MemorySink, SolveMaker, G>(
+    let status = serve_all::<R, L, MemorySink, SolveMaker, G>(
         rt, alloc, &list, listener, &mut sink, gate,
     );
     let text = sink.bytes().to_vec(alloc).ok()?;

@@ -11,9 +11,9 @@ use Rattle.solve_top.specs.Answering.{IsInputAnswer, IsAnswer}
 use Rattle.solve_top.specs.declared.task.Task.TheVariants.{File}
 use Rattle.solve_top.specs.declared.task.FileTask.TheVariants as tasks
 use Rattle.solve_top.specs.Solving.{Answered}
-use Rattle.solve_top.specs.Same.{AreReadAlike, DpopAnswersAreOne}
+use Rattle.solve_top.specs.Same.{AreReadAlike, DpopAnswersAreOne, IsGiven}
 use Rattle.solve_maker.specs.Reply.{dpop_words, input_of, IsReply}
-use Rattle.solve_maker.proofs.WordLaws.{asks_dpop, of_words, to_words}
+use Rattle.solve_maker.proofs.WordLaws.{asks_dpop, of_words, to_words, own_answer}
 
 -- an input is read as itself
 alike : (input : Input) → AreReadAlike Own Own input input
@@ -54,7 +54,8 @@ pub answered_so : (key given : List ℕ) (words : List (List ℕ)) (left : Optio
     → Answered words (source_state (Some given) 0) (source_state left 0) answer → IsAnswer dpop_words (input_of key) answer
 answered_so key given words left answer is_key is_dpop is =
     let read = subst (λ (k : List ℕ). IsReadFrom is.input (source_state (Some k) 0) (source_state left 0)) is_key is.read in
-    belongs_to_key key left is.input answer read (subst (λ (ws : List (List ℕ)). IsAnswer ws is.input answer) is_dpop is.belongs)
+    let own : IsGiven dpop_words is.input answer = subst (λ (ws : List (List ℕ)). IsGiven ws is.input answer) is_dpop is.belongs in
+    belongs_to_key key left is.input answer read (own_answer is.input answer own)
 
 -- the text of that answer
 pub reply_written : (result : Result (List ℕ) NoMemory) (key : List ℕ) (answer : Answer) → IsAnswer dpop_words (input_of key) answer → IfOk result (λ text. text ≡ answer_text answer) → IfOk result (IsReply key)

@@ -86,6 +86,9 @@ solved_short file (answers.EditText line kind) is named whole = absurd is
 solved_short file (answers.Words at kind) is named whole = absurd is
 solved_short file (answers.ProblemText line kind problem) is named whole = absurd is
 solved_short file answers.Read is named whole = absurd is
+solved_short file answers.Link is named whole = absurd is
+solved_short file (answers.LinkDiffers from to at sent taken links) is named whole = absurd is
+solved_short file (answers.LinkBytes round from_node to_node place sent taken) is named whole = absurd is
 solved_short file answers.NotYet is named whole = absurd is
 
 -- a count of cells that is told

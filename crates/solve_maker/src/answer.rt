@@ -7,9 +7,14 @@ use dcop_base::{Bytes, NoMemory};
 use dcop_edge::{OpenGate, SteadySource};
 use solve_report::text_of;
 use solve_top::answer_of;
-use std::alloc::Global;
+use std::alloc::{AllocGlobal, Global};
 use std::marker::Sync;
+use std::net::Net;
+use std::random::RandomSource;
+use std::sync::Wait;
 use std::thread::Threads;
+use std::time::Clock;
+use wire_edge::SteadyDialer;
 
 /// The text that `solve --method dpop` writes where these bytes are its whole input, a refusal
 /// included. One worker runs the agents, but the text is the same for any number of them.
@@ -17,7 +22,7 @@ use std::thread::Threads;
 /// # Errors
 ///
 /// [`NoMemory`] where memory was wanted and not had.
-pub fn answer_bytes<R: Threads + Sync>(
+pub fn answer_bytes<R: Threads + Wait + Clock + RandomSource + Net + AllocGlobal + Sync>(
     rt: &R,
     alloc: Global,
     bytes: &[u8],
@@ -26,7 +31,15 @@ pub fn answer_bytes<R: Threads + Sync>(
 {
     let words = words_of_dpop(alloc)?;
     let mut source = SteadySource::new(Vec::from_slice(alloc, bytes)?);
-    let answer = answer_of(rt, alloc, words.as_slice(), &mut source, &OpenGate)?;
+    let mut dialer = SteadyDialer::new();
+    let answer = answer_of(
+        rt,
+        alloc,
+        words.as_slice(),
+        &mut source,
+        &mut dialer,
+        &OpenGate,
+    )?;
     text_of(alloc, &answer)
 }
 

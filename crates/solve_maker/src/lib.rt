@@ -6,6 +6,7 @@
 #![tactic(auto)]
 
 mod answer;
+mod handles;
 mod maker;
 
 pub use answer::answer_bytes;

@@ -3,11 +3,13 @@
 ghost use Rattle.std.specs.Prelude.{◌≡◌, ◌+◌};
 
 use crate::answer::answer_bytes;
+use crate::handles::ThreadsAlone;
 use dcop_base::{Bytes, NoMemory};
 use reply_cache::{FreshMaker, Maker};
 use solve_top::dpop_answers_are_one;
 use std::alloc::Global;
 use std::marker::Sync;
+use std::sync::Wait;
 use std::thread::Threads;
 
 /// Replies to a key with what `solve --method dpop` writes for it.
@@ -32,14 +34,14 @@ impl Maker for SolveMaker {
 
     ghost calls = { λ maker. maker.calls };
 
-    fn make<R: Threads + Sync>(
+    fn make<R: Threads + Wait + Sync>(
         &mut self,
         rt: &R,
         alloc: Global,
         key: &[u8],
     ) -> Result<Bytes, NoMemory> {
         self.calls += 1;
-        answer_bytes(rt, alloc, key)
+        answer_bytes(&ThreadsAlone(rt, alloc), alloc, key)
     }
 
     fn keys_have_one_reply() {

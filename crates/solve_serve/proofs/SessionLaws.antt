@@ -1,5 +1,5 @@
 -- A session, turn after turn.
-use Rattle.std.proofs.Common.{◌≡◌, ℕ, ◌+◌, ◌<◌, ◌≤◌, min, Bool, true, false, List, [], ◌∷◌, ◌++◌, length, take, Option, Result, Ok, Err, refl, sym, ap, subst, ◌∙◌, append-nil, arith, length-append}
+use Rattle.std.proofs.Common.{◌≡◌, ℕ, ◌+◌, ◌<◌, ◌≤◌, min, Bool, true, false, List, [], ◌∷◌, ◌++◌, length, take, Option, Result, Ok, Err, IsErrAnd, refl, sym, ap, subst, ◌∙◌, append-nil, arith, length-append}
 use Rattle.std.proofs.lemmas.List.Elements.{All-nil, All-head, AllZip-push}
 use Rattle.std.specs.List.{AllZip}
 use Rattle.std.specs.Io.KnownBytes.{prepend_known}
@@ -210,7 +210,7 @@ so_far_limit is_reply before r after s = record {
 }
 
 -- a turn that stops at the reading
-pub turn_stopped : (is_reply : List ℕ → List ℕ → Type 0) (stop : Stop) (r : Reader) (now : Outside) (r' : Reader) (left : Option (List ℕ)) (faults : ℕ) → IsStopped stop (reading r now.left now.faults) (reading r' left faults)
+turn_stopped : (is_reply : List ℕ → List ℕ → Type 0) (stop : Stop) (r : Reader) (now : Outside) (r' : Reader) (left : Option (List ℕ)) (faults : ℕ) → IsStopped stop (reading r now.left now.faults) (reading r' left faults)
     → IsTurn is_reply (Err stop) r now r' (outside left faults now.answering)
 turn_stopped is_reply stops.Closed r now r' left faults s = (s, refl)
 turn_stopped is_reply stops.Cut r now r' left faults s = (s, refl)
@@ -218,6 +218,12 @@ turn_stopped is_reply (stops.Long place) r now r' left faults s = (s, refl)
 turn_stopped is_reply stops.Read r now r' left faults s = (s, refl)
 turn_stopped is_reply stops.Write r now r' left faults s = absurd s
 turn_stopped is_reply stops.Memory r now r' left faults s = (s, ((0, omega arith, Tallies-none now.answering.tally), refl, refl))
+
+pub turn_failed : (is_reply : List ℕ → List ℕ → Type 0) (result : Result (Unit {0}) Stop) (stop : Stop) (r : Reader) (now : Outside) (r' : Reader) (left : Option (List ℕ)) (faults : ℕ) → IsErrAnd result (λ e. e ≡ stop)
+    → IsStopped stop (reading r now.left now.faults) (reading r' left faults) → IsTurn is_reply result r now r' (outside left faults now.answering)
+turn_failed is_reply (Ok done) stop r now r' left faults is s = absurd is
+turn_failed is_reply (Err e) stop r now r' left faults is s =
+    subst (λ (x : Stop). IsTurn is_reply (Err x) r now r' (outside left faults now.answering)) (sym is) (turn_stopped is_reply stop r now r' left faults s)
 
 -- a turn whose request was read
 pub turn_answered : (is_reply : List ℕ → List ℕ → Type 0) (request : List ℕ) (result : Result (Unit {0}) Stop) (r : Reader) (now : Outside) (r' : Reader) (left : Option (List ℕ)) (faults : ℕ) (a : Answering)

@@ -1,0 +1,186 @@
+//! The server's top call over a real socket, with a client in a thread of its own.
+
+ghost use Rattle.std.specs.Prelude.{◌≡◌, ◌≤◌, IfSome};
+
+use crate::pair::{TWICE, replies_in};
+use crate::serving::{Answered, answered_by};
+use dcop_edge::{Failed, OpenGate};
+use serve_edge::{ListenFault, Listener, StdListener};
+use serve_top::ServeStatus;
+use std::io::{Read, Write};
+use std::net::{Net, Shutdown, TcpListener, TcpStream};
+use std::random::RandomSource;
+use std::sync::Wait;
+use std::sync::atomic::{AtomicU64, Ordering};
+use std::thread::{Threads, yield_now};
+use std::time::Clock;
+use std::{io, thread};
+
+/// The least port that is tried.
+const FIRST_PORT: u16 = 1_024;
+
+/// How many ports from the first are tried: those below the ones that a system gives to clients.
+const PORTS: u16 = 31_744;
+
+/// How many ports are tried where others listen.
+const MOST_TRIES: u32 = 16;
+
+/// How often the client looks for the server's port.
+const MOST_LOOKS: u32 = 100_000_000;
+
+/// Stands for no port yet.
+const UNKNOWN: u64 = 0;
+
+/// Stands for no port, for ever.
+const NEVER: u64 = u64::MAX;
+
+/// What the top call answered to a client that asked twice for the same, and what the client got.
+#[derive(Drop)]
+pub(crate) struct AnsweredOver {
+    /// What it answered.
+    pub(crate) answered: Answered,
+    /// How many replies to the pair of agents came to the client, and nothing else.
+    pub(crate) replies: u64,
+}
+
+/// What is answered at a free port of 127.0.0.1 to one client that asks twice for the same.
+pub(crate) fn answer_over_socket<R>(rt: &R) -> Option<AnsweredOver>
+where
+    R: Threads
+        + Wait
+        + Clock
+        + RandomSource
+        + Net<Listener = TcpListener, Stream = TcpStream>
+        + AllocGlobal
+        + Sync,
+{
+    let port = AtomicU64::new(UNKNOWN);
+    let port = &port;
+    let (replies, answered) = thread::join(
+        rt,
+        move || replies_from(rt, port),
+        move || serve_once(rt, port),
+    );
+    Some(AnsweredOver {
+        answered: answered?,
+        replies: replies?,
+    })
+}
+
+// Serves one client, and says so where there will be no port any more.
+fn serve_once<R>(rt: &R, told: &AtomicU64) -> Option<Answered>
+where
+    R: Threads
+        + Wait
+        + Clock
+        + RandomSource
+        + Net<Listener = TcpListener, Stream = TcpStream>
+        + AllocGlobal
+        + Sync,
+{
+    let answered = serve_somewhere(rt, told);
+    told.store(NEVER, Ordering::SeqCst);
+    answered
+}
+
+// Serves one client at the first of some ports at which nobody else listens.
+fn serve_somewhere<R>(rt: &R, told: &AtomicU64) -> Option<Answered>
+where
+    R: Threads
+        + Wait
+        + Clock
+        + RandomSource
+        + Net<Listener = TcpListener, Stream = TcpStream>
+        + AllocGlobal
+        + Sync,
+{
+    for _ in 0..MOST_TRIES {
+        let port = some_port(rt)?;
+        let words = format!(in rt.alloc(); "{port} 1 4 1").ok()?;
+        let mut listener = Announced {
+            listener: StdListener::new(rt),
+            told,
+        };
+        let answered = answered_by(rt, &words, &mut listener, &OpenGate)?;
+        let is_open = told.load(Ordering::SeqCst) != UNKNOWN;
+        if is_open || answered.code != ServeStatus::LinkFault.code() {
+            return Some(answered);
+        }
+    }
+    None
+}
+
+// A port, by chance.
+fn some_port<R: RandomSource>(rt: &R) -> Option<u16> {
+    let mut bytes = [0; 2];
+    rt.fill_bytes(&mut bytes).ok()?;
+    Some(FIRST_PORT + u16::from_be_bytes(bytes) % PORTS)
+}
+
+/// A listener that tells its port once it is open.
+#[derive(Drop)]
+struct Announced<'a, L> {
+    listener: L,
+    told: &'a AtomicU64,
+}
+
+impl<'a, L: Listener + Drop> Listener for Announced<'a, L> {
+    type S = L::S;
+
+    type K = L::K;
+
+    ghost faults = { λ l. L.faults l.listener };
+
+    ghost waiting = { λ l. L.waiting l.listener };
+
+    ghost closed = { λ l. L.closed l.listener };
+
+    ghost lent = { λ l. L.lent l.listener };
+
+    fn open(&mut self, port: u16) -> Result<(), Failed> {
+        self.listener.open(port)?;
+        self.told.store(u64::from(port), Ordering::SeqCst);
+        Ok(())
+    }
+
+    fn accept(&mut self) -> Result<(L::S, L::K), ListenFault> {
+        self.listener.accept()
+    }
+
+    fn close(&mut self, source: L::S, sink: L::K) {
+        self.listener.close(source, sink);
+    }
+}
+
+// How many replies come to a client that asks twice, once the server has told its port.
+fn replies_from<R: Net<Stream = TcpStream> + AllocGlobal>(rt: &R, told: &AtomicU64) -> Option<u64> {
+    let port = port_in(told)?;
+    let bytes = exchange(rt, port, TWICE).ok()?;
+    replies_in(&bytes)
+}
+
+// The port that is told; `None` where there will be none.
+fn port_in(told: &AtomicU64) -> Option<u16> {
+    for _ in 0..MOST_LOOKS {
+        let port = told.load(Ordering::SeqCst);
+        if port != UNKNOWN {
+            return u16::try_from(port).ok();
+        }
+        yield_now();
+    }
+    None
+}
+
+// Sends these bytes and no more, and reads all that comes back.
+fn exchange<R: Net<Stream = TcpStream> + AllocGlobal>(
+    rt: &R,
+    port: u16,
+    bytes: &[u8],
+) -> io::Result<Vec<u8>> {
+    let mut stream = TcpStream::connect(rt, ("127.0.0.1", port))?;
+    stream.write_all(bytes)?;
+    stream.shutdown(Shutdown::Write)?;
+    let mut back = Vec::new(rt.alloc());
+    stream.read_to_end(&mut back)?;
+    Ok(back)
+}
