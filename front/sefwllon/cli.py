@@ -12,13 +12,15 @@ from pathlib import Path
 from . import __version__, draw, meetings, pydcop, replay, wcsp
 from .explain import differs, explain
 from .problem import MOST_BYTES, TextFault, Trouble, parse
-from .programs import Programs
+from .programs import Answer, Programs
 from .progress import Progress
 from .report import Report, fitted, read_report, read_tree
-from .solving import Best, Refused, Solver, accepts, cost_of, deadline
+from .solving import START, Best, Refused, Solver, accepts, cost_of, deadline, in_order
 from .translate import Translation, plain, translate
 
 SOLVED, OPEN, USAGE, TEXT = 0, 1, 2, 3
+OWN_SEARCH = "found by a short search of sefwllon's own, since no method of dcop came to an assignment in time"
+NO_CERTIFICATE = "there is no certificate of it to check"
 UNCHECKED_CUT = "exact by the proved program, but there is no certificate of a cut to check yet"
 
 
@@ -28,7 +30,7 @@ def main(arguments: list[str] | None = None) -> int:
     try:
         return options.run(options)
     except Refused as refused:
-        print(f"sefwllon: {explain(refused.answer.text, options.text)}", file=sys.stderr)
+        print(f"sefwllon: {crashed(refused.answer) or explain(refused.answer.text, options.text)}", file=sys.stderr)
         return TEXT
     except Trouble as trouble:
         print(f"sefwllon: {trouble}", file=sys.stderr)
@@ -40,6 +42,13 @@ def main(arguments: list[str] | None = None) -> int:
         return 130
 
 
+def crashed(answer: Answer) -> str | None:
+    """That a program was ended by a signal, where it was."""
+    if answer.status is None or answer.status >= 0:
+        return None
+    return f"dcop was ended by the signal {-answer.status}, as a program is that crashed or that something else ended"
+
+
 def parser() -> argparse.ArgumentParser:
     top = argparse.ArgumentParser(prog="sefwllon", description="Solves distributed constraint problems, and says what was verified.")
     top.add_argument("--version", action="version", version=f"sefwllon {__version__}")
@@ -49,7 +58,7 @@ def parser() -> argparse.ArgumentParser:
     solve = commands.add_parser("solve", help="solve a problem: .dcop, .wcsp, pyDCOP .yaml, meetings .csv, .uai")
     solve.add_argument("file", metavar="FILE")
     solve.add_argument("--time", type=seconds, metavar="30s", help="stop after this time with the best so far")
-    solve.add_argument("--error", type=amount, default=0, metavar="E", help="by how much the cost may miss the best (adopt)")
+    solve.add_argument("--error", type=distance, default=Fraction(0), metavar="E", help="by how much the cost may miss the best (adopt)")
     solve.add_argument(
         "--method",
         choices=("auto", "plain", "dpop", "order", "cut", "adopt"),
@@ -57,7 +66,7 @@ def parser() -> argparse.ArgumentParser:
         help="auto, which is meant where none is named, tries dpop, order (dpop in an order by dcop_order), cut (dpop with some "
         "variables fixed in turn: exact, without a certificate yet) and adopt, one behind the other",
     )
-    solve.add_argument("--workers", type=natural, default=1, metavar="N")
+    solve.add_argument("--workers", type=threads, default=1, metavar="N", help="threads, 1 to 64")
     solve.add_argument("--json", action="store_true", help="the answer as JSON")
     solve.add_argument("--report", metavar="OUT", help="write the report of dcop there, with its certificate where it has one")
     solve.set_defaults(run=run_solve)
@@ -67,7 +76,7 @@ def parser() -> argparse.ArgumentParser:
     check.add_argument("report", metavar="REPORT")
     check.set_defaults(run=run_check)
 
-    why = commands.add_parser("explain", help="say in sentences why dcop refuses a file")
+    why = commands.add_parser("explain", help="say in sentences why a file is refused")
     why.add_argument("file", metavar="FILE")
     why.add_argument("answer", metavar="ANSWER", nargs="?", help="what dcop printed; without it dcop is asked")
     why.set_defaults(run=run_explain)
@@ -82,13 +91,18 @@ def parser() -> argparse.ArgumentParser:
     to.add_argument("file", metavar="FILE")
     to.set_defaults(run=run_to)
 
-    when = commands.add_parser("meetings", help="a timetable from a CSV")
+    when = commands.add_parser(
+        "meetings",
+        help="a timetable from a CSV",
+        description="Makes a timetable from a CSV.\n\n" + (meetings.__doc__ or "").split("\n\n", 1)[1],
+        formatter_class=argparse.RawDescriptionHelpFormatter,
+    )
     when.add_argument("file", metavar="CSV")
     when.add_argument("--ics", metavar="OUT", help="write the timetable there as iCalendar")
     when.add_argument("--svg", metavar="OUT", help="write a picture of the timetable there")
     when.add_argument("--report", metavar="OUT", help="write the report of dcop there, with its certificate")
-    when.add_argument("--time", type=seconds, metavar="30s")
-    when.add_argument("--workers", type=natural, default=1, metavar="N")
+    when.add_argument("--time", type=seconds, metavar="30s", help="stop after this time with the best so far")
+    when.add_argument("--workers", type=threads, default=1, metavar="N", help="threads, 1 to 64")
     when.set_defaults(run=run_meetings)
 
     picture = commands.add_parser(
@@ -113,9 +127,21 @@ def parser() -> argparse.ArgumentParser:
 
 
 def natural(word: str) -> int:
-    if not word.isdigit():
+    if not re.fullmatch(r"[0-9]{1,9}", word):
         raise argparse.ArgumentTypeError(f"{word} is no whole number from 0 up")
     return int(word)
+
+
+def threads(word: str) -> int:
+    if natural(word) not in range(1, 65):
+        raise argparse.ArgumentTypeError(f"{word} is no number of threads from 1 to 64")
+    return int(word)
+
+
+def distance(word: str) -> Fraction:
+    if amount(word) < 0:
+        raise argparse.ArgumentTypeError(f"{word} is negative: by how much a cost may miss the best is from 0 up")
+    return amount(word)
 
 
 def amount(word: str) -> Fraction:
@@ -138,7 +164,15 @@ def read_text(name: str) -> str:
         raise Trouble(f"{name} can't be read: {fault.strerror}") from None
     if len(data) > MOST_BYTES:
         raise Trouble(f"{name} is longer than 2^28 bytes")
-    return data.decode("utf-8", "replace")
+    if data[:2] in (b"\xff\xfe", b"\xfe\xff"):
+        raise Trouble(f"{name} is UTF-16 text: save it as UTF-8")
+    try:
+        return data.decode("utf-8")
+    except UnicodeDecodeError as fault:
+        if Path(name).suffix.lower() in KINDS:
+            line = data[: fault.start].count(b"\n") + 1
+            raise Trouble(f"{name} is no UTF-8 text from line {line} on: save it as UTF-8") from None
+        return data.decode("utf-8", "replace")
 
 
 READERS = {
@@ -174,7 +208,7 @@ def run_solve(options: argparse.Namespace) -> int:
     options.text = read_text(options.file)
     programs = Programs()
     told = load(options.file, options.text, programs)
-    error = int(max(options.error, 0) * told.scale)
+    error = int(options.error * told.scale)
     best = solved(programs, told, options, error, options.method)
     print(as_json(best, told) if options.json else as_text(best, told), end="")
     return status_of(best, told)
@@ -218,26 +252,48 @@ def as_text(best: Best, told: Translation) -> str:
         lines.append(f"stopped: {best.stopped}")
     if not best.solved and best.cut_stopped is not None:
         lines.append(cut_note(best.cut_stopped))
+    lines += [f"note: {line}" for line in told.notes(best.values)]
     width = max(len(name) for name in told.names)
     lines += [f"  {name:<{width}}  {value}" for name, value in told.told(best.values).items()]
     return "\n".join(lines) + "\n"
 
 
 def headline(best: Best, told: Translation) -> str:
-    goal = told.problem.goal
-    what = "cost" if goal == "min" else "sum"
     assert best.cost is not None and best.values is not None
-    own = number(told.own_cost(best.cost))
     if told.broken(best.values):
-        return f"no assignment that keeps all hard constraints was found ({what} {best.cost} in dcop's units)"
+        return hard_headline(best, told)
+    goal = told.problem.goal
+    own = f"{noun(told)} {number(told.own_sum(best.values))}"
     gap, checked = best.gap(goal), best.checked_gap
-    if gap == 0 and checked != 0 and best.method == "cut":
-        return f"{what} {own}, and none is better (not verified: {UNCHECKED_CUT})"
     if gap == 0:
-        return f"{what} {own}, and none is better" + (" (verified)" if checked == 0 else "")
-    worse = "" if gap is None else f", at most {number(Fraction(gap, told.scale))} from the best"
-    shown = "" if checked is None else f" (verified: at most {number(Fraction(checked, told.scale))})"
-    return f"{what} {own}{worse}{shown}"
+        known = "verified" if checked == 0 else f"not verified: {unchecked(best) or NO_CERTIFICATE}"
+        return f"{own}, and {from_best(gap, told)} ({known})"
+    worse = "" if gap is None else f", {from_best(gap, told)}"
+    shown = "" if checked is None else f" (verified: {from_best(checked, told)})"
+    return f"{own}{worse}{f' ({OWN_SEARCH})' if best.method == START else shown}"
+
+
+def from_best(gap: int, told: Translation) -> str:
+    """How far a sum is from the best one at most, by the difference of two sums of the problem."""
+    if gap == 0 and told.slack:
+        return f"none is better by more than {number(told.slack)}, to which costs are rounded"
+    return "none is better" if gap == 0 else f"at most {number(Fraction(gap, told.scale) + told.slack)} from the best"
+
+
+def hard_headline(best: Best, told: Translation) -> str:
+    """What is known where the best assignment breaks a hard constraint."""
+    if told.none_keeps(best.checked):
+        return "no assignment keeps all hard constraints (verified)"
+    if told.none_keeps(best.lower if told.problem.goal == "min" else best.upper):
+        return "no assignment keeps all hard constraints (not verified)"
+    return "no assignment that keeps all hard constraints was found"
+
+
+def unchecked(best: Best) -> str | None:
+    """Why an exact answer is not called verified, where that is known."""
+    if best.method == "cut" and best.checked_gap != 0:
+        return UNCHECKED_CUT
+    return OWN_SEARCH if best.method == START else None
 
 
 def cut_note(spent: float) -> str:
@@ -247,9 +303,9 @@ def cut_note(spent: float) -> str:
 
 def note(best: Best) -> str | None:
     """What else is to be known of an answer."""
-    if best.method == "cut" and best.checked_gap != 0:
-        return UNCHECKED_CUT
-    return None if best.solved or best.cut_stopped is None else cut_note(best.cut_stopped)
+    if best.solved or best.cut_stopped is None or best.method == START:
+        return unchecked(best)
+    return cut_note(best.cut_stopped)
 
 
 def as_json(best: Best, told: Translation) -> str:
@@ -258,21 +314,22 @@ def as_json(best: Best, told: Translation) -> str:
     values = best.values
     broken = [] if values is None else told.broken(values)
 
-    def own(total: int | None) -> float | int | None:
-        if total is None:
-            return None
-        cost = told.own_cost(total)
-        return cost.numerator if cost.denominator == 1 else float(cost)
+    def plain_number(cost: Fraction | None) -> float | int | None:
+        return None if cost is None else cost.numerator if cost.denominator == 1 else float(cost)
 
+    cost = None if values is None else told.own_sum(values)
+    lower, upper = told.own_bounds(best.lower, best.upper)
+    if cost is not None and not broken:
+        lower, upper = (lower, cost) if goal == "min" else (cost, upper)
     answer = {
         "solved": best.solved and not broken,
         "verified": best.checked_gap is not None and best.checked_gap == best.gap(goal),
-        "note": note(best),
+        "note": "; ".join(filter(None, [note(best), *([] if values is None else told.notes(values))])) or None,
         "method": best.method,
         "goal": goal,
-        "cost": own(best.cost),
-        "lower": own(best.lower),
-        "upper": own(best.upper),
+        "cost": plain_number(cost),
+        "lower": plain_number(lower),
+        "upper": plain_number(upper),
         "deliveries": best.deliveries,
         "stopped": best.stopped,
         "broken": broken,
@@ -293,12 +350,20 @@ def run_check(options: argparse.Namespace) -> int:
         return OPEN
     if answer.status != 0:
         raise Refused(answer)
-    read = read_report(report, fitted(told.problem, report))
+    problem = fitted(told.problem, report)
+    read = read_report(report, problem)
     if not accepts(answer, read):
         raise Trouble("dcop check says yes to another cost than the report's: don't trust this program")
-    gap = abs(read.cost - (read.lower if told.problem.goal == "min" else read.upper))
-    worse = "and none is better" if gap == 0 else f"at most {number(Fraction(gap, told.scale))} from the best"
-    print(f"yes, verified: {noun(told)} {number(told.own_cost(read.cost))}, {worse}")
+    values = in_order(read, problem, told.problem).values
+    broken = told.broken(values)
+    bound = read.lower if told.problem.goal == "min" else read.upper
+    if broken:
+        none = "no assignment keeps all hard constraints" if told.none_keeps(bound) else "the report holds"
+        print(f"yes, verified: {none}; this one breaks: {', '.join(broken)}")
+        return SOLVED
+    gap = abs(read.cost - bound)
+    own = number(told.own_sum(values))
+    print(f"yes, verified: {noun(told)} {own}, {'and ' if gap == 0 else ''}{from_best(gap, told)}")
     return SOLVED
 
 
@@ -308,6 +373,8 @@ def noun(told: Translation) -> str:
 
 def run_explain(options: argparse.Namespace) -> int:
     options.text = read_text(options.file)
+    if KINDS.get(Path(options.file).suffix.lower()):
+        options.text = load(options.file, options.text).problem.text()
     answer = read_text(options.answer) if options.answer else Programs().run(["tree"], options.text).text
     if not answer.startswith(("refused", "status no")):
         print("dcop takes this file.")
@@ -423,7 +490,7 @@ def run_cost(options: argparse.Namespace) -> int:
     total = cost_of(programs, told.problem, values)
     for name in told.broken(values):
         print(f"broken: {name}")
-    own = told.own_cost(total)
+    own = told.own_sum(values)
     print(f"{noun(told)} {number(own)}")
     if options.bound is not None:
         print(f"{number(abs(own - options.bound))} from the bound {number(options.bound)}")
@@ -442,7 +509,7 @@ def from_the_best(programs: Programs, told: Translation, total: int, report: str
         raise Trouble(explain(answer.text, problem.text() + report))
     read = read_report(report, problem)
     gap = abs(total - (read.lower if problem.goal == "min" else read.upper))
-    return "none is better (verified)" if gap == 0 else f"at most {number(Fraction(gap, told.scale))} from the best (verified)"
+    return f"{from_best(gap, told)} (verified)"
 
 
 def assignment(words: list[str], told: Translation) -> list[int]:

@@ -67,6 +67,10 @@ class Formula:
             except (SyntaxError, ValueError) as fault:
                 raise Trouble(f"{where}: the formula can't be read: {fault}") from None
 
+        for node in (node for part in self.body for node in ast.walk(part)):
+            if isinstance(node, (ast.ListComp, ast.SetComp, ast.DictComp, ast.GeneratorExp, ast.Lambda, ast.Attribute)):
+                raise Trouble(f"{where}: a formula may not have `{ast.unparse(node)}`")
+
     def names(self) -> list[str]:
         """The names that it takes from outside, in the order in which they stand."""
         assigned = {

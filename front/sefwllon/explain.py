@@ -39,6 +39,7 @@ REPORT = {
     9: "the certificate is no log, so there is nothing to replay",
     10: "certificates of this kind are not read yet",
 }
+LINES = ("goal", "var", "table", "end")
 WORDS = {
     1: "no command is given: solve, tree, check, replay, drill, upgrade or edit",
     2: "that is no command: solve, tree, check, replay, drill, upgrade or edit",
@@ -49,8 +50,8 @@ WORDS = {
     7: "the number is not in the option's range",
     8: "the value is none of the option's words",
     9: "the option does not go with this command, or with this method",
-    10: "these words are right, and this program does not serve them yet, as `--nodes` above 1, and `--certificate yes` with "
-    "`--method cut`, whose answer is exact without one too",
+    10: "these words are right, and this program does not serve them yet: `--certificate yes` with `--method cut`, whose answer is "
+    "exact without one too",
 }
 UNSERVED_CUT = (
     "There is no certificate of a cut yet: leave `--certificate yes` out. The answer is exact all the same, by the proved "
@@ -83,6 +84,13 @@ EVENTS = {
 
 def explain(answer: str, text: str = "", words: list[str] | None = None) -> str:
     """What a refusal says, in sentences."""
+    try:
+        return explained(answer, text, words)
+    except (ValueError, IndexError):
+        return "That is no refusal of dcop."
+
+
+def explained(answer: str, text: str, words: list[str] | None) -> str:
     told = answer.split()
     match told:
         case ["refused", "words", "at", _, "kind", "10"] if words and "cut" in words and "--certificate" in words:
@@ -193,6 +201,10 @@ def of_text(line: int, kind: int, number: int, text: str) -> str:
 def hint(line: str, kind: int, number: int, text: str) -> str:
     """What probably is meant, where the line shows it."""
     words = line.split("#")[0].split()
+    if "\0" in text:
+        return " The file has bytes that no text has, as UTF-16 has them: save it as UTF-8."
+    if kind == 6 and not text.split():
+        return " The file is empty: a problem is `dcop 2`, lines `var ..` and `table ..`, and `end`."
     if kind == 1 and text.startswith("\ufeff"):
         return " The file begins with a byte order mark: save it as UTF-8 without one."
     if kind == 1 and text.lstrip()[:1] in "{<":
@@ -200,11 +212,17 @@ def hint(line: str, kind: int, number: int, text: str) -> str:
     if kind == 2 and any(w != ":" and ":" in w for w in words):
         return " Blanks must stand on both sides of the colon."
     if kind == 2 and words[:1] == ["var"]:
+        if words[2:3] == [":"] and re.match(r"\s*dcop\s+1\b", text):
+            return " Names of values are for `dcop 2`: write it in place of `dcop 1`."
         return of_var(words)
     if kind == 2 and words[:1] == ["table"] and ":" not in words:
         return " A colon with blanks on both sides stands between the variables and the costs."
     if kind == 2 and words[:1] == ["goal"]:
         return " `goal min` or `goal max` stands right behind `dcop 2`."
+    if kind == 2 and words and words[0].lower() in LINES and words[0] not in LINES:
+        return f" Write `{words[0].lower()}` in small letters."
+    if kind == 2 and words and words[0] not in LINES:
+        return f" A line begins with `goal`, `var`, `table` or `end`, and not with `{words[0]}`."
     if kind == 3:
         return of_number(words)
     if kind == 4:
@@ -242,6 +260,10 @@ def of_number(words: list[str]) -> str:
         return f" `{bad}` is no whole number: multiply all costs of all tables by 10, 100 or what is needed."
     if bad.endswith(","):
         return f" `{bad}` has a comma: costs are separated by blanks."
+    if re.fullmatch(r"\+\d+", bad):
+        return f" Leave out the sign of `{bad}`."
+    if re.fullmatch(r"\d{20,}", bad):
+        return f" `{bad}` is too long: a cost is at most 2^50 = 1125899906842624."
     return f" `{bad}` is no number." if bad else ""
 
 

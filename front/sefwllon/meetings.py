@@ -2,13 +2,14 @@
 
 Each line begins with what it tells:
 
-    slot,NAME[,BEGIN[,MINUTES]]        a slot, in order; BEGIN as 2026-03-02 09:00
+    slot,NAME[,BEGIN[,MINUTES]]        a slot, in order; BEGIN as 2026-03-02 09:00; 60 minutes where none are told
     meeting,NAME,PERSON;PERSON;..      a meeting and who takes part
     absent,PERSON,SLOT;SLOT;..         slots in which somebody can't
     like,PERSON or MEETING,SLOT;..,COST    what every other slot costs
     dislike,PERSON or MEETING,SLOT;..,COST what these slots cost
 
-Two meetings that share a person never stand in one slot.
+Two meetings that share a person never stand in one slot, nor in two that overlap by their times.
+From # at the beginning of a line it is a comment. The file is UTF-8, with commas.
 """
 
 from __future__ import annotations
@@ -16,6 +17,8 @@ from __future__ import annotations
 import csv
 import datetime
 import io
+import re
+from collections.abc import Callable
 from dataclasses import dataclass, field
 from fractions import Fraction
 
@@ -23,6 +26,13 @@ from .problem import Trouble
 from .translate import Constraint, Source
 
 STAMP = datetime.datetime(2000, 1, 1)
+FORMS = {
+    "slot": "slot,NAME or slot,NAME,2026-03-02 09:00 or slot,NAME,2026-03-02 09:00,MINUTES",
+    "meeting": "meeting,NAME,PERSON;PERSON",
+    "absent": "absent,PERSON,SLOT;SLOT",
+    "like": "like,PERSON or MEETING,SLOT;SLOT,COST",
+    "dislike": "dislike,PERSON or MEETING,SLOT;SLOT,COST",
+}
 
 
 @dataclass
@@ -30,6 +40,18 @@ class Slot:
     name: str
     begin: datetime.datetime | None = None
     minutes: int = 60
+
+    @property
+    def end(self) -> datetime.datetime | None:
+        return None if self.begin is None else self.begin + datetime.timedelta(minutes=self.minutes)
+
+    def meets(self, other: Slot) -> bool:
+        """Whether nobody can be in both: they are one, or overlap by their times."""
+        if self is other:
+            return True
+        if self.begin is None or other.begin is None or self.end is None or other.end is None:
+            return False
+        return self.begin < other.end and other.begin < self.end
 
 
 @dataclass
@@ -39,7 +61,7 @@ class Meetings:
     slots: list[Slot] = field(default_factory=list)
     meetings: dict[str, list[str]] = field(default_factory=dict)
     absent: dict[str, set[str]] = field(default_factory=dict)
-    tastes: list[tuple[str, str, list[str], int]] = field(default_factory=list)
+    tastes: list[tuple[str, str, list[str], Fraction]] = field(default_factory=list)
 
     def people(self) -> set[str]:
         return {person for people in self.meetings.values() for person in people}
@@ -48,74 +70,110 @@ class Meetings:
 def read(text: str) -> Meetings:
     """Reads the CSV; each fault is told with its line."""
     told = Meetings()
-    reader = csv.reader(io.StringIO(text.lstrip("\ufeff")))
-    for row in reader:
-        cells = [cell.strip() for cell in row]
-        while cells and not cells[-1]:
-            cells.pop()
-        if not cells or cells[0].startswith("#"):
-            continue
-        try:
-            add_row(told, cells)
-        except Trouble as trouble:
-            raise Trouble(f"line {reader.line_num}: {trouble}") from None
-    check(told)
+    text = text.lstrip("\ufeff")
+    rows = rows_of(text)
+    for number, cells in rows:
+        at_line(text, number, lambda: add_row(told, cells))
+    if not told.slots or not told.meetings:
+        raise Trouble("the file needs at least one line `slot,..` and one line `meeting,..`")
+    for number, cells in rows:
+        at_line(text, number, lambda: check_row(told, cells))
     return told
 
 
+def rows_of(text: str) -> list[tuple[int, list[str]]]:
+    """The lines that have cells, each with its number."""
+    rows = []
+    reader = csv.reader(io.StringIO(text))
+    try:
+        for row in reader:
+            cells = [" ".join(cell.split()) for cell in row]
+            while cells and not cells[-1]:
+                cells.pop()
+            if cells and not cells[0].startswith("#"):
+                rows.append((reader.line_num, [cells[0].lower(), *cells[1:]]))
+    except csv.Error as fault:
+        raise Trouble(f"line {reader.line_num}: {fault}") from None
+    return rows
+
+
+def at_line(text: str, number: int, does: Callable[[], None]) -> None:
+    """Tells a fault with its line."""
+    try:
+        does()
+    except Trouble as trouble:
+        line = text.splitlines()[number - 1].strip()
+        raise Trouble(f"line {number}: {trouble} (`{line[:120]}`)") from None
+
+
 def add_row(told: Meetings, cells: list[str]) -> None:
-    match [cells[0].lower(), *cells[1:]]:
-        case ["slot", name, *rest] if len(rest) <= 2:
+    match cells:
+        case ["slot", name, *rest] if name and len(rest) <= 2:
             if name in (slot.name for slot in told.slots):
                 raise Trouble(f"the slot {name} stands twice")
-            told.slots.append(Slot(name, time_of(rest[0]) if rest else None, whole(rest[1]) if len(rest) > 1 else 60))
-        case ["meeting", name, *people]:
+            told.slots.append(Slot(name, time_of(rest[0]) if rest else None, minutes(rest[1]) if len(rest) > 1 else 60))
+        case ["meeting", name, *people] if name:
             if name in told.meetings:
                 raise Trouble(f"the meeting {name} stands twice")
             told.meetings[name] = parts(people)
-        case ["absent", person, *slots] if slots:
+        case ["absent", person, *slots] if person and parts(slots):
             told.absent.setdefault(person, set()).update(parts(slots))
-        case [("like" | "dislike") as taste, who, *slots, cost] if slots:
-            told.tastes.append((taste, who, parts(slots), whole(cost)))
+        case [("like" | "dislike") as taste, who, *slots, cost] if who and parts(slots):
+            told.tastes.append((taste, who, parts(slots), price(cost)))
+        case [first, *_] if first in FORMS:
+            raise Trouble(f"a cell is missing, or is one too many: the line is {FORMS[first]}")
+        case [first, *_] if first.split(";")[0] in FORMS:
+            raise Trouble("its cells are separated by semicolons: save the file with commas between them")
         case [first, *_]:
-            raise Trouble(f"a line begins with slot, meeting, absent, like or dislike, and not with `{first}`, or it is too short")
+            raise Trouble(f"a line begins with slot, meeting, absent, like or dislike, and not with `{first}`; leave out a heading")
+
+
+def check_row(told: Meetings, cells: list[str]) -> None:
+    """Whether the names of a line are there, wherever they are told."""
+    slots = {slot.name for slot in told.slots}
+    match cells:
+        case ["absent", person, *named]:
+            if person not in told.people():
+                raise Trouble(f"{person} is absent, and takes part in no meeting")
+            strange = [slot for slot in parts(named) if slot not in slots]
+            if strange:
+                raise Trouble(f"{person} is absent in {strange[0]}, which is no slot")
+        case ["like" | "dislike", who, *named, _]:
+            if who not in told.people() and who not in told.meetings:
+                raise Trouble(f"{who} likes or dislikes slots, and is neither a person nor a meeting")
+            strange = [slot for slot in parts(named) if slot not in slots]
+            if strange:
+                raise Trouble(f"{strange[0]} of {who} is no slot")
 
 
 def parts(cells: list[str]) -> list[str]:
     return [part.strip() for cell in cells for part in cell.split(";") if part.strip()]
 
 
-def whole(word: str) -> int:
-    if not word.isdigit():
-        raise Trouble(f"{word} is no whole number")
+def minutes(word: str) -> int:
+    if not re.fullmatch(r"[0-9]{1,6}", word) or int(word) == 0:
+        raise Trouble(f"{word} is no number of minutes, a whole number from 1 up")
     return int(word)
+
+
+def price(word: str) -> Fraction:
+    if re.fullmatch(r"-[0-9.]+", word):
+        raise Trouble(f"the cost {word} is negative: `like` says what every other slot costs, `dislike` what these cost, from 0 up")
+    if not re.fullmatch(r"[0-9]{1,15}(\.[0-9]{1,6})?", word):
+        raise Trouble(f"the last cell is the cost, a number as 2 or 0.5, and `{word}` is none")
+    return Fraction(word)
 
 
 def time_of(word: str) -> datetime.datetime | None:
     if not word:
         return None
     try:
-        return datetime.datetime.fromisoformat(word)
+        told = datetime.datetime.fromisoformat(word)
     except ValueError:
         raise Trouble(f"{word} is no time as 2026-03-02 09:00") from None
-
-
-def check(told: Meetings) -> None:
-    slots = {slot.name for slot in told.slots}
-    if not slots or not told.meetings:
-        raise Trouble("the file needs at least one line `slot,..` and one line `meeting,..`")
-    people = told.people()
-    for person, away in told.absent.items():
-        if person not in people:
-            raise Trouble(f"{person} is absent, and takes part in no meeting")
-        for slot in away - slots:
-            raise Trouble(f"{person} is absent in {slot}, which is no slot")
-    for _, who, named, _ in told.tastes:
-        if who not in people and who not in told.meetings:
-            raise Trouble(f"{who} likes or dislikes slots, and is neither a person nor a meeting")
-        for slot in named:
-            if slot not in slots:
-                raise Trouble(f"{slot} of {who} is no slot")
+    if told.tzinfo is not None:
+        raise Trouble(f"{word} names a time zone: write the time of the place, as 2026-03-02 09:00")
+    return told
 
 
 def source(told: Meetings, title: str) -> Source:
@@ -133,7 +191,7 @@ def source(told: Meetings, title: str) -> Source:
         for j in range(i + 1, len(names)):
             shared = [p for p in told.meetings[first] if p in told.meetings[names[j]]]
             if shared:
-                cells = [None if a == b else Fraction(0) for a in slots for b in slots]
+                cells = [None if a.meets(b) else Fraction(0) for a in told.slots for b in told.slots]
                 constraints.append(Constraint(f"{first} and {names[j]} share {shared[0]}", (i, j), cells))
     return Source("min", names, [list(slots) for _ in names], constraints, title)
 
@@ -170,13 +228,12 @@ def icalendar(told: Meetings, chosen: dict[str, object]) -> str:
         slot = next(s for s in told.slots if s.name == chosen[name])
         if slot.begin is None:
             raise Trouble(f"the slot {slot.name} has no begin, so it can't be put into a calendar")
-        end = slot.begin + datetime.timedelta(minutes=slot.minutes)
         lines += [
             "BEGIN:VEVENT",
             f"UID:{place}-{slot.begin:%Y%m%dT%H%M%S}@sefwllon",
             f"DTSTAMP:{STAMP:%Y%m%dT%H%M%SZ}",
             f"DTSTART:{slot.begin:%Y%m%dT%H%M%S}",
-            f"DTEND:{end:%Y%m%dT%H%M%S}",
+            f"DTEND:{slot.end:%Y%m%dT%H%M%S}",
             f"SUMMARY:{escaped(name)}",
             f"DESCRIPTION:{escaped(', '.join(people))}",
             "END:VEVENT",

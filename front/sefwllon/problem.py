@@ -64,12 +64,16 @@ class Problem:
     def index_of(self, name: str) -> int | None:
         return next((i for i, v in enumerate(self.variables) if v.name == name), None)
 
-    def cell(self, table: Table, assignment: list[int]) -> int:
-        """The cost of a table at an assignment."""
+    def place(self, table: Table, assignment: list[int]) -> int:
+        """Which cell of a table an assignment picks."""
         place = 0
         for variable in table.scope:
             place = place * self.variables[variable].size + assignment[variable]
-        return table.costs[place]
+        return place
+
+    def cell(self, table: Table, assignment: list[int]) -> int:
+        """The cost of a table at an assignment."""
+        return table.costs[self.place(table, assignment)]
 
     def cost(self, assignment: list[int]) -> int:
         """The sum of all tables at an assignment."""

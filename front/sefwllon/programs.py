@@ -44,14 +44,17 @@ class Programs:
         """Runs `dcop` on a text, at most until this moment of `time.monotonic`."""
         if self.dcop is None:
             raise Trouble(
-                "the program dcop is not built: run `cd crates/solve_cli && rt run -- tree < ../../examples/pair.dcop`, "
-                "or name it by SEFWLLON_DCOP"
+                "the program dcop is not built: run `cd crates/solve_cli && rt run -- tree < ../../examples/pair.dcop`, which "
+                "proves it first and may take half an hour, or name it by SEFWLLON_DCOP; for a first look, "
+                "SEFWLLON_DCOP=front/quick-dcop.sh compiles it for each run and proves nothing"
             )
         return run([self.dcop, *words], text, until, tick)
 
-    def reorder(self, text: str, tries: int, until: float | None = None) -> Answer | None:
-        """Runs `dcop_order`, where it is built."""
-        return run([self.order, "--tries", str(tries)], text, until) if self.order else None
+    def reorder(
+        self, text: str, tries: int, until: float | None = None, tick: Callable[[], None] | None = None
+    ) -> Answer | None:
+        """Runs `dcop_order`, where it is built, at most until this moment."""
+        return run([self.order, "--tries", str(tries)], text, until, tick) if self.order else None
 
 
 def found(variable: str, name: str, crate: str) -> str | None:

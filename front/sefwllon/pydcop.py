@@ -30,6 +30,19 @@ def read(text: str, title: str) -> Source:
     return Reader(data, title).source()
 
 
+INFINITY = Fraction(10_000)
+"""A cost that pyDCOP counts as a violation, and not as a cost, where its option `--infinity` is not given."""
+
+
+def named(spec: object, what: str) -> dict[str, object]:
+    """A part of the file that has names, each with something behind it."""
+    if spec is None:
+        return {}
+    if not isinstance(spec, dict):
+        raise Trouble(f"{what}: lines `NAME: ..` were expected, and not `{spec!r:.120}`")
+    return {str(name): told for name, told in spec.items()}
+
+
 class Reader:
     """One file that is being read."""
 
@@ -39,27 +52,33 @@ class Reader:
         self.goal = str(data.get("objective", "min"))
         if self.goal not in ("min", "max"):
             raise Trouble(f"{title}: the objective is {self.goal}, and neither min nor max")
-        self.domains = {str(name): values_of(spec) for name, spec in (data.get("domains") or {}).items()}
-        self.outside = {
-            str(name): spec.get("initial_value") for name, spec in (data.get("external_variables") or {}).items()
-        }
+        self.domains = {name: values_of(spec) for name, spec in named(data.get("domains"), "domains").items()}
+        self.variables = {name: named(spec, name) for name, spec in named(data["variables"], "variables").items()}
+        outside = named(data.get("external_variables"), "external_variables")
+        self.outside = {name: named(spec, name).get("initial_value") for name, spec in outside.items()}
         self.names: list[str] = []
         self.values: list[list[object]] = []
         self.constraints: list[Constraint] = []
 
     def source(self) -> Source:
-        for name, spec in self.data["variables"].items():
+        for name, spec in self.variables.items():
             domain = str(spec.get("domain"))
             if domain not in self.domains:
                 raise Trouble(f"{self.title}: the domain {domain} of {name} is not among the domains")
-            self.names.append(str(name))
+            self.names.append(name)
             self.values.append(self.domains[domain])
-        for name, spec in self.data["variables"].items():
+        for name, spec in self.variables.items():
             if "cost_function" in spec:
                 self.by_formula(f"cost of {name}", str(spec["cost_function"]))
-        for name, spec in (self.data.get("constraints") or {}).items():
-            self.constraint(str(name), spec)
-        return Source(self.goal, self.names, self.values, self.constraints, self.title)
+        for name, spec in named(self.data.get("constraints"), "constraints").items():
+            self.constraint(name, named(spec, name))
+        return Source(self.goal, self.names, self.values, self.constraints, self.title, self.notes(), INFINITY)
+
+    def notes(self) -> list[str]:
+        noisy = [name for name, spec in self.variables.items() if spec.get("noise_level")]
+        if not noisy:
+            return []
+        return [f"the noise of {', '.join(noisy)} is left out: pyDCOP draws it anew for each run, and adds it to the cost"]
 
     def price(self, number: object, name: str) -> Fraction | None:
         """A cost; None for one without bound, which forbids."""
@@ -92,10 +111,12 @@ class Reader:
         self.add(name, scope, costs)
 
     def by_table(self, name: str, spec: dict) -> None:
-        named = spec.get("variables", [])
-        scope = self.scope(name, [str(n) for n in ([named] if isinstance(named, str) else named)])
+        told = spec.get("variables") or []
+        scope = self.scope(name, [str(n) for n in (told if isinstance(told, list) else [told])])
         default = self.price(spec["default"], name) if "default" in spec else Fraction(0)
         costs = {choice: default for choice in product(*(range(len(self.values[v])) for v in scope))}
+        if not isinstance(spec.get("values") or {}, dict):
+            raise Trouble(f"{name}: its values are lines `COST: VALUE VALUE | VALUE VALUE`")
         for cost, choices in (spec.get("values") or {}).items():
             for choice in str(choices).split("|"):
                 costs[self.choice(name, scope, choice.split())] = self.price(cost, name)

@@ -35,12 +35,18 @@ class Node:
     separator: list[str] = field(default_factory=list)
 
 
+def parted(text: str) -> tuple[str, str | None]:
+    """What a report says before its certificate, which may be long, and the certificate's kind."""
+    told, found, rest = text.partition("\ncertificate ")
+    return told, rest.split(maxsplit=1)[0] if found and rest.split(maxsplit=1) else None
+
+
 def read_report(text: str, problem: Problem) -> Report:
     """Reads a report of this problem."""
     numbers: dict[str, str] = {}
     values: list[int] = []
-    certificate = None
-    for line in text.splitlines():
+    told, certificate = parted(text)
+    for line in told.splitlines():
         words = line.split()
         if not words:
             continue
@@ -50,8 +56,6 @@ def read_report(text: str, problem: Problem) -> Report:
             if value is None:
                 raise Trouble(f"the report says `{line}`, which fits no variable of the problem")
             values.append(value)
-        elif words[0] == "certificate" and len(words) >= 2:
-            certificate = words[1]
         elif len(words) == 2:
             numbers.setdefault(words[0], words[1])
     try:
@@ -68,7 +72,7 @@ def fitted(problem: Problem, report: str) -> Problem:
     """The problem with its variables in the order in which a report has them, where these are the same variables.
 
     `solve` may have solved the problem in another order; whatever the order is, each assignment costs the same."""
-    names = [words[1] for words in map(str.split, report.splitlines()) if words[:1] == ["value"] and len(words) == 3]
+    names = [words[1] for words in map(str.split, parted(report)[0].splitlines()) if words[:1] == ["value"] and len(words) == 3]
     own = [v.name for v in problem.variables]
     return problem.reordered(names) if names != own and sorted(names) == sorted(own) else problem
 

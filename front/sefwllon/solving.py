@@ -12,6 +12,12 @@ from .report import Report, read_report
 
 BUDGETS = (1_000, 10_000, 100_000, 1_000_000, 10_000_000)
 ORDERS = 1_000
+ORDER_SECONDS, ORDER_SHARE = 30, 0.25
+"""How long, and which part of what is left of the time, the search for an order may take where other ways are left."""
+START = "search"
+"""What is told as the method where no method of `dcop` came to an assignment in time."""
+START_SECONDS = 0.5
+"""How long an assignment is bettered here where no method of `dcop` came to one in time."""
 CUT_SECONDS = 60
 """How long a cut may take where other ways are left and the time has no end."""
 CUT_SHARE = 0.5
@@ -46,8 +52,8 @@ class Best:
         self.method, self.deliveries = report.method, report.deliveries
         self.lower = report.lower if self.lower is None else max(self.lower, report.lower)
         self.upper = report.upper if self.upper is None else min(self.upper, report.upper)
-        better = self.cost is None or (report.cost < self.cost if goal == "min" else report.cost > self.cost)
-        if better:
+        worse = self.cost is not None and (report.cost > self.cost if goal == "min" else report.cost < self.cost)
+        if not worse:
             self.values, self.cost = report.values, report.cost
         self.keep_bound(goal)
         self.solved = report.status == "solved"
@@ -56,6 +62,15 @@ class Best:
         """Takes an assignment that is better than the one that is kept."""
         self.values, self.cost = values, cost
         self.keep_bound(goal)
+
+    def start(self, values: list[int], problem: Problem) -> None:
+        """Takes a first assignment, and as the other bound what all tables give at their best."""
+        if problem.goal == "min":
+            self.lower = sum(min(table.costs) for table in problem.tables)
+        else:
+            self.upper = sum(max(table.costs) for table in problem.tables)
+        self.take_better(values, problem.cost(values), problem.goal)
+        self.method = START
 
     def keep_bound(self, goal: str) -> None:
         """The bound on the side of the assignment is what it costs: what is told as reached is in hand."""
@@ -104,7 +119,17 @@ class Solver:
             self.by_ways()
         except KeyboardInterrupt:
             self.best.stopped = "interrupted"
+        if self.best.values is None and self.best.stopped:
+            self.start()
+        if self.best.method == START:
+            self.best.solved = self.best.gap(self.problem.goal) == 0
         return self.best
+
+    def start(self) -> None:
+        """Finds an assignment here, where no method of `dcop` came to one yet: the first values, bettered a variable at a
+        time."""
+        first = [0] * len(self.problem.variables)
+        self.best.start(self.problem.improved(first, time.monotonic() + START_SECONDS), self.problem)
 
     def by_ways(self) -> None:
         text = self.problem.text()
@@ -120,6 +145,8 @@ class Solver:
             self.tell(way, self.best)
             if ways[way](text) or self.best.stopped:
                 return
+            if self.method == "auto" and self.best.values is None:
+                self.start()
 
     def run(self, words: list[str], text: str) -> Answer:
         return self.run_until(self.until, words, text)
@@ -139,10 +166,13 @@ class Solver:
         return self.taken(self.run(words, text), text, self.problem)
 
     def by_order(self, text: str) -> bool:
-        ordered = self.programs.reorder(text, ORDERS, self.until)
+        share = self.share(time.monotonic(), "order", ORDER_SECONDS, ORDER_SHARE)
+        ordered = self.programs.reorder(text, ORDERS, share, self.tick)
         if self.method != "auto" and ordered is None:
             raise Trouble("the program dcop_order is not built: run `cd crates/order_cli && rt run`, or name it by SEFWLLON_ORDER")
         if ordered is None or ordered.status != 0:
+            if ordered is not None and ordered.status is None and share == self.until:
+                self.best.stopped = "the time is over"
             return False
         self.narrow = ordered.text
         words = ["solve", "--method", "dpop", "--certificate", "yes", *self.worker_words()]
@@ -153,7 +183,7 @@ class Solver:
         longer than its share of the time is stopped, and leaves the problem to the next way."""
         began = time.monotonic()
         ordered = text if self.narrow is None else self.narrow
-        answer = self.run_cut(ordered, self.cut_until(began))
+        answer = self.run_cut(ordered, self.share(began, "cut", CUT_SECONDS, CUT_SHARE))
         if answer.status is None and not self.best.stopped:
             self.best.cut_stopped = time.monotonic() - began
         return self.taken(answer, ordered, self.problem if self.narrow is None else parse(ordered))
@@ -171,11 +201,11 @@ class Solver:
                 break
         return answer
 
-    def cut_until(self, now: float) -> float | None:
-        """The moment at which a cut is stopped: where it is the only way, or the time is over now, the end of the time."""
-        if self.method != "auto" or (self.until is not None and self.until <= now):
+    def share(self, now: float, way: str, most: float, part: float) -> float | None:
+        """The moment at which a way is stopped: where it is the only one, or the time is over now, the end of the time."""
+        if self.method == way or (self.until is not None and self.until <= now):
             return self.until
-        return now + (CUT_SECONDS if self.until is None else CUT_SHARE * (self.until - now))
+        return now + (most if self.until is None else part * (self.until - now))
 
     def by_adopt(self, text: str) -> bool:
         certificate = ["--certificate", "yes"]
@@ -247,10 +277,9 @@ def cost_of(programs: Programs, problem: Problem, values: list[int]) -> int:
     answer = programs.run(["solve", "--method", "plain"], Problem(problem.goal, variables, tables).text())
     if answer.status != 0:
         raise Refused(answer)
-    told = int(answer.text.split("\ncost ", 1)[1].split()[0])
-    if told != problem.cost(values):
+    if f"\ncost {problem.cost(values)}\n" not in answer.text:
         raise Trouble("dcop printed a cost that its values do not have: don't trust this program")
-    return told
+    return problem.cost(values)
 
 
 def in_order(report: Report, problem: Problem, wanted: Problem) -> Report:

@@ -34,6 +34,10 @@ class Source:
     values: list[list[object]]
     constraints: list[Constraint]
     title: str = "a problem"
+    notes: list[str] = field(default_factory=list)
+    """What the user is told besides."""
+    infinity: Fraction | None = None
+    """A cost that the tool that the file is of counts as a violation, and leaves out of what it prints as the cost."""
 
 
 @dataclass
@@ -49,25 +53,63 @@ class Translation:
     hard: dict[int, frozenset[int]] = field(default_factory=dict)
     hard_names: dict[int, str] = field(default_factory=dict)
     hard_cost: int = 0
+    source: Source | None = None
+    """What it was made from, with a constraint for each table."""
 
-    def own_cost(self, total: int, assignment: list[int] | None = None) -> Fraction:
+    def own_cost(self, total: int) -> Fraction:
         """What a sum of the problem is in the user's costs, where no hard constraint is broken."""
-        del assignment
         if self.problem.goal == "max":
             total -= self.hard_cost * len(self.hard)
         return Fraction(total, self.scale) + self.shift
+
+    def own_costs(self, assignment: list[int]) -> list[Fraction]:
+        """What each of the user's constraints costs, as it is written, but for those that the assignment breaks."""
+        assert self.source is not None
+        pairs = zip(self.problem.tables, self.source.constraints)
+        told = (constraint.costs[self.problem.place(table, assignment)] for table, constraint in pairs)
+        return [cost for cost in told if cost is not None]
+
+    def own_sum(self, assignment: list[int]) -> Fraction:
+        """What an assignment costs in the user's costs; what it breaks costs nothing here."""
+        if self.source is None:
+            return self.own_cost(self.problem.cost(assignment))
+        return sum(self.own_costs(assignment), Fraction(0))
+
+    @property
+    def slack(self) -> Fraction:
+        """By how much the costs of two assignments may differ otherwise than the problem says, since costs are rounded."""
+        return Fraction(len(self.problem.tables), self.scale) if self.rounded else Fraction(0)
+
+    def notes(self, assignment: list[int]) -> list[str]:
+        """What is to be known besides of an assignment."""
+        if self.source is None:
+            return []
+        infinite = self.own_costs(assignment).count(self.source.infinity) if self.source.infinity is not None else 0
+        if not infinite:
+            return self.source.notes
+        rest = self.own_sum(assignment) - infinite * self.source.infinity
+        return [*self.source.notes, f"{infinite} of the constraints cost {self.source.infinity}, which the other tool counts as "
+                f"violations: it prints the cost {float(rest):g} and violation {infinite}"]
+
+    def own_bounds(self, lower: int | None, upper: int | None) -> list[Fraction | None]:
+        """Bounds of the best sum in the user's costs."""
+        half = self.slack / 2
+        return [None if bound is None else self.own_cost(bound) + half * sign for bound, sign in ((lower, -1), (upper, 1))]
 
     def broken(self, assignment: list[int]) -> list[str]:
         """The hard constraints that an assignment breaks, by name."""
         names = []
         for at, cells in self.hard.items():
-            table = self.problem.tables[at]
-            place = 0
-            for variable in table.scope:
-                place = place * self.problem.variables[variable].size + assignment[variable]
-            if place in cells:
+            if self.problem.place(self.problem.tables[at], assignment) in cells:
                 names.append(self.hard_names[at])
         return names
+
+    def none_keeps(self, bound: int | None) -> bool:
+        """Whether no assignment keeps all hard constraints, by a bound of the best sum: a lower one, or an upper one for
+        a greatest sum."""
+        if bound is None or not self.hard:
+            return False
+        return bound >= self.hard_cost if self.problem.goal == "min" else bound < self.hard_cost * len(self.hard)
 
     def told(self, assignment: list[int]) -> dict[str, object]:
         """The assignment by the user's own names and values."""
@@ -109,6 +151,7 @@ def translate(source: Source) -> Translation:
         {at: frozenset(i for i, c in enumerate(whole[at]) if c is None) for at in sorted(forbids)},
         {at: source.constraints[at].name for at in forbids},
         hard_cost,
+        source,
     )
     problem.comments = comments_of(source, result)
     problem.check_limits()
@@ -155,7 +198,7 @@ def without_forbidden_values(source: Source) -> Source:
             costs.append(constraint.costs[place])
         constraints.append(Constraint(constraint.name, constraint.scope, costs))
     values = [[values[v] for v in keep] for values, keep in zip(source.values, kept)]
-    return Source(source.goal, source.names, values, constraints, source.title)
+    return Source(source.goal, source.names, values, constraints, source.title, source.notes, source.infinity)
 
 
 def scale_of(source: Source) -> tuple[int, bool]:

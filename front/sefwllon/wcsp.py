@@ -7,6 +7,7 @@ from fractions import Fraction
 from itertools import product
 from math import prod
 
+from .evaluator import exact
 from .problem import Problem, Trouble
 from .translate import Constraint, Source
 
@@ -102,6 +103,8 @@ def read_uai(text: str, title: str) -> Source:
     scopes = [tuple(words.number() for _ in range(words.number())) for _ in range(words.number())]
     constraints = []
     for number, scope in enumerate(scopes, 1):
+        if len(set(scope)) < len(scope) or any(not 0 <= v < len(sizes) for v in scope):
+            raise Trouble(f"factor {number} names a variable that is not there, or one twice")
         if words.number() != prod(sizes[v] for v in scope):
             raise Trouble(f"factor {number} has not as many entries as its variables have choices")
         costs: list[Fraction | None] = []
@@ -109,7 +112,7 @@ def read_uai(text: str, title: str) -> Source:
             factor = words.real()
             if factor < 0:
                 raise Trouble(f"factor {number} has a negative entry")
-            costs.append(Fraction(round(-math.log(factor) * 10**6), 10**6) if factor > 0 else None)
+            costs.append(exact(-math.log(factor), f"factor {number}") if factor > 0 else None)
         if scope:
             constraints.append(Constraint(f"factor {number}", scope, costs))
     return Source("min", [f"v{i}" for i in range(len(sizes))], [list(range(s)) for s in sizes], constraints, title)

@@ -78,6 +78,24 @@ class Solving(Case):
             self.assertEqual((status, told), (3, ""))
             self.assertIn("don't trust this program", why)
 
+    def test_a_program_that_is_none_is_told(self):
+        pair = str(PROBLEMS / "pair.dcop")
+        for does, why in (
+            ("echo hello", "no report of `dcop solve`"),
+            ("kill -SEGV $$", "ended by the signal 11"),
+            ("echo refused text line x kind y; exit 3", "That is no refusal of dcop"),
+            ("head -c 300 /dev/zero", "no report of `dcop solve`"),
+        ):
+            program = self.file("dcop", f"#!/bin/sh\n{does}\n")
+            os.chmod(program, 0o755)
+            status, told, said = self.front("solve", pair, program=program)
+            self.assertEqual((status, told), (3, ""))
+            self.assertIn(why, said)
+
+    def test_an_answer_without_a_certificate_is_not_called_verified(self):
+        status, told, _ = self.front("solve", "--method", "plain", str(PROBLEMS / "pair.dcop"))
+        self.assertEqual((status, told.splitlines()[0]), (0, "cost 2, and none is better (not verified: there is no certificate of it to check)"))
+
     def test_adopt_keeps_the_best_of_growing_budgets(self):
         for fake in ("wide turns spends", "wide earlier spends"):
             status, told, _ = self.front("solve", "--json", str(PROBLEMS / "pair.dcop"), fake=fake)
@@ -119,12 +137,14 @@ class Solving(Case):
                 status, told, _ = self.front("solve", pair, fake="wide long spends")
         self.assertEqual(status, 1)
         self.assertRegex(told, r"\ncut was stopped after \d+\.\d s, its share of the time; with `--method cut` it has all of it\n")
-        status, told, _ = self.front("solve", "--method", "cut", "--time", "300ms", pair, fake="long")
-        self.assertEqual((status, told), (1, "nothing found: the time is over\n"))
+        tracking = str(PROBLEMS / "tracking.dcop")
+        status, told, _ = self.front("solve", "--method", "cut", "--time", "300ms", tracking, fake="long")
+        self.assertEqual((status, told.splitlines()[1]), (1, "stopped: the time is over"))
         problem = parse((PROBLEMS / "pair.dcop").read_text())
         shares = {("auto", 30.0): 20.0, ("auto", None): 70.0, ("cut", 30.0): 30.0, ("cut", None): None}
         for (method, until), moment in shares.items():
-            self.assertEqual(Solver(Programs(FAKE), problem, method=method, until=until).cut_until(10.0), moment)
+            solver = Solver(Programs(FAKE), problem, method=method, until=until)
+            self.assertEqual(solver.share(10.0, "cut", 60, 0.5), moment)
 
     def test_each_way_is_told_as_it_is_tried(self):
         told: list[str] = []
@@ -141,6 +161,8 @@ class Solving(Case):
         self.assertEqual((best.values, best.cost, best.lower, best.upper), ([0], 15, 9, 15))
         best.take_better([2], 12, "min")
         self.assertEqual((best.values, best.cost, best.lower, best.upper), ([2], 12, 9, 12))
+        best.take(Report("solved", "cut", 0, 0, 12, 12, 12, [3]), "min")
+        self.assertEqual((best.values, best.solved, best.gap("min")), ([3], True, 0))
         best = Best()
         best.take(Report("spent", "adopt", 0, 5, 10, 12, 20, [0]), "max")
         self.assertEqual((best.cost, best.lower, best.upper, best.gap("max")), (10, 10, 20, 10))
@@ -155,15 +177,28 @@ class Solving(Case):
 
     def test_the_time_is_kept(self):
         began = time.monotonic()
-        status, told, _ = self.front("solve", "--time", "300ms", str(PROBLEMS / "pair.dcop"), fake="slow")
-        self.assertEqual((status, told), (1, "nothing found: the time is over\n"))
+        status, told, _ = self.front("solve", "--time", "300ms", str(PROBLEMS / "tracking.dcop"), fake="slow")
+        self.assertEqual((status, told.splitlines()[1]), (1, "stopped: the time is over"))
         self.assertLess(time.monotonic() - began, 30)
+
+    def test_an_assignment_is_told_where_no_method_comes_to_one_in_time(self):
+        for name in ("tracking", "sensors"):
+            file = PROBLEMS / f"{name}.dcop"
+            status, told, _ = self.front("solve", "--json", "--time", "300ms", str(file), fake="slow")
+            answer, problem = json.loads(told), parse(file.read_text())
+            values = [v.value_of(answer["values"][v.name]) for v in problem.variables]
+            self.assertEqual((status, answer["method"], answer["verified"]), (1, "search", False))
+            self.assertEqual(answer["cost"], problem.cost(values))
+            self.assertEqual(answer["cost"], answer["upper" if problem.goal == "min" else "lower"])
+            self.assertIn("search of sefwllon's own", answer["note"])
+            best = json.loads(self.front("solve", "--json", str(file))[1])["cost"]
+            self.assertTrue(answer["lower"] <= best <= answer["upper"])
 
     def test_an_interrupt_ends_with_the_best_so_far(self):
         mark = Path(self.file("mark", ""))
         environment = dict(os.environ, SEFWLLON_DCOP=FAKE, FAKE="slow", FAKE_MARK=str(mark), PYTHONPATH=str(FRONT))
         process = subprocess.Popen(
-            [sys.executable, "-m", "sefwllon", "solve", str(PROBLEMS / "pair.dcop")],
+            [sys.executable, "-m", "sefwllon", "solve", str(PROBLEMS / "tracking.dcop")],
             env=environment, stdout=subprocess.PIPE, stderr=subprocess.PIPE, text=True,
             # (who starts the tests in the background may have interrupts ignored)
             preexec_fn=lambda: signal.signal(signal.SIGINT, signal.SIG_DFL),
@@ -174,7 +209,7 @@ class Solving(Case):
             time.sleep(0.05)
         process.send_signal(signal.SIGINT)
         told, _ = process.communicate(timeout=40)
-        self.assertEqual((process.returncode, told), (1, "nothing found: interrupted\n"))
+        self.assertEqual((process.returncode, told.splitlines()[1]), (1, "stopped: interrupted"))
 
     @unittest.skipUnless(HAS_YAML, "no PyYAML")
     def test_pydcop_costs_are_told_in_its_own(self):
@@ -221,7 +256,7 @@ class Translating(Case):
         told = translate(source)
         for a, b in itertools.product(range(2), range(3)):
             own = source.constraints[0].costs[a] + source.constraints[1].costs[3 * a + b]
-            self.assertEqual(told.own_cost(told.problem.cost([a, b])), own)
+            self.assertEqual((told.own_cost(told.problem.cost([a, b])), told.own_sum([a, b])), (own, own))
         self.assertEqual(parse(told.problem.text()).tables, told.problem.tables)
 
     def test_what_is_forbidden_costs_more_than_all_else(self):
@@ -243,6 +278,34 @@ class Translating(Case):
         with self.assertRaisesRegex(Trouble, "every value of a is forbidden"):
             translate(source)
 
+    @unittest.skipUnless(HAS_YAML, "no PyYAML")
+    def test_what_cannot_be_told_exactly_is_told_as_such(self):
+        text = "domains: {d: {values: [0 .. 2]}}\nvariables: {x: {domain: d, noise_level: 0.1}, y: {domain: d}}\n"
+        text += "constraints: {c: {type: intention, function: (x + y + 1) / 3}, e: {type: intention, function: x * y / 7}}\n"
+        told = translate(pydcop.read(text, "file"))
+        sums = [told.own_sum([x, y]) for x, y in itertools.product(range(3), repeat=2)]
+        self.assertEqual([float(it) for it in sums[:2]], [1 / 3, 2 / 3])
+        self.assertEqual((told.rounded, told.slack), (True, Fraction(2, 10**6)))
+        lower, upper = told.own_bounds(min(totals := [told.problem.cost([x, y]) for x in range(3) for y in range(3)]), max(totals))
+        self.assertTrue(lower <= min(sums) and max(sums) <= upper)
+        file = self.file("p.yaml", text)
+        status, told, _ = self.front("solve", file)
+        first, second = told.splitlines()[:2]
+        self.assertEqual((status, first), (0, f"cost {1 / 3}, and none is better by more than 2e-06, to which costs are rounded (verified)"))
+        self.assertIn("the noise of x is left out", second)
+
+    def test_that_no_assignment_keeps_all_is_known_by_a_bound(self):
+        for goal in ("min", "max"):
+            clash = [None, Fraction(0), Fraction(0), None]
+            pairs = [Constraint(f"{a}{b}", (a, b), list(clash)) for a, b in ((0, 1), (1, 2), (0, 2))]
+            soft = Constraint("soft", (0,), [Fraction(4), Fraction(7)])
+            told = translate(Source(goal, ["a", "b", "c"], [[0, 1]] * 3, [*pairs, soft]))
+            sums = [told.problem.cost(list(choice)) for choice in itertools.product(range(2), repeat=3)]
+            self.assertTrue(told.none_keeps(min(sums) if goal == "min" else max(sums)))
+            told = translate(Source(goal, ["a", "b", "c"], [[0, 1]] * 3, [*pairs[1:], soft]))
+            sums = [told.problem.cost(list(choice)) for choice in itertools.product(range(2), repeat=3)]
+            self.assertFalse(told.none_keeps(min(sums) if goal == "min" else max(sums)))
+
     def test_formulas_know_no_python(self):
         self.assertEqual(Formula("1 if a == b else 0", "f").value({"a": 1, "b": 2}), 0)
         self.assertEqual(Formula("if a > 1:\n  return abs(a - b)\nreturn 0", "f").value({"a": 3, "b": 5}), 2)
@@ -263,6 +326,10 @@ class Translating(Case):
             ("x: [", "no YAML"),
             ("domains: {}", "no `variables`"),
             (head + "objective: best", "neither min nor max"),
+            ("variables: [x]", "variables: lines `NAME: ..`"),
+            ("variables: {x: }", "the domain None of x is not among"),
+            (head + "constraints: {c: {type: extensional, variables: x, values: [1]}}", "c: its values are lines"),
+            (head + "constraints: {c: {function: 'sum(i for i in x)'}}", "may not have `\\(?i for i in x"),
             (head + "constraints: {c: {type: intention, function: x + z}}", "names z"),
             (head + "constraints: {c: {type: extensional, variables: x, values: {1: 5}}}", "5 is no value of x"),
             (head + "constraints: {c: {type: intention, function: .inf * -1 if x else 0}}", "can't be read"),
@@ -270,9 +337,20 @@ class Translating(Case):
             with self.assertRaisesRegex(Trouble, why):
                 pydcop.read(text, "file")
 
+    @unittest.skipUnless(HAS_YAML, "no PyYAML")
+    def test_what_pydcop_counts_as_violations_is_told(self):
+        text = "domains: {d: {values: [0, 1]}}\nvariables: {x: {domain: d}, y: {domain: d}, z: {domain: d}}\nconstraints:\n"
+        text += "".join(f"  {a}{b}: {{function: '10000 if {a} == {b} else 0.5'}}\n" for a, b in ("xy", "xz", "yz"))
+        _, told, _ = self.front("solve", self.file("p.yaml", text))
+        self.assertEqual(told.splitlines()[0], "cost 10001, and none is better (verified)")
+        self.assertIn("it prints the cost 1 and violation 1", told)
+
     def test_uai_factors_become_costs(self):
         source = wcsp.read_uai("MARKOV 1 2 1 1 0 2 0.5 1.0", "file")
         self.assertEqual(source.constraints[0].costs[1], 0)
+        for text, why in (("MARKOV 1 2 1 1 7 2 1 1", "not there"), ("MARKOV 1 2 1 1 0 2 1", "ends too early")):
+            with self.assertRaisesRegex(Trouble, why):
+                wcsp.read_uai(text, "file")
 
 
 class Meetings(Case):
@@ -285,12 +363,42 @@ class Meetings(Case):
         self.assertIn("Mon 9", told)
         self.assertEqual(text.count("BEGIN:VEVENT\r\n"), 4)
 
+    def test_slots_that_overlap_are_not_both_given_to_one_person(self):
+        text = "slot,a,2026-03-02 09:00,120\nslot,b,2026-03-02 10:00\nslot,c,2026-03-02 11:00\n"
+        text += "meeting,m,Ann\nmeeting,n,Ann\nlike,Ann,a;b,1.5\n"
+        status, told, _ = self.front("meetings", self.file("week.csv", text))
+        self.assertEqual((status, told.splitlines()[0]), (0, "cost 1.5, and none is better (verified)"))
+        self.assertIn("\nc  ", told)
+
+    def test_that_there_is_no_timetable_is_told(self):
+        week = self.file("week.csv", "slot,a\nmeeting,m,Ann\nmeeting,n,Ann\n")
+        report = self.file("report", "")
+        status, told, _ = self.front("meetings", week, "--report", report)
+        self.assertEqual((status, told.splitlines()[:2]), (1, ["no assignment keeps all hard constraints (verified)", "broken: m and n share Ann"]))
+        _, told, _ = self.front("check", week, report)
+        self.assertEqual(told, "yes, verified: no assignment keeps all hard constraints; this one breaks: m and n share Ann\n")
+
+    def test_a_csv_is_explained_as_one(self):
+        status, _, why = self.front("explain", self.file("week.csv", "slot,a\nmeeting,m,Ann\nabsent,Bo,a\n"))
+        self.assertEqual(status, 3)
+        self.assertIn("line 3: Bo is absent", why)
+        bad = self.file("week.csv", "")
+        Path(bad).write_bytes("slot,a\nmeeting,m,J\xfcrgen\n".encode("latin-1"))
+        self.assertIn("no UTF-8 text from line 2 on", self.front("meetings", bad)[2])
+
     def test_faults_are_told_by_line(self):
         for text, why in (
             ("slot,a\nslot,a\n", "line 2: the slot a stands twice"),
             ("slot,a,tomorrow\n", "line 1: tomorrow is no time"),
             ("room,a\n", "line 1: a line begins with"),
-            ("slot,a\nmeeting,m,Ann\nabsent,Bo,a\n", "Bo is absent"),
+            ("slot,a\nmeeting,m,Ann\nabsent,Bo,a\n", "line 3: Bo is absent, and takes part in no meeting \\(`absent,Bo,a`"),
+            ("slot;a\n", "line 1: its cells are separated by semicolons"),
+            ("slot,a\nmeeting,,Ann\n", "line 2: a cell is missing, or is one too many: the line is meeting,NAME"),
+            ("slot,a\nmeeting,m,Ann\nlike,Ann,a,\n", "line 3: a cell is missing"),
+            ("slot,a\nmeeting,m,Ann\nlike,Ann,a,-2\n", "line 3: the cost -2 is negative"),
+            ("slot,a\nmeeting,m,Ann\nlike,Ann,3,a\n", "line 3: the last cell is the cost"),
+            ("slot,a,2026-03-02 09:00,²\n", "line 1: ² is no number of minutes"),
+            ("slot,a,2026-03-02 09:00+01:00\n", "line 1: .* names a time zone"),
             ("slot,a\nmeeting,m,Ann;Bo\nabsent,Bo,a\n", "m has no slot: in each of them somebody of Ann, Bo is absent"),
         ):
             with self.assertRaisesRegex(Trouble, why):
@@ -307,6 +415,12 @@ class Telling(Case):
             ("dcop 1\nvar a 2\ntable a : 0.5 2\n", "refused text line 3 kind 3", "multiply"),
             ("\ufeffdcop 1\n", "refused text line 1 kind 1", "byte order mark"),
             ("dcop 1\nvar a 2\n", "refused text line 3 kind 6", "`end` is missing"),
+            ("", "refused text line 1 kind 6", "The file is empty"),
+            ("dcop 2\nVar a 2\n", "refused text line 2 kind 2", "small letters"),
+            ("dcop 2\nrow a 2\n", "refused text line 2 kind 2", "and not with `row`"),
+            ("dcop 1\nvar a : x y\n", "refused text line 2 kind 2", "for `dcop 2`"),
+            ("dcop 2\nvar a 2\ntable a : +1 2\n", "refused text line 3 kind 3", "Leave out the sign of `+1`"),
+            ("dcop 2\nvar a 2\ntable a : 1 12345678901234567890\n", "refused text line 3 kind 3", "too long"),
             ("dcop 1\nvar a 2\ntable a : 1\n", "refused text line 3 kind 7 problem 6", "has 1 and needs 2"),
             ("dcop 1\nvar a 2\ntable A : 1 1\n", "refused text line 3 kind 4", "capital letters"),
         ):
@@ -431,6 +545,9 @@ class Telling(Case):
         self.assertIn("Line 5: `var a 2`\nThe name stands a second time", why)
 
     def test_times_are_read(self):
+        for words in (("--workers", "65"), ("--workers", "0"), ("--error", "-1"), ("--workers", "²")):
+            with redirect_stderr(io.StringIO()), self.assertRaises(SystemExit):
+                main(["solve", "x.dcop", *words])
         self.assertEqual([seconds(word) for word in ("30s", "500ms", "2m", "7")], [30, 0.5, 120, 7])
 
 
