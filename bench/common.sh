@@ -21,6 +21,27 @@ copy_crates() {
     done
 }
 
+# Prints these crates, and all of the repository that stand below them.
+# arguments: the crates
+with_those_below() {
+    python3 - "$top/crates.txt" "$@" <<'PY'
+import sys
+path, *left = sys.argv[1:]
+below = {}
+with open(path) as lines:
+    for line in lines:
+        crate, _, uses = line.partition(":")
+        below[crate.split()[0]] = uses.split()
+found = []
+while left:
+    crate = left.pop()
+    if crate in below and crate not in found:
+        found.append(crate)
+        left += below[crate]
+print(*found)
+PY
+}
+
 # Adds a bench crate to the copy, whose files have `.txt` behind their names.
 # arguments: its folder in bench, and its line of crates.txt
 add_crate() {

@@ -1,12 +1,16 @@
 #!/usr/bin/env bash
-# How long a server takes for 64 clients, each with 1,000 requests of ten problems, and how much memory.
+# How long a server takes for 64 clients, each with 1,000 requests of ten problems, and how much memory;
+# and whether its memory grows over ten runs of the same requests.
 #
 # usage: bench/serve.sh SERVER PROGRAM [PORT]
-# SERVER is the built program `dcop_serve`, PROGRAM the built program `dcop`, PORT the first of six ports
+# SERVER is the built program `dcop_serve`, PROGRAM the built program `dcop`, PORT the first of ten ports
 # that are free, else 20000. The problems are random, of 12 variables of size 4 with 16 tables. Prints
 # for 1, 4 and 16 workers, with a cache for all ten and with a cache of one entry, the time of a request
-# and the most memory that the server had; and the time of a call of `dcop` on the same problems. Every
-# reply is compared with what `dcop` writes.
+# and the most memory that the server had; and the time of a call of `dcop` on the same problems. Then,
+# for 1 and 6 workers and both caches, one server serves ten runs, each of 6 clients with 990 requests:
+# behind each it prints the memory that the server holds and the most that it held, and behind all how
+# much it holds at the end, as a ratio to what it held behind the second run. Every reply is compared
+# with what `dcop` writes.
 set -eu
 server=${1:?usage: bench/serve.sh SERVER PROGRAM [PORT]}
 program=${2:?usage: bench/serve.sh SERVER PROGRAM [PORT]}
@@ -18,6 +22,8 @@ from timing import best
 
 server, program, port, folder = sys.argv[1:]
 CLIENTS, BATCHES = 64, 100
+RUNS, CLIENTS_A_RUN = 10, 6
+PATIENCE = 600
 
 
 def problem(number):
@@ -38,25 +44,68 @@ def frame(payload):
 def connected(at):
     for _ in range(200):
         try:
-            return socket.create_connection(("127.0.0.1", at))
+            return socket.create_connection(("127.0.0.1", at), PATIENCE)
         except ConnectionRefusedError:
             time.sleep(0.05)
     sys.exit(f"nothing listens at port {at}")
 
 
+# A server at this port, and so many connections to it.
+def begin(at, clients, entries, workers):
+    words = [server, str(at), str(clients), str(entries), str(workers)]
+    child = subprocess.Popen(words, stdout=subprocess.PIPE)
+    return child, [connected(at) for _ in range(clients)]
+
+
+# Closes the connections to a server, which ends well behind so many requests. The most memory it had.
+def end(child, connections, count):
+    for connection in connections:
+        connection.close()
+    told = child.stdout.read().decode()
+    _, status, used = os.wait4(child.pid, 0)
+    assert os.waitstatus_to_exitcode(status) == 0 and f"served {count}\n" in told, (status, told[-200:])
+    return used.ru_maxrss / 1024
+
+
 # Asks for all problems so often over a connection.
-def ask(connection, requests, replies, wrong):
-    stream = connection.makefile("rb")
-    for _ in range(BATCHES):
-        connection.sendall(requests)
-        if stream.read(len(replies)) != replies:
-            wrong.append(connection)
-            break
-    connection.close()
+def ask(connection, batches):
+    with connection.makefile("rb") as stream:
+        for _ in range(batches):
+            connection.sendall(requests)
+            if stream.read(len(replies)) != replies:
+                wrong.append(connection)
+                return
+
+
+# Asks over connections one after another, and closes each then that does not stay.
+def ask_in_turn(connections, batches, stay):
+    for connection in connections:
+        ask(connection, batches)
+        if connection not in stay:
+            connection.close()
+
+
+# Asks over groups of connections beside each other, and how long that takes.
+def ask_beside(groups, batches, stay=()):
+    threads = [threading.Thread(target=ask_in_turn, args=(group, batches, stay)) for group in groups]
+    begun = time.perf_counter()
+    for thread in threads:
+        thread.start()
+    for thread in threads:
+        thread.join()
+    assert not wrong
+    return time.perf_counter() - begun
+
+
+# The memory that a process holds, and the most that it held, in MB.
+def memory(child):
+    with open(f"/proc/{child.pid}/status") as file:
+        told = dict(line.split(":", 1) for line in file)
+    return [int(told[name].split()[0]) / 1024 for name in ("VmRSS", "VmHWM")]
 
 
 problems = [problem(number) for number in range(10)]
-texts, alone = [], 0.0
+texts, alone, wrong = [], 0.0, []
 for number, text in enumerate(problems):
     path = f"{folder}/problem{number}"
     with open(path, "wb") as file:
@@ -66,26 +115,37 @@ for number, text in enumerate(problems):
     texts.append(reply)
 print(f"a call of dcop: {alone / len(problems) * 1e6:.0f} us")
 requests, replies = b"".join(map(frame, problems)), b"".join(map(frame, texts))
-count = CLIENTS * BATCHES * len(problems)
 
 at = int(port)
+count = CLIENTS * BATCHES * len(problems)
 for workers in 1, 4, 16:
     for entries in 16, 1:
-        words = [server, str(at), str(CLIENTS), str(entries), str(workers)]
-        child = subprocess.Popen(words, stdout=subprocess.PIPE)
-        connections = [connected(at) for _ in range(CLIENTS)]
-        wrong = []
-        threads = [threading.Thread(target=ask, args=(c, requests, replies, wrong)) for c in connections]
-        begin = time.perf_counter()
-        for thread in threads:
-            thread.start()
-        for thread in threads:
-            thread.join()
-        took = time.perf_counter() - begin
-        told = child.stdout.read().decode()
-        _, status, used = os.wait4(child.pid, 0)
-        assert not wrong and os.waitstatus_to_exitcode(status) == 0, (words, told[-200:])
-        assert f"served {count}\n" in told, told[-200:]
-        print(f"workers {workers}, entries {entries}: {took / count * 1e6:.1f} us a request, {used.ru_maxrss / 1024:.1f} MB")
+        child, connections = begin(at, CLIENTS, entries, workers)
+        took = ask_beside([[connection] for connection in connections], BATCHES)
+        most = end(child, connections, count)
+        print(f"workers {workers}, entries {entries}: {took / count * 1e6:.1f} us a request, {most:.1f} MB")
+        at += 1
+
+# A server deals its clients out to its workers in the order in which they came, as many in a row to
+# each, and a worker serves its own one after another: in each run come the next of each worker. The
+# last stay while memory is read, and ask less than a session may, so that the server has not ended.
+clients, batches = RUNS * CLIENTS_A_RUN, BATCHES - 1
+for workers in 1, CLIENTS_A_RUN:
+    own, turn = clients // workers, CLIENTS_A_RUN // workers
+    for entries in 16, 1:
+        child, connections = begin(at, clients, entries, workers)
+        held = []
+        for run in range(RUNS):
+            firsts = range(run * turn, clients, own)
+            groups = [connections[first:first + turn] for first in firsts]
+            last = [group[-1] for group in groups]
+            ask_beside(groups, batches, last)
+            now, most = memory(child)
+            held.append(now)
+            print(f"workers {workers}, entries {entries}, run {run + 1}: {now:.2f} MB, {most:.2f} MB at most")
+            for connection in last:
+                connection.close()
+        end(child, connections, clients * batches * len(problems))
+        print(f"workers {workers}, entries {entries}: {held[-1] / held[1]:.4f} of the second run's")
         at += 1
 PY
