@@ -4,11 +4,15 @@ use Rattle.std.specs.List.{list_all, All, AllZip, flat_map, count_by}
 use Rattle.std.specs.Prelude.{codes, IfSome, IsTrue, is_some, ◌⊎◌}
 use Rattle.std.proofs.Common.{inl, inr}
 use Rattle.std.specs.Fmt.{decimal}
-use Rattle.std.proofs.lemmas.List.{append-nil}
-use Rattle.std.proofs.lemmas.List.Elements.{All-head, All-tail}
+use Rattle.std.proofs.lemmas.List.{append-nil, length-map}
+use Rattle.std.proofs.lemmas.List.Elements.{All-head, All-tail, All-cons}
 use Rattle.std.proofs.lemmas.List.Folds.{list_all-append}
 use Rattle.std.proofs.lemmas.Bool.{and_parts, eq-eqb, false≢true}
+use Rattle.dcop_base.specs.Table.{product, AreWithin}
 use Rattle.dcop_base.specs.Whole.{IsProblem}
+use Rattle.cost_table.proofs.RunLaws.{product-some}
+use Rattle.cost_table.proofs.ProblemCutLaws.{length-ones_at}
+use Rattle.protocol_steps.proofs.ValueLaws.{length-choices}
 use Rattle.problem_text.specs.declared.file.Goal.{Goal}
 use Rattle.problem_text.specs.declared.file.Goal.TheVariants.{Min, Max}
 use Rattle.problem_text.specs.Name.{is_name}
@@ -22,22 +26,27 @@ use Rattle.run_log.specs.declared.log.LogEvent.{LogEvent}
 use Rattle.run_log.specs.LogText.{event_words, FitsEvent}
 use Rattle.run_log.proofs.EventLineLaws.{event_again, events_plain}
 use Rattle.certificate_text.specs.declared.certificate.Certificate.{Certificate}
-use Rattle.certificate_text.specs.declared.certificate.Certificate.TheVariants.{Tables, Log}
+use Rattle.certificate_text.specs.declared.certificate.Certificate.TheVariants.{Tables, Log, Cut as Turns}
+use Rattle.certificate_text.specs.declared.certificate.Turn.{Turn}
 use Rattle.certificate_text.specs.declared.certificate.Util.{Util}
 use Rattle.certificate_text.specs.declared.report.Ending.{Ending}
 use Rattle.certificate_text.specs.declared.report.Ending.TheVariants.{Solved, Spent}
 use Rattle.certificate_text.specs.declared.report.Method.{Method}
 use Rattle.certificate_text.specs.declared.report.Method.TheVariants.{Plain, Dpop, Adopt, Cut}
 use Rattle.certificate_text.specs.declared.report.Report.{Report}
-use Rattle.certificate_text.specs.CertificateText.{parent_word, util_words, certificate_lines}
+use Rattle.certificate_text.specs.CertificateText.{parent_word, util_words, cut_words, turn_words, turn_lines, certificate_lines}
 use Rattle.certificate_text.specs.ReportText.{ending_word, method_word, head_lines, bound_lines, value_words, value_lines, report_lines, report_text}
-use Rattle.certificate_text.specs.UtilLine.{has_util, lacks_util}
+use Rattle.certificate_text.specs.UtilLine.{lacks_util}
 use Rattle.certificate_text.specs.ReportLines.{Fault, Left, one_line}
 use Rattle.certificate_text.specs.ReportReading.{head_read, bounds_read, values_read, tables_read, events_read, certificate_read, lines_read, report_read}
+use Rattle.certificate_text.specs.declared.turns.CutSizes.{CutSizes}
+use Rattle.certificate_text.specs.TurnReading.{cut_sizes, cut_read}
 use Rattle.certificate_text.specs.declared.certificate_line.Form.TheVariants as forms
 use Rattle.certificate_text.specs.CertificateLine.{certificate_line}
-use Rattle.certificate_text.specs.Fits.{Fits, FitsUtil, FitsTables, FitsCertificate}
-use Rattle.certificate_text.proofs.LineAgainLaws.{status-again, method-again, number-again, value-again, util-again, fresh-before, has-one, range-all}
+use Rattle.certificate_text.specs.Fits.{Fits, FitsUtil, FitsTables, FitsCut, FitsCertificate}
+use Rattle.certificate_text.proofs.LineAgainLaws.{status-again, method-again, number-again, value-again, util-again, fresh-before, turn-again, cut-again}
+use Rattle.certificate_text.proofs.TurnFitsLaws.{AreNumbered}
+use Rattle.certificate_text.proofs.TurnAgainLaws.{choices-numbered, whole-tables, turns-again, tables-in-turn}
 
 -- the lines with these words, the first of which has this number
 abbrev left_of : ℕ → ℕ → List (List (List ℕ)) → Left
@@ -100,12 +109,6 @@ utils-again f done (u ∷ us) over number file each one whole =
     let rest = utils-again f (done ++ (u ∷ [])) us over (number + 1) file (All-tail (FitsUtil f.problem.sizes) u us each) later (ap (λ (us : List Util). lacks_util us (length f.names)) same ∙ whole) in
     rw again (subst (λ (all : List Util). tables_read f.names f.problem.sizes over (done ++ (u ∷ [])) (plain_worded (number + 1) (map (util_words f.names) us ++ ((codes "end" ∷ []) ∷ []))) ≡ Ok (all, record { lines = []; over = over })) same rest)
 
--- each variable has its table
-whole-utils : (f : TextFile) (utils : List Util) → length f.names ≡ length f.problem.sizes → FitsTables f.problem.sizes utils → lacks_util utils (length f.names) ≡ false
-whole-utils f utils many fits =
-    let all = range-all (λ var. has_util utils var) 0 (length f.names) (λ k lo hi. has-one k utils (fits.one k (omega (arith, many, hi)))) in
-    rw all refl
-
 -- the events, behind others, and the line `end`
 events-again : (f : TextFile) (done log : List LogEvent) (over number : ℕ) → IsFile f → All (FitsEvent (length f.names)) log
     → events_read f.names over done (plain_worded number (map (event_words f.names) log ++ ((codes "end" ∷ []) ∷ []))) ≡ Ok (done ++ log, record { lines = []; over = over })
@@ -125,26 +128,82 @@ tables-behind : (f : TextFile) (method : Method) (utils : List Util) (over numbe
     → tables_read f.names f.problem.sizes over [] (plain_worded (number + 1) later) ≡ Ok (utils, left)
     → certificate_read f method (left_of over number ((codes "certificate" ∷ codes "tables" ∷ []) ∷ later)) ≡ Ok (Tables utils, left)
 tables-behind f method utils over number later left is tables =
-    let first : one_line (certificate_line method) (left_of over number ((codes "certificate" ∷ codes "tables" ∷ []) ∷ later)) ≡ Ok (forms.Tables, left_of over (number + 1) later) = rw is refl in
+    let first : one_line (certificate_line f.names method) (left_of over number ((codes "certificate" ∷ codes "tables" ∷ []) ∷ later)) ≡ Ok (forms.Tables, left_of over (number + 1) later) = rw is refl in
     rw (first, tables) refl
 
 tables-again : (f : TextFile) (method : Method) (utils : List Util) → IsFile f → method ≡ Dpop → FitsTables f.problem.sizes utils → IsReadAgain f method (Tables utils)
 tables-again f method utils file is fit over number =
     tables-behind f method utils over number (map (util_words f.names) utils ++ ((codes "end" ∷ []) ∷ [])) (record { lines = []; over = over }) is
-    (utils-again f [] utils over (number + 1) file fit.each fit.one (whole-utils f utils file.named fit))
+    (utils-again f [] utils over (number + 1) file fit.each fit.one (whole-tables (length f.names) f.problem.sizes utils file.named fit))
 
 -- a certificate's first line, and its events
 events-behind : (f : TextFile) (method : Method) (log : List LogEvent) (over number : ℕ) (later : List (List (List ℕ))) (left : Left) → method ≡ Adopt
     → events_read f.names over [] (plain_worded (number + 1) later) ≡ Ok (log, left)
     → certificate_read f method (left_of over number ((codes "certificate" ∷ codes "log" ∷ []) ∷ later)) ≡ Ok (Log log, left)
 events-behind f method log over number later left is events =
-    let first : one_line (certificate_line method) (left_of over number ((codes "certificate" ∷ codes "log" ∷ []) ∷ later)) ≡ Ok (forms.Log, left_of over (number + 1) later) = rw is refl in
+    let first : one_line (certificate_line f.names method) (left_of over number ((codes "certificate" ∷ codes "log" ∷ []) ∷ later)) ≡ Ok (forms.Log, left_of over (number + 1) later) = rw is refl in
     rw (first, events) refl
 
 log-again : (f : TextFile) (method : Method) (log : List LogEvent) → IsFile f → method ≡ Adopt → All (FitsEvent (length f.names)) log → IsReadAgain f method (Log log)
 log-again f method log file is fit over number =
     events-behind f method log over number (map (event_words f.names) log ++ ((codes "end" ∷ []) ∷ [])) (record { lines = []; over = over }) is
     (events-again f [] log over (number + 1) file fit)
+
+-- the sizes of a problem are small
+small-sizes : (f : TextFile) → IsProblem f.problem → All (λ s. s ≤ 1024) f.problem.sizes
+small-sizes f p = λ (k d : ℕ) (h : k < length f.problem.sizes). let s = p.sizes k d h in let b : get_or f.problem.sizes k d ≤ 1024 = s.1 in b
+
+some-sizes : (f : TextFile) → IsProblem f.problem → All (λ s. 1 ≤ s) f.problem.sizes
+some-sizes f p = λ (k d : ℕ) (h : k < length f.problem.sizes). let s = p.sizes k d h in let b : 1 ≤ get_or f.problem.sizes k d = s.0 in b
+
+-- a cut's first line, and its turns
+cut-behind : (f : TextFile) (method : Method) (cut : List ℕ) (turns : List Turn) (over number : ℕ) (later : List (List (List ℕ))) (left : Left) → method ≡ Cut → certificate_line f.names Cut (cut_words f.names cut) ≡ Ok (forms.Cut cut)
+    → cut_read f cut (left_of over (number + 1) later) ≡ Ok (turns, left)
+    → certificate_read f method (left_of over number (cut_words f.names cut ∷ later)) ≡ Ok (Turns cut turns, left)
+cut-behind f method cut turns over number later left is line read =
+    let first : one_line (certificate_line f.names method) (left_of over number (cut_words f.names cut ∷ later)) ≡ Ok (forms.Cut cut, left_of over (number + 1) later) = rw (is, line) refl in
+    rw (first, read) refl
+
+-- sizes of cut variables
+own-sizes : (P : ℕ → Type 0) (sizes cut : List ℕ) → All P sizes → All (λ v. v < length sizes) cut → All P (map (λ v. get_or sizes v 0) cut)
+own-sizes P sizes [] all within = λ k d lt. absurd (omega (arith, lt))
+own-sizes P sizes (v ∷ vs) all within =
+    All-cons P (get_or sizes v 0) (map (λ v. get_or sizes v 0) vs) (all v 0 (All-head (λ v. v < length sizes) v vs within)) (own-sizes P sizes vs all (All-tail (λ v. v < length sizes) v vs within))
+
+-- the turns of a cut, and the line `end`
+cut-turns : (f : TextFile) (cut : List ℕ) (turns : List Turn) (over number : ℕ) → IsFile f → IsProblem f.problem → FitsCut f.problem.sizes cut turns
+    → cut_read f cut (left_of over number (flat_map (turn_lines f.names) turns ++ ((codes "end" ∷ []) ∷ []))) ≡ Ok (turns, record { lines = []; over = over })
+cut-turns f cut turns over number file p fit =
+    let sizes : CutSizes = cut_sizes f.problem.sizes cut in
+    let long : length (map (λ (t : Turn). t.values) turns) ≡ length turns = length-map turns (λ (t : Turn). t.values) in
+    let count : length turns ≡ product sizes.own = sym long ∙ ap (λ (vs : List (List ℕ)). length vs) fit.values ∙ length-choices sizes.own in
+    let small = own-sizes (λ s. s ≤ 1024) f.problem.sizes cut (small-sizes f p) fit.within in
+    let some = product-some sizes.own (own-sizes (λ s. 1 ≤ s) f.problem.sizes cut (some-sizes f p) fit.within) in
+    cases turns count some small fit
+  where
+    cases : (turns : List Turn) → length turns ≡ product (map (λ v. get_or f.problem.sizes v 0) cut) → 1 ≤ product (map (λ v. get_or f.problem.sizes v 0) cut) → All (λ s. s ≤ 1024) (map (λ v. get_or f.problem.sizes v 0) cut) → FitsCut f.problem.sizes cut turns
+        → cut_read f cut (left_of over number (flat_map (turn_lines f.names) turns ++ ((codes "end" ∷ []) ∷ []))) ≡ Ok (turns, record { lines = []; over = over })
+    cases [] count some small fit = absurd (omega (arith, count, some))
+    cases (t ∷ ts) count some small fit =
+        let sizes : CutSizes = cut_sizes f.problem.sizes cut in
+        let end : List (List (List ℕ)) = (codes "end" ∷ []) ∷ [] in
+        let behind = flat_map (turn_lines f.names) ts ++ end in
+        let many : length f.names ≡ length sizes.slice = file.named ∙ sym (length-ones_at cut f.problem.sizes) in
+        let numbered = choices-numbered sizes.own (t ∷ ts) fit.values count in
+        let line = turn-again sizes.own 0 t.values numbered.0 small in
+        let own = All-head (λ (t : Turn). FitsTables sizes.slice t.tables) t ts fit.tables in
+        let rest = λ (m : ℕ). turns-again f sizes [] t ts over m file many small own (All-tail (λ (t : Turn). FitsTables sizes.slice t.tables) t ts fit.tables) numbered.1 (omega (arith, count)) fit.parents in
+        let read : Result (List Turn × Left) Fault = Ok (t ∷ ts, record { lines = []; over = over }) in
+        let tables = tables-in-turn f sizes [] t.values [] t.tables over (number + 1) behind read file many own.each own.one (λ k d lt j e h. absurd (omega (arith, h))) rest in
+        let lines : flat_map (turn_lines f.names) (t ∷ ts) ++ end ≡ turn_words t.values ∷ (map (util_words f.names) t.tables ++ behind) =
+        ap (λ (rows : List (List (List ℕ))). turn_words t.values ∷ rows) (append_assoc (map (util_words f.names) t.tables) (flat_map (turn_lines f.names) ts) end) in
+        subst (λ (rows : List (List (List ℕ))). cut_read f cut (left_of over number rows) ≡ read) (sym lines) (rw line tables)
+
+cut-read-again : (f : TextFile) (method : Method) (cut : List ℕ) (turns : List Turn) → IsFile f → IsProblem f.problem → method ≡ Cut → FitsCut f.problem.sizes cut turns → IsReadAgain f method (Turns cut turns)
+cut-read-again f method cut turns file p is fit over number =
+    let within : All (λ v. v < length f.names) cut = subst (λ (n : ℕ). All (λ v. v < n) cut) (sym file.named) fit.within in
+    cut-behind f method cut turns over number (flat_map (turn_lines f.names) turns ++ ((codes "end" ∷ []) ∷ [])) (record { lines = []; over = over }) is
+    (cut-again f.names cut file.distinct fit.distinct within) (cut-turns f cut turns over (number + 1) file p fit)
 
 -- lines of plain words
 status-plain : (status : Ending) → is_line (codes "status" ∷ ending_word status ∷ []) ≡ true
@@ -206,19 +265,52 @@ utils-plain names sizes [] named many each = refl
 utils-plain names sizes (u ∷ us) named many each =
     rw (util-plain names sizes u named many (All-head (FitsUtil sizes) u us each), utils-plain names sizes us named many (All-tail (FitsUtil sizes) u us each)) refl
 
+-- the values of turns
+told-plain : (sizes values : List ℕ) → AreWithin sizes values → All (λ s. s ≤ 1024) sizes → list_all is_word (map decimal values) ≡ true
+told-plain [] [] within small = refl
+told-plain [] (v ∷ vs) within small = absurd within
+told-plain (s ∷ ss) [] within small = absurd within
+told-plain (s ∷ ss) (v ∷ vs) within small =
+    let most : s ≤ 1024 = All-head (λ s. s ≤ 1024) s ss small in
+    let below : v < s = within.0 in
+    rw (decimal-word v (omega (arith, below, most)), told-plain ss vs within.1 (All-tail (λ s. s ≤ 1024) s ss small)) refl
+
+turns-plain : (names : List (List ℕ)) (own slice : List ℕ) (number : ℕ) (turns : List Turn) → list_all is_name names ≡ true → length names ≡ length slice → All (λ s. s ≤ 1024) own → AreNumbered own number turns → All (λ t. FitsTables slice t.tables) turns → list_all is_line (flat_map (turn_lines names) turns) ≡ true
+turns-plain names own slice number [] named many small numbered each = refl
+turns-plain names own slice number (t ∷ ts) named many small numbered each =
+    let fit = All-head (λ (t : Turn). FitsTables slice t.tables) t ts each in
+    rw (
+      list_all-append is_line (map (util_words names) t.tables) (flat_map (turn_lines names) ts),
+      told-plain own t.values numbered.0.within small,
+      utils-plain names slice t.tables named many fit.each,
+      turns-plain names own slice (number + 1) ts named many small numbered.1 (All-tail (λ (t : Turn). FitsTables slice t.tables) t ts each),
+    ) refl
+
+cut-plain : (f : TextFile) (cut : List ℕ) (turns : List Turn) → IsFile f → IsProblem f.problem → FitsCut f.problem.sizes cut turns → list_all is_line (certificate_lines f.names (Turns cut turns)) ≡ true
+cut-plain f cut turns file p fit =
+    let sizes : CutSizes = cut_sizes f.problem.sizes cut in
+    let within : All (λ v. v < length f.names) cut = subst (λ (n : ℕ). All (λ v. v < n) cut) (sym file.named) fit.within in
+    let many : length f.names ≡ length sizes.slice = file.named ∙ sym (length-ones_at cut f.problem.sizes) in
+    let long : length (map (λ (t : Turn). t.values) turns) ≡ length turns = length-map turns (λ (t : Turn). t.values) in
+    let count : length turns ≡ product sizes.own = sym long ∙ ap (λ (vs : List (List ℕ)). length vs) fit.values ∙ length-choices sizes.own in
+    let small = own-sizes (λ s. s ≤ 1024) f.problem.sizes cut (small-sizes f p) fit.within in
+    rw (scope-words f.names cut file.names within, turns-plain f.names sizes.own sizes.slice 0 turns file.names many small (choices-numbered sizes.own turns fit.values count) fit.tables) refl
+
 -- a certificate that fits is one of plain words, and it is read again
 record IsAgain (f : TextFile) (method : Method) (certificate : Certificate) : Type 0 where
   plain : list_all is_line (certificate_lines f.names certificate) ≡ true
   read : IsReadAgain f method certificate
 
-certificate-again : (f : TextFile) (method : Method) (certificate : Certificate) → IsFile f → FitsCertificate f.problem.sizes method certificate → IsAgain f method certificate
-certificate-again f method (Tables utils) file fit = record {
+certificate-again : (f : TextFile) (method : Method) (certificate : Certificate) → IsFile f → IsProblem f.problem → FitsCertificate f.problem.sizes method certificate → IsAgain f method certificate
+certificate-again f method (Tables utils) file p fit = record {
   plain = utils-plain f.names f.problem.sizes utils file.names file.named fit.1.each;
   read = tables-again f method utils file fit.0 fit.1;
 }
-certificate-again f method (Log log) file fit =
+certificate-again f method (Log log) file p fit =
     let named : All (FitsEvent (length f.names)) log = subst (λ (n : ℕ). All (FitsEvent n) log) (sym file.named) fit.1 in
     record { plain = events_plain f.names log file.names named; read = log-again f method log file fit.0 named }
+certificate-again f method (Turns cut turns) file p fit =
+    record { plain = cut-plain f cut turns file p fit.1; read = cut-read-again f method cut turns file p fit.0 fit.1 }
 
 -- the lines of a report with this certificate, one part behind the other
 abbrev lines_with : Report → TextFile → Certificate → List (List (List ℕ))
@@ -234,10 +326,6 @@ lines-with r f certificate is =
     let end : List (List (List ℕ)) = (codes "end" ∷ []) ∷ [] in
     let same : report_lines r f ≡ (((head ++ bounds) ++ values) ++ evidence) ++ end = rw is refl in
     same ∙ append_assoc ((head ++ bounds) ++ values) evidence end ∙ append_assoc (head ++ bounds) values (evidence ++ end) ∙ append_assoc head bounds (values ++ (evidence ++ end))
-
--- the sizes of a problem are small
-small-sizes : (f : TextFile) → IsProblem f.problem → All (λ s. s ≤ 1024) f.problem.sizes
-small-sizes f p = λ (k d : ℕ) (h : k < length f.problem.sizes). let s = p.sizes k d h in let b : get_or f.problem.sizes k d ≤ 1024 = s.1 in b
 
 lines-again : (r : Report) (f : TextFile) (certificate : Certificate) (over : ℕ) → IsFile f → IsProblem f.problem → Fits r f → r.certificate ≡ Some certificate → IsReadAgain f r.method certificate
     → lines_read f (left_of over 1 (lines_with r f certificate)) ≡ Ok r
@@ -275,7 +363,7 @@ certified-again r f certificate is again file p fits =
 
 some-again : (r : Report) (f : TextFile) (certificate : Option Certificate) → r.certificate ≡ certificate → IsTrue (is_some certificate) → IfSome certificate (FitsCertificate f.problem.sizes r.method) → IsFile f → IsProblem f.problem → Fits r f → report_read (report_text r f) f ≡ Ok r
 some-again r f None e some fit file p fits = absurd (false≢true some)
-some-again r f (Some certificate) e some fit file p fits = certified-again r f certificate e (certificate-again f r.method certificate file fit) file p fits
+some-again r f (Some certificate) e some fit file p fits = certified-again r f certificate e (certificate-again f r.method certificate file p fit) file p fits
 
 -- what is written of a report that has a certificate and fits its file is read as that report
 pub report-again : (r : Report) (f : TextFile) → IsFile f → IsProblem f.problem → IsTrue (is_some r.certificate) → Fits r f → report_read (report_text r f) f ≡ Ok r

@@ -1,10 +1,14 @@
 -- A report that was read fits its file.
-use Rattle.std.proofs.Common.{◌≡◌, ℕ, ◌+◌, ◌<◌, ◌≤◌, zero, suc, Bool, true, false, not, cond, List, [], ◌∷◌, ◌++◌, length, Some, None, Option, Ok, Err, Result, nat_eq, ◌||◌, refl, sym, ap, subst, arith}
+use Rattle.std.proofs.Common.{◌≡◌, ℕ, ◌+◌, ◌<◌, ◌≤◌, zero, suc, Bool, true, false, not, cond, List, [], ◌∷◌, ◌++◌, length, Some, None, Option, Ok, Err, Result, nat_eq, ◌||◌, refl, sym, ap, ◌∙◌, subst, arith}
 use Rattle.std.specs.List.{list_all, All, AllZip, count_by, range_with_len}
 use Rattle.std.specs.Prelude.{codes, IfOk}
 use Rattle.std.specs.Str.{bytes_eq}
 use Rattle.std.proofs.lemmas.List.Elements.{All-append, All-cons}
 use Rattle.std.proofs.lemmas.List.Sums.{sum_by-cons}
+use Rattle.std.proofs.lemmas.List.{length-append}
+use Rattle.dcop_base.specs.Table.{product}
+use Rattle.cost_table.specs.Slices.{ones_at}
+use Rattle.cost_table.proofs.ProblemCutLaws.{length-ones_at}
 use Rattle.std.proofs.lemmas.Bool.Decides.{nat_tests}
 use Rattle.std.proofs.lemmas.Bool.{and_parts, or_parts, eqb-true, false≢true}
 use Rattle.problem_text.specs.declared.fault.ReportKind.{ReportKind}
@@ -19,7 +23,8 @@ use Rattle.run_log.specs.EventLine.{event_line}
 use Rattle.run_log.specs.LogText.{FitsEvent}
 use Rattle.run_log.proofs.EventFitsLaws.{event_fits}
 use Rattle.certificate_text.specs.declared.certificate.Certificate.{Certificate}
-use Rattle.certificate_text.specs.declared.certificate.Certificate.TheVariants.{Tables, Log}
+use Rattle.certificate_text.specs.declared.certificate.Certificate.TheVariants.{Tables, Log, Cut}
+use Rattle.certificate_text.specs.declared.certificate.Turn.{Turn}
 use Rattle.certificate_text.specs.declared.certificate.Util.{Util}
 use Rattle.certificate_text.specs.declared.certificate_line.Form.{Form}
 use Rattle.certificate_text.specs.declared.certificate_line.Form.TheVariants as forms
@@ -27,16 +32,20 @@ use Rattle.certificate_text.specs.declared.head.Head.{Head}
 use Rattle.certificate_text.specs.declared.head.Bounds.{Bounds}
 use Rattle.certificate_text.specs.declared.report.Method.{Method}
 use Rattle.certificate_text.specs.declared.report.Report.{Report}
-use Rattle.certificate_text.specs.Told.{word_behind, is_alone}
+use Rattle.certificate_text.specs.declared.turns.CutSizes.{CutSizes}
+use Rattle.certificate_text.specs.Told.{word_behind, is_alone, begins_with}
 use Rattle.certificate_text.specs.HeadLines.{status_line, method_line, max_told, max_line, number_line}
 use Rattle.certificate_text.specs.ValueLine.{value_line}
 use Rattle.certificate_text.specs.UtilLine.{has_util, lacks_util, util_line}
 use Rattle.certificate_text.specs.CertificateLine.{certificate_line}
+use Rattle.certificate_text.specs.TurnLine.{turn_line}
+use Rattle.certificate_text.specs.TurnReading.{tells_other, first_tables, table_in_turn, turn_behind, all_turns, turns_read, cut_sizes, cut_read}
 use Rattle.certificate_text.specs.ReportLines.{Fault, Left, whole, told_at, first_of, one_line, and_then}
 use Rattle.certificate_text.specs.ReportReading.{goal_read, head_read, bounds_read, values_read, ended, tables_read, events_read, evidence_read, certificate_read, nothing_behind, report_of, report_read}
-use Rattle.certificate_text.specs.Fits.{FitsUtil, FitsTables, FitsCertificate}
+use Rattle.certificate_text.specs.Fits.{FitsUtil, FitsTables, HasParentOf, KeepParents, FitsCut, FitsCertificate}
 use Rattle.certificate_text.specs.Again.{ReadsReport, HasFit}
-use Rattle.certificate_text.proofs.LineFitsLaws.{ok-same, other-ok, told-cap, value-fits, method_for, certificate-fits, util-fits}
+use Rattle.certificate_text.proofs.LineFitsLaws.{ok-same, one-ok, other-ok, told-cap, value-fits, AreNamedOnce, FitsForm, certificate-fits, util-fits}
+use Rattle.certificate_text.proofs.TurnFitsLaws.{IsNumbered, AreNumbered, not-not, turn-fits, numbered-push, numbered-all, parent-fits, keep-push}
 
 -- what was read before what comes behind it
 and-inv : {A B : Type 0} (read : Result (A × Left) Fault) (next : A → Left → Result B Fault) (r : B) → and_then read next ≡ Ok r → (x : A) × (left : Left) × (read ≡ Ok (x, left)) × (next x left ≡ Ok r)
@@ -172,54 +181,49 @@ range-inv p a (suc n) h k lo hi =
     range-step p a k (nat_eq k a) refl lo parts.0 (λ more. range-inv p (a + 1) n parts.1 k more (omega (arith, hi)))
 
 -- tables as their lines tell them, each of a variable that had none
-record AreTables (f : TextFile) (utils : List Util) : Type 0 where
-  each : All (FitsUtil f.problem.sizes) utils
+record AreTables (sizes : List ℕ) (utils : List Util) : Type 0 where
+  each : All (FitsUtil sizes) utils
   once : (var : ℕ) → count_by (λ u. nat_eq u.var var) utils ≤ 1
 
-tables-more : (f : TextFile) (utils : List Util) (u : Util) → AreTables f utils → FitsUtil f.problem.sizes u → has_util utils u.var ≡ false → AreTables f (utils ++ (u ∷ []))
-tables-more f utils u h fit fresh = record {
-  each = All-append (FitsUtil f.problem.sizes) utils (u ∷ []) h.each (All-cons (FitsUtil f.problem.sizes) u [] fit (λ k d h. absurd (omega arith)));
+tables-more : (sizes : List ℕ) (utils : List Util) (u : Util) → AreTables sizes utils → FitsUtil sizes u → has_util utils u.var ≡ false → AreTables sizes (utils ++ (u ∷ []))
+tables-more sizes utils u h fit fresh = record {
+  each = All-append (FitsUtil sizes) utils (u ∷ []) h.each (All-cons (FitsUtil sizes) u [] fit (λ k d h. absurd (omega arith)));
   once = λ var. once-push var utils u (h.once var) fresh;
 }
 
-ended-fits : (f : TextFile) (t : Bool) (utils all : List Util) → lacks_util utils (length f.names) ≡ t → AreTables f utils → cond t (Err BadLine) (Ok utils) ≡ Ok all → AreTables f all × (lacks_util all (length f.names) ≡ false)
+ended-fits : (f : TextFile) (t : Bool) (utils all : List Util) → lacks_util utils (length f.names) ≡ t → AreTables f.problem.sizes utils → cond t (Err BadLine) (Ok utils) ≡ Ok all → AreTables f.problem.sizes all × (lacks_util all (length f.names) ≡ false)
 ended-fits f true utils all is h e = absurd (cc e)
 ended-fits f false utils all is h e =
-    subst (λ (all : List Util). AreTables f all × (lacks_util all (length f.names) ≡ false)) (ok-same utils all e) (h, is)
+    subst (λ (all : List Util). AreTables f.problem.sizes all × (lacks_util all (length f.names) ≡ false)) (ok-same utils all e) (h, is)
 
 -- a line of a table, or the line `end`
-table-fits : (f : TextFile) (t : Bool) (number over : ℕ) (utils : List Util) (ws : List (List ℕ)) (ls : List Plain) (all : List Util) (next : Left) → IsFile f → AreTables f utils
-    → ((u : Util) → AreTables f (utils ++ (u ∷ [])) → tables_read f.names f.problem.sizes over (utils ++ (u ∷ [])) ls ≡ Ok (all, next) → AreTables f all × (lacks_util all (length f.names) ≡ false))
+table-fits : (f : TextFile) (t : Bool) (number over : ℕ) (utils : List Util) (ws : List (List ℕ)) (ls : List Plain) (all : List Util) (next : Left) → IsFile f → AreTables f.problem.sizes utils
+    → ((u : Util) → AreTables f.problem.sizes (utils ++ (u ∷ [])) → tables_read f.names f.problem.sizes over (utils ++ (u ∷ [])) ls ≡ Ok (all, next) → AreTables f.problem.sizes all × (lacks_util all (length f.names) ≡ false))
     → cond t (told_at number (ended f.names utils) (record { lines = ls; over = over })) (and_then (told_at number (util_line f.names f.problem.sizes utils ws) (record { lines = ls; over = over })) (λ util left. tables_read f.names f.problem.sizes over (utils ++ (util ∷ [])) ls)) ≡ Ok (all, next)
-    → AreTables f all × (lacks_util all (length f.names) ≡ false)
+    → AreTables f.problem.sizes all × (lacks_util all (length f.names) ≡ false)
 table-fits f true number over utils ws ls all next file h later e =
     ended-fits f (lacks_util utils (length f.names)) utils all refl h (told-inv number (ended f.names utils) (record { lines = ls; over = over }) all next e)
 table-fits f false number over utils ws ls all next file h later e =
     let a = and-inv (told_at number (util_line f.names f.problem.sizes utils ws) (record { lines = ls; over = over })) _ (all, next) e in
     let line = told-inv number (util_line f.names f.problem.sizes utils ws) (record { lines = ls; over = over }) a.0 a.1 a.2 in
     let fits = util-fits f.names f.problem.sizes utils ws a.0 file.named line in
-    later a.0 (tables-more f utils a.0 h fits.0 fits.1) a.3
+    later a.0 (tables-more f.problem.sizes utils a.0 h fits.0 fits.1) a.3
 
-tables-fit : (f : TextFile) (over : ℕ) (utils : List Util) (ls : List Plain) (all : List Util) (next : Left) → IsFile f → AreTables f utils
-    → tables_read f.names f.problem.sizes over utils ls ≡ Ok (all, next) → AreTables f all × (lacks_util all (length f.names) ≡ false)
+tables-fit : (f : TextFile) (over : ℕ) (utils : List Util) (ls : List Plain) (all : List Util) (next : Left) → IsFile f → AreTables f.problem.sizes utils
+    → tables_read f.names f.problem.sizes over utils ls ≡ Ok (all, next) → AreTables f.problem.sizes all × (lacks_util all (length f.names) ≡ false)
 tables-fit f over utils [] all next file h e = absurd (cc e)
 tables-fit f over utils (l ∷ ls) all next file h e =
     table-fits f (is_alone (codes "end") l.words) l.number over utils l.words ls all next file h (λ u more rest. tables-fit f over (utils ++ (u ∷ [])) ls all next file more rest) e
 
 -- exactly one table for each variable
-tables-whole : (f : TextFile) (utils : List Util) → IsFile f → AreTables f utils → lacks_util utils (length f.names) ≡ false → FitsTables f.problem.sizes utils
-tables-whole f utils file h whole =
-    let named : length f.names ≡ length f.problem.sizes = file.named in
-    let all = not-not (list_all (λ var. has_util utils var) (range_with_len 0 (length f.names))) whole in
-    let one = λ (var : ℕ) (in_sizes : var < length f.problem.sizes). let has = range-inv (λ var. has_util utils var) 0 (length f.names) all var (omega arith) (omega (arith, in_sizes, named)) in let some = count-some var utils has in let few = h.once var in let r : count_by (λ u. nat_eq u.var var) utils ≡ 1 = omega (arith, some, few) in r in
+tables-whole : (count : ℕ) (sizes : List ℕ) (utils : List Util) → count ≡ length sizes → AreTables sizes utils → lacks_util utils count ≡ false → FitsTables sizes utils
+tables-whole count sizes utils named h whole =
+    let all = not-not (list_all (λ var. has_util utils var) (range_with_len 0 count)) whole in
+    let one = λ (var : ℕ) (in_sizes : var < length sizes). let has = range-inv (λ var. has_util utils var) 0 count all var (omega arith) (omega (arith, in_sizes, named)) in let some = count-some var utils has in let few = h.once var in let r : count_by (λ u. nat_eq u.var var) utils ≡ 1 = omega (arith, some, few) in r in
     record { each = h.each; one = one }
-  where
-    not-not : (t : Bool) → not t ≡ false → t ≡ true
-    not-not true h = refl
-    not-not false h = absurd (false≢true (sym h))
 
-no-tables : (f : TextFile) → AreTables f []
-no-tables f = record { each = λ k d h. absurd (omega (arith, h)); once = λ var. omega arith }
+no-tables : (sizes : List ℕ) → AreTables sizes []
+no-tables sizes = record { each = λ k d h. absurd (omega (arith, h)); once = λ var. omega arith }
 
 -- events as their lines tell them
 abbrev AreEvents : TextFile → List LogEvent → Type 0
@@ -243,24 +247,128 @@ events-fit f over log [] all next fit e = absurd (cc e)
 events-fit f over log (l ∷ ls) all next fit e =
     event-fits f (is_alone (codes "end") l.words) l.number over log l.words ls all next fit (λ e more rest. events-fit f over (log ++ (e ∷ [])) ls all next more rest) e
 
-evidence-fits : (f : TextFile) (form : Form) (left : Left) (method : Method) (certificate : Certificate) (next : Left) → IsFile f → method ≡ method_for form
+-- a turn behind these, with its tables so far
+record IsTurn (sizes : CutSizes) (turns : List Turn) (turn : Turn) : Type 0 where
+  values : IsNumbered sizes.own (length turns) turn.values
+  tables : AreTables sizes.slice turn.tables
+  parents : All (HasParentOf (first_tables turns)) turn.tables
+
+-- whole turns, from the first one on
+record AreTurns (sizes : CutSizes) (turns : List Turn) : Type 0 where
+  values : AreNumbered sizes.own 0 turns
+  tables : All (λ t. FitsTables sizes.slice t.tables) turns
+  parents : KeepParents turns
+
+-- the turns of a whole cut
+abbrev AllTurns : CutSizes → List Turn → Type 0
+AllTurns sizes turns = AreTurns sizes turns × (length turns ≡ product sizes.own)
+
+turn-begins : (sizes : CutSizes) (turns : List Turn) (values : List ℕ) → IsNumbered sizes.own (length turns) values → IsTurn sizes turns (record { values = values; tables = [] })
+turn-begins sizes turns values h = record { values = h; tables = no-tables sizes.slice; parents = λ k d lt. absurd (omega (arith, lt)) }
+
+turn-grows : (sizes : CutSizes) (turns : List Turn) (turn : Turn) (u : Util) → IsTurn sizes turns turn → FitsUtil sizes.slice u → has_util turn.tables u.var ≡ false → HasParentOf (first_tables turns) u
+    → IsTurn sizes turns (record { values = turn.values; tables = turn.tables ++ (u ∷ []) })
+turn-grows sizes turns turn u h fit fresh parent = record {
+  values = h.values;
+  tables = tables-more sizes.slice turn.tables u h.tables fit fresh;
+  parents = All-append (HasParentOf (first_tables turns)) turn.tables (u ∷ []) h.parents (All-cons (HasParentOf (first_tables turns)) u [] parent (λ k d lt. absurd (omega (arith, lt))));
+}
+
+turns-more : (count : ℕ) (sizes : CutSizes) (turns : List Turn) (turn : Turn) → count ≡ length sizes.slice → AreTurns sizes turns → IsTurn sizes turns turn → lacks_util turn.tables count ≡ false → AreTurns sizes (turns ++ (turn ∷ []))
+turns-more count sizes turns turn many h now whole = record {
+  values = numbered-push sizes.own 0 (length turns) turns turn h.values (omega arith) now.values;
+  tables = All-append (λ t. FitsTables sizes.slice t.tables) turns (turn ∷ []) h.tables (All-cons (λ t. FitsTables sizes.slice t.tables) turn [] (tables-whole count sizes.slice turn.tables many now.tables whole) (λ k d lt. absurd (omega (arith, lt))));
+  parents = keep-push turns turn h.parents now.parents;
+}
+
+-- the line of a turn, of a table, or the line `end`
+turn-fit : (names : List (List ℕ)) (sizes : CutSizes) (t b : Bool) (number over : ℕ) (turns : List Turn) (turn : Turn) (ws : List (List ℕ)) (ls : List Plain) (all : List Turn) (next : Left) → length names ≡ length sizes.slice → AreTurns sizes turns → IsTurn sizes turns turn
+    → ((values : List ℕ) → AreTurns sizes (turns ++ (turn ∷ [])) → IsTurn sizes (turns ++ (turn ∷ [])) (record { values = values; tables = [] }) → turns_read names sizes over (turns ++ (turn ∷ [])) (record { values = values; tables = [] }) ls ≡ Ok (all, next) → AllTurns sizes all)
+    → ((u : Util) → IsTurn sizes turns (record { values = turn.values; tables = turn.tables ++ (u ∷ []) }) → turns_read names sizes over turns (record { values = turn.values; tables = turn.tables ++ (u ∷ []) }) ls ≡ Ok (all, next) → AllTurns sizes all)
+    → cond t (told_at number (all_turns names sizes turns turn) (record { lines = ls; over = over }))
+    (cond b (and_then (told_at number (turn_behind names sizes turns turn.tables ws) (record { lines = ls; over = over })) (λ values left. turns_read names sizes over (turns ++ (turn ∷ [])) (record { values = values; tables = [] }) ls))
+    (and_then (told_at number (table_in_turn names sizes turns turn.tables ws) (record { lines = ls; over = over })) (λ util left. turns_read names sizes over turns (record { values = turn.values; tables = turn.tables ++ (util ∷ []) }) ls))) ≡ Ok (all, next)
+    → AllTurns sizes all
+turn-fit names sizes true b number over turns turn ws ls all next many h now behind more e =
+    let read = told-inv number (all_turns names sizes turns turn) (record { lines = ls; over = over }) all next e in
+    let lacks = lacks_util turn.tables (length names) in
+    let test = one-ok (lacks || not (nat_eq (length turns + 1) (product sizes.own))) BadLine (Ok (turns ++ (turn ∷ []))) all read in
+    let parts = or_parts lacks (not (nat_eq (length turns + 1) (product sizes.own))) test.0 in
+    let count : length turns + 1 ≡ product sizes.own = eqb-true _ _ (not-not (nat_eq (length turns + 1) (product sizes.own)) parts.1) in
+    let long = length-append turns (turn ∷ []) in
+    subst (AllTurns sizes) (ok-same (turns ++ (turn ∷ [])) all test.1) (turns-more (length names) sizes turns turn many h now parts.0, long ∙ count)
+turn-fit names sizes false true number over turns turn ws ls all next many h now behind more e =
+    let a = and-inv (told_at number (turn_behind names sizes turns turn.tables ws) (record { lines = ls; over = over })) _ (all, next) e in
+    let read = told-inv number (turn_behind names sizes turns turn.tables ws) (record { lines = ls; over = over }) a.0 a.1 a.2 in
+    let test = one-ok (lacks_util turn.tables (length names)) BadLine (turn_line sizes.own (length turns + 1) ws) a.0 read in
+    let values = turn-fits sizes.own (length turns + 1) ws a.0 test.1 in
+    let long : length turns + 1 ≡ length (turns ++ (turn ∷ [])) = sym (length-append turns (turn ∷ [])) in
+    behind a.0 (turns-more (length names) sizes turns turn many h now test.0) (turn-begins sizes (turns ++ (turn ∷ [])) a.0 (subst (λ (n : ℕ). IsNumbered sizes.own n a.0) long values)) a.3
+turn-fit names sizes false false number over turns turn ws ls all next many h now behind more e =
+    let a = and-inv (told_at number (table_in_turn names sizes turns turn.tables ws) (record { lines = ls; over = over })) _ (all, next) e in
+    let read = told-inv number (table_in_turn names sizes turns turn.tables ws) (record { lines = ls; over = over }) a.0 a.1 a.2 in
+    let test = one-ok (tells_other names (first_tables turns) ws) BadLine (util_line names sizes.slice turn.tables ws) a.0 read in
+    let fits = util-fits names sizes.slice turn.tables ws a.0 many test.1 in
+    let parent = parent-fits names sizes.slice turn.tables (first_tables turns) ws a.0 test.1 test.0 in
+    more a.0 (turn-grows sizes turns turn a.0 now fits.0 fits.1 parent) a.3
+
+turns-fit : (names : List (List ℕ)) (sizes : CutSizes) (over : ℕ) (turns : List Turn) (turn : Turn) (ls : List Plain) (all : List Turn) (next : Left) → length names ≡ length sizes.slice → AreTurns sizes turns → IsTurn sizes turns turn
+    → turns_read names sizes over turns turn ls ≡ Ok (all, next) → AllTurns sizes all
+turns-fit names sizes over turns turn [] all next many h now e = absurd (cc e)
+turns-fit names sizes over turns turn (l ∷ ls) all next many h now e =
+    turn-fit names sizes (is_alone (codes "end") l.words) (begins_with (codes "turn") l.words) l.number over turns turn l.words ls all next many h now
+    (λ values h now rest. turns-fit names sizes over (turns ++ (turn ∷ [])) (record { values = values; tables = [] }) ls all next many h now rest)
+    (λ u now rest. turns-fit names sizes over turns (record { values = turn.values; tables = turn.tables ++ (u ∷ []) }) ls all next many h now rest) e
+
+no-turns : (sizes : CutSizes) → AreTurns sizes []
+no-turns sizes = record { values = tt; tables = λ k d lt. absurd (omega (arith, lt)); parents = tt }
+
+-- the turns of a cut, all of them
+cut-fits : (f : TextFile) (cut : List ℕ) (left : Left) (turns : List Turn) (next : Left) → IsFile f → AreNamedOnce f.names cut → cut_read f cut left ≡ Ok (turns, next) → FitsCut f.problem.sizes cut turns
+cut-fits f cut left turns next file named e =
+    let sizes : CutSizes = cut_sizes f.problem.sizes cut in
+    let a = and-inv (one_line (turn_line sizes.own 0) left) _ (turns, next) e in
+    let line = line-inv (turn_line sizes.own 0) left a.0 a.1 a.2 in
+    let first = turn-begins sizes [] a.0 (turn-fits sizes.own 0 line.0 a.0 line.1) in
+    let many : length f.names ≡ length (ones_at cut f.problem.sizes) = file.named ∙ sym (length-ones_at cut f.problem.sizes) in
+    let all = turns-fit f.names sizes a.1.over [] (record { values = a.0; tables = [] }) a.1.lines turns next many (no-turns sizes) first a.3 in
+    record {
+      distinct = named.0;
+      within = subst (λ (n : ℕ). All (λ v. v < n) cut) file.named named.1;
+      values = numbered-all sizes.own turns all.0.values all.1;
+      tables = all.0.tables;
+      parents = all.0.parents;
+    }
+
+evidence-fits : (f : TextFile) (form : Form) (left : Left) (method : Method) (certificate : Certificate) (next : Left) → IsFile f → FitsForm f.names method form
     → evidence_read f form left ≡ Ok (certificate, next) → FitsCertificate f.problem.sizes method certificate
 evidence-fits f forms.Tables left method certificate next file is e =
     let a = and-inv (tables_read f.names f.problem.sizes left.over [] left.lines) _ (certificate, next) e in
-    let fit = tables-fit f left.over [] left.lines a.0 a.1 file (no-tables f) a.2 in
-    subst (λ (c : Certificate). FitsCertificate f.problem.sizes method c) (pair-same (Tables a.0) certificate a.1 next a.3) (is, tables-whole f a.0 file fit.0 fit.1)
+    let fit = tables-fit f left.over [] left.lines a.0 a.1 file (no-tables f.problem.sizes) a.2 in
+    subst (λ (c : Certificate). FitsCertificate f.problem.sizes method c) (pair-same (Tables a.0) certificate a.1 next a.3) (is, tables-whole (length f.names) f.problem.sizes a.0 file.named fit.0 fit.1)
 evidence-fits f forms.Log left method certificate next file is e =
     let a = and-inv (events_read f.names left.over [] left.lines) _ (certificate, next) e in
     let fit = events-fit f left.over [] left.lines a.0 a.1 (λ k d h. absurd (omega (arith, h))) a.2 in
     let sized : All (FitsEvent (length f.problem.sizes)) a.0 = subst (λ (n : ℕ). All (FitsEvent n) a.0) file.named fit in
     subst (λ (c : Certificate). FitsCertificate f.problem.sizes method c) (pair-same (Log a.0) certificate a.1 next a.3) (is, sized)
+evidence-fits f (forms.Cut cut) left method certificate next file is e =
+    let a = and-inv (cut_read f cut left) _ (certificate, next) e in
+    let fit = cut-fits f cut left a.0 a.1 file is.1 a.2 in
+    subst (λ (c : Certificate). FitsCertificate f.problem.sizes method c) (pair-same (Cut cut a.0) certificate a.1 next a.3) (is.0, fit)
+
+-- a cut's variables, as the first line of its certificate tells them
+pub cut-within : (names : List (List ℕ)) (method : Method) (left : Left) (cut : List ℕ) (next : Left) (count : ℕ) → length names ≡ count → one_line (certificate_line names method) left ≡ Ok (forms.Cut cut, next) → All (λ v. v < count) cut
+cut-within names method left cut next count many e =
+    let line = line-inv (certificate_line names method) left (forms.Cut cut) next e in
+    let fits = certificate-fits names method line.0 (forms.Cut cut) line.1 in
+    subst (λ (n : ℕ). All (λ v. v < n) cut) many fits.1.1
 
 certificate-read-fits : (f : TextFile) (method : Method) (left : Left) (certificate : Certificate) (next : Left) → IsFile f
     → certificate_read f method left ≡ Ok (certificate, next) → FitsCertificate f.problem.sizes method certificate
 certificate-read-fits f method left certificate next file e =
-    let a = and-inv (one_line (certificate_line method) left) _ (certificate, next) e in
-    let line = line-inv (certificate_line method) left a.0 a.1 a.2 in
-    evidence-fits f a.0 a.1 method certificate next file (certificate-fits method line.0 a.0 line.1) a.3
+    let a = and-inv (one_line (certificate_line f.names method) left) _ (certificate, next) e in
+    let line = line-inv (certificate_line f.names method) left a.0 a.1 a.2 in
+    evidence-fits f a.0 a.1 method certificate next file (certificate-fits f.names method line.0 a.0 line.1) a.3
 
 whole-same : (made : Report) (ls : List Plain) (r : Report) → nothing_behind made ls ≡ Ok r → made ≡ r
 whole-same made [] r e = ok-same made r e

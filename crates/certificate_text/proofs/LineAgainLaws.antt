@@ -1,16 +1,18 @@
 -- Lines of a report as they are written, read again one by one.
 use Rattle.std.proofs.Common.{◌≡◌, ℕ, ◌+◌, ◌<◌, ◌≤◌, zero, suc, Bool, true, false, cond, List, [], ◌∷◌, ◌++◌, length, map, get_or, Option, Some, None, Ok, nat_eq, nat_le, ◌&&◌, ◌||◌, refl, sym, ◌∙◌, subst, arith}
-use Rattle.std.specs.List.{list_all, All, IsDistinct, count_by, range_with_len}
+use Rattle.std.specs.List.{list_all, list_any, All, IsDistinct, count_by, range_with_len}
 use Rattle.std.specs.Prelude.{codes, IfSome, ◌⊎◌}
 use Rattle.std.proofs.Common.{inl, inr}
 use Rattle.std.specs.Fmt.{decimal}
 use Rattle.std.specs.Str.{bytes_eq}
 use Rattle.std.specs.Cmp.Lexicographic.{nat_list_eq_equiv}
-use Rattle.std.proofs.lemmas.List.Elements.{All-head, All-tail}
+use Rattle.std.proofs.lemmas.List.{length-map}
+use Rattle.std.proofs.lemmas.List.Folds.{list_any_none}
+use Rattle.std.proofs.lemmas.List.Elements.{All-head, All-tail, length_all_zip}
 use Rattle.std.proofs.lemmas.List.Sums.{sum_by-cons}
 use Rattle.std.proofs.lemmas.Bool.Decides.{nat_tests}
-use Rattle.std.proofs.lemmas.Bool.{and_parts, le-ltb, lt-ltb, eq-eqb}
-use Rattle.dcop_base.specs.Table.{product}
+use Rattle.std.proofs.lemmas.Bool.{and_parts, le-ltb, lt-ltb, eq-eqb, eqb-true}
+use Rattle.dcop_base.specs.Table.{product, has_repeat, AreWithin, cell_place}
 use Rattle.problem_text.specs.Name.{is_name, is_name_start, is_name_byte}
 use Rattle.problem_text.specs.File.{AreLabels}
 use Rattle.problem_text.proofs.DecimalLaws.{number-decimal}
@@ -20,15 +22,20 @@ use Rattle.certificate_text.specs.declared.report.Ending.{Ending}
 use Rattle.certificate_text.specs.declared.report.Ending.TheVariants.{Solved, Spent}
 use Rattle.certificate_text.specs.declared.report.Method.{Method}
 use Rattle.certificate_text.specs.declared.report.Method.TheVariants.{Plain, Dpop, Adopt, Cut}
-use Rattle.certificate_text.specs.CertificateText.{parent_word, util_words}
+use Rattle.certificate_text.specs.CertificateText.{parent_word, util_words, cut_words, turn_words}
 use Rattle.certificate_text.specs.ReportText.{ending_word, method_word, value_words}
 use Rattle.dcop_base.specs.Limits.{amount_limit}
 use Rattle.run_log.specs.EventLine.{number_within}
-use Rattle.certificate_text.specs.Told.{amounts_of}
+use Rattle.certificate_text.specs.declared.certificate_line.Form.TheVariants as forms
+use Rattle.certificate_text.specs.Told.{is_alone, amounts_of}
+use Rattle.certificate_text.specs.CertificateLine.{certificate_line}
+use Rattle.certificate_text.specs.TurnLine.{values_told, turn_line}
+use Rattle.certificate_text.specs.TurnReading.{are_apart, tells_other}
 use Rattle.certificate_text.specs.HeadLines.{status_line, method_line, number_line}
 use Rattle.certificate_text.specs.ValueLine.{value_line}
 use Rattle.certificate_text.specs.UtilLine.{has_util, known_among, parent_told, util_line}
 use Rattle.certificate_text.specs.Fits.{FitsUtil}
+use Rattle.certificate_text.proofs.TurnFitsLaws.{IsNumbered}
 
 -- a word is itself
 pub same-word : (word : List ℕ) → bytes_eq word word ≡ true
@@ -135,3 +142,50 @@ has-one var (x ∷ xs) e =
 pub range-all : (p : ℕ → Bool) (a n : ℕ) → ((k : ℕ) → a ≤ k → k < a + n → p k ≡ true) → list_all p (range_with_len a n) ≡ true
 range-all p a zero h = refl
 range-all p a (suc n) h = rw (h a (omega arith) (omega arith), range-all p (a + 1) n (λ k lo hi. h k (omega arith) (omega arith))) refl
+
+-- values below sizes are told by their decimals
+told-decimals : (sizes values : List ℕ) → AreWithin sizes values → All (λ s. s ≤ 1024) sizes → values_told sizes (map decimal values) ≡ Ok values
+told-decimals [] [] within small = refl
+told-decimals [] (v ∷ vs) within small = absurd within
+told-decimals (s ∷ ss) [] within small = absurd within
+told-decimals (s ∷ ss) (v ∷ vs) within small =
+    let most : s ≤ 1024 = All-head (λ s. s ≤ 1024) s ss small in
+    let below : v < s = within.0 in
+    rw (amount-decimal v (omega (arith, below, most)), lt-ltb v s below, told-decimals ss vs within.1 (All-tail (λ s. s ≤ 1024) s ss small)) refl
+
+-- the line of a turn
+pub turn-again : (sizes : List ℕ) (number : ℕ) (values : List ℕ) → IsNumbered sizes number values → All (λ s. s ≤ 1024) sizes → turn_line sizes number (turn_words values) ≡ Ok values
+turn-again sizes number values h small =
+    let long : length (map decimal values) ≡ length values = length-map values decimal in
+    let many : length values ≡ length sizes = sym (length_all_zip (λ s v. v < s) sizes values h.within) in
+    rw (eq-eqb (length (map decimal values)) (length sizes) (long ∙ many), told-decimals sizes values h.within small, eq-eqb (cell_place sizes values) number h.is) refl
+
+-- the line of a turn is no line `end`
+pub turn-end : (values : List ℕ) → is_alone (codes "end") (turn_words values) ≡ false
+turn-end [] = refl
+turn-end (v ∷ vs) = refl
+
+apart-none : (one other : Option ℕ) → one ≡ other → are_apart one other ≡ false
+apart-none None None e = refl
+apart-none None (Some b) e = absurd (cc e)
+apart-none (Some a) None e = absurd (cc e)
+apart-none (Some a) (Some b) e = let same : a ≡ b = cc e in rw (eq-eqb a b same) refl
+
+other-step : (t : Bool) (o u : Util) → nat_eq o.var u.var ≡ t → (o.var ≡ u.var → o.parent ≡ u.parent) → t && are_apart o.parent u.parent ≡ false
+other-step true o u is h = apart-none o.parent u.parent (h (eqb-true o.var u.var is))
+other-step false o u is h = refl
+
+other-none : (others : List Util) (u : Util) → All (λ o. o.var ≡ u.var → o.parent ≡ u.parent) others → list_any (λ o. nat_eq o.var u.var && are_apart o.parent u.parent) others ≡ false
+other-none others u h = list_any_none (λ (o : Util). nat_eq o.var u.var && are_apart o.parent u.parent) others (λ k d lt. other-step _ (get_or others k d) u refl (h k d lt))
+
+-- the line of a table that has the parent of the first turn
+pub parent-kept : (names : List (List ℕ)) (sizes : List ℕ) (others : List Util) (u : Util) → IsDistinct bytes_eq names → list_all is_name names ≡ true → length names ≡ length sizes → FitsUtil sizes u → All (λ o. o.var ≡ u.var → o.parent ≡ u.parent) others
+    → tells_other names others (util_words names u) ≡ false
+parent-kept names sizes others u apart named many fit h =
+    let own : u.var < length names = subst (λ (n : ℕ). u.var < n) (sym many) fit.named.own in
+    let parent : IfSome u.parent (λ p. p < length names) = subst (λ (n : ℕ). IfSome u.parent (λ p. p < n)) (sym many) fit.named.parent in
+    rw (own-place names u.var apart own, parent-again names u.parent apart named parent) (other-none others u h)
+
+-- the first line of a certificate of a cut
+pub cut-again : (names : List (List ℕ)) (cut : List ℕ) → IsDistinct bytes_eq names → has_repeat cut ≡ false → All (λ v. v < length names) cut → certificate_line names Cut (cut_words names cut) ≡ Ok (forms.Cut cut)
+cut-again names cut apart distinct within = rw (scope-known names cut apart within, distinct, scope-named names cut apart within) refl

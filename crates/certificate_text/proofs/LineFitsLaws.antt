@@ -6,11 +6,11 @@ use Rattle.std.specs.Option.{option_map}
 use Rattle.std.specs.Str.{bytes_eq}
 use Rattle.std.proofs.lemmas.List.Elements.{All-cons}
 use Rattle.std.proofs.lemmas.List.Quantifiers.{position-Some}
-use Rattle.std.proofs.lemmas.Bool.{or_parts, ltb-true, eqb-true, false≢true}
+use Rattle.std.proofs.lemmas.Bool.{or_parts, ltb-true, eqb-true}
 use Rattle.dcop_base.specs.Table.{product, has_repeat}
 use Rattle.dcop_base.specs.NumberWord.{number_of}
 use Rattle.problem_text.specs.declared.fault.ReportKind.{ReportKind}
-use Rattle.problem_text.specs.declared.fault.ReportKind.TheVariants.{BadLine, BadNumber, UnknownName, CellCount, NoCertificate, BadValue, NotYet}
+use Rattle.problem_text.specs.declared.fault.ReportKind.TheVariants.{BadLine, BadNumber, UnknownName, CellCount, NoCertificate, BadValue}
 use Rattle.problem_text.specs.File.{AreLabels}
 use Rattle.problem_text.specs.Tables.{onto, named_by, is_colon}
 use Rattle.problem_text.proofs.TableLineLaws.{some-same, named-within}
@@ -26,18 +26,18 @@ use Rattle.certificate_text.specs.Told.{or_fails, is_alone, amounts_of}
 use Rattle.certificate_text.specs.HeadLines.{number_told}
 use Rattle.certificate_text.specs.ValueLine.{value_below, value_told, value_line}
 use Rattle.certificate_text.specs.UtilLine.{has_util, is_again, and_known, known_among, parent_told, util_told, util_parts, util_line}
-use Rattle.certificate_text.specs.CertificateLine.{form_told, certificate_line}
+use Rattle.certificate_text.specs.CertificateLine.{cut_told, form_with, cut_form, form_told, certificate_line}
 use Rattle.certificate_text.specs.Fits.{FitsUtil}
 
 pub ok-same : {A E : Type 0} (x y : A) → ◌≡◌ {A = Result A E} (Ok x) (Ok y) → x ≡ y
 ok-same x y e = cc
 
-or_fails-ok : {A : Type 0} (kind : ReportKind) (o : Option A) (x : A) → or_fails kind o ≡ Ok x → o ≡ Some x
+pub or_fails-ok : {A : Type 0} (kind : ReportKind) (o : Option A) (x : A) → or_fails kind o ≡ Ok x → o ≡ Some x
 or_fails-ok {A} kind (Some y) x e = ap (λ (y : A). Some y) (ok-same y x e)
 or_fails-ok kind None x e = absurd (cc e)
 
 -- a test that would refuse, and what is behind it
-one-ok : {A : Type 0} (t : Bool) (kind : ReportKind) (r : Result A ReportKind) (x : A) → cond t (Err kind) r ≡ Ok x → (t ≡ false) × (r ≡ Ok x)
+pub one-ok : {A : Type 0} (t : Bool) (kind : ReportKind) (r : Result A ReportKind) (x : A) → cond t (Err kind) r ≡ Ok x → (t ≡ false) × (r ≡ Ok x)
 one-ok true kind r x e = absurd (cc e)
 one-ok false kind r x e = (refl, e)
 
@@ -46,15 +46,11 @@ pub other-ok : {A : Type 0} (t : Bool) (kind : ReportKind) (r : Result A ReportK
 other-ok true kind r x e = (refl, e)
 other-ok false kind r x e = absurd (cc e)
 
-none-ok : {A : Type 0} (t : Bool) (kind other : ReportKind) (x : A) → cond t (Err kind) (Err other) ≡ Ok x → false ≡ true
-none-ok true kind other x e = absurd (cc e)
-none-ok false kind other x e = absurd (cc e)
-
 pub told-cap : (o : Option (List ℕ)) (n : ℕ) → number_told o ≡ Ok n → n ≤ 4611686018427387904
 told-cap None n e = absurd (cc e)
 told-cap (Some w) n e = within_limit amount_limit n (number_of w) (or_fails-ok BadNumber (number_within amount_limit w) n e)
 
-below-fits : (size : ℕ) (o : Option ℕ) (v : ℕ) → value_below size o ≡ Ok v → v < size
+pub below-fits : (size : ℕ) (o : Option ℕ) (v : ℕ) → value_below size o ≡ Ok v → v < size
 below-fits size None v e = absurd (cc e)
 below-fits size (Some n) v e =
     let test = other-ok (nat_lt n size) BadValue (Ok n) v e in
@@ -81,29 +77,6 @@ value-fits name labels size (a ∷ b ∷ w ∷ []) v fit e =
     let second = one-ok (not (bytes_eq b name)) UnknownName (value_told labels size w) v first.1 in
     value_told-fits labels size w v fit second.1
 
--- the method whose reports have certificates of this form
-abbrev pub method_for : Form → Method
-method_for forms.Tables = Dpop
-method_for forms.Log = Adopt
-
-form_told-fits : (method : Method) (ws : List (List ℕ)) (form : Form) → form_told method ws ≡ Ok form → method ≡ method_for form
-form_told-fits MethodPlain ws form e = absurd (cc e)
-form_told-fits Dpop ws form e =
-    let read = other-ok (is_alone (codes "tables") ws) BadLine (Ok forms.Tables) form e in
-    ap method_for (ok-same forms.Tables form read.1)
-form_told-fits Adopt ws form e =
-    let read = other-ok (is_alone (codes "log") ws) BadLine (Ok forms.Log) form e in
-    ap method_for (ok-same forms.Log form read.1)
-form_told-fits Cut ws form e = absurd (false≢true (none-ok _ NotYet BadLine form e))
-
--- the method of a certificate's first line
-pub certificate-fits : (method : Method) (ws : List (List ℕ)) (form : Form) → certificate_line method ws ≡ Ok form → method ≡ method_for form
-certificate-fits method [] form e = absurd (cc e)
-certificate-fits method (w ∷ ws) form e =
-    let first = one-ok (is_alone (codes "end") (w ∷ ws)) NoCertificate (cond (bytes_eq w (codes "certificate")) (form_told method ws) (Err BadLine)) form e in
-    let second = other-ok (bytes_eq w (codes "certificate")) BadLine (form_told method ws) form first.1 in
-    form_told-fits method ws form second.1
-
 known-step : (o : Option ℕ) (r : Option (List ℕ)) (known scope : List ℕ) → onto o r ≡ Some scope → ((xs : List ℕ) → r ≡ Some xs → known ≡ xs) → and_known o known ≡ scope
 known-step (Some x) (Some xs) known scope e ih = ap (λ (ys : List ℕ). x ∷ ys) (ih xs refl) ∙ some-same (x ∷ xs) scope e
 known-step (Some x) None known scope e ih = absurd (cc e)
@@ -113,6 +86,50 @@ known-step None None known scope e ih = absurd (cc e)
 known-named : (names ws : List (List ℕ)) (scope : List ℕ) → named_by names ws ≡ Some scope → known_among names ws ≡ scope
 known-named names [] scope e = some-same [] scope e
 known-named names (w ∷ ws) scope e = known-step (position (bytes_eq w) names) (named_by names ws) (known_among names ws) scope e (λ xs is. known-named names ws xs is)
+
+-- a cut's variables are different ones, each with its name among these
+abbrev pub AreNamedOnce : List (List ℕ) → List ℕ → Type 0
+AreNamedOnce names cut = (has_repeat cut ≡ false) × All (λ v. v < length names) cut
+
+cut_told-fits : (names ws : List (List ℕ)) (cut : List ℕ) → cut_told names ws ≡ Ok cut → AreNamedOnce names cut
+cut_told-fits names ws cut e =
+    let first = one-ok (has_repeat (known_among names ws)) BadLine (or_fails UnknownName (named_by names ws)) cut e in
+    let named = or_fails-ok UnknownName (named_by names ws) cut first.1 in
+    (rw (known-named names ws cut named) at first.0, named-within names ws cut named)
+
+-- what holds of a form that fits the method
+abbrev pub FitsForm : List (List ℕ) → Method → Form → Type 0
+FitsForm names method forms.Tables = method ≡ Dpop
+FitsForm names method forms.Log = method ≡ Adopt
+FitsForm names method (forms.Cut cut) = (method ≡ Cut) × AreNamedOnce names cut
+
+form_with-fits : (names : List (List ℕ)) (r : Result (List ℕ) ReportKind) (form : Form) → ((cut : List ℕ) → r ≡ Ok cut → AreNamedOnce names cut) → form_with r ≡ Ok form → FitsForm names Cut form
+form_with-fits names (Ok cut) form h e = subst (FitsForm names Cut) (ok-same (forms.Cut cut) form e) (refl, h cut refl)
+form_with-fits names (Err kind) form h e = absurd (cc e)
+
+cut_form-fits : (names ws : List (List ℕ)) (form : Form) → cut_form names ws ≡ Ok form → FitsForm names Cut form
+cut_form-fits names [] form e = absurd (cc e)
+cut_form-fits names (w ∷ ws) form e =
+    let read = other-ok (bytes_eq w (codes "cut")) BadLine (form_with (cut_told names ws)) form e in
+    form_with-fits names (cut_told names ws) form (λ cut is. cut_told-fits names ws cut is) read.1
+
+form_told-fits : (names : List (List ℕ)) (method : Method) (ws : List (List ℕ)) (form : Form) → form_told names method ws ≡ Ok form → FitsForm names method form
+form_told-fits names MethodPlain ws form e = absurd (cc e)
+form_told-fits names Dpop ws form e =
+    let read = other-ok (is_alone (codes "tables") ws) BadLine (Ok forms.Tables) form e in
+    subst (FitsForm names Dpop) (ok-same forms.Tables form read.1) refl
+form_told-fits names Adopt ws form e =
+    let read = other-ok (is_alone (codes "log") ws) BadLine (Ok forms.Log) form e in
+    subst (FitsForm names Adopt) (ok-same forms.Log form read.1) refl
+form_told-fits names Cut ws form e = cut_form-fits names ws form e
+
+-- a certificate's first line fits the method
+pub certificate-fits : (names : List (List ℕ)) (method : Method) (ws : List (List ℕ)) (form : Form) → certificate_line names method ws ≡ Ok form → FitsForm names method form
+certificate-fits names method [] form e = absurd (cc e)
+certificate-fits names method (w ∷ ws) form e =
+    let first = one-ok (is_alone (codes "end") (w ∷ ws)) NoCertificate (cond (bytes_eq w (codes "certificate")) (form_told names method ws) (Err BadLine)) form e in
+    let second = other-ok (bytes_eq w (codes "certificate")) BadLine (form_told names method ws) form first.1 in
+    form_told-fits names method ws form second.1
 
 amounts-step : (o : Option ℕ) (r : Option (List ℕ)) (ns : List ℕ) → onto o r ≡ Some ns → ((x : ℕ) → o ≡ Some x → x ≤ 4611686018427387904) → ((xs : List ℕ) → r ≡ Some xs → All (λ n. n ≤ 4611686018427387904) xs) → All (λ n. n ≤ 4611686018427387904) ns
 amounts-step (Some x) (Some xs) ns e a b = subst (λ (ys : List ℕ). All (λ n. n ≤ 4611686018427387904) ys) (some-same (x ∷ xs) ns e) (All-cons (λ n. n ≤ 4611686018427387904) x xs (a x refl) (b xs refl))

@@ -11,16 +11,20 @@ use Rattle.problem_text.specs.Lines.{has_some, onto_first, lines}
 use Rattle.problem_text.specs.PlainLines.{Plain, plain_numbered}
 use Rattle.run_log.specs.declared.log.LogEvent.{LogEvent}
 use Rattle.run_log.specs.EventLine.{event_line}
+use Rattle.certificate_text.specs.declared.certificate.Turn.{Turn}
 use Rattle.certificate_text.specs.declared.certificate.Util.{Util}
 use Rattle.certificate_text.specs.declared.certificate_line.Form.{Form}
 use Rattle.certificate_text.specs.declared.certificate_line.Form.TheVariants as forms
 use Rattle.certificate_text.specs.declared.report.Method.{Method}
 use Rattle.certificate_text.specs.declared.report.Report.{Report}
-use Rattle.certificate_text.specs.Told.{is_alone}
+use Rattle.certificate_text.specs.declared.turns.CutSizes.{CutSizes}
+use Rattle.certificate_text.specs.Told.{is_alone, begins_with}
 use Rattle.certificate_text.specs.HeadLines.{status_line, method_line, max_line, number_line}
 use Rattle.certificate_text.specs.ValueLine.{value_line}
 use Rattle.certificate_text.specs.UtilLine.{util_line}
 use Rattle.certificate_text.specs.CertificateLine.{certificate_line}
+use Rattle.certificate_text.specs.TurnLine.{turn_line}
+use Rattle.certificate_text.specs.TurnReading.{table_in_turn, turn_behind, all_turns, turns_read, cut_sizes, cut_read}
 use Rattle.certificate_text.specs.ReportLines.{Fault, Left, whole, told_at, first_of, one_line, and_then}
 use Rattle.certificate_text.specs.ReportReading.{goal_read, head_read, bounds_read, values_read, ended, tables_read, events_read, evidence_read, certificate_read, nothing_behind, report_of, lines_read, report_read}
 
@@ -105,15 +109,34 @@ events-stay top names over log (l ∷ ls) h up =
     cond-stays top (is_alone (codes "end") l.words) (Ok (log, left)) _ (h, up.1)
     (and-stays top (told_at l.number (event_line names l.words) left) _ (told-stays top l.number (event_line names l.words) left up.0 (h, up.1)) (λ event later more. events-stay top names over (log ++ (event ∷ [])) ls h up.1))
 
+turns-stay : (top : ℕ) (names : List (List ℕ)) (sizes : CutSizes) (over : ℕ) (turns : List Turn) (turn : Turn) (ls : List Plain) → over ≤ top → AreUpTo top ls → Stays top (turns_read names sizes over turns turn ls)
+turns-stay top names sizes over turns turn [] h up = h
+turns-stay top names sizes over turns turn (l ∷ ls) h up =
+    let left : Left = record { lines = ls; over = over } in
+    let end = all_turns names sizes turns turn in
+    let values = turn_behind names sizes turns turn.tables l.words in
+    let table = table_in_turn names sizes turns turn.tables l.words in
+    cond-stays top (is_alone (codes "end") l.words) (told_at l.number end left) _ (told-stays top l.number end left up.0 (h, up.1))
+    (cond-stays top (begins_with (codes "turn") l.words) (and_then (told_at l.number values left) _) _
+    (and-stays top (told_at l.number values left) _ (told-stays top l.number values left up.0 (h, up.1)) (λ vs later more. turns-stay top names sizes over (turns ++ (turn ∷ [])) (record { values = vs; tables = [] }) ls h up.1))
+    (and-stays top (told_at l.number table left) _ (told-stays top l.number table left up.0 (h, up.1)) (λ util later more. turns-stay top names sizes over turns (record { values = turn.values; tables = turn.tables ++ (util ∷ []) }) ls h up.1)))
+
+cut-stays : (top : ℕ) (f : TextFile) (cut : List ℕ) (left : Left) → IsUpTo top left → Stays top (cut_read f cut left)
+cut-stays top f cut left up =
+    let sizes : CutSizes = cut_sizes f.problem.sizes cut in
+    and-stays top (one_line (turn_line sizes.own 0) left) _ (line-stays top (turn_line sizes.own 0) left up) (λ values left up. turns-stay top f.names sizes left.over [] (record { values = values; tables = [] }) left.lines up.0 up.1)
+
 evidence-stays : (top : ℕ) (f : TextFile) (form : Form) (left : Left) → IsUpTo top left → Stays top (evidence_read f form left)
 evidence-stays top f forms.Tables left up =
     and-stays top (tables_read f.names f.problem.sizes left.over [] left.lines) _ (tables-stay top f.names f.problem.sizes left.over [] left.lines up.0 up.1) (λ utils left up. up)
 evidence-stays top f forms.Log left up =
     and-stays top (events_read f.names left.over [] left.lines) _ (events-stay top f.names left.over [] left.lines up.0 up.1) (λ log left up. up)
+evidence-stays top f (forms.Cut cut) left up =
+    and-stays top (cut_read f cut left) _ (cut-stays top f cut left up) (λ turns left up. up)
 
 certificate-stays : (top : ℕ) (f : TextFile) (method : Method) (left : Left) → IsUpTo top left → Stays top (certificate_read f method left)
 certificate-stays top f method left up =
-    and-stays top (one_line (certificate_line method) left) _ (line-stays top (certificate_line method) left up) (λ form left up. evidence-stays top f form left up)
+    and-stays top (one_line (certificate_line f.names method) left) _ (line-stays top (certificate_line f.names method) left up) (λ form left up. evidence-stays top f form left up)
 
 nothing-ends : (top : ℕ) (report : Report) (ls : List Plain) → AreUpTo top ls → Ends top (nothing_behind report ls)
 nothing-ends top report [] up = tt
@@ -259,15 +282,37 @@ events-alike names o p log (x ∷ xs) (y ∷ ys) h =
     rw h.0 (cond-alike (is_alone (codes "end") y.words) (Ok (log, a)) (Ok (log, b)) _ _ (refl, h.1)
     (and-alike (told_at x.number (event_line names y.words) a) (told_at y.number (event_line names y.words) b) _ _ (told-alike x.number y.number (event_line names y.words) a b h.1) (λ event a b same. events-alike names o p (log ++ (event ∷ [])) xs ys h.1)))
 
+turns-alike : (names : List (List ℕ)) (sizes : CutSizes) (o p : ℕ) (turns : List Turn) (turn : Turn) (xs ys : List Plain) → SameWords xs ys → Alike (turns_read names sizes o turns turn xs) (turns_read names sizes p turns turn ys)
+turns-alike names sizes o p turns turn [] [] h = tt
+turns-alike names sizes o p turns turn [] (y ∷ ys) h = absurd h
+turns-alike names sizes o p turns turn (x ∷ xs) [] h = absurd h
+turns-alike names sizes o p turns turn (x ∷ xs) (y ∷ ys) h =
+    let a : Left = record { lines = xs; over = o } in
+    let b : Left = record { lines = ys; over = p } in
+    let end = all_turns names sizes turns turn in
+    let values = turn_behind names sizes turns turn.tables y.words in
+    let table = table_in_turn names sizes turns turn.tables y.words in
+    rw h.0 (cond-alike (is_alone (codes "end") y.words) (told_at x.number end a) (told_at y.number end b) _ _ (told-alike x.number y.number end a b h.1)
+    (cond-alike (begins_with (codes "turn") y.words) (and_then (told_at x.number values a) _) (and_then (told_at y.number values b) _) _ _
+    (and-alike (told_at x.number values a) (told_at y.number values b) _ _ (told-alike x.number y.number values a b h.1) (λ vs a b same. turns-alike names sizes o p (turns ++ (turn ∷ [])) (record { values = vs; tables = [] }) xs ys h.1))
+    (and-alike (told_at x.number table a) (told_at y.number table b) _ _ (told-alike x.number y.number table a b h.1) (λ util a b same. turns-alike names sizes o p turns (record { values = turn.values; tables = turn.tables ++ (util ∷ []) }) xs ys h.1))))
+
+cut-alike : (f : TextFile) (cut : List ℕ) (a b : Left) → SameWords a.lines b.lines → Alike (cut_read f cut a) (cut_read f cut b)
+cut-alike f cut a b h =
+    let sizes : CutSizes = cut_sizes f.problem.sizes cut in
+    and-alike (one_line (turn_line sizes.own 0) a) (one_line (turn_line sizes.own 0) b) _ _ (line-alike (turn_line sizes.own 0) a b h) (λ values a b h. turns-alike f.names sizes a.over b.over [] (record { values = values; tables = [] }) a.lines b.lines h)
+
 evidence-alike : (f : TextFile) (form : Form) (a b : Left) → SameWords a.lines b.lines → Alike (evidence_read f form a) (evidence_read f form b)
 evidence-alike f forms.Tables a b h =
     and-alike (tables_read f.names f.problem.sizes a.over [] a.lines) (tables_read f.names f.problem.sizes b.over [] b.lines) _ _ (tables-alike f.names f.problem.sizes a.over b.over [] a.lines b.lines h) (λ utils a b h. (refl, h))
 evidence-alike f forms.Log a b h =
     and-alike (events_read f.names a.over [] a.lines) (events_read f.names b.over [] b.lines) _ _ (events-alike f.names a.over b.over [] a.lines b.lines h) (λ log a b h. (refl, h))
+evidence-alike f (forms.Cut cut) a b h =
+    and-alike (cut_read f cut a) (cut_read f cut b) _ _ (cut-alike f cut a b h) (λ turns a b h. (refl, h))
 
 certificate-alike : (f : TextFile) (method : Method) (a b : Left) → SameWords a.lines b.lines → Alike (certificate_read f method a) (certificate_read f method b)
 certificate-alike f method a b h =
-    and-alike (one_line (certificate_line method) a) (one_line (certificate_line method) b) _ _ (line-alike (certificate_line method) a b h) (λ form a b h. evidence-alike f form a b h)
+    and-alike (one_line (certificate_line f.names method) a) (one_line (certificate_line f.names method) b) _ _ (line-alike (certificate_line f.names method) a b h) (λ form a b h. evidence-alike f form a b h)
 
 nothing-agrees : (report : Report) (xs ys : List Plain) → SameWords xs ys → Agrees (nothing_behind report xs) (nothing_behind report ys)
 nothing-agrees report [] [] h = λ r e. e

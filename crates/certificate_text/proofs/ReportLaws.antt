@@ -7,7 +7,7 @@ use Rattle.std.proofs.lemmas.Option.{get_or_from_slice_get, slice_get_within}
 use Rattle.problem_text.specs.Canonical.{line}
 use Rattle.problem_text.proofs.LineLaws.{spaced, line-cons, flat_map-map}
 use Rattle.certificate_text.specs.Named.{HasWord}
-use Rattle.certificate_text.specs.CertificateText.{parent_word, util_words}
+use Rattle.certificate_text.specs.CertificateText.{parent_word, util_words, cut_words, turn_words}
 use Rattle.certificate_text.specs.ReportText.{value_words, value_lines}
 use Rattle.certificate_text.specs.declared.certificate.Util.{Util}
 
@@ -29,6 +29,24 @@ pub util-written : (old new : List ℕ) (names : List (List ℕ)) (u : Util)
     → new ≡ old ++ (codes "util " ++ (slice_index_or names u.var [] ++ (32 ∷ (parent_word names u.parent ++ (codes " :" ++ (flat_map (λ v. 32 ∷ slice_index_or names v []) u.scope ++ (codes " :" ++ (flat_map (λ cell. 32 ∷ decimal cell) u.cells ++ (10 ∷ [])))))))))
     → new ≡ old ++ line (util_words names u)
 util-written old new names u h = h ∙ ap (λ text. old ++ text) (sym (util-line names u))
+
+-- the line of a cut's variables, each behind a space
+pub cut-written : (old new : List ℕ) (names : List (List ℕ)) (cut : List ℕ)
+    → new ≡ old ++ (codes "certificate cut" ++ (flat_map (λ v. 32 ∷ slice_index_or names v []) cut ++ (10 ∷ [])))
+    → new ≡ old ++ line (cut_words names cut)
+cut-written old new names cut h =
+    let same : line (cut_words names cut) ≡ codes "certificate cut" ++ (flat_map (λ v. 32 ∷ slice_index_or names v []) cut ++ (10 ∷ [])) =
+    line-cons (codes "certificate") (codes "cut" ∷ map (λ v. slice_index_or names v []) cut) ∙ rw (flat_map-map (λ v. slice_index_or names v []) cut) refl in
+    h ∙ ap (λ (text : List ℕ). old ++ text) (sym same)
+
+-- the line of a turn's values, each behind a space
+pub turn-written : (old new values : List ℕ)
+    → new ≡ old ++ (codes "turn" ++ (flat_map (λ value. 32 ∷ decimal value) values ++ (10 ∷ [])))
+    → new ≡ old ++ line (turn_words values)
+turn-written old new values h =
+    let same : line (turn_words values) ≡ codes "turn" ++ (flat_map (λ value. 32 ∷ decimal value) values ++ (10 ∷ [])) =
+    line-cons (codes "turn") (map decimal values) ∙ rw (flat_map-map decimal values) refl in
+    h ∙ ap (λ (text : List ℕ). old ++ text) (sym same)
 
 -- the next value's line
 pub value_lines-next : (names : List (List ℕ)) (labels : List (List (List ℕ))) (values : List ℕ) (place : ℕ) (name : List ℕ) (here : List (List ℕ)) (value : ℕ)

@@ -1,10 +1,18 @@
--- The values of a report, as they are read one after the other.
+-- The values of a report, as they are read one after the other, and the fault of a cut.
 use Rattle.std.proofs.Common.{◌≡◌, ℕ, ◌<◌, ◌+◌, List, [], ◌∷◌, ◌++◌, length, drop, get_or, Result, Ok, Err, refl, sym, ap, ◌∙◌, append_assoc, drop-cons, add-one}
 use Rattle.problem_text.specs.declared.fault.ReportFault.{ReportFault}
 use Rattle.problem_text.specs.declared.fault.ReportFault.TheVariants.{Bad, NoMemory}
+use Rattle.problem_text.specs.File.{TextFile}
+use Rattle.certificate_text.specs.declared.certificate.Certificate.TheVariants as certificates
+use Rattle.certificate_text.specs.declared.certificate.Turn.{Turn}
+use Rattle.certificate_text.specs.declared.certificate_line.Form.{Form}
+use Rattle.certificate_text.specs.declared.certificate_line.Form.TheVariants as forms
+use Rattle.certificate_text.specs.declared.report.Method.{Method}
+use Rattle.certificate_text.specs.CertificateLine.{certificate_line}
+use Rattle.certificate_text.specs.TurnReading.{cut_read}
 use Rattle.certificate_text.specs.ValueLine.{value_line}
 use Rattle.certificate_text.specs.ReportLines.{Fault, Left, one_line, and_then}
-use Rattle.certificate_text.specs.ReportReading.{values_read}
+use Rattle.certificate_text.specs.ReportReading.{values_read, evidence_read, certificate_read}
 use Rattle.certificate_text.specs.Steps.{IsFault}
 
 -- values before those that are read
@@ -44,3 +52,13 @@ pub value-fault : (names : List (List ℕ)) (labels : List (List (List ℕ))) (s
     → after values (values_from names labels sizes place left) ≡ all → IsFault all fault
 value-fault names labels sizes values place left NoMemory all n l s e h = tt
 value-fault names labels sizes values place left (Bad line kind) all n l s e h = sym h ∙ rw (values-here names labels sizes place left n l s, e) refl
+
+-- the fault of a cut, behind its first line
+pub cut-fault : (f : TextFile) (method : Method) (left next : Left) (form : Form) (cut given : List ℕ) (fault : ReportFault) → one_line (certificate_line f.names method) left ≡ Ok (form, next) → form ≡ forms.Cut cut
+    → given ≡ cut → IsFault (cut_read f given next) fault → IsFault (certificate_read f method left) fault
+cut-fault f method left next form cut given NoMemory read is same h = tt
+cut-fault f method left next form cut given (Bad line kind) read is same h =
+    let begun : certificate_read f method left ≡ evidence_read f (forms.Cut cut) next =
+    ap (λ (r : Result (Form × Left) Fault). and_then r (λ form left. evidence_read f form left)) (read ∙ ap (λ (x : Form). Ok (x, next)) is) in
+    begun
+    ∙ ap (λ (r : Result (List Turn × Left) Fault). and_then r (λ turns left. Ok (certificates.Cut cut turns, left))) (ap (λ (vs : List ℕ). cut_read f vs next) (sym same) ∙ h)

@@ -56,6 +56,33 @@ whole-none names rest ws w whole vars all next plain none h =
     let first = rw (next, before_colon-cons w ws plain, none) at h in
     sym (wholly-none whole vars (named_by names (before_first is_colon ws))) ∙ first
 
+-- the same of all words, whether or not one is `:`
+pub known-next : (names rest ws : List (List ℕ)) (w : List ℕ) (vars new all : List ℕ) (v : ℕ)
+    → rest ≡ w ∷ ws → position (bytes_eq w) names ≡ Some v → new ≡ vars ++ (v ∷ [])
+    → vars ++ known_among names rest ≡ all → new ++ known_among names ws ≡ all
+known-next names rest ws w vars new all v next found more h =
+    let first = rw (next, found) at h in
+    rw (more, append_assoc vars (v ∷ []) (known_among names ws)) first
+
+pub known-past : (names rest ws : List (List ℕ)) (w : List ℕ) (vars all : List ℕ)
+    → rest ≡ w ∷ ws → position (bytes_eq w) names ≡ None
+    → vars ++ known_among names rest ≡ all → vars ++ known_among names ws ≡ all
+known-past names rest ws w vars all next none h = rw (next, none) at h
+
+pub whole-next : (names rest ws : List (List ℕ)) (w : List ℕ) (whole : Bool) (vars new : List ℕ) (v : ℕ) (all : Option (List ℕ))
+    → rest ≡ w ∷ ws → position (bytes_eq w) names ≡ Some v → new ≡ vars ++ (v ∷ [])
+    → wholly whole vars (named_by names rest) ≡ all → wholly whole new (named_by names ws) ≡ all
+whole-next names rest ws w whole vars new v all next found more h =
+    let first = rw (next, found) at h in
+    rw (more, wholly-push whole vars v (named_by names ws)) first
+
+pub whole-past : (names rest ws : List (List ℕ)) (w : List ℕ) (whole : Bool) (vars : List ℕ) (all : Option (List ℕ))
+    → rest ≡ w ∷ ws → position (bytes_eq w) names ≡ None
+    → wholly whole vars (named_by names rest) ≡ all → None ≡ all
+whole-past names rest ws w whole vars all next none h =
+    let first = rw (next, none) at h in
+    sym (wholly-none whole vars (named_by names ws)) ∙ first
+
 -- a scope of which nothing is left
 pub wholly-end : (whole : Bool) (vars : List ℕ) (all : Option (List ℕ)) → wholly whole vars (Some []) ≡ all → all ≡ where_whole whole vars
 wholly-end true vars all h = sym h ∙ ap (λ (vs : List ℕ). Some vs) (append-nil vars)

@@ -1,14 +1,17 @@
 -- Reports that fit a file: what is written of them is read back.
-use Rattle.std.specs.Prelude.{◌≡◌, ℕ, ◌<◌, ◌≤◌, ◌==◌, List, map, length, IfSome, slice_index, count_by, false}
+use Rattle.std.specs.Prelude.{◌≡◌, ℕ, ◌<◌, ◌≤◌, ◌==◌, List, [], ◌∷◌, map, length, IfSome, slice_index, count_by, false}
 use Rattle.std.specs.List.{All, AllZip}
 use Rattle.dcop_base.specs.Table.{product, has_repeat}
 use Rattle.dcop_base.specs.Limits.{amount_limit}
+use Rattle.cost_table.specs.Slices.{ones_at}
+use Rattle.protocol_steps.specs.Values.{choices}
 use Rattle.problem_text.specs.File.{TextFile}
 use Rattle.certificate_text.specs.declared.certificate.Certificate.{Certificate}
-use Rattle.certificate_text.specs.declared.certificate.Certificate.TheVariants.{Tables, Log}
+use Rattle.certificate_text.specs.declared.certificate.Certificate.TheVariants.{Tables, Log, Cut}
+use Rattle.certificate_text.specs.declared.certificate.Turn.{Turn}
 use Rattle.certificate_text.specs.declared.certificate.Util.{Util}
 use Rattle.certificate_text.specs.declared.report.Method.{Method}
-use Rattle.certificate_text.specs.declared.report.Method.TheVariants.{Dpop, Adopt}
+use Rattle.certificate_text.specs.declared.report.Method.TheVariants.{Dpop, Adopt, Cut as ByCut}
 use Rattle.certificate_text.specs.declared.report.Report.{Report}
 use Rattle.certificate_text.specs.Named.{IsNamedUtil}
 use Rattle.run_log.specs.LogText.{FitsEvent}
@@ -25,10 +28,28 @@ pub record FitsTables (sizes : List ℕ) (utils : List Util) : Type 0 where
   pub each : All (FitsUtil sizes) utils
   pub one : (var : ℕ) → var < length sizes → count_by (λ u. u.var == var) utils ≡ 1
 
+-- the parent of a variable by its table is that by its table among these
+abbrev pub HasParentOf : List Util → Util → Type 0
+HasParentOf others util = All (λ other. other.var ≡ util.var → other.parent ≡ util.parent) others
+
+-- the parents are those of the first turn
+abbrev pub KeepParents : List Turn → Type 0
+KeepParents [] = Unit {0}
+KeepParents (first ∷ later) = All (λ turn. All (HasParentOf first.tables) turn.tables) later
+
+-- the turns of a cut of variables of these sizes: all lists of values of the cut, in lexicographic order, with tables that fit the slice, in which cut variables have size 1, and with the same parents in each turn
+pub record FitsCut (sizes cut : List ℕ) (turns : List Turn) : Type 0 where
+  pub distinct : has_repeat cut ≡ false
+  pub within : All (λ v. v < length sizes) cut
+  pub values : map (λ t. t.values) turns ≡ choices (map (λ v. slice_index sizes v) cut)
+  pub tables : All (λ t. FitsTables (ones_at cut sizes) t.tables) turns
+  pub parents : KeepParents turns
+
 -- a certificate that fits the method and variables of these sizes
 abbrev pub FitsCertificate : List ℕ → Method → Certificate → Type 0
 FitsCertificate sizes method (Tables utils) = (method ≡ Dpop) × FitsTables sizes utils
 FitsCertificate sizes method (Log log) = (method ≡ Adopt) × All (FitsEvent (length sizes)) log
+FitsCertificate sizes method (Cut cut turns) = (method ≡ ByCut) × FitsCut sizes cut turns
 
 -- a report fits a file: one value for each variable, below its size; numbers of at most amount_limit; a certificate that fits; and the file's goal
 pub record Fits (report : Report) (f : TextFile) : Type 0 where

@@ -7,7 +7,9 @@ pub mod ValueLine
 pub mod UtilLine
 pub mod UtilWords
 pub mod CertificateLine
+pub mod TurnLine
 pub mod ReportLines
+pub mod TurnReading
 pub mod ReportReading
 pub mod Fits
 pub mod Steps

@@ -3,7 +3,8 @@ use Rattle.std.specs.Prelude.{◌≡◌, ℕ, ◌<◌, List, length, IfSome}
 use Rattle.std.specs.List.{All, AllZip}
 use Rattle.problem_text.specs.File.{TextFile}
 use Rattle.certificate_text.specs.declared.certificate.Certificate.{Certificate}
-use Rattle.certificate_text.specs.declared.certificate.Certificate.TheVariants.{Tables, Log}
+use Rattle.certificate_text.specs.declared.certificate.Certificate.TheVariants.{Tables, Log, Cut}
+use Rattle.certificate_text.specs.declared.certificate.Turn.{Turn}
 use Rattle.certificate_text.specs.declared.certificate.Util.{Util}
 use Rattle.certificate_text.specs.declared.report.Report.{Report}
 use Rattle.run_log.specs.LogText.{IsNamedEvent}
@@ -18,10 +19,15 @@ pub record IsNamedUtil (count : ℕ) (util : Util) : Type 0 where
   pub parent : IfSome util.parent (λ p. p < count)
   pub scope : All (λ v. v < count) util.scope
 
+-- a turn all of whose tables' variables are among so many
+abbrev pub IsNamedTurn : ℕ → Turn → Type 0
+IsNamedTurn count turn = All (IsNamedUtil count) turn.tables
+
 -- a certificate all of whose variables are among so many
 abbrev pub IsNamedCertificate : ℕ → Certificate → Type 0
 IsNamedCertificate count (Tables utils) = All (IsNamedUtil count) utils
 IsNamedCertificate count (Log log) = All (IsNamedEvent count) log
+IsNamedCertificate count (Cut cut turns) = All (λ v. v < count) cut × All (IsNamedTurn count) turns
 
 -- a report that the names of a file can tell: one value for each name, each with its name where its variable has value names, and no variable without a name
 pub record CanTell (report : Report) (file : TextFile) : Type 0 where

@@ -22,6 +22,7 @@ use Rattle.certificate_text.specs.HeadLines.{status_line, method_line, max_line,
 use Rattle.certificate_text.specs.ValueLine.{value_line}
 use Rattle.certificate_text.specs.CertificateLine.{certificate_line}
 use Rattle.certificate_text.specs.UtilLine.{util_line, lacks_util}
+use Rattle.certificate_text.specs.TurnReading.{cut_read}
 use Rattle.certificate_text.specs.ReportLines.{Fault, Left, whole, told_at, one_line, and_then}
 
 -- the goal of the file: a line `goal max` where it is max, no line where it is min
@@ -85,11 +86,14 @@ evidence_read f forms.Tables left =
 evidence_read f forms.Log left =
     and_then (events_read f.names left.over [] left.lines) (λ log left.
     Ok (certificates.Log log, left))
+evidence_read f (forms.Cut cut) left =
+    and_then (cut_read f cut left) (λ turns left.
+    Ok (certificates.Cut cut turns, left))
 
 -- the certificate: its first line, which fits the method, and its further ones, up to the line `end`
 abbrev pub certificate_read : TextFile → Method → Left → Result (Certificate × Left) Fault
 certificate_read f method left =
-    and_then (one_line (certificate_line method) left) (λ form left.
+    and_then (one_line (certificate_line f.names method) left) (λ form left.
     evidence_read f form left)
 
 -- behind the line `end` no line is left

@@ -21,6 +21,11 @@ abbrev pub is_alone : List ℕ → List (List ℕ) → Bool
 is_alone key (word ∷ []) = bytes_eq word key
 is_alone key _ = false
 
+-- whether words begin with this one
+abbrev pub begins_with : List ℕ → List (List ℕ) → Bool
+begins_with key [] = false
+begins_with key (word ∷ further) = bytes_eq word key
+
 -- the numbers that these words write, where each is at most amount_limit
 abbrev pub amounts_of : List (List ℕ) → Option (List ℕ)
 amounts_of [] = Some []

@@ -1,6 +1,6 @@
 //! Certificates: what lets a reader check that no better values exist.
 
-use dcop_base::{CellList, Sequence, VarId, VarList};
+use dcop_base::{CellList, Sequence, ValList, VarId, VarList};
 use run_log::Log;
 
 /// What a report gives as evidence for its bounds.
@@ -10,7 +10,26 @@ pub enum Certificate {
     Tables(UtilList),
     /// What all agents of a run of ADOPT did, in the order of the report's lines.
     Log(Log),
+    /// The UTIL tables of each turn of a cut.
+    Cut {
+        /// The cut variables, in the order of cutting.
+        cut: VarList,
+        /// The turns: all lists of values of the cut variables, in lexicographic order.
+        turns: CutList,
+    },
 }
+
+/// A turn of a cut: DPOP ran on the slice in which the cut variables have these values, and size 1.
+#[derive(Debug, Drop)]
+pub struct Turn {
+    /// A value for each cut variable, in the order of cutting.
+    pub values: ValList,
+    /// The UTIL table of each agent of the run on the slice, in the order of the report's lines.
+    pub tables: UtilList,
+}
+
+/// The turns of a cut.
+pub type CutList = Sequence<Turn>;
 
 /// The UTIL table of one agent, which it sends to its parent where it has one.
 ///

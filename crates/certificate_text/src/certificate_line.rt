@@ -1,27 +1,39 @@
 //! The first line of a certificate.
 
-ghost use Rattle.std.specs.Prelude.{◌≡◌, if◌then◌else◌};
+ghost use Rattle.std.specs.Prelude.{◌≡◌, true};
+ghost use Rattle.std.specs.List.{list_all};
 ghost use Rattle.problem_text.specs.Lines.{words};
-ghost use Rattle.problem_text.specs.declared.fault.ReportKind.TheVariants.{BadLine, NotYet};
+ghost use Rattle.problem_text.specs.Name.{is_name};
 ghost use Rattle.run_log.specs.LogReading.{Reads};
 ghost use Rattle.certificate_text.specs.CertificateLine as lines;
 
+use crate::cut_line::cut_of;
 use crate::head_line::is_only;
 use crate::report::Method;
-use problem_text::{LineEnd, ReportKind, is_word, next_word};
+use dcop_base::VarList;
+use problem_text::{LineEnd, Names, ReportKind, is_word, next_word};
+use std::alloc::Global;
 
 /// What the further lines of a certificate tell.
-#[derive(Clone, Copy, Debug)]
+#[derive(Debug, Drop)]
 pub enum Form {
     /// UTIL tables.
     Tables,
     /// Events.
     Log,
+    /// The turns of a cut of these variables.
+    Cut(VarList),
 }
 
 /// The form of the certificate whose first line this is, in a report with this method.
-pub fn form_of(text: &[u8], method: Method) -> Result<Form, LineEnd<ReportKind>>
-    ensures { Reads result (lines.certificate_line method (words text.now)) }
+pub fn form_of(
+    alloc: Global,
+    names: &Names,
+    text: &[u8],
+    method: Method,
+) -> Result<Form, LineEnd<ReportKind>>
+    requires { list_all is_name names.now ≡ true }
+    ensures { Reads result (lines.certificate_line names.now method (words text.now)) }
 {
     let Some((first, further)) = next_word(text) else {
         return Err(LineEnd::Fault(ReportKind::BadLine));
@@ -32,12 +44,18 @@ pub fn form_of(text: &[u8], method: Method) -> Result<Form, LineEnd<ReportKind>>
     if !is_word(first, b"certificate") {
         return Err(LineEnd::Fault(ReportKind::BadLine));
     }
-    fitting(further, method)
+    fitting(alloc, names, further, method)
 }
 
 /// The form that fits the method, by the words behind `certificate`.
-fn fitting(text: &[u8], method: Method) -> Result<Form, LineEnd<ReportKind>>
-    ensures { Reads result (lines.form_told method (words text.now)) }
+fn fitting(
+    alloc: Global,
+    names: &Names,
+    text: &[u8],
+    method: Method,
+) -> Result<Form, LineEnd<ReportKind>>
+    requires { list_all is_name names.now ≡ true }
+    ensures { Reads result (lines.form_told names.now method (words text.now)) }
 {
     match method {
         Method::Plain => Err(LineEnd::Fault(ReportKind::BadLine)),
@@ -53,27 +71,20 @@ fn fitting(text: &[u8], method: Method) -> Result<Form, LineEnd<ReportKind>>
             }
             Err(LineEnd::Fault(ReportKind::BadLine))
         }
-        Method::Cut => Err(LineEnd::Fault(unread(begins_with(text, b"cut")))),
+        Method::Cut => cut_form(alloc, names, text),
     }
 }
 
-/// The kind of a line of a certificate that is not read yet, or of no certificate that fits.
-fn unread(fits: bool) -> ReportKind
-    ensures { result ≡ if fits then NotYet else BadLine }
+/// The form of a cut, by the words `cut` and those of its variables.
+fn cut_form(alloc: Global, names: &Names, text: &[u8]) -> Result<Form, LineEnd<ReportKind>>
+    requires { list_all is_name names.now ≡ true }
+    ensures { Reads result (lines.cut_form names.now (words text.now)) }
 {
-    if fits {
-        ReportKind::NotYet
-    } else {
-        ReportKind::BadLine
+    let Some((word, further)) = next_word(text) else {
+        return Err(LineEnd::Fault(ReportKind::BadLine));
+    };
+    if !is_word(word, b"cut") {
+        return Err(LineEnd::Fault(ReportKind::BadLine));
     }
-}
-
-/// Whether the words of a text begin with this one.
-fn begins_with(text: &[u8], key: &[u8]) -> bool
-    ensures { result ≡ lines.begins_with key.now (words text.now) }
-{
-    match next_word(text) {
-        None => false,
-        Some((word, _)) => is_word(word, key),
-    }
+    Ok(Form::Cut(cut_of(alloc, names, further)?))
 }

@@ -5,7 +5,7 @@ ghost use Rattle.problem_text.specs.Lines.{words};
 ghost use Rattle.dcop_base.specs.Limits.{amount_limit};
 ghost use Rattle.run_log.specs.EventLine.{number_within};
 ghost use Rattle.run_log.specs.LogReading.{Reads};
-ghost use Rattle.certificate_text.specs.Told.{word_behind, is_alone};
+ghost use Rattle.certificate_text.specs.Told.{word_behind, is_alone, begins_with};
 ghost use Rattle.certificate_text.specs.HeadLines.{status_line, method_line, max_line, number_line};
 
 use crate::report::{Ending, Method};
@@ -33,6 +33,16 @@ pub fn is_only(text: &[u8], key: &[u8]) -> bool
     match next_word(text) {
         None => false,
         Some((word, rest)) => next_word(rest).is_none() && is_word(word, key),
+    }
+}
+
+/// Whether the words of a line begin with this one.
+pub fn begins_with(text: &[u8], key: &[u8]) -> bool
+    ensures { result ≡ begins_with key.now (words text.now) }
+{
+    match next_word(text) {
+        None => false,
+        Some((word, _)) => is_word(word, key),
     }
 }
 

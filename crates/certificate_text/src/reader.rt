@@ -11,16 +11,18 @@ ghost use Rattle.certificate_text.specs.ValueLine.{value_line};
 ghost use Rattle.certificate_text.specs.UtilLine.{util_line};
 ghost use Rattle.certificate_text.specs.CertificateLine.{certificate_line};
 ghost use Rattle.certificate_text.specs.ReportLines.{one_line, told_at};
+ghost use Rattle.certificate_text.specs.TurnReading.{cut_read};
 ghost use Rattle.certificate_text.specs.ReportReading as reading;
 ghost use Rattle.certificate_text.specs.Steps.{IsRead, IsFault};
 ghost use Rattle.certificate_text.specs.Again.{ReadsReport, HasFit, TellsFitting};
 
-use crate::certificate::{Certificate, Util, UtilList};
+use crate::certificate::{Certificate, CutList, Util, UtilList};
 use crate::certificate_line::{Form, form_of};
 use crate::head::{Bounds, Head, read_bounds, read_head};
 use crate::head_line::is_only;
 use crate::lines::{Lines, told_by};
 use crate::report::{Method, Report};
+use crate::turns::{cut_sizes_of, read_turns};
 use crate::util_line::{lacks_util, util_of};
 use crate::value_line::value_of;
 use dcop_base::{MAX_SIZE, MAX_VARIABLES, Val, ValList, VarId};
@@ -166,18 +168,44 @@ fn read_certificate(
 ) -> Result<Certificate, ReportFault>
     ensures { IsRead (reading.certificate_read file.now method lines.old) result lines.new }
 {
-    match read_form(lines, method)? {
+    let _goal = file.goal;
+    let form = read_form(alloc, lines, file, method)?;
+    match form {
         Form::Tables => Ok(Certificate::Tables(read_tables(alloc, lines, file)?)),
         Form::Log => Ok(Certificate::Log(read_events(alloc, lines, file)?)),
+        Form::Cut(cut) => {
+            let turns = read_cut(alloc, lines, file, cut.as_slice())?;
+            Ok(Certificate::Cut { cut, turns })
+        }
     }
 }
 
+/// Reads the turns of a cut of these variables, and the line `end`.
+fn read_cut(
+    alloc: Global,
+    lines: &mut Lines<'_>,
+    file: &ProblemFile,
+    cut: &[VarId],
+) -> Result<CutList, ReportFault>
+    requires { All (λ v. v < length file.now.problem.sizes) cut.now }
+    ensures { IsRead (cut_read file.now cut.now lines.old) result lines.new }
+{
+    let problem = &file.problem;
+    let sizes = cut_sizes_of(alloc, problem.sizes.as_slice(), cut)?;
+    read_turns(alloc, lines, &file.names, &sizes)
+}
+
 /// Reads the first line of a certificate.
-fn read_form(lines: &mut Lines<'_>, method: Method) -> Result<Form, ReportFault>
-    ensures { IsRead (one_line (certificate_line method) lines.old) result lines.new }
+fn read_form(
+    alloc: Global,
+    lines: &mut Lines<'_>,
+    file: &ProblemFile,
+    method: Method,
+) -> Result<Form, ReportFault>
+    ensures { IsRead (one_line (certificate_line file.now.names method) lines.old) result lines.new }
 {
     let line = lines.line()?;
-    told_by(line.number, form_of(line.text, method))
+    told_by(line.number, form_of(alloc, &file.names, line.text, method))
 }
 
 /// Reads the tables, one for each variable, and the line `end`.

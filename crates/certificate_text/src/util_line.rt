@@ -163,7 +163,7 @@ fn scope_of(alloc: Global, names: &Names, text: &[u8]) -> Result<Scope, NoMemory
 }
 
 /// The parent that a word tells; `None` exactly where it names no variable and is not `-`.
-fn parent_of(names: &Names, word: &[u8]) -> Option<Option<VarId>>
+pub fn parent_of(names: &Names, word: &[u8]) -> Option<Option<VarId>>
     requires { list_all is_name names.now ≡ true }
     ensures { result ≡ lines.parent_told names.now word.now }
 {

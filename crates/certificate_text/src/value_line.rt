@@ -61,7 +61,7 @@ fn value_of_word(word: &[u8], labels: &Labels, size: u16) -> Result<Val, LineEnd
 }
 
 /// The value that a word writes as a number.
-fn numbered(word: &[u8], size: u16) -> Result<Val, LineEnd<ReportKind>>
+pub fn numbered(word: &[u8], size: u16) -> Result<Val, LineEnd<ReportKind>>
     ensures { Reads result (value_below size (number_within amount_limit word.now)) }
 {
     let Some(number) = amount_of(word) else {

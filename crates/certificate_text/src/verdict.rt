@@ -45,12 +45,30 @@ pub enum Differs {
         left: u64,
         right: u64,
     },
+    /// In this turn of a cut, counted from 0, the scope of this variable is not its separator from
+    /// the root down. It is the first such turn, and there the lowest such variable.
+    TurnScope {
+        turn: u64,
+        var: VarId,
+    },
+    /// In this turn of a cut, counted from 0, a cell of this variable's table, counted from 0,
+    /// exceeds, at this value of the variable in the slice, the sum of its own tables' cells in the
+    /// slice and its children's cells, which is `right`.
+    TurnCell {
+        turn: u64,
+        var: VarId,
+        cell: u64,
+        value: Val,
+        left: u64,
+        right: u64,
+    },
     /// The cost is not that of the values.
     Cost {
         left: u64,
         right: u64,
     },
-    /// The root's cell is not the cost of the values in the problem solved.
+    /// The root's cell, of a cut the least one over all turns, is not the cost of the values in the
+    /// problem solved.
     Root {
         left: u64,
         right: u64,

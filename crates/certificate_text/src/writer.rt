@@ -5,13 +5,13 @@ ghost use Rattle.std.specs.List.{flat_map, All, AllZip};
 ghost use Rattle.std.specs.Fmt.{decimal};
 ghost use Rattle.std.specs.String.{string_bytes};
 ghost use Rattle.problem_text.specs.Canonical.{line, goal_lines};
-ghost use Rattle.certificate_text.specs.CertificateText.{parent_word, util_words, table_lines, log_lines, certificate_lines, evidence_lines};
-ghost use Rattle.certificate_text.specs.Named.{HasWord, IsNamedUtil, IsNamedCertificate, CanTell};
+ghost use Rattle.certificate_text.specs.CertificateText.{parent_word, util_words, table_lines, log_lines, cut_words, turn_words, turn_lines, cut_lines, certificate_lines, evidence_lines};
+ghost use Rattle.certificate_text.specs.Named.{HasWord, IsNamedUtil, IsNamedTurn, IsNamedCertificate, CanTell};
 ghost use Rattle.run_log.specs.LogText.{IsNamedEvent};
 ghost use Rattle.certificate_text.specs.Again.{IsReadBack};
 ghost use Rattle.certificate_text.specs.ReportText.{ending_word, method_word, head_lines, bound_lines, value_words, value_lines, report_text};
 
-use crate::certificate::{Certificate, Util};
+use crate::certificate::{Certificate, Turn, Util};
 use crate::report::{Ending, Method, Report};
 use dcop_base::{Bytes, NoMemory, Val, VarId};
 use problem_text::{Labels, Names, ProblemFile, write_cells, write_goal, write_scope};
@@ -166,7 +166,68 @@ fn write_certificate(
     match certificate {
         Certificate::Tables(utils) => write_tables(text, names, utils.as_slice()),
         Certificate::Log(log) => write_log(text, names, log.as_slice()),
+        Certificate::Cut { cut, turns } => {
+            write_cut(text, names, cut.as_slice(), turns.as_slice())
+        }
     }
+}
+
+fn write_cut(
+    text: &mut String,
+    names: &Names,
+    cut: &[VarId],
+    turns: &[Turn],
+) -> Result<(), NoMemory>
+    requires cut { All (λ v. v < length names.now) cut.now }
+    requires turns { All (IsNamedTurn (length names.now)) turns.now }
+    ensures { OnOk result (string_bytes text.new
+        ≡ string_bytes text.old ++ flat_map line (cut_lines names.now cut.now turns.now)) }
+{
+    write_cut_names(text, names, cut)?;
+    write_turns(text, names, turns)
+}
+
+fn write_cut_names(text: &mut String, names: &Names, cut: &[VarId]) -> Result<(), NoMemory>
+    requires { All (λ v. v < length names.now) cut.now }
+    ensures { OnOk result (string_bytes text.new
+        ≡ string_bytes text.old ++ line (cut_words names.now cut.now)) }
+{
+    text.push_str("certificate cut")?;
+    write_scope(text, names, cut)?;
+    Ok(text.push_str("\n")?)
+}
+
+fn write_turns(text: &mut String, names: &Names, turns: &[Turn]) -> Result<(), NoMemory>
+    requires { All (IsNamedTurn (length names.now)) turns.now }
+    ensures { OnOk result (string_bytes text.new
+        ≡ string_bytes text.old ++ flat_map line (flat_map (turn_lines names.now) turns.now)) }
+{
+    for turn in turns {
+        write_turn_values(text, turn.values.as_slice())?;
+        write_utils(text, names, turn.tables.as_slice())?;
+    }
+    Ok(())
+}
+
+fn write_turn_values(text: &mut String, values: &[Val]) -> Result<(), NoMemory>
+    ensures { OnOk result (string_bytes text.new
+        ≡ string_bytes text.old ++ line (turn_words values.now)) }
+{
+    text.push_str("turn")?;
+    write_numbers(text, values)?;
+    Ok(text.push_str("\n")?)
+}
+
+/// Adds these values to a text, each as a number behind a space.
+fn write_numbers(text: &mut String, values: &[Val]) -> Result<(), NoMemory>
+    ensures { OnOk result (string_bytes text.new
+        ≡ string_bytes text.old ++ flat_map (λ value. 32 ∷ decimal value) values.now) }
+{
+    for value in values {
+        let number = value.0;
+        write!(text, " {number}")?;
+    }
+    Ok(())
 }
 
 fn write_tables(text: &mut String, names: &Names, utils: &[Util]) -> Result<(), NoMemory>

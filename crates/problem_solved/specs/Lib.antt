@@ -1,6 +1,7 @@
 pub mod Goal
 pub mod Solved
 pub mod Told
+pub mod Turns
 pub mod Cells
 pub mod Gap
 pub mod Verdict
