@@ -30,7 +30,7 @@ use Rattle.problem_solved.proofs.SolvedLaws.{solved_problem, solved_sizes}
 use Rattle.problem_solved.specs.Goal.{solved, problem_solved, IsBestSum, IsAtMostWorse}
 use Rattle.problem_solved.specs.Told.{told, variables, parents_told, scopes_told, cells_told}
 use Rattle.certificate_check.specs.Cells.{root_told, root_cell}
-use Rattle.certificate_check.specs.Differences.{first_of, scope_difference, cells_difference, unless_same, status_difference, bound_difference, number_difference, difference_in}
+use Rattle.certificate_check.specs.Differences.{first_of, scope_difference, cells_difference, unless_same, status_difference, dpop_deliveries, bound_difference, number_difference, difference_in}
 use Rattle.problem_solved.specs.Holds.{HoldsTables}
 use Rattle.certificate_check.specs.Verdicts.{IsTreeOf, IsTablesVerdict, IsTablesExact}
 use Rattle.problem_solved.specs.Verdict.{ShowsBest}
@@ -41,21 +41,21 @@ use Rattle.certificate_check.proofs.HoldsLaws.{lower_cells, no_cells, separators
 use Rattle.certificate_check.proofs.TreeFactLaws.{one_tree, refuted}
 
 -- numbers that do not differ are the same, and back
-unless_none : (differs : ℕ → ℕ → Differs) (left right : ℕ) → unless_same differs left right ≡ None → left ≡ right
+pub unless_none : (differs : ℕ → ℕ → Differs) (left right : ℕ) → unless_same differs left right ≡ None → left ≡ right
 unless_none differs left right none =
     elim (cases_Bool (eqb left right)) [
       | inl same ↦ eqb-true left right same
       | inr other ↦ absurd (none-some (differs left right) (sym none ∙ cond-false (eqb left right) None (Some (differs left right)) other))
     ]
 
-none_unless : (differs : ℕ → ℕ → Differs) (left right : ℕ) → left ≡ right → unless_same differs left right ≡ None
+pub none_unless : (differs : ℕ → ℕ → Differs) (left right : ℕ) → left ≡ right → unless_same differs left right ≡ None
 none_unless differs left right same = cond-true (eqb left right) None (Some (differs left right)) (eq-eqb left right same)
 
-status_solved : (ending : Ending) → status_difference ending ≡ None → ending ≡ Solved
+pub status_solved : (ending : Ending) → status_difference ending ≡ None → ending ≡ Solved
 status_solved Solved none = refl
 status_solved Spent none = absurd (none-some (Status Spent) (sym none))
 
-single : (xs : List ℕ) → length xs ≡ 1 → xs ≡ get_or xs 0 0 ∷ []
+pub single : (xs : List ℕ) → length xs ≡ 1 → xs ≡ get_or xs 0 0 ∷ []
 single [] h = absurd (omega (arith, h))
 single (x ∷ []) h = refl
 single (x ∷ y ∷ ys) h = absurd (omega (arith, h))
@@ -80,9 +80,9 @@ module _ (f : TextFile) (r : Report) (utils : List Util) (fits : FitsTables (pro
       let p : Dcop = problem_solved f in
       let pseudo = tree.pseudotree in
       let behind = or_parts (first_of (scope_difference p paths utils) (variables p)) _ none in
-      let last = or_parts (first_of (cells_difference p paths utils) (variables p)) (number_difference f (root_cell p utils) r) behind.1 in
+      let last = or_parts (first_of (cells_difference p paths utils) (variables p)) (number_difference f (root_cell p utils) (dpop_deliveries (length f.problem.sizes)) r) behind.1 in
       let first = or_parts (unless_same (λ left right. Cost left right) r.cost (cost f.problem r.values)) _ last.1 in
-      let second = or_parts (unless_same (λ left right. Root left right) (root_cell p utils) (cost p r.values)) (bound_difference (length f.problem.sizes) r) first.1 in
+      let second = or_parts (unless_same (λ left right. Root left right) (root_cell p utils) (cost p r.values)) (bound_difference (dpop_deliveries (length f.problem.sizes)) r) first.1 in
       let third = or_parts (unless_same (λ left right. Lower left right) r.lower r.cost) _ second.1 in
       let fourth = or_parts (unless_same (λ left right. Upper left right) r.upper r.cost) _ third.1 in
       let fifth = or_parts (unless_same (λ left right. Error left right) r.error 0) _ fourth.1 in
@@ -127,10 +127,10 @@ module _ (f : TextFile) (r : Report) (utils : List Util) (fits : FitsTables (pro
       let root : root_cell p utils ≡ cost p r.values =
       ap (λ (xs : List ℕ). get_or xs 0 0) (sym (cells_of paths tree (root_told p utils) (root_told_is paths tree)) ∙ h.tables.root_cost (root_told p utils) (root_told_is paths tree)) in
       or_none (first_of (scope_difference p paths utils) (variables p)) _ (no_scopes p paths utils pseudo fits h.tables.tables.scopes_are)
-      (or_none (first_of (cells_difference p paths utils) (variables p)) (number_difference f (root_cell p utils) r)
+      (or_none (first_of (cells_difference p paths utils) (variables p)) (number_difference f (root_cell p utils) (dpop_deliveries (length f.problem.sizes)) r)
       (no_cells p paths utils pseudo fits (λ i lt. h.tables.tables.cells_lower i (omega arith)))
       (or_none (unless_same (λ left right. Cost left right) r.cost (cost f.problem r.values)) _ (none_unless (λ left right. Cost left right) r.cost (cost f.problem r.values) h.cost)
-      (or_none (unless_same (λ left right. Root left right) (root_cell p utils) (cost p r.values)) (bound_difference (length f.problem.sizes) r) (none_unless (λ left right. Root left right) (root_cell p utils) (cost p r.values) root)
+      (or_none (unless_same (λ left right. Root left right) (root_cell p utils) (cost p r.values)) (bound_difference (dpop_deliveries (length f.problem.sizes)) r) (none_unless (λ left right. Root left right) (root_cell p utils) (cost p r.values) root)
       (or_none (unless_same (λ left right. Lower left right) r.lower r.cost) _ (none_unless (λ left right. Lower left right) r.lower r.cost h.lower)
       (or_none (unless_same (λ left right. Upper left right) r.upper r.cost) _ (none_unless (λ left right. Upper left right) r.upper r.cost h.upper)
       (or_none (unless_same (λ left right. Error left right) r.error 0) _ (none_unless (λ left right. Error left right) r.error 0 h.error)
@@ -147,7 +147,7 @@ module _ (f : TextFile) (r : Report) (utils : List Util) (fits : FitsTables (pro
   ]
 
 -- a sum that is the least or the greatest is no worse than the best
-best_by : (goal : Goal) (p : Dcop) (values : List ℕ) (error best : ℕ) → IsProblem p → IsAssignment p values → IsOptimum (solved goal p) (cost (solved goal p) values) → IsBestSum goal p best → IsAtMostWorse goal error (cost p values) best
+pub best_by : (goal : Goal) (p : Dcop) (values : List ℕ) (error best : ℕ) → IsProblem p → IsAssignment p values → IsOptimum (solved goal p) (cost (solved goal p) values) → IsBestSum goal p best → IsAtMostWorse goal error (cost p values) best
 best_by Min p values error best problem is optimal h = let same = optimum_same p (cost p values) best optimal h in omega (arith, same)
 best_by Max p values error best problem is optimal h =
     let other : List ℕ = h.attained.0 in

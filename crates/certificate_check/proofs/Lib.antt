@@ -11,3 +11,5 @@ pub mod HoldsLaws
 pub mod TreeFactLaws
 pub mod VerdictLaws
 pub mod ExactLaws
+pub mod TurnLaws
+pub mod CutExactLaws

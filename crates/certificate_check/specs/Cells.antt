@@ -1,6 +1,6 @@
 -- The cells of a certificate's tables, and what each is compared with.
-use Rattle.std.specs.Prelude.{ℕ, ◌+◌, List, map, is_none, slice_index}
-use Rattle.std.specs.List.{sum_by, position_or_len}
+use Rattle.std.specs.Prelude.{◌≡◌, ℕ, ◌+◌, ◌<◌, ◌==◌, List, map, is_none, slice_index}
+use Rattle.std.specs.List.{count_by, sum_by, position_or_len}
 use Rattle.dcop_base.specs.Table.{CostTable}
 use Rattle.dcop_base.specs.Problem.{Dcop}
 use Rattle.dcop_base.specs.Values.{cell_with, cost_with, with_own}
@@ -9,6 +9,10 @@ use Rattle.dcop_optimum.specs.Certificate.{value_by}
 use Rattle.certificate_text.specs.declared.certificate.Util.{Util}
 use Rattle.problem_solved.specs.Told.{told, sized, parents_told}
 use Rattle.problem_solved.specs.Cells.{values_of_cell}
+
+-- each of so many variables has exactly one of these tables
+abbrev pub HaveOneEach : ℕ → List Util → Type 0
+HaveOneEach count utils = (var : ℕ) → var < count → count_by (λ u. u.var == var) utils ≡ 1
 
 -- the values that cell k of a table gives to the variables of its scope, and d for the table's own variable
 abbrev pub values_at_cell : List ℕ → Util → ℕ → ℕ → ℕ → ℕ

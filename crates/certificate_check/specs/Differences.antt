@@ -64,21 +64,25 @@ abbrev pub status_difference : Ending → Option Differs
 status_difference Solved = None
 status_difference Spent = Some (Status Spent)
 
--- lower and upper are the cost, the error is 0, there are two deliveries for each of so many variables but one, and the status is solved
+-- how many messages DPOP takes among so many agents: two for each but one
+abbrev pub dpop_deliveries : ℕ → ℕ
+dpop_deliveries count = 2 * (count - 1)
+
+-- lower and upper are the cost, the error is 0, the deliveries are so many, and the status is solved
 abbrev pub bound_difference : ℕ → Report → Option Differs
-bound_difference count r =
+bound_difference deliveries r =
     option_or (unless_same (λ left right. Lower left right) r.lower r.cost)
     (option_or (unless_same (λ left right. Upper left right) r.upper r.cost)
     (option_or (unless_same (λ left right. Error left right) r.error 0)
-    (option_or (unless_same (λ left right. Deliveries left right) r.deliveries (2 * (count - 1)))
+    (option_or (unless_same (λ left right. Deliveries left right) r.deliveries deliveries)
     (status_difference r.status))))
 
--- the cost is that of the values, and the root's cell is their cost in the problem solved
-abbrev pub number_difference : TextFile → ℕ → Report → Option Differs
-number_difference f root r =
+-- the cost is that of the values, the root's cell is their cost in the problem solved, and the deliveries are so many
+abbrev pub number_difference : TextFile → ℕ → ℕ → Report → Option Differs
+number_difference f root deliveries r =
     option_or (unless_same (λ left right. Cost left right) r.cost (cost f.problem r.values))
     (option_or (unless_same (λ left right. Root left right) root (cost (problem_solved f) r.values))
-    (bound_difference (length f.problem.sizes) r))
+    (bound_difference deliveries r))
 
 -- the first difference behind those of the tree: every scope by variable, every cell by variable, cell and value, and then the numbers
 abbrev pub difference_in : TextFile → List (List ℕ) → List Util → Report → Option Differs
@@ -86,4 +90,4 @@ difference_in f paths utils r =
     let p : Dcop = problem_solved f in
     option_or (first_of (scope_difference p paths utils) (variables p))
     (option_or (first_of (cells_difference p paths utils) (variables p))
-    (number_difference f (root_cell p utils) r))
+    (number_difference f (root_cell p utils) (dpop_deliveries (length f.problem.sizes)) r))

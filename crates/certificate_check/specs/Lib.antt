@@ -1,4 +1,5 @@
 pub mod Cells
 pub mod Odometer
 pub mod Differences
+pub mod Cuts
 pub mod Verdicts

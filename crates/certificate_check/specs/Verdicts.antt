@@ -5,7 +5,8 @@ use Rattle.pseudotree.specs.Pseudotree.{IsPseudotree}
 use Rattle.pseudotree.specs.Fault.{parents_of}
 use Rattle.problem_text.specs.File.{TextFile}
 use Rattle.certificate_text.specs.declared.certificate.Certificate.{Certificate}
-use Rattle.certificate_text.specs.declared.certificate.Certificate.TheVariants.{Tables, Log}
+use Rattle.certificate_text.specs.declared.certificate.Certificate.TheVariants.{Tables, Log, Cut}
+use Rattle.certificate_text.specs.declared.certificate.Turn.{Turn}
 use Rattle.certificate_text.specs.declared.certificate.Util.{Util}
 use Rattle.certificate_text.specs.declared.report.Report.{Report}
 use Rattle.certificate_text.specs.declared.verdict.Differs.{Differs}
@@ -14,8 +15,10 @@ use Rattle.certificate_text.specs.declared.verdict.Verdict.TheVariants.{Yes, No}
 use Rattle.problem_solved.specs.Goal.{problem_solved}
 use Rattle.problem_solved.specs.Gap.{gap_of}
 use Rattle.problem_solved.specs.Told.{parents_told}
+use Rattle.certificate_text.specs.TurnReading.{first_tables}
+use Rattle.certificate_check.specs.Cuts.{cut_difference}
 use Rattle.certificate_check.specs.Differences.{IsTreeDifference, difference_in}
-use Rattle.problem_solved.specs.Holds.{HoldsTables}
+use Rattle.problem_solved.specs.Holds.{HoldsTables, HoldsCut}
 use Rattle.log_holds.specs.Verdicts.{IsLogVerdict, IsLogExact}
 
 -- the parents are those of this pseudotree of the problem
@@ -40,10 +43,24 @@ abbrev pub IsTablesVerdict : TextFile → Report → List Util → Verdict → T
 IsTablesVerdict f r utils (Yes cost error) = IsDifferenceIn f r utils None × (cost ≡ r.cost) × (error ≡ gap_of f.goal r)
 IsTablesVerdict f r utils (No differs) = IsFirstDifference f r utils differs
 
+-- the parents of the first turn are those of a pseudotree, and behind them the first difference is this one, or there is none
+abbrev pub IsCutDifferenceIn : TextFile → Report → List ℕ → List Turn → Option Differs → Type 0
+IsCutDifferenceIn f r cut turns differs =
+    (paths : List (List ℕ)) × IsTreeOf (problem_solved f) (parents_told (problem_solved f) (first_tables turns)) paths
+    × (cut_difference f paths cut turns r ≡ differs)
+
+-- yes with the cost and the gap where the turns have no difference, no with the first one otherwise: in the tree, or else behind it
+abbrev pub IsCutVerdict : TextFile → Report → List ℕ → List Turn → Verdict → Type 0
+IsCutVerdict f r cut turns (Yes cost error) = IsCutDifferenceIn f r cut turns None × (cost ≡ r.cost) × (error ≡ gap_of f.goal r)
+IsCutVerdict f r cut turns (No differs) =
+    IsTreeDifference (problem_solved f) (parents_told (problem_solved f) (first_tables turns)) differs
+    ⊎ IsCutDifferenceIn f r cut turns (Some differs)
+
 -- the same of a certificate
 abbrev pub IsVerdictOn : TextFile → Report → Verdict → Certificate → Type 0
 IsVerdictOn f r verdict (Tables utils) = IsTablesVerdict f r utils verdict
 IsVerdictOn f r verdict (Log log) = IsLogVerdict f r log verdict
+IsVerdictOn f r verdict (Cut cut turns) = IsCutVerdict f r cut turns verdict
 
 -- the same of the report's certificate
 abbrev pub IsVerdict : TextFile → Report → Verdict → Type 0
@@ -54,10 +71,16 @@ abbrev pub IsTablesExact : TextFile → Report → List Util → Verdict → Typ
 IsTablesExact f r utils (Yes cost error) = HoldsTables f r utils
 IsTablesExact f r utils (No differs) = ¬ HoldsTables f r utils
 
+-- yes exactly where these turns of a cut show that the report holds
+abbrev pub IsCutExact : TextFile → Report → List ℕ → List Turn → Verdict → Type 0
+IsCutExact f r cut turns (Yes cost error) = HoldsCut f r cut turns
+IsCutExact f r cut turns (No differs) = ¬ HoldsCut f r cut turns
+
 -- the same of a certificate
 abbrev pub IsExactOn : TextFile → Report → Verdict → Certificate → Type 0
 IsExactOn f r verdict (Tables utils) = IsTablesExact f r utils verdict
 IsExactOn f r verdict (Log log) = IsLogExact f r log verdict
+IsExactOn f r verdict (Cut cut turns) = IsCutExact f r cut turns verdict
 
 -- the same of the report's certificate
 abbrev pub IsExact : TextFile → Report → Verdict → Type 0

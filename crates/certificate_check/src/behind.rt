@@ -1,7 +1,8 @@
 //! The first difference behind those of the tree.
 
-ghost use Rattle.std.specs.Prelude.{◌≡◌, ◌<◌, length, is_none, IfOk};
+ghost use Rattle.std.specs.Prelude.{◌≡◌, ◌<◌, ◌≤◌, length, is_none, IfOk};
 ghost use Rattle.std.specs.List.{position, position_or_len};
+ghost use Rattle.dcop_base.specs.Limits.{variable_limit};
 ghost use Rattle.dcop_base.specs.Problem.{IsAssignment};
 ghost use Rattle.pseudotree.specs.Pseudotree.{IsPseudotreeOf};
 ghost use Rattle.pseudotree.specs.Fault.{parents_of};
@@ -12,9 +13,9 @@ ghost use Rattle.certificate_check.specs.Cells.{root_cell};
 ghost use Rattle.certificate_check.specs.Differences.{difference_in};
 
 use crate::cells::cells_difference;
-use crate::numbers::number_difference;
+use crate::numbers::{dpop_deliveries, number_difference};
 use crate::scopes::scopes_difference;
-use crate::told::util_of;
+use crate::told::{util_of, variable_count};
 use certificate_text::{Differs, Report, Util};
 use dcop_base::{NoMemory, Problem, VarId, problem_is_whole};
 use problem_text::ProblemFile;
@@ -51,7 +52,8 @@ pub(crate) fn difference_in(
         return Ok(differs);
     }
     let root = root_cell(problem, parents, utils);
-    Ok(number_difference(file, problem, root, report))
+    let deliveries = dpop_deliveries(variable_count(&file.problem));
+    Ok(number_difference(file, problem, root, deliveries, report))
 }
 
 /// The root's one cell.
@@ -64,6 +66,15 @@ fn root_cell(problem: &Problem, parents: &[Option<VarId>], utils: &[Util]) -> u6
     problem_is_whole(problem);
     let root = VarId(root_of(parents) as u32);
     util_of(utils, root).cells.as_slice()[0]
+}
+
+/// The lowest variable without a parent, where one has none.
+pub(crate) fn root_in(parents: &[Option<VarId>]) -> VarId
+    requires few { length parents.now ≤ variable_limit }
+    requires some { position_or_len is_none parents.now < length parents.now }
+    ensures { result ≡ position_or_len is_none parents.now }
+{
+    VarId(root_of(parents) as u32)
 }
 
 /// The lowest variable without a parent; their number where each has one.

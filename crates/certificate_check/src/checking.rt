@@ -9,6 +9,7 @@ ghost use Rattle.certificate_check.specs.Verdicts.{IsTablesExact};
 ghost use Rattle.problem_solved.specs.Verdict.{ShowsBest};
 
 use crate::behind::difference_in;
+use crate::cutting::check_cut;
 use crate::told::parents_of;
 use crate::tree::tree_verdict;
 use certificate_text::{Certificate, Report, Util, Verdict};
@@ -25,12 +26,15 @@ use std::alloc::Global;
 /// lower bound, or for goal max the upper bound less the cost. Then the cost is at most the gap
 /// worse than the best sum of the file, whoever made the report. Otherwise the first difference. For
 /// a certificate of tables they come in this order: the tree, the scopes by variable, the cells by
-/// variable, cell and value, and the numbers; for one of a log: the first event that is not lawful,
-/// the first stamp that is wrong, and what the report tells of the end.
+/// variable, cell and value, and the numbers; for one of a cut: the tree of the first turn, the
+/// scopes by turn and variable, the cells by turn, variable, cell and value, and the numbers; for one
+/// of a log: the first event that is not lawful, the first stamp that is wrong, and what the report
+/// tells of the end.
 ///
 /// For tables the time is of the order of what each cell is compared with: for each value of its
-/// variable the own tables and the children's tables, each by the variables of its scope; for a log
-/// it is that of the agents' activations.
+/// variable the own tables and the children's tables, each by the variables of its scope; for a cut
+/// it is so in each turn, and the turn's slice is made twice; for a log it is that of the agents'
+/// activations.
 ///
 /// # Errors
 ///
@@ -45,6 +49,9 @@ pub fn check(alloc: Global, file: &ProblemFile, report: &Report) -> Result<Verdi
     match &report.certificate {
         Some(Certificate::Tables(utils)) => check_tables(alloc, file, report, utils.as_slice()),
         Some(Certificate::Log(log)) => check_log(alloc, file, report, log.as_slice()),
+        Some(Certificate::Cut { cut, turns }) => {
+            check_cut(alloc, file, report, cut, turns.as_slice())
+        }
         None => unreachable!(),
     }
 }

@@ -4,12 +4,13 @@
 //! answer is yes exactly where the certificate holds, and then the cost is at most the printed gap
 //! worse than the best sum of the file. Otherwise it tells the first difference, in the order of
 //! [`Differs`](certificate_text::Differs): the tree of the parents, the scopes, the cells, and then
-//! the numbers.
+//! the numbers. A certificate of a cut is checked turn by turn, each on its slice of the problem.
 #![tactic(auto)]
 
 mod behind;
 mod cells;
 mod checking;
+mod cutting;
 mod numbers;
 mod odometer;
 mod parts;
@@ -17,5 +18,6 @@ mod scopes;
 mod sums;
 mod told;
 mod tree;
+mod turns;
 
 pub use checking::check;

@@ -5,25 +5,25 @@ ghost use Rattle.dcop_base.specs.Limits.{variable_limit};
 ghost use Rattle.dcop_base.specs.Problem.{IsAssignment};
 ghost use Rattle.problem_solved.specs.Goal.{solved};
 ghost use Rattle.certificate_check.specs.Differences.{number_difference, bound_difference};
-ghost use Rattle.certificate_check.specs.Differences.{status_difference};
+ghost use Rattle.certificate_check.specs.Differences.{status_difference, dpop_deliveries};
 
-use crate::told::variable_count;
 use certificate_text::{Differs, Ending, Report};
 use dcop_base::{MAX_VARIABLES, Problem, cost_of};
 use problem_text::ProblemFile;
 
-/// The first number that is not the right one, where `root` is the root's cell and `problem` the
-/// problem solved.
+/// The first number that is not the right one, where `root` is the root's cell, `deliveries` are the
+/// right ones and `problem` is the problem solved.
 pub(crate) fn number_difference(
     file: &ProblemFile,
     problem: &Problem,
     root: u64,
+    deliveries: u64,
     report: &Report,
 ) -> Option<Differs>
     requires solved { problem.now ≡ solved file.now.goal file.now.problem }
     requires values { IsAssignment file.now.problem report.now.values }
     requires turned { IsAssignment problem.now report.now.values }
-    ensures { result ≡ number_difference file.now root report.now }
+    ensures { result ≡ number_difference file.now root deliveries report.now }
 {
     let values = report.values.as_slice();
     let cost = cost_of(&file.problem, values);
@@ -40,13 +40,12 @@ pub(crate) fn number_difference(
             right: least,
         });
     }
-    bound_difference(variable_count(&file.problem), report)
+    bound_difference(deliveries, report)
 }
 
 /// The first of lower bound, upper bound, error, deliveries and status that is not the right one.
-fn bound_difference(variables: usize, report: &Report) -> Option<Differs>
-    requires { variables ≤ variable_limit }
-    ensures { result ≡ bound_difference variables report.now }
+fn bound_difference(deliveries: u64, report: &Report) -> Option<Differs>
+    ensures { result ≡ bound_difference deliveries report.now }
 {
     let cost = report.cost;
     if report.lower != cost {
@@ -67,7 +66,6 @@ fn bound_difference(variables: usize, report: &Report) -> Option<Differs>
             right: 0,
         });
     }
-    let deliveries = 2 * (variables as u64).saturating_sub(1);
     if report.deliveries != deliveries {
         return Some(Differs::Deliveries {
             left: report.deliveries,
@@ -85,4 +83,12 @@ fn status_difference(status: Ending) -> Option<Differs>
         Ending::Solved => None,
         Ending::Spent => Some(Differs::Status { ending: status }),
     }
+}
+
+/// How many messages DPOP takes among so many agents.
+pub(crate) fn dpop_deliveries(agents: usize) -> u64
+    requires { agents ≤ variable_limit }
+    ensures { result ≡ dpop_deliveries agents }
+{
+    2 * (agents as u64).saturating_sub(1)
 }

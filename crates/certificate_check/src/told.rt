@@ -3,8 +3,8 @@
 ghost use Rattle.std.specs.Prelude.{◌≡◌, ◌==◌, ◌≤◌, length, IfOk};
 ghost use Rattle.std.specs.List.{count_by};
 ghost use Rattle.dcop_base.specs.Limits.{variable_limit};
-ghost use Rattle.certificate_text.specs.Fits.{FitsTables};
 ghost use Rattle.problem_solved.specs.Told.{told, parents_told};
+ghost use Rattle.certificate_check.specs.Cells.{HaveOneEach};
 
 use certificate_text::Util;
 use dcop_base::{MAX_VARIABLES, NoMemory, Problem, VarId};
@@ -37,7 +37,7 @@ pub(crate) fn parents_of(
     problem: &Problem,
     utils: &[Util],
 ) -> Result<Vec<Option<VarId>>, NoMemory>
-    requires { FitsTables problem.now.sizes utils.now }
+    requires { HaveOneEach (length problem.now.sizes) utils.now }
     ensures { IfOk result (λ parents. parents.items ≡ parents_told problem.now utils.now) }
 {
     let count = variable_count(problem);

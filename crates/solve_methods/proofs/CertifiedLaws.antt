@@ -8,7 +8,7 @@ use Rattle.problem_text.specs.File.{TextFile, IsFile}
 use Rattle.problem_text.specs.declared.file.Goal.{Goal}
 use Rattle.problem_text.specs.declared.file.Goal.TheVariants.{Min, Max}
 use Rattle.certificate_text.specs.declared.certificate.Certificate.{Certificate}
-use Rattle.certificate_text.specs.declared.certificate.Certificate.TheVariants.{Tables, Log}
+use Rattle.certificate_text.specs.declared.certificate.Certificate.TheVariants.{Tables, Log, Cut}
 use Rattle.certificate_text.specs.declared.certificate.Util.{Util}
 use Rattle.certificate_text.specs.declared.report.Report.{Report}
 use Rattle.certificate_text.specs.declared.report.Ending.TheVariants.{Solved}
@@ -36,6 +36,7 @@ module _ (trees : DepthFirstTreesAreLinked) (file : TextFile) (whole : IsProblem
       → IfSome certificate (IsNamedCertificate (length file.names))
   certificate_named named None are = tt
   certificate_named named (Some (Log log)) are = absurd are
+  certificate_named named (Some (Cut cut turns)) are = absurd are
   certificate_named named (Some (Tables utils)) are =
       subst (λ (n : ℕ). All (IsNamedUtil n) utils) (sym named)
       (All-weaker (FitsUtil file.problem.sizes) (IsNamedUtil (length file.problem.sizes)) (λ u fits. fits.named) utils (tables_fit_file utils are).each)
@@ -88,4 +89,5 @@ module _ (trees : DepthFirstTreesAreLinked) (file : TextFile) (whole : IsProblem
       certified : (c : Option Certificate) → report.certificate ≡ c → IfSome c (HasUtilsOf (problem_solved file)) → IsCertified (is_some c) file report
       certified None is are = is
       certified (Some (Log log)) is are = absurd are
+      certified (Some (Cut cut turns)) is are = absurd are
       certified (Some (Tables utils)) is are = subst (IsCertifiedBy file report) (sym is) (tables_hold utils are)

@@ -15,7 +15,7 @@ use Rattle.dcop_optimum.proofs.DecompositionLaws.{subtree_optimum_same}
 use Rattle.problem_text.specs.File.{TextFile}
 use Rattle.problem_text.specs.declared.file.Goal.{Goal}
 use Rattle.certificate_text.specs.declared.certificate.Certificate.{Certificate}
-use Rattle.certificate_text.specs.declared.certificate.Certificate.TheVariants.{Tables, Log}
+use Rattle.certificate_text.specs.declared.certificate.Certificate.TheVariants.{Tables, Log, Cut}
 use Rattle.certificate_text.specs.declared.certificate.Util.{Util}
 use Rattle.certificate_text.specs.declared.report.Report.{Report}
 use Rattle.certificate_text.specs.declared.report.Ending.{Ending}
@@ -103,8 +103,10 @@ module _ (optima : FirstOptimaOfTreesAreOne) (trees : DepthFirstTreesAreLinked) 
   one_certificate_by : (r s : Report) (x y : Option Certificate) → IsCertifiedBy file r x → IsCertifiedBy file s y → x ≡ y
   one_certificate_by r s None y of_x of_y = absurd of_x
   one_certificate_by r s (Some (Log log)) y of_x of_y = absurd of_x
+  one_certificate_by r s (Some (Cut cut turns)) y of_x of_y = absurd of_x
   one_certificate_by r s (Some (Tables us)) None of_x of_y = absurd of_y
   one_certificate_by r s (Some (Tables us)) (Some (Log log)) of_x of_y = absurd of_y
+  one_certificate_by r s (Some (Tables us)) (Some (Cut cut turns)) of_x of_y = absurd of_y
   one_certificate_by r s (Some (Tables us)) (Some (Tables ws)) of_x of_y =
       let q : Dcop = problem_solved file in
       let whole_q = solved_problem file.goal file.problem whole in

@@ -12,7 +12,7 @@ use Rattle.dpop_runs.specs.Agents.{IsOptimumTable}
 use Rattle.run_log.specs.declared.log.LogEvent.{LogEvent}
 use Rattle.problem_text.specs.File.{TextFile}
 use Rattle.certificate_text.specs.declared.certificate.Certificate.{Certificate}
-use Rattle.certificate_text.specs.declared.certificate.Certificate.TheVariants.{Tables, Log}
+use Rattle.certificate_text.specs.declared.certificate.Certificate.TheVariants.{Tables, Log, Cut}
 use Rattle.certificate_text.specs.declared.certificate.Util.{Util}
 use Rattle.certificate_text.specs.declared.report.Report.{Report}
 use Rattle.certificate_text.specs.Fits.{FitsTables}
@@ -35,6 +35,7 @@ AreUtilsOf p utils = AllZip (IsUtilOf p (dfs p)) (preorder_of (dfs p)) utils
 abbrev pub HasUtilsOf : Dcop → Certificate → Type 0
 HasUtilsOf p (Tables utils) = AreUtilsOf p utils
 HasUtilsOf p (Log log) = ⊥
+HasUtilsOf p (Cut cut turns) = ⊥
 
 -- these tables are those of the problem solved for a file, they fit it, and they show that the report holds
 pub record AreTablesOf (file : TextFile) (report : Report) (utils : List Util) : Type 0 where
@@ -46,6 +47,7 @@ pub record AreTablesOf (file : TextFile) (report : Report) (utils : List Util) :
 abbrev pub IsCertifiedBy : TextFile → Report → Option Certificate → Type 0
 IsCertifiedBy file report (Some (Tables utils)) = AreTablesOf file report utils
 IsCertifiedBy file report (Some (Log log)) = ⊥
+IsCertifiedBy file report (Some (Cut cut turns)) = ⊥
 IsCertifiedBy file report None = ⊥
 
 -- a report has such a certificate where one is asked for, and none otherwise
@@ -62,6 +64,7 @@ pub record IsLogFor (file : TextFile) (rounds : List (List Event)) (end : Networ
 abbrev pub IsLoggedBy : TextFile → List (List Event) → Network → Report → Option Certificate → Type 0
 IsLoggedBy file rounds end report (Some (Log log)) = IsLogFor file rounds end report log
 IsLoggedBy file rounds end report (Some (Tables utils)) = ⊥
+IsLoggedBy file rounds end report (Some (Cut cut turns)) = ⊥
 IsLoggedBy file rounds end report None = ⊥
 
 -- a report has the log of the run in these rounds, which ends in this network, where one is asked for, and no certificate otherwise

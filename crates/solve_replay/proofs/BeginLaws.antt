@@ -11,11 +11,11 @@ use Rattle.problem_text.specs.PlainLines.{Plain}
 use Rattle.certificate_text.specs.declared.certificate_line.Form.{Form}
 use Rattle.certificate_text.specs.declared.report.Method.{Method}
 use Rattle.certificate_text.specs.declared.report.Report.{Report}
-use Rattle.certificate_text.specs.CertificateLine.{begins_with, form_told, certificate_line}
+use Rattle.certificate_text.specs.CertificateLine.{form_told, certificate_line}
 use Rattle.certificate_text.specs.HeadLines.{status_line, method_line, max_line, number_line}
 use Rattle.certificate_text.specs.ReportLines.{Fault, Left, whole, told_at, first_of, one_line, and_then}
 use Rattle.certificate_text.specs.ReportReading.{goal_read, head_read, bounds_read, values_read, evidence_read, certificate_read, lines_read}
-use Rattle.certificate_text.specs.Told.{is_alone}
+use Rattle.certificate_text.specs.Told.{is_alone, begins_with}
 use Rattle.certificate_text.specs.ValueLine.{value_line}
 use Rattle.solve_replay.specs.CertificateLine.{certificate_word, first_certificate, CertificatesBegin}
 
@@ -108,21 +108,21 @@ word-told true b told form is = cc
 word-told false true told form is = refl
 word-told false false told form is = cc
 
-word-first : (method : Method) (words : List (List ℕ)) (form : Form) → certificate_line method words ≡ Ok form → begins_with certificate_word words ≡ true
-word-first method [] form is = cc
-word-first method (first ∷ further) form is =
-    word-told (is_alone (codes "end") (first ∷ further)) (bytes_eq first (codes "certificate")) (form_told method further) form is
+word-first : (names : List (List ℕ)) (method : Method) (words : List (List ℕ)) (form : Form) → certificate_line names method words ≡ Ok form → begins_with certificate_word words ≡ true
+word-first names method [] form is = cc
+word-first names method (first ∷ further) form is =
+    word-told (is_alone (codes "end") (first ∷ further)) (bytes_eq first (codes "certificate")) (form_told names method further) form is
 
-told-shows : (method : Method) (l : Plain) (ls : List Plain) (left : Left) (told : Result Form ReportKind) → certificate_line method l.words ≡ told → Shows (l ∷ ls) (told_at l.number told left)
-told-shows method l ls left (Ok form) is = there-first (begins_with certificate_word l.words) l (first_certificate ls) (word-first method l.words form is)
-told-shows method l ls left (Err kind) is = tt
+told-shows : (names : List (List ℕ)) (method : Method) (l : Plain) (ls : List Plain) (left : Left) (told : Result Form ReportKind) → certificate_line names method l.words ≡ told → Shows (l ∷ ls) (told_at l.number told left)
+told-shows names method l ls left (Ok form) is = there-first (begins_with certificate_word l.words) l (first_certificate ls) (word-first names method l.words form is)
+told-shows names method l ls left (Err kind) is = tt
 
-first-shows : (method : Method) (over : ℕ) (ls : List Plain) → Shows ls (first_of (certificate_line method) over ls)
-first-shows method over [] = tt
-first-shows method over (l ∷ ls) = told-shows method l ls (record { lines = ls; over = over }) (certificate_line method l.words) refl
+first-shows : (names : List (List ℕ)) (method : Method) (over : ℕ) (ls : List Plain) → Shows ls (first_of (certificate_line names method) over ls)
+first-shows names method over [] = tt
+first-shows names method over (l ∷ ls) = told-shows names method l ls (record { lines = ls; over = over }) (certificate_line names method l.words) refl
 
 certificate-shows : (f : TextFile) (method : Method) (left : Left) → Shows left.lines (certificate_read f method left)
-certificate-shows f method left = shown-shows left.lines (one_line (certificate_line method) left) (λ form left. evidence_read f form left) (first-shows method left.over left.lines)
+certificate-shows f method left = shown-shows left.lines (one_line (certificate_line f.names method) left) (λ form left. evidence_read f form left) (first-shows f.names method left.over left.lines)
 
 report-shows : (f : TextFile) (left : Left) → Shows left.lines (lines_read f left)
 report-shows f left =

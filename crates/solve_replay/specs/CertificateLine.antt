@@ -3,7 +3,7 @@ use Rattle.std.specs.Prelude.{◌≡◌, ℕ, List, Option, Some, None, Ok, IsTr
 use Rattle.problem_text.specs.File.{TextFile}
 use Rattle.problem_text.specs.PlainLines.{Plain, plain_lines}
 use Rattle.certificate_text.specs.declared.report.Report.{Report}
-use Rattle.certificate_text.specs.CertificateLine.{begins_with}
+use Rattle.certificate_text.specs.Told.{begins_with}
 use Rattle.certificate_text.specs.ReportReading.{report_read}
 
 -- the first word of a certificate

@@ -59,7 +59,7 @@ pub fn replay_answer(
                 Certificate::Log(log) => {
                     replayed(alloc, file, report.error, log_up_to(log.as_slice(), after))
                 }
-                Certificate::Tables(_) => Ok(no_log(text, before)),
+                Certificate::Tables(_) | Certificate::Cut { .. } => Ok(no_log(text, before)),
             },
             None => Ok(no_log(text, before)),
         },

@@ -7,7 +7,7 @@ use Rattle.certificate_text.specs.ReportText.{ending_word}
 use Rattle.certificate_text.specs.declared.verdict.Verdict.{Verdict}
 use Rattle.certificate_text.specs.declared.verdict.Verdict.TheVariants.{Yes, No}
 use Rattle.certificate_text.specs.declared.verdict.Differs.{Differs}
-use Rattle.certificate_text.specs.declared.verdict.Differs.TheVariants.{TreeRoots, TreeLoop, TreePair, Scope, Cell, Cost, Root, Lower, Upper, Error, Deliveries, Status, Event, Stamp, Value}
+use Rattle.certificate_text.specs.declared.verdict.Differs.TheVariants.{TreeRoots, TreeLoop, TreePair, Scope, Cell, TurnScope, TurnCell, Cost, Root, Lower, Upper, Error, Deliveries, Status, Event, Stamp, Value}
 use Rattle.protocol_steps.specs.declared.event.EventFault.{EventFault}
 use Rattle.protocol_steps.specs.declared.event.EventFault.TheVariants.{Nobody, Ended, Nothing, Order, TooMany}
 
@@ -22,6 +22,8 @@ IsNamedDifference count (TreeLoop var) = var < count
 IsNamedDifference count (TreePair one other) = (one < count) × (other < count)
 IsNamedDifference count (Scope var) = var < count
 IsNamedDifference count (Cell var cell value left right) = var < count
+IsNamedDifference count (TurnScope turn var) = var < count
+IsNamedDifference count (TurnCell turn var cell value left right) = var < count
 IsNamedDifference count (Event at fault) = IsNamedFault count fault
 IsNamedDifference count (Value var) = var < count
 IsNamedDifference count _ = ⊤
@@ -47,13 +49,23 @@ fault_words names Nothing = codes "nothing" ∷ []
 fault_words names Order = codes "order" ∷ []
 fault_words names (TooMany from asked there) = codes "too-many" ∷ left_right (name_in names from) asked there
 
+-- `scope NAME`
+abbrev pub scope_words : List ℕ → List (List ℕ)
+scope_words name = codes "scope" ∷ name ∷ []
+
+-- `cell NAME K V left L right R`
+abbrev pub cell_words : List ℕ → ℕ → ℕ → ℕ → ℕ → List (List ℕ)
+cell_words name cell value left right = codes "cell" ∷ name ∷ decimal cell ∷ left_right (decimal value) left right
+
 -- what differs, behind the word `differs`
 abbrev pub difference_words : List (List ℕ) → Differs → List (List ℕ)
 difference_words names (TreeRoots count) = codes "tree" ∷ codes "roots" ∷ decimal count ∷ []
 difference_words names (TreeLoop var) = codes "tree" ∷ codes "loop" ∷ name_in names var ∷ []
 difference_words names (TreePair one other) = codes "tree" ∷ codes "pair" ∷ name_in names one ∷ name_in names other ∷ []
-difference_words names (Scope var) = codes "scope" ∷ name_in names var ∷ []
-difference_words names (Cell var cell value left right) = codes "cell" ∷ name_in names var ∷ decimal cell ∷ left_right (decimal value) left right
+difference_words names (Scope var) = scope_words (name_in names var)
+difference_words names (Cell var cell value left right) = cell_words (name_in names var) cell value left right
+difference_words names (TurnScope turn var) = codes "turn" ∷ decimal turn ∷ scope_words (name_in names var)
+difference_words names (TurnCell turn var cell value left right) = codes "turn" ∷ decimal turn ∷ cell_words (name_in names var) cell value left right
 difference_words names (Cost left right) = left_right (codes "cost") left right
 difference_words names (Root left right) = left_right (codes "root") left right
 difference_words names (Lower left right) = left_right (codes "lower") left right

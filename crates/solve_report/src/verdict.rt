@@ -83,6 +83,22 @@ fn write_difference(text: &mut String, names: &Names, differs: &Differs) -> Resu
             let name = name_of(names, *var);
             write_cell(text, name, *cell, *value, *left, *right)
         }
+        Differs::TurnScope { turn, var } => {
+            let name = name_of(names, *var);
+            Ok(write!(text, " turn {turn} scope {name}")?)
+        }
+        Differs::TurnCell {
+            turn,
+            var,
+            cell,
+            value,
+            left,
+            right,
+        } => {
+            write!(text, " turn {turn}")?;
+            let name = name_of(names, *var);
+            write_cell(text, name, *cell, *value, *left, *right)
+        }
         Differs::Cost { left, right } => write_number(text, "cost", *left, *right),
         Differs::Root { left, right } => write_number(text, "root", *left, *right),
         Differs::Lower { left, right } => write_number(text, "lower", *left, *right),

@@ -50,7 +50,7 @@ use Rattle.solve_inputs.specs.Fronts.{front_read}
 use Rattle.solve_check.specs.Checking.{IsReadAnswer}
 use Rattle.solve_replay.specs.Replaying.{IsReplayOf, IsReadReplay}
 use Rattle.certificate_text.specs.declared.certificate.Certificate.{Certificate}
-use Rattle.certificate_text.specs.declared.certificate.Certificate.TheVariants.{Tables, Log}
+use Rattle.certificate_text.specs.declared.certificate.Certificate.TheVariants.{Tables, Log, Cut}
 use Rattle.answer_edge.proofs.StatusLaws.{ending-told, read-alone}
 use Rattle.solve_inputs.proofs.RefusalLaws.{input_told, front_told}
 use Rattle.solve_top.proofs.GivenLaws.{links-status, linkless-belongs}
@@ -350,6 +350,7 @@ report-sound bytes (Err refusal) told is = told (ap Err (sym is))
 played-sound : (file : TextFile) (before : ℕ) (text : List ℕ) (after : Option ℕ) (error : ℕ) (certificate : Option Certificate) → ¬ IsReplayOf file before text after error certificate answers.Read
 played-sound file before text after error (Some (Log log)) is = is
 played-sound file before text after error (Some (Tables utils)) is = cc is
+played-sound file before text after error (Some (Cut cut turns)) is = cc is
 played-sound file before text after error None is = cc is
 
 replay-sound : (file : TextFile) (before : ℕ) (text : List ℕ) (after : Option ℕ) (read : Result Report ReportFault) → ¬ IsReadReplay file before text after read answers.Read

@@ -23,12 +23,12 @@ use Rattle.problem_text.specs.declared.file.Goal.TheVariants.{Min, Max}
 use Rattle.run_log.specs.declared.log.LogEvent.{LogEvent}
 use Rattle.run_log.specs.LogText.{IsNamedEvent, FitsEvent}
 use Rattle.certificate_text.specs.declared.certificate.Certificate.{Certificate}
-use Rattle.certificate_text.specs.declared.certificate.Certificate.TheVariants.{Tables, Log}
+use Rattle.certificate_text.specs.declared.certificate.Certificate.TheVariants.{Tables, Log, Cut}
 use Rattle.certificate_text.specs.declared.report.Method.TheVariants.{Dpop}
 use Rattle.certificate_text.specs.declared.report.Report.{Report}
 use Rattle.certificate_text.specs.Fits.{FitsCertificate, Fits}
 use Rattle.problem_solved.specs.Goal.{solved, problem_solved}
-use Rattle.problem_solved.specs.Holds.{HoldsTables}
+use Rattle.problem_solved.specs.Holds.{HoldsTables, HoldsCut}
 use Rattle.problem_solved.proofs.SolvedLaws.{solved_sizes}
 use Rattle.log_holds.specs.Ends.{least_known, lower_for, upper_for, least_shown, TellsEnd}
 use Rattle.log_holds.specs.Holds.{HoldsLog}
@@ -55,6 +55,7 @@ abbrev pub Certifies : TextFile → Report → Option Certificate → Type 0
 Certifies file report None = ⊥
 Certifies file report (Some (Tables utils)) = HoldsTables file report utils
 Certifies file report (Some (Log log)) = HoldsLog file report log
+Certifies file report (Some (Cut cut turns)) = HoldsCut file report cut turns
 
 -- a report with a certificate, on a file that declares this: it fits the file, and holds
 pub record IsCertified (d : Declared) (file : TextFile) (report : Report) : Type 0 where
@@ -83,11 +84,13 @@ tables_fit : (file : TextFile) (report : Report) (certificate : Option Certifica
 tables_fit file report None method is = absurd is
 tables_fit file report (Some (Tables utils)) method is = (method, is.fits)
 tables_fit file report (Some (Log log)) method is = absurd is
+tables_fit file report (Some (Cut cut turns)) method is = absurd is
 
 tables_hold : (file : TextFile) (report : Report) (certificate : Option Certificate) → IsCertifiedBy file report certificate → Certifies file report certificate
 tables_hold file report None is = absurd is
 tables_hold file report (Some (Tables utils)) is = is.holds
 tables_hold file report (Some (Log log)) is = absurd is
+tables_hold file report (Some (Cut cut turns)) is = absurd is
 
 dpop_certified : (d : Declared) (file : TextFile) (report : Report) → IsProblem file.problem → declared_by file ≡ d → IsDpopReport file true report → IsCertified d file report
 dpop_certified d file report whole declared is =
@@ -165,6 +168,7 @@ module _ (d : Declared) (file : TextFile) (report : Report) (error budget : ℕ)
   by_certificate : (certificate : Option Certificate) → report.certificate ≡ certificate → IsLoggedBy file is.play.rounds is.end report certificate → IsReadable report certificate → IsCertified d file report
   by_certificate None here logged readable = absurd logged
   by_certificate (Some (Tables utils)) here logged readable = absurd logged
+  by_certificate (Some (Cut cut turns)) here logged readable = absurd logged
   by_certificate (Some (Log log)) here logged readable = logged_with log here logged readable
 
   adopt_certified : IsReadable report report.certificate → IsCertified d file report

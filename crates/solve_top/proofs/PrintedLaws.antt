@@ -8,7 +8,7 @@ use Rattle.problem_text.specs.Reading.{Parts}
 use Rattle.run_log.specs.declared.log.LogEvent.{LogEvent}
 use Rattle.run_log.specs.Logs.{event_of, events_of}
 use Rattle.certificate_text.specs.declared.certificate.Certificate.{Certificate}
-use Rattle.certificate_text.specs.declared.certificate.Certificate.TheVariants.{Tables, Log}
+use Rattle.certificate_text.specs.declared.certificate.Certificate.TheVariants.{Tables, Log, Cut}
 use Rattle.certificate_text.specs.declared.report.Report.{Report}
 use Rattle.certificate_text.specs.declared.verdict.Differs.{Differs}
 use Rattle.certificate_text.specs.declared.verdict.Differs.TheVariants as differences
@@ -49,6 +49,8 @@ verdict_yes file report (Some (Tables utils)) (Yes cost error) holds exact = ref
 verdict_yes file report (Some (Tables utils)) (No differs) holds exact = absurd (exact holds)
 verdict_yes file report (Some (Log log)) (Yes cost error) holds exact = refl
 verdict_yes file report (Some (Log log)) (No differs) holds exact = absurd (exact holds)
+verdict_yes file report (Some (Cut cut turns)) (Yes cost error) holds exact = refl
+verdict_yes file report (Some (Cut cut turns)) (No differs) holds exact = absurd (exact holds)
 
 read_solved : (file : TextFile) (before : ℕ) (report : Report) (answer : Answer) → IsReadAnswer file before (Ok report) answer → Certifies file report report.certificate
     → status_of answer ≡ Solved

@@ -6,6 +6,9 @@ use Rattle.certificate_check.specs.Verdicts.{IsTreeVerdict, IsTablesVerdict}
 use Rattle.certificate_check.proofs.VerdictLaws.{parents_fit, tree_first}
 use Rattle.certificate_check.proofs.checking.check_in.Goals as goal
 
+pub parents_of-requires : goal.parents_of-requires
+parents_of-requires c = c.requires.fits.one
+
 pub check_tree-requires : goal.check_tree-requires
 check_tree-requires c =
     parents_fit c.args.problem.now c.args.utils.now c.requires.fits c.as_slice.result.now (c.as_slice.ensures.value ∙ c.in_ok-parents.ensures)

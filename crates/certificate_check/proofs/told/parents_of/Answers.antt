@@ -8,7 +8,7 @@ use Rattle.certificate_check.proofs.told.parents_of.Goals as goal
 pub util_of-requires : goal.util_of-requires
 util_of-requires c =
     let lt : c.loop-index.index < length c.args.problem.now.sizes = omega (arith, c.variable_count-count.ensures.count) in
-    c.requires.one c.loop-index.index lt
+    c.requires c.loop-index.index lt
 
 pub loop-index-preserved : goal.loop-index-preserved
 loop-index-preserved c =
