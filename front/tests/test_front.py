@@ -40,6 +40,8 @@ FAKE = str(HERE / "fake_dcop.py")
 REAL = os.environ.get("SEFWLLON_DCOP")
 ORDER = os.environ.get("SEFWLLON_ORDER")
 HAS_YAML = importlib.util.find_spec("yaml") is not None
+if HAS_YAML:
+    import brute_pydcop
 
 
 class Case(unittest.TestCase):
@@ -180,6 +182,22 @@ class Solving(Case):
         status, told, _ = self.front("solve", "--time", "300ms", str(PROBLEMS / "tracking.dcop"), fake="slow")
         self.assertEqual((status, told.splitlines()[1]), (1, "stopped: the time is over"))
         self.assertLess(time.monotonic() - began, 30)
+
+    def test_a_script_ends_what_it_started_when_its_time_is_over(self):
+        mark = self.file("mark", "")
+        script = self.file("dcop", f"#!/bin/sh\ntrap 'kill $!; echo ended > {mark}; exit 143' TERM\nsleep 60 &\nwait\n")
+        os.chmod(script, 0o755)
+        self.front("solve", "--time", "300ms", str(PROBLEMS / "tracking.dcop"), program=script)
+        self.assertEqual(Path(mark).read_text(), "ended\n")
+
+    def test_what_the_script_of_a_first_look_says_is_shown(self):
+        for name, wanted in (("quick-dcop.sh", "compiling\n"), ("dcop", "")):
+            script = self.file(name, "#!/bin/sh\necho compiling >&2\nexit 70\n")
+            os.chmod(script, 0o755)
+            words = [sys.executable, "-m", "sefwllon", "solve", str(PROBLEMS / "pair.dcop")]
+            environment = dict(os.environ, SEFWLLON_DCOP=script, PYTHONPATH=str(FRONT))
+            ran = subprocess.run(words, env=environment, capture_output=True, text=True)
+            self.assertEqual((ran.returncode, ran.stderr.startswith(wanted), "compiling" in ran.stderr), (3, True, bool(wanted)))
 
     def test_an_assignment_is_told_where_no_method_comes_to_one_in_time(self):
         for name in ("tracking", "sensors"):
@@ -333,6 +351,8 @@ class Translating(Case):
             (head + "constraints: {c: {type: intention, function: x + z}}", "names z"),
             (head + "constraints: {c: {type: extensional, variables: x, values: {1: 5}}}", "5 is no value of x"),
             (head + "constraints: {c: {type: intention, function: .inf * -1 if x else 0}}", "can't be read"),
+            (head + "constraints: {c: {function: '[1, 2][x]'}}", "c: IndexError.* at {'x': 2}"),
+            (head + "constraints: {c: {type: extensional, variables: [x], values: {1: \"'1\"}}}", "c: `'1`: No closing quotation"),
         ):
             with self.assertRaisesRegex(Trouble, why):
                 pydcop.read(text, "file")
@@ -344,6 +364,27 @@ class Translating(Case):
         _, told, _ = self.front("solve", self.file("p.yaml", text))
         self.assertEqual(told.splitlines()[0], "cost 10001, and none is better (verified)")
         self.assertIn("it prints the cost 1 and violation 1", told)
+
+    @unittest.skipUnless(HAS_YAML, "no PyYAML")
+    def test_pydcop_files_cost_what_comes_of_trying_all(self):
+        for path in (EXAMPLES / "colouring.yaml", *sorted((HERE / "pydcop").glob("*.yaml"))):
+            file = brute_pydcop.File(path.read_text())
+            status, told, _ = self.front("solve", "--json", str(path))
+            answer = json.loads(told)
+            self.assertEqual((path.name, status), (path.name, 0))
+            self.assertAlmostEqual(answer["cost"], file.best(), 12)
+            self.assertAlmostEqual(answer["cost"], file.total(answer["values"]), 12)
+            cost, violations = file.printed(answer["values"])
+            if violations:
+                self.assertIn(f"it prints the cost {cost:g} and violation {violations}", answer["note"])
+            else:
+                self.assertAlmostEqual(answer["cost"], cost, 12)
+
+    @unittest.skipUnless(HAS_YAML, "no PyYAML")
+    def test_costs_that_a_pydcop_file_leaves_out_are_told(self):
+        text = "domains: {d: {values: [1, 2]}}\nvariables: {x: {domain: d}, y: {domain: d}}\n"
+        text += "constraints: {c: {type: extensional, variables: [x, y], values: {3: 1 2 | 2 1}}}\n"
+        self.assertIn("note: c: there is no `default`", self.front("solve", self.file("p.yaml", text))[1])
 
     def test_uai_factors_become_costs(self):
         source = wcsp.read_uai("MARKOV 1 2 1 1 0 2 0.5 1.0", "file")
