@@ -7,6 +7,7 @@ import io
 import itertools
 import json
 import os
+import random
 import signal
 import subprocess
 import sys
@@ -199,6 +200,21 @@ class Solving(Case):
             ran = subprocess.run(words, env=environment, capture_output=True, text=True)
             self.assertEqual((ran.returncode, ran.stderr.startswith(wanted), "compiling" in ran.stderr), (3, True, bool(wanted)))
 
+    def test_the_script_of_a_first_look_passes_on_what_rt_says(self):
+        for does, status, told, why in (
+            (f"shift 2; {sys.executable} {FAKE} \"$@\"; echo run=ended status=$? proved=no >&2", 0, "cost 2, and none is better", ""),
+            ("echo error: no such crate >&2; exit 2", 3, "", "error: no such crate"),
+        ):
+            rt = self.file("rt", f"#!/bin/sh\n{does}\n")
+            os.chmod(rt, 0o755)
+            words = [sys.executable, "-m", "sefwllon", "solve", str(PROBLEMS / "pair.dcop")]
+            environment = dict(os.environ, SEFWLLON_DCOP=str(FRONT / "quick-dcop.sh"), PYTHONPATH=str(FRONT))
+            environment["PATH"] = f"{Path(rt).parent}:{environment['PATH']}"
+            ran = subprocess.run(words, env=environment, capture_output=True, text=True)
+            self.assertEqual((ran.returncode, ran.stdout.startswith(told)), (status, True))
+            self.assertIn(why, ran.stderr)
+            self.assertIn("quick-dcop: compiling dcop without proofs for `solve`", ran.stderr)
+
     def test_an_assignment_is_told_where_no_method_comes_to_one_in_time(self):
         for name in ("tracking", "sensors"):
             file = PROBLEMS / f"{name}.dcop"
@@ -250,6 +266,21 @@ class Solving(Case):
             self.assertEqual((status, told.splitlines()[0]), (0, "cost -0.1, and none is better (verified)"))
         status, told, _ = self.front("meetings", str(EXAMPLES / "meetings.csv"), program=REAL)
         self.assertEqual((status, told.splitlines()[0]), (0, "cost 0, and none is better (verified)"))
+
+
+    @unittest.skipUnless(REAL, "no built program")
+    def test_the_real_program_s_answer_at_any_time_is_within_its_bounds(self):
+        draw = random.Random(1)
+        variables = "".join(f"var v{i} 6\n" for i in range(15))
+        cells = {pair: [draw.randrange(100) for _ in range(36)] for pair in itertools.combinations(range(15), 2)}
+        tables = "".join(f"table v{a} v{b} : {' '.join(map(str, costs))}\n" for (a, b), costs in cells.items())
+        file = self.file("wide.dcop", f"dcop 1\n{variables}{tables}end\n")
+        status, told, _ = self.front("solve", "--json", "--method", "adopt", "--time", "1s", file, program=REAL)
+        answer = json.loads(told)
+        values = [int(answer["values"][f"v{i}"]) for i in range(15)]
+        cost = sum(costs[6 * values[a] + values[b]] for (a, b), costs in cells.items())
+        self.assertEqual((status, answer["stopped"], answer["cost"], answer["upper"]), (1, "the time is over", cost, cost))
+        self.assertLessEqual(answer["lower"], cost)
 
 
 class Documents(unittest.TestCase):
