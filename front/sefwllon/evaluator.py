@@ -97,8 +97,8 @@ class Formula:
             self._run(self.body, names)
         except _Return as result:
             return result.value
-        except (TypeError, ValueError, ZeroDivisionError, OverflowError) as fault:
-            raise Trouble(f"{self.where}: {fault} at {given}") from None
+        except (TypeError, ValueError, ZeroDivisionError, OverflowError, LookupError) as fault:
+            raise Trouble(f"{self.where}: {fault!r} at {given}") from None
         raise Trouble(f"{self.where}: the formula gives nothing at {given}")
 
     def _run(self, body: list[ast.stmt], names: dict[str, object]) -> None:
@@ -130,6 +130,9 @@ class Formula:
                 raise Trouble(f"{self.where}: the formula names {name}, which is no variable")
             case ast.Tuple() | ast.List() | ast.Set():
                 return [self._eval(part, names) for part in node.elts]
+            case ast.Dict() if None not in node.keys:
+                pairs = zip(node.keys, node.values)
+                return {self._eval(key, names): self._eval(value, names) for key, value in pairs if key is not None}
             case ast.IfExp():
                 return self._eval(node.body if self._eval(node.test, names) else node.orelse, names)
             case ast.BoolOp():

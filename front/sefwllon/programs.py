@@ -15,6 +15,12 @@ from .problem import Trouble
 TICK = 0.25
 """How often, in seconds, it is said how far a program is."""
 
+END_SECONDS = 2
+"""How long a program has to end by itself when its time is over."""
+
+QUICK = "quick-dcop.sh"
+"""The script that compiles `dcop` for each run. It says so on standard error, where no other program says anything."""
+
 _CRATES = Path(__file__).resolve().parents[2] / "crates"
 
 
@@ -73,21 +79,30 @@ def run(command: list[str], text: str, until: float | None, tick: Callable[[], N
     left = None if until is None else until - time.monotonic()
     if left is not None and left <= 0:
         return Answer("", None)
+    told = None if Path(command[0]).name == QUICK else subprocess.DEVNULL
     try:
-        process = subprocess.Popen(command, stdin=subprocess.PIPE, stdout=subprocess.PIPE, stderr=subprocess.DEVNULL)
+        process = subprocess.Popen(command, stdin=subprocess.PIPE, stdout=subprocess.PIPE, stderr=told)
     except OSError as fault:
         raise Trouble(f"{command[0]} can't be run: {fault.strerror}") from None
     try:
-        told = ended(process, text.encode(), until, tick)
+        printed = ended(process, text.encode(), until, tick)
     except BaseException:
-        process.kill()
-        process.wait()
+        end(process)
         raise
-    if told is None:
+    if printed is None:
+        end(process)
+        return Answer("", None)
+    return Answer(printed.decode("utf-8", "replace"), process.returncode)
+
+
+def end(process: subprocess.Popen[bytes]) -> None:
+    """Ends a program. It is asked to end first, so that a script can end what it started."""
+    process.terminate()
+    try:
+        process.communicate(timeout=END_SECONDS)
+    except subprocess.TimeoutExpired:
         process.kill()
         process.communicate()
-        return Answer("", None)
-    return Answer(told.decode("utf-8", "replace"), process.returncode)
 
 
 def ended(

@@ -3,6 +3,7 @@
 from __future__ import annotations
 
 import re
+import shlex
 from fractions import Fraction
 from itertools import product
 
@@ -59,6 +60,8 @@ class Reader:
         self.names: list[str] = []
         self.values: list[list[object]] = []
         self.constraints: list[Constraint] = []
+        self.untold: list[str] = []
+        """The constraints that neither tell each of their costs nor have a default."""
 
     def source(self) -> Source:
         for name, spec in self.variables.items():
@@ -76,9 +79,12 @@ class Reader:
 
     def notes(self) -> list[str]:
         noisy = [name for name, spec in self.variables.items() if spec.get("noise_level")]
-        if not noisy:
-            return []
-        return [f"the noise of {', '.join(noisy)} is left out: pyDCOP draws it anew for each run, and adds it to the cost"]
+        notes = []
+        if noisy:
+            notes.append(f"the noise of {', '.join(noisy)} is left out: pyDCOP draws it anew for each run, and adds it to the cost")
+        if self.untold:
+            notes.append(f"{', '.join(self.untold)}: there is no `default`, and choices of values whose cost is not told count 0 here")
+        return notes
 
     def price(self, number: object, name: str) -> Fraction | None:
         """A cost; None for one without bound, which forbids."""
@@ -111,26 +117,32 @@ class Reader:
         self.add(name, scope, costs)
 
     def by_table(self, name: str, spec: dict) -> None:
-        told = spec.get("variables") or []
-        scope = self.scope(name, [str(n) for n in (told if isinstance(told, list) else [told])])
+        named_by = spec.get("variables") or []
+        alone = not isinstance(named_by, list)
+        scope = self.scope(name, [str(n).strip() for n in ([named_by] if alone else named_by)])
         default = self.price(spec["default"], name) if "default" in spec else Fraction(0)
-        costs = {choice: default for choice in product(*(range(len(self.values[v])) for v in scope))}
         if not isinstance(spec.get("values") or {}, dict):
             raise Trouble(f"{name}: its values are lines `COST: VALUE VALUE | VALUE VALUE`")
+        told = {}
         for cost, choices in (spec.get("values") or {}).items():
             for choice in str(choices).split("|"):
-                costs[self.choice(name, scope, choice.split())] = self.price(cost, name)
-        self.add(name, scope, list(costs.values()))
+                told[self.choice(name, scope, words_of(name, choice, alone))] = self.price(cost, name)
+        choices = list(product(*(range(len(self.values[v])) for v in scope)))
+        if "default" not in spec and len(told) < len(choices):
+            self.untold.append(name)
+        self.add(name, scope, [told.get(choice, default) for choice in choices])
 
     def choice(self, name: str, scope: tuple[int, ...], words: list[str]) -> tuple[int, ...]:
+        """Which values are chosen; quotes that YAML itself left around one are no part of it."""
         if len(words) != len(scope):
             raise Trouble(f"{name}: `{' '.join(words)}` names {len(words)} values for {len(scope)} variables")
         places = []
         for variable, word in zip(scope, words):
             told = [str(value) for value in self.values[variable]]
-            if word.strip("'\"") not in told:
+            bare = word if word in told else word.strip("'\"")
+            if bare not in told:
                 raise Trouble(f"{name}: {word} is no value of {self.names[variable]}")
-            places.append(told.index(word.strip("'\"")))
+            places.append(told.index(bare))
         return tuple(places)
 
     def scope(self, name: str, names: list[str]) -> tuple[int, ...]:
@@ -142,10 +154,21 @@ class Reader:
         return tuple(self.names.index(n) for n in names)
 
     def add(self, name: str, scope: tuple[int, ...], costs: list[Fraction | None]) -> None:
+        """Keeps a constraint; one that names no variable, as of external ones alone, costs the same for each first value."""
         if scope:
             self.constraints.append(Constraint(name, scope, costs))
-        elif costs and costs[0]:
-            raise Trouble(f"{name} names no variable and costs {costs[0]}")
+        elif costs[0] != 0:
+            self.constraints.append(Constraint(name, (0,), costs * len(self.values[0])))
+
+
+def words_of(name: str, choice: str, alone: bool) -> list[str]:
+    """The values that a choice names: words, in quotes where they have blanks; of one variable alone all of it."""
+    if alone:
+        return [choice.strip()]
+    try:
+        return shlex.split(choice)
+    except ValueError as fault:
+        raise Trouble(f"{name}: `{choice.strip()}`: {fault}") from None
 
 
 def values_of(spec: object) -> list[object]:

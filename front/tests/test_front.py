@@ -7,6 +7,7 @@ import io
 import itertools
 import json
 import os
+import random
 import signal
 import subprocess
 import sys
@@ -40,6 +41,8 @@ FAKE = str(HERE / "fake_dcop.py")
 REAL = os.environ.get("SEFWLLON_DCOP")
 ORDER = os.environ.get("SEFWLLON_ORDER")
 HAS_YAML = importlib.util.find_spec("yaml") is not None
+if HAS_YAML:
+    import brute_pydcop
 
 
 class Case(unittest.TestCase):
@@ -181,6 +184,37 @@ class Solving(Case):
         self.assertEqual((status, told.splitlines()[1]), (1, "stopped: the time is over"))
         self.assertLess(time.monotonic() - began, 30)
 
+    def test_a_script_ends_what_it_started_when_its_time_is_over(self):
+        mark = self.file("mark", "")
+        script = self.file("dcop", f"#!/bin/sh\ntrap 'kill $!; echo ended > {mark}; exit 143' TERM\nsleep 60 &\nwait\n")
+        os.chmod(script, 0o755)
+        self.front("solve", "--time", "300ms", str(PROBLEMS / "tracking.dcop"), program=script)
+        self.assertEqual(Path(mark).read_text(), "ended\n")
+
+    def test_what_the_script_of_a_first_look_says_is_shown(self):
+        for name, wanted in (("quick-dcop.sh", "compiling\n"), ("dcop", "")):
+            script = self.file(name, "#!/bin/sh\necho compiling >&2\nexit 70\n")
+            os.chmod(script, 0o755)
+            words = [sys.executable, "-m", "sefwllon", "solve", str(PROBLEMS / "pair.dcop")]
+            environment = dict(os.environ, SEFWLLON_DCOP=script, PYTHONPATH=str(FRONT))
+            ran = subprocess.run(words, env=environment, capture_output=True, text=True)
+            self.assertEqual((ran.returncode, ran.stderr.startswith(wanted), "compiling" in ran.stderr), (3, True, bool(wanted)))
+
+    def test_the_script_of_a_first_look_passes_on_what_rt_says(self):
+        for does, status, told, why in (
+            (f"shift 2; {sys.executable} {FAKE} \"$@\"; echo run=ended status=$? proved=no >&2", 0, "cost 2, and none is better", ""),
+            ("echo error: no such crate >&2; exit 2", 3, "", "error: no such crate"),
+        ):
+            rt = self.file("rt", f"#!/bin/sh\n{does}\n")
+            os.chmod(rt, 0o755)
+            words = [sys.executable, "-m", "sefwllon", "solve", str(PROBLEMS / "pair.dcop")]
+            environment = dict(os.environ, SEFWLLON_DCOP=str(FRONT / "quick-dcop.sh"), PYTHONPATH=str(FRONT))
+            environment["PATH"] = f"{Path(rt).parent}:{environment['PATH']}"
+            ran = subprocess.run(words, env=environment, capture_output=True, text=True)
+            self.assertEqual((ran.returncode, ran.stdout.startswith(told)), (status, True))
+            self.assertIn(why, ran.stderr)
+            self.assertIn("quick-dcop: compiling dcop without proofs for `solve`", ran.stderr)
+
     def test_an_assignment_is_told_where_no_method_comes_to_one_in_time(self):
         for name in ("tracking", "sensors"):
             file = PROBLEMS / f"{name}.dcop"
@@ -232,6 +266,21 @@ class Solving(Case):
             self.assertEqual((status, told.splitlines()[0]), (0, "cost -0.1, and none is better (verified)"))
         status, told, _ = self.front("meetings", str(EXAMPLES / "meetings.csv"), program=REAL)
         self.assertEqual((status, told.splitlines()[0]), (0, "cost 0, and none is better (verified)"))
+
+
+    @unittest.skipUnless(REAL, "no built program")
+    def test_the_real_program_s_answer_at_any_time_is_within_its_bounds(self):
+        draw = random.Random(1)
+        variables = "".join(f"var v{i} 6\n" for i in range(15))
+        cells = {pair: [draw.randrange(100) for _ in range(36)] for pair in itertools.combinations(range(15), 2)}
+        tables = "".join(f"table v{a} v{b} : {' '.join(map(str, costs))}\n" for (a, b), costs in cells.items())
+        file = self.file("wide.dcop", f"dcop 1\n{variables}{tables}end\n")
+        status, told, _ = self.front("solve", "--json", "--method", "adopt", "--time", "1s", file, program=REAL)
+        answer = json.loads(told)
+        values = [int(answer["values"][f"v{i}"]) for i in range(15)]
+        cost = sum(costs[6 * values[a] + values[b]] for (a, b), costs in cells.items())
+        self.assertEqual((status, answer["stopped"], answer["cost"], answer["upper"]), (1, "the time is over", cost, cost))
+        self.assertLessEqual(answer["lower"], cost)
 
 
 class Documents(unittest.TestCase):
@@ -333,6 +382,8 @@ class Translating(Case):
             (head + "constraints: {c: {type: intention, function: x + z}}", "names z"),
             (head + "constraints: {c: {type: extensional, variables: x, values: {1: 5}}}", "5 is no value of x"),
             (head + "constraints: {c: {type: intention, function: .inf * -1 if x else 0}}", "can't be read"),
+            (head + "constraints: {c: {function: '[1, 2][x]'}}", "c: IndexError.* at {'x': 2}"),
+            (head + "constraints: {c: {type: extensional, variables: [x], values: {1: \"'1\"}}}", "c: `'1`: No closing quotation"),
         ):
             with self.assertRaisesRegex(Trouble, why):
                 pydcop.read(text, "file")
@@ -344,6 +395,27 @@ class Translating(Case):
         _, told, _ = self.front("solve", self.file("p.yaml", text))
         self.assertEqual(told.splitlines()[0], "cost 10001, and none is better (verified)")
         self.assertIn("it prints the cost 1 and violation 1", told)
+
+    @unittest.skipUnless(HAS_YAML, "no PyYAML")
+    def test_pydcop_files_cost_what_comes_of_trying_all(self):
+        for path in (EXAMPLES / "colouring.yaml", *sorted((HERE / "pydcop").glob("*.yaml"))):
+            file = brute_pydcop.File(path.read_text())
+            status, told, _ = self.front("solve", "--json", str(path))
+            answer = json.loads(told)
+            self.assertEqual((path.name, status), (path.name, 0))
+            self.assertAlmostEqual(answer["cost"], file.best(), 12)
+            self.assertAlmostEqual(answer["cost"], file.total(answer["values"]), 12)
+            cost, violations = file.printed(answer["values"])
+            if violations:
+                self.assertIn(f"it prints the cost {cost:g} and violation {violations}", answer["note"])
+            else:
+                self.assertAlmostEqual(answer["cost"], cost, 12)
+
+    @unittest.skipUnless(HAS_YAML, "no PyYAML")
+    def test_costs_that_a_pydcop_file_leaves_out_are_told(self):
+        text = "domains: {d: {values: [1, 2]}}\nvariables: {x: {domain: d}, y: {domain: d}}\n"
+        text += "constraints: {c: {type: extensional, variables: [x, y], values: {3: 1 2 | 2 1}}}\n"
+        self.assertIn("note: c: there is no `default`", self.front("solve", self.file("p.yaml", text))[1])
 
     def test_uai_factors_become_costs(self):
         source = wcsp.read_uai("MARKOV 1 2 1 1 0 2 0.5 1.0", "file")
