@@ -11,7 +11,8 @@
 # bytes, and `drill` the same cost. A problem with too many turns at a limit is refused by both, and only counted.
 # Then what sharing would save, by the plain program: the joined tables and their cells that are made where from turn
 # to turn those are kept whose subtree names no cut variable that has changed, as shares of all, with the least and the
-# greatest share of cells of one problem; and the least processor time of three runs, with sharing and without.
+# greatest share of cells of one problem; the least processor time of three runs, with sharing and without; and the
+# share of cells where the tables of all turns are kept.
 set -eu
 program=${1:?usage: bench/cut.sh PROGRAM}
 . "$(dirname "$0")/common.sh"
@@ -74,7 +75,7 @@ def least_spent(words, path):
     return min(times), out
 def told_of_sharing(paths, limit):
     """What sharing tables between turns would save on these files."""
-    counts, shares, spent, spent_sharing = [0] * 4, [], 0, 0
+    counts, shares, spent, spent_sharing = [0] * 6, [], 0, 0
     for path in paths:
         more = list(map(int, once([f"{folder}/plain", str(limit), "joined"], path)[3].split()))
         counts = [count + other for count, other in zip(counts, more)]
@@ -83,9 +84,10 @@ def told_of_sharing(paths, limit):
         took_sharing, same = least_spent([f"{folder}/plain", str(limit), "shared"], path)
         assert answer == same, (path, limit, answer[:200], same[:200])
         spent, spent_sharing = spent + took, spent_sharing + took_sharing
-    tables, cells, made_tables, made_cells = counts
+    tables, cells, made_tables, made_cells, _, least_cells = counts
     return (f"    sharing makes {made_cells / cells:.3f} of {cells:,} joined cells, {min(shares):.3f} to {max(shares):.3f}, and "
-            f"{made_tables / tables:.3f} of {tables:,} tables, in {spent_sharing:.3f} s in place of {spent:.3f} s of processor time")
+            f"{made_tables / tables:.3f} of {tables:,} tables, in {spent_sharing:.3f} s in place of {spent:.3f} s of processor time\n"
+            f"    with the tables of all turns kept {least_cells / cells:.3f} of these cells are made")
 def commands(limit):
     return [program, "solve", "--method", "cut", "--cells", str(limit)], [f"{folder}/plain", str(limit)]
 made, seed = {}, 0
