@@ -9,12 +9,16 @@
 # each of three limits of cells: the best of three runs of each whole command, and the ratio of the plain program's
 # time to ours, above 1 we are faster; for the 20 problems the sum of all times. Both programs must print the same
 # bytes, and `drill` the same cost. A problem with too many turns at a limit is refused by both, and only counted.
+# Then what sharing would save, by the plain program: the joined tables and their cells that are made where from turn
+# to turn those are kept whose subtree names no cut variable that has changed, as shares of all, with the least and the
+# greatest share of cells of one problem; the least processor time of three runs, with sharing and without; and the
+# share of cells where the tables of all turns are kept.
 set -eu
 program=${1:?usage: bench/cut.sh PROGRAM}
 . "$(dirname "$0")/common.sh"
 rustc -O --edition 2021 -o "$folder/plain" "$top/bench/cut/plain.rs"
 python3 - "$program" "$folder" "$top/examples/crowded.dcop" <<'PY'
-import os, re, shutil, subprocess, sys
+import os, re, resource, shutil, sys
 from timing import best, once
 program, folder, crowded = sys.argv[1:]
 count, size, degree, top = 24, 4, 3, 100
@@ -58,6 +62,32 @@ def timed(path, limit):
     (ours, memory, answer), (plain, _, expected) = (best(words, path, runs=3) for words in commands(limit))
     assert answer == expected, (path, limit, answer[:200], expected[:200])
     return ours, plain, memory, answer
+def processor_time():
+    used = resource.getrusage(resource.RUSAGE_CHILDREN)
+    return used.ru_utime + used.ru_stime
+def least_spent(words, path):
+    """The least processor time of three runs, and what the last one writes."""
+    times = []
+    for _ in range(3):
+        begin = processor_time()
+        out = once(words, path)[3]
+        times.append(processor_time() - begin)
+    return min(times), out
+def told_of_sharing(paths, limit):
+    """What sharing tables between turns would save on these files."""
+    counts, shares, spent, spent_sharing = [0] * 6, [], 0, 0
+    for path in paths:
+        more = list(map(int, once([f"{folder}/plain", str(limit), "joined"], path)[3].split()))
+        counts = [count + other for count, other in zip(counts, more)]
+        shares.append(more[3] / more[1])
+        took, answer = least_spent([f"{folder}/plain", str(limit)], path)
+        took_sharing, same = least_spent([f"{folder}/plain", str(limit), "shared"], path)
+        assert answer == same, (path, limit, answer[:200], same[:200])
+        spent, spent_sharing = spent + took, spent_sharing + took_sharing
+    tables, cells, made_tables, made_cells, _, least_cells = counts
+    return (f"    sharing makes {made_cells / cells:.3f} of {cells:,} joined cells, {min(shares):.3f} to {max(shares):.3f}, and "
+            f"{made_tables / tables:.3f} of {tables:,} tables, in {spent_sharing:.3f} s in place of {spent:.3f} s of processor time\n"
+            f"    with the tables of all turns kept {least_cells / cells:.3f} of these cells are made")
 def commands(limit):
     return [program, "solve", "--method", "cut", "--cells", str(limit)], [f"{folder}/plain", str(limit)]
 made, seed = {}, 0
@@ -73,6 +103,7 @@ for limit in limits:
     ours, plain, memory, answer = timed(crowded, limit)
     turns = asked_of_plain(crowded, limit, "turns")
     print(f"  {limit:,} cells, {turns:,} turns: {ours:.4f} s with {memory:.0f} MB, plain {plain:.4f} s, ratio {plain / ours:.2f}")
+    print(told_of_sharing([crowded], limit))
 print(f"{len(made)} problems of drill, {count} variables of size {size} and degree {degree}, up to the number {max(made)}:")
 costs = {}
 for limit in limits:
@@ -84,6 +115,7 @@ for limit in limits:
         assert costs.setdefault(seed, cost_in(run[3])) == cost_in(run[3]), (seed, limit)
     print(f"  {limit:,} cells: {len(done)} solved in {turns:,} turns, {len(made) - len(done)} with too many turns")
     print(f"    {ours:.3f} s with at most {max(run[2] for run in done.values()):.0f} MB, plain {plain:.3f} s, ratio {plain / ours:.2f}")
+    print(told_of_sharing([made[seed] for seed in done], limit))
 numbers = ["--vars", str(count), "--size", str(size), "--degree", str(degree), "--top", str(top)]
 for seed, cost in costs.items():
     _, status, _, summary = once([program, "drill", "--seed", str(seed), *numbers, "--method", "cut"], os.devnull)
