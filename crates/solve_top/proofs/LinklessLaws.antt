@@ -10,7 +10,7 @@ use Rattle.wcsp_text.specs.Texts.{text_read as wcsp_read}
 use Rattle.solve_words.specs.declared.command.Format.{Format}
 use Rattle.solve_words.specs.declared.command.Format.TheVariants.{Dcop as Own, Wcsp}
 use Rattle.certificate_text.specs.declared.certificate.Certificate.{Certificate}
-use Rattle.certificate_text.specs.declared.certificate.Certificate.TheVariants.{Tables, Log}
+use Rattle.certificate_text.specs.declared.certificate.Certificate.TheVariants.{Tables, Log, Cut}
 use Rattle.certificate_text.specs.declared.report.Ending.{Ending}
 use Rattle.certificate_text.specs.declared.report.Ending.TheVariants as endings
 use Rattle.certificate_text.specs.declared.report.Report.{Report}
@@ -150,6 +150,7 @@ played-linkless : (file : TextFile) (before : ℕ) (text : List ℕ) (after : Op
 played-linkless file before text after error (Some (Log log)) answer is =
     no-link (IsReplay file (start_state (agents_for file error)) (events_of (log_up_to after log))) (λ no. no) (λ from to at sent taken names no. no) (λ round from_node to_node place sent taken no. no) answer is
 played-linkless file before text after error (Some (Tables utils)) answer is = status-linkless answer _ (ap status_of is) tt
+played-linkless file before text after error (Some (Cut cut turns)) answer is = status-linkless answer _ (ap status_of is) tt
 played-linkless file before text after error None answer is = status-linkless answer _ (ap status_of is) tt
 
 replay-linkless : (file : TextFile) (before : ℕ) (text : List ℕ) (after : Option ℕ) (read : Result Report ReportFault) (answer : Answer) → IsReadReplay file before text after read answer → TellsNoLink answer
