@@ -29,7 +29,7 @@ use Rattle.solve_top.specs.declared.task.Task.TheVariants.{File, Check, Replay, 
 use Rattle.solve_top.specs.declared.task.FileTask.{FileTask}
 use Rattle.solve_top.specs.declared.task.FileTask.TheVariants as tasks
 use Rattle.solve_top.specs.Answering.{IsAnswer, IsFileAnswer, lines_in}
-use Rattle.solve_top.specs.Nodes.{IsLinkAnswer}
+use Rattle.solve_top.specs.Nodes.{AskForNodes, IsLinkAnswer, TellsAnswer}
 use Rattle.solve_top.specs.Taken.{AreLinesTaken}
 use Rattle.solve_cut.specs.Allowed.{HasAllowedCut}
 use Rattle.solve_methods.specs.Dpop.{wide_in}
@@ -52,10 +52,11 @@ pub record Answered (words : List (List ℕ)) (before after : SourceState) (answ
   pub belongs : IsAnswer words input answer ⊎ IsLinkAnswer words input answer
   pub right : TellsRight answer
 
--- a call on these words answered and showed its answer, or its sink failed
-pub record Solves (words : List (List ℕ)) (source source' : SourceState) (sink sink' : SinkState) (status : Status) : Type 0 where
+-- a call on these words answered, and showed its answer, or its sink failed behind a prefix of it; where this is that its dialer is honest, and the dialer's count of faults went from here to there, the answer tells of the links between nodes what is so of them
+pub record Solves (words : List (List ℕ)) (honest : Type 0) (old new : ℕ) (source source' : SourceState) (sink sink' : SinkState) (status : Status) : Type 0 where
   pub answer : Answer
   pub answered : Answered words source source' answer
+  pub links : TellsAnswer (AskForNodes words) honest old new answer
   pub shown : IsShown answer sink sink' status ⊎ IsCut answer sink sink' status
 
 -- a text that declares this is a file in whose depth-first tree, that of the problem solved, nothing is too wide: it is narrow and light
