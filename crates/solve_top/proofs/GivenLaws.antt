@@ -33,7 +33,7 @@ linkless-belongs words input answer (inr links) fine same = elim (links-status _
 ]
 
 -- so does a solved one
-solved-belongs : (words : List (List ℕ)) (input : Input) (answer : Answer) → IsGiven words input answer → status_of answer ≡ Solved → IsAnswer words input answer
+pub solved-belongs : (words : List (List ℕ)) (input : Input) (answer : Answer) → IsGiven words input answer → status_of answer ≡ Solved → IsAnswer words input answer
 solved-belongs words input answer given solved =
     linkless-belongs words input answer given
     (λ failed. let e : LinkFault ≡ Solved = sym failed ∙ solved in cc e)
