@@ -1,9 +1,12 @@
 -- How agents are joined, before and behind calls.
-use Rattle.std.proofs.Common.{◌≡◌, ℕ, ◌<◌, ◌≤◌, List, [], length, Result, Ok, Err, IfErr, refl, sym, subst, ◌∙◌}
+use Rattle.std.proofs.Common.{◌≡◌, ℕ, ◌<◌, ◌≤◌, List, [], length, Option, Result, Ok, Err, IfErr, refl, sym, ap, subst, ◌∙◌}
 use Rattle.std.specs.List.{All}
 use Rattle.std.specs.Result.{IsErrAnd}
 use Rattle.dcop_base.specs.Problem.{Dcop}
 use Rattle.dcop_edge.specs.Faults.{Rose}
+use Rattle.pseudotree.specs.DepthFirst.{dfs}
+use Rattle.pseudotree.specs.Width.{wide_of}
+use Rattle.pseudotree.specs.declared.width.Wide.{Wide}
 use Rattle.protocol_steps.specs.View.{View}
 use Rattle.delivery_core.specs.declared.start.Start.{Start}
 use Rattle.delivery_core.specs.Agents.{agents_of, IsStartFor}
@@ -23,6 +26,7 @@ use Rattle.tcp_links.specs.Faults.{IsNoDifference, HasNodeCause}
 use Rattle.letter_wires.specs.Honest.{AreHonest}
 use Rattle.node_seats.specs.Links.{node_in, KeepsPairs}
 use Rattle.node_seats.specs.Seats.{IsSameFrame}
+use Rattle.solve_methods.specs.Dpop.{wide_in}
 use Rattle.solve_top.specs.Nodes.{HaveDiffered}
 use Rattle.solve_top.specs.Phases.{IsPhase}
 use Rattle.solve_top.specs.Wiring.{IsFaultOf, MayFail}
@@ -70,6 +74,10 @@ module _ (p : Dcop) (is_phase is_phase' : Start → ℕ → Type 0) (nodes nodes
   fails_on {T} (Ok value) e is still many so kind fails = absurd is
   fails_on {T} (Err x) e is still many so kind fails =
       subst (λ (f : NodeFault). IsFaultOf p is_phase nodes honest first new f) (sym is) (fault_behind e still many so kind fails)
+
+-- what is too wide in the tree that was found is so in the depth-first tree
+pub wide_is : (p : Dcop) (paths : List (List ℕ)) (wide : Option Wide) → paths ≡ dfs p → wide ≡ wide_of p paths → wide_in p ≡ wide
+wide_is p paths wide same is = sym (is ∙ ap (wide_of p) same)
 
 -- a plan with the same wires is honest where the other is
 pub frame_honest : {W : Type 0} (told : W → Told) (is_joined : W → W → Type 0) (before after : NodePlan W) → IsSameFrame before after → IsHonest told is_joined before → IsHonest told is_joined after

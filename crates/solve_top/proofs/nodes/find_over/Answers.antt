@@ -1,4 +1,4 @@
-use Rattle.std.proofs.Common.{ℕ, refl, subst}
+use Rattle.std.proofs.Common.{ℕ, refl, subst, ◌∙◌}
 use Rattle.protocol_steps.specs.TreeAgents.{token_agents}
 use Rattle.protocol_steps.specs.Outcomes.{HaveRun}
 use Rattle.solve_top.proofs.WiringLaws.{fails_on}
