@@ -1,15 +1,14 @@
 -- A yes on the turns of a cut exactly where the report holds, and what it shows.
-use Rattle.std.proofs.Common.{◌≡◌, ℕ, ◌*◌, ◌-◌, ◌<◌, ◌≤◌, min, List, [], ◌∷◌, length, get_or, map, Option, None, Some, refl, sym, ap, subst, ◌∙◌, inl, inr, arith}
-use Rattle.std.specs.List.{filter, position_or_len, range_with_len}
+use Rattle.std.proofs.Common.{◌≡◌, ℕ, ◌*◌, ◌-◌, ◌<◌, ◌≤◌, min, List, [], ◌∷◌, length, get_or, map, Option, None, sym, ap, subst, ◌∙◌, inl, inr, arith}
+use Rattle.std.specs.List.{filter, position_or_len}
 use Rattle.std.specs.Option.{is_none}
 use Rattle.std.proofs.lemmas.Option.{none-some}
 use Rattle.std.proofs.lemmas.List.FromFn.{get_or-map-range_with_len}
-use Rattle.dcop_base.specs.Limits.{amount_limit}
 use Rattle.dcop_base.specs.Table.{product, AreWithin, cell_place}
 use Rattle.dcop_base.specs.Problem.{Dcop, IsAssignment, cost}
 use Rattle.dcop_base.specs.Whole.{IsProblem}
 use Rattle.pseudotree.specs.Tree.{IsRoot}
-use Rattle.pseudotree.specs.Pseudotree.{IsPseudotree, touches, separator_of}
+use Rattle.pseudotree.specs.Pseudotree.{IsPseudotree, touches}
 use Rattle.pseudotree.specs.Place.{sizes_of}
 use Rattle.dcop_optimum.specs.Certificate.{AreLowerTables}
 use Rattle.cut_laws.specs.Slice.{AreCutValues, slice_of}
@@ -24,17 +23,17 @@ use Rattle.certificate_text.specs.declared.report.Ending.TheVariants.{Solved}
 use Rattle.certificate_text.specs.declared.verdict.Differs.TheVariants.{Cost, Root, Lower, Upper, Error, Deliveries}
 use Rattle.certificate_text.specs.declared.verdict.Verdict.{Verdict}
 use Rattle.certificate_text.specs.declared.verdict.Verdict.TheVariants.{Yes, No}
-use Rattle.certificate_text.specs.Fits.{FitsTables, FitsCut}
+use Rattle.certificate_text.specs.Fits.{FitsCut}
 use Rattle.certificate_text.specs.TurnReading.{first_tables}
 use Rattle.problem_solved.proofs.SolvedLaws.{solved_problem, solved_sizes}
-use Rattle.problem_solved.specs.Goal.{solved, problem_solved, IsAtMostWorse}
+use Rattle.problem_solved.specs.Goal.{problem_solved, IsAtMostWorse}
 use Rattle.problem_solved.specs.Holds.{HoldsCut}
 use Rattle.problem_solved.specs.Told.{told, variables, parents_told, scopes_told, cells_told}
 use Rattle.problem_solved.specs.Turns.{turn_at, turn_by, turn_scopes, turn_cells}
 use Rattle.problem_solved.specs.Verdict.{ShowsBest}
 use Rattle.certificate_check.specs.Cells.{root_told}
 use Rattle.certificate_check.specs.Cuts.{scopes_in_turn, cells_in_turn, first_in_turns, least_cell, least_root_cell, cut_deliveries, cut_difference}
-use Rattle.certificate_check.specs.Differences.{first_of, scope_difference, cells_difference, unless_same, status_difference, dpop_deliveries, bound_difference, number_difference}
+use Rattle.certificate_check.specs.Differences.{first_of, scope_difference, cells_difference, unless_same, status_difference, bound_difference, number_difference}
 use Rattle.certificate_check.specs.Verdicts.{IsTreeOf, IsCutVerdict, IsCutExact}
 use Rattle.certificate_check.proofs.ExactLaws.{unless_none, none_unless, status_solved, single, best_by}
 use Rattle.certificate_check.proofs.FirstLaws.{none_at, none_each, or_parts, or_none}
@@ -42,7 +41,7 @@ use Rattle.certificate_check.proofs.FitLaws.{told_fits}
 use Rattle.certificate_check.proofs.HoldsLaws.{lower_cells, no_cells, separators, no_scopes}
 use Rattle.certificate_check.proofs.RootLaws.{root_is, scope_same}
 use Rattle.certificate_check.proofs.TreeFactLaws.{one_tree, refuted}
-use Rattle.certificate_check.proofs.TurnLaws.{none_in, in_none, turn_count, turn_within, turn_place, place_below, turn_has, turn_fits, least_below, least_above, least_found}
+use Rattle.certificate_check.proofs.TurnLaws.{none_in, in_none, turn_within, turn_place, place_below, turn_has, turn_fits, least_below, least_above, least_found}
 
 -- the numbers of a report are right, where the root's cell and the deliveries are these
 pub record AreRight (f : TextFile) (root deliveries : ℕ) (r : Report) : Type 0 where
@@ -109,10 +108,10 @@ module _ (p : Dcop) (cut : List ℕ) (turns : List Turn) (paths : List (List ℕ
   cells_at none k lt = none_in k _ (none_at (cells_in_turn p paths cut turns) (length turns) k none lt)
 
   -- tables of a slice, by the values of its turn
-  abbrev Lower : List Util → List ℕ → Type 0
-  Lower utils values = AreLowerTables (slice_of p cut values) paths (scopes_told (slice_of p cut values) utils) (cells_told (slice_of p cut values) utils)
+  abbrev LowerTables : List Util → List ℕ → Type 0
+  LowerTables utils values = AreLowerTables (slice_of p cut values) paths (scopes_told (slice_of p cut values) utils) (cells_told (slice_of p cut values) utils)
 
-  lower_at : first_in_turns (scopes_in_turn p paths cut turns) turns ≡ None → first_in_turns (cells_in_turn p paths cut turns) turns ≡ None → (k : ℕ) → k < length turns → Lower (tables k) (turn_at turns k).values
+  lower_at : first_in_turns (scopes_in_turn p paths cut turns) turns ≡ None → first_in_turns (cells_in_turn p paths cut turns) turns ≡ None → (k : ℕ) → k < length turns → LowerTables (tables k) (turn_at turns k).values
   lower_at scopes cells k lt =
       let at = pseudo_in (turn_at turns k).values in
       let count = at.sized in
@@ -127,12 +126,12 @@ module _ (p : Dcop) (cut : List ℕ) (turns : List Turn) (paths : List (List ℕ
       → (values : List ℕ) → AreCutValues p cut values → AreLowerTables (slice_of p cut values) paths (turn_scopes p cut turns values) (turn_cells p cut turns values)
   lower_in scopes cells values within =
       let k : ℕ = cell_place (sizes_of p cut) values in
-      subst (Lower (tables k)) (turn_has p cut turns fits values within) (lower_at scopes cells k (place_below p cut turns fits values within))
+      subst (LowerTables (tables k)) (turn_has p cut turns fits values within) (lower_at scopes cells k (place_below p cut turns fits values within))
 
   -- and back
-  at-number : ((values : List ℕ) → AreCutValues p cut values → AreLowerTables (slice_of p cut values) paths (turn_scopes p cut turns values) (turn_cells p cut turns values)) → (k : ℕ) → k < length turns → Lower (tables k) (turn_at turns k).values
+  at-number : ((values : List ℕ) → AreCutValues p cut values → AreLowerTables (slice_of p cut values) paths (turn_scopes p cut turns values) (turn_cells p cut turns values)) → (k : ℕ) → k < length turns → LowerTables (tables k) (turn_at turns k).values
   at-number all k lt =
-      subst (λ (j : ℕ). Lower (tables j) (turn_at turns k).values) (turn_place p cut turns fits k lt) (all (turn_at turns k).values (turn_within p cut turns fits k lt))
+      subst (λ (j : ℕ). LowerTables (tables j) (turn_at turns k).values) (turn_place p cut turns fits k lt) (all (turn_at turns k).values (turn_within p cut turns fits k lt))
 
   pub no_scope_in : ((values : List ℕ) → AreCutValues p cut values → AreLowerTables (slice_of p cut values) paths (turn_scopes p cut turns values) (turn_cells p cut turns values)) → first_in_turns (scopes_in_turn p paths cut turns) turns ≡ None
   no_scope_in all =

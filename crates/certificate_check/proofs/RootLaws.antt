@@ -61,6 +61,13 @@ root_is paths tree =
           (sym (parent_read paths (position_or_len is_none parents) None lt) ∙ is_none_true (get_or parents (position_or_len is_none parents) None) (passes_at_first is_none parents None before)),
     )
 
+-- so it stands among the parents
+pub root_below : (paths : List (List ℕ)) (parents : List (Option ℕ)) → IsTree paths → parents ≡ parents_of paths → position_or_len is_none parents < length parents
+root_below paths parents tree is =
+    let lt = (root_is paths tree).0 in
+    let count = length-map-range_with_len (parent_of paths) 0 (length paths) in
+    subst (λ (ps : List (Option ℕ)). position_or_len is_none ps < length ps) (sym is) (omega (arith, lt, count))
+
 -- a scope that does not differ is the separator
 pub scope_same : (p : Dcop) (paths : List (List ℕ)) (utils : List Util) (i : ℕ) → scope_difference p paths utils i ≡ None → (told utils i).scope ≡ separator_of p paths i
 scope_same p paths utils i none =

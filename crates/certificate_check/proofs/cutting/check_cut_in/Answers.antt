@@ -1,4 +1,4 @@
-use Rattle.std.proofs.Common.{◌≡◌, ◌<◌, List, Option, ℕ, length, sym, ap, ◌∙◌, arith}
+use Rattle.std.proofs.Common.{sym, ap, ◌∙◌, arith}
 use Rattle.std.specs.List.{position_or_len}
 use Rattle.std.specs.Option.{is_none}
 use Rattle.std.proofs.lemmas.Result.{IfOk-weaker}
@@ -6,7 +6,7 @@ use Rattle.dcop_base.specs.Problem.{Dcop}
 use Rattle.problem_solved.specs.Told.{parents_told}
 use Rattle.certificate_text.specs.TurnReading.{first_tables}
 use Rattle.certificate_check.specs.Verdicts.{IsTreeVerdict, IsCutVerdict}
-use Rattle.certificate_check.proofs.RootLaws.{root_is}
+use Rattle.certificate_check.proofs.RootLaws.{root_is, root_below}
 use Rattle.certificate_check.proofs.TurnLaws.{some_turn, first_one, first_parents_fit}
 use Rattle.certificate_check.proofs.VerdictLaws.{cut_tree_first}
 use Rattle.certificate_check.proofs.cutting.check_cut_in.Goals as goal
@@ -21,6 +21,19 @@ check_tree-requires c =
     let some = some_turn c.args.problem.now c.args.cut.now c.args.turns.now c.problem_is_whole.ensures c.requires.fits in
     first_parents_fit c.args.problem.now c.args.cut.now c.args.turns.now some c.requires.fits c.as_slice.result.now
     (c.as_slice.ensures.value ∙ c.in_ok-parents.ensures ∙ ap (parents_told c.args.problem.now) c.first_tables.ensures)
+
+pub root_in-root-requires-clause-some : goal.root_in-root-requires-clause-some
+root_in-root-requires-clause-some c =
+    root_below c.in-Ok.tree.paths c.as_slice-in-Ok.result.now c.in-Ok.ensures.tree.pseudotree.tree
+    (c.as_slice-in-Ok.ensures.value ∙ sym c.as_slice.ensures.value ∙ c.in-Ok.ensures.parents)
+
+pub cut_difference-requires-clause-within : goal.cut_difference-requires-clause-within
+cut_difference-requires-clause-within c =
+    let lt = (root_is c.in-Ok.tree.paths c.in-Ok.ensures.tree.pseudotree.tree).0 in
+    let count = c.in-Ok.ensures.tree.pseudotree.sized in
+    let same = ap (position_or_len is_none) (c.as_slice-in-Ok.ensures.value ∙ sym c.as_slice.ensures.value ∙ c.in-Ok.ensures.parents) in
+    let is = c.root_in-root.ensures in
+    omega (arith, lt, count, same, is)
 
 pub returns : goal.returns
 returns c =
