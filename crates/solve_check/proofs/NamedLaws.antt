@@ -1,5 +1,5 @@
 -- Each variable of which a verdict speaks is one of the file's.
-use Rattle.std.proofs.Common.{◌≡◌, ℕ, zero, suc, ◌+◌, ◌<◌, ◌*◌, ◌-◌, Option, Some, None, List, length, get_or, nat_eq, sym, ap, ◌∙◌, subst, arith, inl, inr}
+use Rattle.std.proofs.Common.{◌≡◌, ℕ, zero, suc, ◌+◌, ◌<◌, Option, Some, None, List, length, get_or, nat_eq, sym, ap, ◌∙◌, subst, arith, inl, inr}
 use Rattle.std.specs.Prelude.{IfSome, IsTrue, is_some}
 use Rattle.std.proofs.lemmas.Bool.{false≢true}
 use Rattle.std.specs.List.{range_with_len}
@@ -96,7 +96,21 @@ behind-named f r utils paths fits =
 in-turn-named : (n number : ℕ) (differs : Differs) → IsNamedDifference n differs → IsNamedDifference n (in_turn number differs)
 in-turn-named n number (differences.Scope var) h = h
 in-turn-named n number (differences.Cell var cell value left right) h = h
-in-turn-named n number differs h = h
+in-turn-named n number (differences.TreeRoots count) h = h
+in-turn-named n number (differences.TreeLoop var) h = h
+in-turn-named n number (differences.TreePair one other) h = h
+in-turn-named n number (differences.TurnScope turn var) h = h
+in-turn-named n number (differences.TurnCell turn var cell value left right) h = h
+in-turn-named n number (differences.Cost left right) h = h
+in-turn-named n number (differences.Root left right) h = h
+in-turn-named n number (differences.Lower left right) h = h
+in-turn-named n number (differences.Upper left right) h = h
+in-turn-named n number (differences.Error left right) h = h
+in-turn-named n number (differences.Deliveries left right) h = h
+in-turn-named n number (differences.Status ending) h = h
+in-turn-named n number (differences.Event at fault) h = h
+in-turn-named n number (differences.Stamp at left right) h = h
+in-turn-named n number (differences.Value var) h = h
 
 turn-named : (n number : ℕ) (o : Option Differs) → AreNamed n o → AreNamed n (option_map (in_turn number) o)
 turn-named n number None h = tt
