@@ -98,24 +98,25 @@ module _ (words : List (List ℕ)) (command : Command) (nodes : ℕ) (asked : an
   }
 
   -- an answer of the links between them is one to the words, on an input that tells their problem
-  links_given : (input : Input) (told : Told) (answer : Answer) → TellsProblem (task_of command) (drill_of command) input told → 1 < nodes → IsOfLinks nodes told.declared answer → IsLinkAnswer words input answer
-  links_given input told answer read many links = record {
+  links_given : (input : Input) (task : FileTask) (told : Told) (answer : Answer) → TellsProblem (task_of command) (drill_of command) input task told → 1 < nodes → IsOfLinks task nodes told.declared answer → IsLinkAnswer words input answer
+  links_given input task told answer read many links = record {
     asks = asks_nodes many;
+    task = task;
     told = told;
     read = read;
-    links = subst (λ (k : ℕ). IsOfLinks k told.declared answer) (so_many many) links;
+    links = subst (λ (k : ℕ). IsOfLinks task k told.declared answer) (so_many many) links;
   }
 
   -- the answer to a task on a text, where the words ask for it
   module _ (format : Format) (task : FileTask) (bytes : List ℕ) (answer : Answer) (served : task_of command ≡ Some (File format task)) where
-    told_problem : (told : Told) → input_read format bytes ≡ Ok told → TellsProblem (task_of command) (drill_of command) (Whole bytes) told
-    told_problem told read = subst (λ (t : Option Task). TellsProblem t (drill_of command) (Whole bytes) told) (sym served) read
+    told_problem : (told : Told) → input_read format bytes ≡ Ok told → TellsProblem (task_of command) (drill_of command) (Whole bytes) task told
+    told_problem told read = subst (λ (t : Option Task). TellsProblem t (drill_of command) (Whole bytes) task told) (sym served) (refl, read)
 
-    told_given : (told : Told) → input_read format bytes ≡ Ok told → IsTextAnswer task (input_read format bytes) answer ⊎ ((1 < nodes) × IsOfLinks nodes told.declared answer) → IsGiven words (Whole bytes) answer
+    told_given : (told : Told) → input_read format bytes ≡ Ok told → IsTextAnswer task (input_read format bytes) answer ⊎ ((1 < nodes) × IsOfLinks task nodes told.declared answer) → IsGiven words (Whole bytes) answer
     told_given told read (inl is) = inl (IsAnswer-task words command (File format task) (Whole bytes) answer asked served is)
-    told_given told read (inr links) = inr (links_given (Whole bytes) told answer (told_problem told read) links.0 links.1)
+    told_given told read (inr links) = inr (links_given (Whole bytes) task told answer (told_problem told read) links.0 links.1)
 
-    read_given : (read : Result Told Answer) → input_read format bytes ≡ read → IsAnswerRead nodes read (IsTextAnswer task (input_read format bytes)) answer → IsGiven words (Whole bytes) answer
+    read_given : (read : Result Told Answer) → input_read format bytes ≡ read → IsAnswerRead task nodes read (IsTextAnswer task (input_read format bytes)) answer → IsGiven words (Whole bytes) answer
     read_given (Ok told) read is = told_given told read is
     read_given (Err refusal) read is = inl (IsAnswer-task words command (File format task) (Whole bytes) answer asked served is)
 
@@ -143,19 +144,19 @@ module _ (words : List (List ℕ)) (command : Command) (nodes : ℕ) (asked : an
       subst (λ (r : Result Command WordFault). IsCommandAnswer r Unread answer) (sym asked)
       (subst (λ (t : Option Task). IsServedAnswer command t Unread answer) (sym unread) (refl, is))
 
-  drill_problem : (drill : Drill) → task_of command ≡ None → drill_of command ≡ Some drill → TellsProblem (task_of command) (drill_of command) Unread (told_of (made_for drill) None)
+  drill_problem : (drill : Drill) → task_of command ≡ None → drill_of command ≡ Some drill → TellsProblem (task_of command) (drill_of command) Unread drill.task (told_of (made_for drill) None)
   drill_problem drill unread drills =
-      subst (λ (t : Option Task). TellsProblem t (drill_of command) Unread (told_of (made_for drill) None)) (sym unread)
-      (subst (λ (d : Option Drill). TellsProblem None d Unread (told_of (made_for drill) None)) (sym drills) refl)
+      subst (λ (t : Option Task). TellsProblem t (drill_of command) Unread drill.task (told_of (made_for drill) None)) (sym unread)
+      (subst (λ (d : Option Drill). TellsProblem None d Unread drill.task (told_of (made_for drill) None)) (sym drills) (refl, refl))
 
-  drill_given : (drill : Drill) (answer : Answer) → task_of command ≡ None → drill_of command ≡ Some drill → IsDrillAnswer drill answer ⊎ ((1 < nodes) × IsOfLinks nodes (declared_by (made_for drill)) answer) → IsGiven words Unread answer
+  drill_given : (drill : Drill) (answer : Answer) → task_of command ≡ None → drill_of command ≡ Some drill → IsDrillAnswer drill answer ⊎ ((1 < nodes) × IsOfLinks drill.task nodes (declared_by (made_for drill)) answer) → IsGiven words Unread answer
   drill_given drill answer unread drills (inl is) = inl (unread-IsAnswer answer unread (subst (λ (d : Option Drill). IsUnreadAnswer d answer) (sym drills) is))
   drill_given drill answer unread drills (inr links) =
-      inr (links_given Unread (told_of (made_for drill) None) answer (drill_problem drill unread drills) links.0 links.1)
+      inr (links_given Unread drill.task (told_of (made_for drill) None) answer (drill_problem drill unread drills) links.0 links.1)
 
   unread_given : (drill : Option Drill) (answer : Answer) → task_of command ≡ None → drill_of command ≡ drill → IsUnreadAnswerIn nodes drill answer → IsGiven words Unread answer
   unread_given (Some drill) answer unread drills is = drill_given drill answer unread drills is
-  unread_given None answer unread drills is = inl (unread-IsAnswer answer unread (subst (λ (d : Option Drill). IsUnreadAnswer d answer) (sym drills) is))
+  unread_given None answer unread drills is = absurd is
 
   -- the same, unless memory was wanted
   pub Answered-unread : (before after : SourceState) (result : Result Answer NoMemory)
@@ -318,9 +319,9 @@ refusal_sound (faults.TooMany turns) is = cc is
 refusal_sound (faults.Total cells) is = cc is
 refusal_sound faults.NoMemory is = is
 
-cut_sound : (file : TextFile) (cut : List ℕ) (refusal : Option CutFault) → ¬ IsCutAnswerBy file cut refusal answers.Read
-cut_sound file cut (Some fault) is = refusal_sound fault is
-cut_sound file cut None is = cc is.is
+cut_sound : (file : TextFile) (cut : List ℕ) (certified : Bool) (refusal : Option CutFault) → ¬ IsCutAnswerBy file cut certified refusal answers.Read
+cut_sound file cut certified (Some fault) is = refusal_sound fault is
+cut_sound file cut certified None is = cc is.is
 
 -- an answer to what a text declares is no failed reading
 file-sound : (task : FileTask) (t : Told) → ¬ IsFileAnswer task t answers.Read
@@ -329,7 +330,7 @@ file-sound (tasks.Dpop certified) t is = dpop-sound is.file certified (wide_in (
 file-sound (tasks.Adopt error budget certified) t is = is.is
 file-sound (tasks.Auto error budget certified) t is =
     let told = auto-status is.file error budget certified (wide_in (problem_solved is.file)) answers.Read is.is in (ending-told told.0).2 (sym told.1)
-file-sound (tasks.Cut limit) t is = cut_sound is.file is.cut (refusal_of (problem_solved is.file) is.cut) is.is
+file-sound (tasks.Cut limit certified) t is = cut_sound is.file is.cut certified (refusal_of (problem_solved is.file) is.cut certified) is.is
 file-sound tasks.Tree t is = is.is
 file-sound tasks.Upgrade t is = let s = upgraded-solved t.declared t.bar answers.Read is in cc
 
@@ -405,7 +406,7 @@ unread-sound : (drill : Option Drill) (answer : Answer) → IsUnreadAnswer drill
 unread-sound (Some drill) answer is fault =
     let solved : status_of is.solved ≡ ReadFault = sym (drilled-status drill.seed is.solved) ∙ sym (ap status_of is.told) ∙ fault in
     file-sound drill.task (told_of (made_for drill) None) (subst (λ (a : Answer). IsFileAnswer drill.task (told_of (made_for drill) None) a) (read-alone is.solved solved) is.is)
-unread-sound None answer is fault = let s = ap status_of is in cc
+unread-sound None answer is fault = is
 
 served-sound : (command : Command) (task : Option Task) (input : Input) (answer : Answer) → IsServedAnswer command task input answer → status_of answer ≡ ReadFault → input ≡ Broken
 served-sound command (Some task) input answer is fault = input-sound task input answer is fault
@@ -429,7 +430,7 @@ command-broken (Err words.NoMemory) answer is = absurd is
 -- no answer of links tells a failed reading
 given-sound : (words : List (List ℕ)) (input : Input) (answer : Answer) → IsGiven words input answer → status_of answer ≡ ReadFault → input ≡ Broken
 given-sound words input answer (inl is) fault = command-sound (answer_to words) input answer is fault
-given-sound words input answer (inr links) fault = elim (links-status _ _ answer links.links) [
+given-sound words input answer (inr links) fault = elim (links-status _ _ _ answer links.links) [
   | inl failed ↦ let e : LinkFault ≡ ReadFault = sym failed ∙ fault in cc e
   | inr differs ↦ let e : LinkDiffers ≡ ReadFault = sym differs ∙ fault in cc e
 ]
@@ -441,17 +442,17 @@ Rose-answered words before after answer done fault =
     subst (λ (i : Input). IsReadFrom i before after) (given-sound words done.input answer done.belongs fault) done.read
 
 -- a broken input tells no problem
-broken-untold : (task : Option Task) (drill : Option Drill) (told : Told) → ¬ TellsProblem task drill Broken told
-broken-untold (Some (File format task)) drill told is = is
-broken-untold (Some (Check format)) drill told is = is
-broken-untold (Some (Replay format after)) drill told is = is
-broken-untold (Some Edit) drill told is = is
-broken-untold None (Some drill) told is = is
-broken-untold None None told is = is
+broken-untold : (task : Option Task) (drill : Option Drill) (done : FileTask) (told : Told) → ¬ TellsProblem task drill Broken done told
+broken-untold (Some (File format task)) drill done told is = is
+broken-untold (Some (Check format)) drill done told is = is
+broken-untold (Some (Replay format after)) drill done told is = is
+broken-untold (Some Edit) drill done told is = is
+broken-untold None (Some drill) done told is = is
+broken-untold None None done told is = is
 
 given-broken : (words : List (List ℕ)) (answer : Answer) → IsGiven words Broken answer → status_of answer ≡ ReadFault
 given-broken words answer (inl is) = command-broken (answer_to words) answer is
-given-broken words answer (inr links) = absurd (broken-untold (task_of links.asks.command) (drill_of links.asks.command) links.told links.read)
+given-broken words answer (inr links) = absurd (broken-untold (task_of links.asks.command) (drill_of links.asks.command) links.task links.told links.read)
 
 -- and it comes wherever the source failed
 failed-input : (words : List (List ℕ)) (before after : SourceState) (input : Input) (answer : Answer) → IsReadFrom input before after → IsGiven words input answer
@@ -501,7 +502,8 @@ file-well format (tasks.Dpop certified) t answer few is =
     solved-well (status_of answer) (File format (tasks.Dpop certified)) (dpop-solved is.file certified answer (fit-none t.declared few is.file is.whole is.declared) is.is)
 file-well format (tasks.Adopt error budget certified) t answer few is = adopt-well format is.file error budget certified answer is.is
 file-well format (tasks.Auto error budget certified) t answer few is = auto-well format is.file error budget certified answer is.is
-file-well format (tasks.Cut limit) t answer few is = solved-well (status_of answer) (File format (tasks.Cut limit)) (cut-solved answer (allowed-solved cut_sets_are_one depth_first_trees_are_linked t.declared limit answer few.0 few.1 is))
+file-well format (tasks.Cut limit certified) t answer few is =
+    solved-well (status_of answer) (File format (tasks.Cut limit certified)) (cut-solved answer (allowed-solved cut_sets_are_one depth_first_trees_are_linked t.declared limit certified answer few.0 few.1 is))
 file-well format tasks.Tree t answer few is = solved-well (status_of answer) (File format tasks.Tree) (tree-solved is.file answer is.is)
 file-well format tasks.Upgrade t answer few is = solved-well (status_of answer) (File format tasks.Upgrade) (upgraded-solved t.declared t.bar answer is)
 

@@ -9,6 +9,7 @@ use Rattle.answer_edge.specs.Statuses.{status_of}
 use Rattle.answer_edge.specs.Input.{Input}
 use Rattle.solve_top.specs.Nodes.{difference_answer, TellsDifference, IsOfLinks}
 use Rattle.solve_top.specs.Answering.{IsAnswer}
+use Rattle.solve_top.specs.declared.task.FileTask.{FileTask}
 use Rattle.solve_top.specs.Same.{IsGiven, DpopAnswersAreOne, SolvedAnswersAreOne}
 
 -- a difference has a status of its own
@@ -16,24 +17,24 @@ pub difference-status : (names : List (List ℕ)) (d : Difference) → status_of
 difference-status names (Message from to at sent taken) = refl
 difference-status names (Bytes round from_node to_node place sent taken) = refl
 
-told-status : (nodes : ℕ) (d : Declared) (answer : Answer) → TellsDifference nodes d answer → status_of answer ≡ LinkDiffers
-told-status nodes d answer t = ap status_of t.told ∙ difference-status t.file.names t.difference
+told-status : (task : FileTask) (nodes : ℕ) (d : Declared) (answer : Answer) → TellsDifference task nodes d answer → status_of answer ≡ LinkDiffers
+told-status task nodes d answer t = ap status_of t.told ∙ difference-status t.file.names t.difference
 
 -- an answer of links has one of two statuses
-pub links-status : (nodes : ℕ) (d : Declared) (answer : Answer) → IsOfLinks nodes d answer → (status_of answer ≡ LinkFault) ⊎ (status_of answer ≡ LinkDiffers)
-links-status nodes d answer (inl failed) = inl (ap status_of failed)
-links-status nodes d answer (inr differs) = inr (told-status nodes d answer differs)
+pub links-status : (task : FileTask) (nodes : ℕ) (d : Declared) (answer : Answer) → IsOfLinks task nodes d answer → (status_of answer ≡ LinkFault) ⊎ (status_of answer ≡ LinkDiffers)
+links-status task nodes d answer (inl failed) = inl (ap status_of failed)
+links-status task nodes d answer (inr differs) = inr (told-status task nodes d answer differs)
 
 -- an answer that tells nothing of links belongs to the words and the input
 pub linkless-belongs : (words : List (List ℕ)) (input : Input) (answer : Answer) → IsGiven words input answer → status_of answer ≢ LinkFault → status_of answer ≢ LinkDiffers → IsAnswer words input answer
 linkless-belongs words input answer (inl belongs) fine same = belongs
-linkless-belongs words input answer (inr links) fine same = elim (links-status _ _ answer links.links) [
+linkless-belongs words input answer (inr links) fine same = elim (links-status _ _ _ answer links.links) [
   | inl failed ↦ absurd (fine failed)
   | inr differs ↦ absurd (same differs)
 ]
 
 -- so does a solved one
-solved-belongs : (words : List (List ℕ)) (input : Input) (answer : Answer) → IsGiven words input answer → status_of answer ≡ Solved → IsAnswer words input answer
+pub solved-belongs : (words : List (List ℕ)) (input : Input) (answer : Answer) → IsGiven words input answer → status_of answer ≡ Solved → IsAnswer words input answer
 solved-belongs words input answer given solved =
     linkless-belongs words input answer given
     (λ failed. let e : LinkFault ≡ Solved = sym failed ∙ solved in cc e)

@@ -26,7 +26,9 @@ use Rattle.solve_top.specs.Answering.{IsFileAnswer, IsDrillAnswer}
 use Rattle.solve_top.specs.Drilling.{made_for}
 use Rattle.solve_top.specs.declared.drilling.Drill.{Drill}
 use Rattle.solve_top.specs.Nodes.{nodes_of, difference_answer, AskForNodes, IsAnswerIn, IsFaultNamed, IsOfLinks, TellsAnswer, TellsFault, TellsLinks}
+use Rattle.solve_top.specs.Phases.{IsPhaseOf}
 use Rattle.solve_top.specs.Wiring.{IsFaultOf}
+use Rattle.solve_top.specs.declared.task.FileTask.{FileTask}
 use Rattle.solve_top.proofs.AnswerLaws.{asks_nodes, drilled-status}
 use Rattle.solve_top.proofs.GivenLaws.{difference-status}
 use Rattle.solve_top.proofs.LinkNameLaws.{difference_named}
@@ -37,9 +39,9 @@ solved-sizes Min p = refl
 solved-sizes Max p = refl
 
 -- the answer to a fault of the agents of the problem solved
-module _ (file : TextFile) (nodes : ℕ) (honest : Type 0) (old new : ℕ) where
+module _ (file : TextFile) (task : FileTask) (nodes : ℕ) (honest : Type 0) (old new : ℕ) where
   -- the agents at the ends of a link have names
-  pub fault_named : (e : NodeFault) → length file.names ≡ length file.problem.sizes → IsFaultOf (problem_solved file) nodes honest old new e → IsFaultNamed (length file.names) e
+  pub fault_named : (e : NodeFault) → length file.names ≡ length file.problem.sizes → IsFaultOf (problem_solved file) (IsPhaseOf task (problem_solved file)) nodes honest old new e → IsFaultNamed (length file.names) e
   fault_named Failed named fails = tt
   fault_named (Differs d) named fails =
       let count : length (problem_solved file).sizes ≡ length file.names = solved-sizes file.goal file.problem ∙ sym named in
@@ -49,9 +51,9 @@ module _ (file : TextFile) (nodes : ℕ) (honest : Type 0) (old new : ℕ) where
   fault_named no_memory named fails = tt
 
   -- it is one of the links
-  pub fault_belongs : (P : Answer → Type 0) (e : NodeFault) (r : Result Answer NoMemory) → IsProblem file.problem → IsFaultOf (problem_solved file) nodes honest old new e → TellsFault file.names e r
-      → IfOk r (IsAnswerIn nodes (declared_by file) P)
-  fault_belongs P Failed r whole fails told = subst (λ (x : Result Answer NoMemory). IfOk x (IsAnswerIn nodes (declared_by file) P)) (sym told) (inr (fails.0, inl refl))
+  pub fault_belongs : (P : Answer → Type 0) (e : NodeFault) (r : Result Answer NoMemory) → IsProblem file.problem → IsFaultOf (problem_solved file) (IsPhaseOf task (problem_solved file)) nodes honest old new e → TellsFault file.names e r
+      → IfOk r (IsAnswerIn task nodes (declared_by file) P)
+  fault_belongs P Failed r whole fails told = subst (λ (x : Result Answer NoMemory). IfOk x (IsAnswerIn task nodes (declared_by file) P)) (sym told) (inr (fails.0, inl refl))
   fault_belongs P (Differs d) (Ok answer) whole fails told = inr (
     fails.0,
     inr (record {
@@ -68,7 +70,7 @@ module _ (file : TextFile) (nodes : ℕ) (honest : Type 0) (old new : ℕ) where
   fault_belongs P no_memory (Err refused) whole fails told = tt
 
   -- and tells of them what the fault says
-  pub fault_tells : (e : NodeFault) (r : Result Answer NoMemory) → IsFaultOf (problem_solved file) nodes honest old new e → TellsFault file.names e r → TellsLinks (1 < nodes) honest old new r
+  pub fault_tells : (e : NodeFault) (r : Result Answer NoMemory) → IsFaultOf (problem_solved file) (IsPhaseOf task (problem_solved file)) nodes honest old new e → TellsFault file.names e r → TellsLinks (1 < nodes) honest old new r
   fault_tells Failed r fails told = subst (λ (x : Result Answer NoMemory). TellsLinks (1 < nodes) honest old new x) (sym told) (record {
     failed = λ e. fails;
     differs = λ e. absurd (cc e);
@@ -86,30 +88,30 @@ module _ (file : TextFile) (nodes : ℕ) (honest : Type 0) (old new : ℕ) where
   fault_tells no_memory (Err refused) fails told = fails
 
 -- an answer that belongs to a task is one by agents in any number of nodes
-pub own_answer : (nodes : ℕ) (d : Declared) (P : Answer → Type 0) (r : Result Answer NoMemory) → IfOk r P → IfOk r (IsAnswerIn nodes d P)
-own_answer nodes d P r is = IfOk-weaker r P (IsAnswerIn nodes d P) (λ answer own. inl own) is
+pub own_answer : (task : FileTask) (nodes : ℕ) (d : Declared) (P : Answer → Type 0) (r : Result Answer NoMemory) → IfOk r P → IfOk r (IsAnswerIn task nodes d P)
+own_answer task nodes d P r is = IfOk-weaker r P (IsAnswerIn task nodes d P) (λ answer own. inl own) is
 
 -- what a drill tells of an answer of links is that answer
 drilled-difference : (seed : ℕ) (names : List (List ℕ)) (d : Difference) → drilled seed (difference_answer names d) ≡ difference_answer names d
 drilled-difference seed names (Message from to at sent taken) = refl
 drilled-difference seed names (Bytes round from_node to_node place sent taken) = refl
 
-drilled-links : (seed nodes : ℕ) (d : Declared) (answer : Answer) → IsOfLinks nodes d answer → drilled seed answer ≡ answer
-drilled-links seed nodes d answer (inl failed) = ap (drilled seed) failed ∙ sym failed
-drilled-links seed nodes d answer (inr differs) = ap (drilled seed) differs.told ∙ drilled-difference seed differs.file.names differs.difference ∙ sym differs.told
+drilled-links : (task : FileTask) (seed nodes : ℕ) (d : Declared) (answer : Answer) → IsOfLinks task nodes d answer → drilled seed answer ≡ answer
+drilled-links task seed nodes d answer (inl failed) = ap (drilled seed) failed ∙ sym failed
+drilled-links task seed nodes d answer (inr differs) = ap (drilled seed) differs.told ∙ drilled-difference seed differs.file.names differs.difference ∙ sym differs.told
 
 -- the answer to a drill, by that of the task on the file that is made
-pub drill_answers : (drill : Drill) (nodes : ℕ) (file : TextFile) (answer : Answer) → file ≡ made_for drill → IsAnswerIn nodes (declared_by file) (IsFileAnswer drill.task (told_of file None)) answer
-    → IsAnswerIn nodes (declared_by (made_for drill)) (IsDrillAnswer drill) (drilled drill.seed answer)
-drill_answers drill nodes file answer made is = on (subst (λ (f : TextFile). IsAnswerIn nodes (declared_by f) (IsFileAnswer drill.task (told_of f None)) answer) made is) where
-  on : IsAnswerIn nodes (declared_by (made_for drill)) (IsFileAnswer drill.task (told_of (made_for drill) None)) answer → IsAnswerIn nodes (declared_by (made_for drill)) (IsDrillAnswer drill) (drilled drill.seed answer)
+pub drill_answers : (drill : Drill) (nodes : ℕ) (file : TextFile) (answer : Answer) → file ≡ made_for drill → IsAnswerIn drill.task nodes (declared_by file) (IsFileAnswer drill.task (told_of file None)) answer
+    → IsAnswerIn drill.task nodes (declared_by (made_for drill)) (IsDrillAnswer drill) (drilled drill.seed answer)
+drill_answers drill nodes file answer made is = on (subst (λ (f : TextFile). IsAnswerIn drill.task nodes (declared_by f) (IsFileAnswer drill.task (told_of f None)) answer) made is) where
+  on : IsAnswerIn drill.task nodes (declared_by (made_for drill)) (IsFileAnswer drill.task (told_of (made_for drill) None)) answer → IsAnswerIn drill.task nodes (declared_by (made_for drill)) (IsDrillAnswer drill) (drilled drill.seed answer)
   on (inl own) = inl (record {
     solved = answer;
     is = own;
     told = refl;
   })
   on (inr links) =
-      inr (links.0, subst (λ (a : Answer). IsOfLinks nodes (declared_by (made_for drill)) a) (sym (drilled-links drill.seed nodes (declared_by (made_for drill)) answer links.1)) links.1)
+      inr (links.0, subst (λ (a : Answer). IsOfLinks drill.task nodes (declared_by (made_for drill)) a) (sym (drilled-links drill.task drill.seed nodes (declared_by (made_for drill)) answer links.1)) links.1)
 
 pub drill_tells : (seed : ℕ) (many honest : Type 0) (old new : ℕ) (answer : Answer) → TellsAnswer many honest old new answer → TellsAnswer many honest old new (drilled seed answer)
 drill_tells seed many honest old new answer tells =

@@ -1,5 +1,5 @@
 -- Of inputs that are read alike DPOP has one answer, and auto has it too where DPOP fits; an optimum of `edit` is that of DPOP.
-use Rattle.std.proofs.Common.{◌≡◌, ℕ, Bool, Option, None, Result, Ok, Err, sym, subst, ◌∙◌}
+use Rattle.std.proofs.Common.{◌≡◌, ℕ, inl, inr, Bool, List, Option, None, Result, Ok, Err, sym, subst, ◌∙◌}
 use Rattle.dcop_optimum.specs.TreeOptimum.{FirstOptimaOfTreesAreOne}
 use Rattle.pseudotree.specs.DepthFirst.{DepthFirstTreesAreLinked}
 use Rattle.pseudotree.specs.declared.width.Wide.{Wide}
@@ -11,15 +11,16 @@ use Rattle.solve_report.specs.declared.answer.Answer.{Answer}
 use Rattle.solve_report.specs.declared.answer.Answer.TheVariants as answers
 use Rattle.solve_top.specs.declared.task.Task.TheVariants.{File}
 use Rattle.solve_top.specs.declared.task.FileTask.TheVariants as tasks
-use Rattle.solve_top.specs.Answering.{IsTextAnswer, IsInputAnswer}
+use Rattle.solve_top.specs.Answering.{IsTextAnswer, IsInputAnswer, IsAnswer}
 use Rattle.answer_edge.specs.Input.{Input, Unread, Broken, TooLong, Whole}
-use Rattle.solve_top.specs.Same.{AreReadAlike, AutoAnswersAreThoseOfDpop, DpopAnswersAreOne, EditAnswersAreThoseOfDpop, HasFitProblem}
+use Rattle.solve_top.specs.Same.{AreReadAlike, AutoAnswersAreThoseOfDpop, ComeToDpop, DpopAnswersAreOne, EditAnswersAreThoseOfDpop, FitAnswersAreOne, HasFitProblem}
 use Rattle.solve_top.specs.Solving.{HasFitTree}
 use Rattle.solve_words.specs.declared.command.Format.{Format}
 use Rattle.solve_inputs.specs.Told.{Told}
 use Rattle.solve_inputs.specs.Inputs.{input_read, declared_in}
 use Rattle.solve_top.proofs.AnswerLaws.{fit-none, IsAnswer-task, task-IsAnswer}
 use Rattle.solve_top.proofs.EditLaws.{same_as_dpop}
+use Rattle.solve_top.proofs.GivenLaws.{solved-belongs}
 use Rattle.solve_top.proofs.SameLaws.{one_answer}
 
 module _ (optima : FirstOptimaOfTreesAreOne) (trees : DepthFirstTreesAreLinked) (certified : Bool) where
@@ -81,6 +82,20 @@ auto_answers_dpop format certified words words' input answer asks asks' fit is =
     IsAnswer-task words' asks'.command (File format (tasks.Dpop certified)) input answer asks'.asked asks'.served
     (auto_of_input format asks.error asks.budget certified input answer fit
     (task-IsAnswer words asks.command (File format (tasks.Auto asks.error asks.budget certified)) input answer asks.asked asks.served is))
+
+-- an answer to words that come to DPOP is one of DPOP
+come_to_input : (format : Format) (certified : Bool) (words : List (List ℕ)) (input : Input) (answer : Answer) → ComeToDpop format certified input words → IsAnswer words input answer
+    → IsInputAnswer (File format (tasks.Dpop certified)) input answer
+come_to_input format certified words input answer (inl asks) is = task-IsAnswer words asks.command (File format (tasks.Dpop certified)) input answer asks.asked asks.served is
+come_to_input format certified words input answer (inr come) is =
+    auto_of_input format come.0.error come.0.budget certified input answer come.1
+    (task-IsAnswer words come.0.command (File format (tasks.Auto come.0.error come.0.budget certified)) input answer come.0.asked come.0.served is)
+
+pub fit_answers_one : FirstOptimaOfTreesAreOne → DepthFirstTreesAreLinked → FitAnswersAreOne
+fit_answers_one optima trees format format' certified words words' input input' a b come come' alike given given' solved solved' =
+    one_of_input optima trees certified format format' input input' a b alike
+    (come_to_input format certified words input a come (solved-belongs words input a given solved))
+    (come_to_input format' certified words' input' b come' (solved-belongs words' input' b given' solved'))
 
 pub edit_answers_dpop : FirstOptimaOfTreesAreOne → DepthFirstTreesAreLinked → EditAnswersAreThoseOfDpop
 edit_answers_dpop optima trees format certified words bytes told report file s answer asks read declares whole is now =

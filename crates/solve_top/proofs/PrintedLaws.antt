@@ -102,6 +102,8 @@ module _ (file : TextFile) (net : Network) (log : List LogEvent) (none : fault_i
   differs_replayed (differences.TreePair one other) names is = is
   differs_replayed (differences.Scope var) names is = is
   differs_replayed (differences.Cell var cell value left right) names is = is
+  differs_replayed (differences.TurnScope turn var) names is = is
+  differs_replayed (differences.TurnCell turn var cell value left right) names is = is
   differs_replayed (differences.Cost left right) names is = is
   differs_replayed (differences.Root left right) names is = is
   differs_replayed (differences.Lower left right) names is = is

@@ -15,15 +15,6 @@ use Rattle.solve_top.specs.Nodes.{AskForNodes, TellsAnswer}
 use Rattle.solve_top.specs.Solving.{GoesWell, Answered, Accepts, AsksDrill, Solves}
 use Rattle.solve_top.proofs.AnswerLaws.{Rose-answered, ReadFault-answered, well-answered, drill-well}
 
-pub solved-so : (words : List (List ℕ)) (source source' : SourceState) (answer : Answer) → Answered words source source' answer
-    → (sink sink' : SinkState) (faults faults' : ℕ) (status : Status) → Shows answer sink sink' faults faults' status → status ≢ NoMemory
-    → Solves words source source' sink sink' status
-solved-so words source source' answer answered sink sink' faults faults' status shown some = record {
-  answer = answer;
-  answered = answered;
-  shown = shows.shown-so answer sink sink' faults faults' status shown some;
-}
-
 pub read-so : (words : List (List ℕ)) (source source' : SourceState) (answer : Answer) → Answered words source source' answer
     → (sink sink' : SinkState) (faults faults' : ℕ) (status : Status) → Shows answer sink sink' faults faults' status → status ≡ ReadFault
     → Rose source.faults source'.faults
@@ -67,6 +58,14 @@ module _ (words : List (List ℕ)) (honest : Type 0) (old new : ℕ) (answer : A
   alike so differs = let t = tells.differs differs in t.1 (so t.0)
 
   module _ (sink sink' : SinkState) (faults faults' : ℕ) (status : Status) (shown : Shows answer sink sink' faults faults' status) where
+    pub solved-so : (source source' : SourceState) → Answered words source source' answer → status ≢ NoMemory → Solves words honest old new source source' sink sink' status
+    solved-so source source' answered some = record {
+      answer = answer;
+      answered = answered;
+      links = tells;
+      shown = shows.shown-so answer sink sink' faults faults' status shown some;
+    }
+
     pub link-so : status ≡ LinkFault → AskForNodes words × Rose old new
     link-so fault = let t = tells.failed (shows.told-so LinkFault (λ e. cc e) (λ e. cc e) answer sink sink' faults faults' status shown fault) in (t.0, t.2)
 

@@ -1,6 +1,7 @@
 pub mod Served
 pub mod Drilling
 pub mod Answering
+pub mod Phases
 pub mod Nodes
 pub mod Wiring
 pub mod Taken

@@ -39,9 +39,11 @@ use Rattle.solve_inputs.specs.Inputs.{input_read}
 use Rattle.solve_top.specs.Answering.{IsTextAnswer, IsTaskAnswer, IsDrillAnswer, IsUnreadAnswer}
 use Rattle.solve_top.specs.Served.{task_of}
 use Rattle.solve_top.specs.Drilling.{drill_of, made_for}
+use Rattle.solve_top.specs.Phases.{IsPhaseOf}
 use Rattle.solve_top.specs.declared.drilling.Drill.{Drill as Drilled}
 use Rattle.solve_top.specs.declared.task.Task.{Task}
 use Rattle.solve_top.specs.declared.task.Task.TheVariants.{File}
+use Rattle.solve_top.specs.declared.task.FileTask.{FileTask}
 
 -- how many nodes a command asks for
 abbrev pub nodes_of : Command → ℕ
@@ -55,11 +57,12 @@ pub record AskForNodes (words : List (List ℕ)) : Type 0 where
   pub asked : answer_to words ≡ Ok command
   pub many : 1 < nodes_of command
 
--- agents of a problem were run in so many nodes, over links that had passed nothing, one from each agent to each of its neighbours in another node and no other, by sender and then receiver; and they came to this difference between what was sent and what was taken
-pub record HaveDiffered (p : Dcop) (nodes : ℕ) (d : Difference) : Type 0 where
+-- in a phase of this kind, agents of a problem were run in so many nodes, over links that had passed nothing, one from each agent to each of its neighbours in another node and no other, by sender and then receiver; and they came to this difference between what was sent and what was taken
+pub record HaveDiffered (p : Dcop) (is_phase : Start → ℕ → Type 0) (nodes : ℕ) (d : Difference) : Type 0 where
   pub start : Start
   pub fits : IsStartFor p start
   pub budget : ℕ
+  pub phase : is_phase start budget
   pub links : List Wire
   pub between : All (IsBetween (length p.sizes) nodes) links
   pub ordered : AreOrdered links
@@ -91,49 +94,50 @@ abbrev pub IsFaultNamed : ℕ → NodeFault → Type 0
 IsFaultNamed count (Differs (Message from to at sent taken)) = (from < count) × (to < count)
 IsFaultNamed count fault = Unit {0}
 
--- it tells a difference that agents came to, in so many nodes, who solve a file that declares this
-pub record TellsDifference (nodes : ℕ) (d : Declared) (answer : Answer) : Type 0 where
+-- it tells a difference that agents came to, in so many nodes, who do a task on a file that declares this
+pub record TellsDifference (task : FileTask) (nodes : ℕ) (d : Declared) (answer : Answer) : Type 0 where
   pub file : TextFile
   pub whole : IsProblem file.problem
   pub declared : declared_by file ≡ d
   pub difference : Difference
-  pub differed : HaveDiffered (problem_solved file) nodes difference
+  pub differed : HaveDiffered (problem_solved file) (IsPhaseOf task (problem_solved file)) nodes difference
   pub told : answer ≡ difference_answer file.names difference
 
--- an answer of the links between so many nodes: they failed, or what was taken is not what was sent
-abbrev pub IsOfLinks : ℕ → Declared → Answer → Type 0
-IsOfLinks nodes d answer = (answer ≡ answers.Link) ⊎ TellsDifference nodes d answer
+-- an answer of the links between so many nodes, in which a task is done: they failed, or what was taken is not what was sent
+abbrev pub IsOfLinks : FileTask → ℕ → Declared → Answer → Type 0
+IsOfLinks task nodes d answer = (answer ≡ answers.Link) ⊎ TellsDifference task nodes d answer
 
--- an input tells a problem on which agents are run: all of a text that is accepted; or, for a drill, nothing is read and the problem is the one that is made
-abbrev pub TellsProblem : Option Task → Option Drilled → Input → Told → Type 0
-TellsProblem (Some (File format task)) drill (Whole bytes) told = input_read format bytes ≡ Ok told
-TellsProblem None (Some drill) Unread told = told ≡ told_of (made_for drill) None
-TellsProblem task drill input told = ⊥
+-- an input tells a problem on which agents do a task: all of a text that is accepted; or, for a drill, nothing is read and the problem is the one that is made
+abbrev pub TellsProblem : Option Task → Option Drilled → Input → FileTask → Told → Type 0
+TellsProblem (Some (File format task)) drill (Whole bytes) done told = (done ≡ task) × (input_read format bytes ≡ Ok told)
+TellsProblem None (Some drill) Unread done told = (done ≡ drill.task) × (told ≡ told_of (made_for drill) None)
+TellsProblem task drill input done told = ⊥
 
 -- an answer of links to words that ask for more nodes than one, where words and text are accepted
 pub record IsLinkAnswer (words : List (List ℕ)) (input : Input) (answer : Answer) : Type 0 where
   pub asks : AskForNodes words
+  pub task : FileTask
   pub told : Told
-  pub read : TellsProblem (task_of asks.command) (drill_of asks.command) input told
-  pub links : IsOfLinks (nodes_of asks.command) told.declared answer
+  pub read : TellsProblem (task_of asks.command) (drill_of asks.command) input task told
+  pub links : IsOfLinks task (nodes_of asks.command) told.declared answer
 
 -- an answer to a task on a text that declares this, by agents in so many nodes: one that belongs to it, or one of the links between them
-abbrev pub IsAnswerIn : ℕ → Declared → (Answer → Type 0) → Answer → Type 0
-IsAnswerIn nodes d belongs answer = belongs answer ⊎ ((1 < nodes) × IsOfLinks nodes d answer)
+abbrev pub IsAnswerIn : FileTask → ℕ → Declared → (Answer → Type 0) → Answer → Type 0
+IsAnswerIn task nodes d belongs answer = belongs answer ⊎ ((1 < nodes) × IsOfLinks task nodes d answer)
 
 -- the same, on an input that is read as this
-abbrev pub IsAnswerRead : ℕ → Result Told Answer → (Answer → Type 0) → Answer → Type 0
-IsAnswerRead nodes (Ok told) belongs answer = IsAnswerIn nodes told.declared belongs answer
-IsAnswerRead nodes (Err refusal) belongs answer = belongs answer
+abbrev pub IsAnswerRead : FileTask → ℕ → Result Told Answer → (Answer → Type 0) → Answer → Type 0
+IsAnswerRead task nodes (Ok told) belongs answer = IsAnswerIn task nodes told.declared belongs answer
+IsAnswerRead task nodes (Err refusal) belongs answer = belongs answer
 
 -- the answer to a task on a text, by agents in so many nodes
 abbrev pub IsTaskAnswerIn : ℕ → Task → List ℕ → Answer → Type 0
-IsTaskAnswerIn nodes (File format task) bytes answer = IsAnswerRead nodes (input_read format bytes) (IsTextAnswer task (input_read format bytes)) answer
+IsTaskAnswerIn nodes (File format task) bytes answer = IsAnswerRead task nodes (input_read format bytes) (IsTextAnswer task (input_read format bytes)) answer
 IsTaskAnswerIn nodes task bytes answer = IsTaskAnswer task bytes answer
 
 -- the answer to a command for which nothing is read, by agents in so many nodes
 abbrev pub IsUnreadAnswerIn : ℕ → Option Drilled → Answer → Type 0
-IsUnreadAnswerIn nodes (Some drill) answer = IsAnswerIn nodes (declared_by (made_for drill)) (IsDrillAnswer drill) answer
+IsUnreadAnswerIn nodes (Some drill) answer = IsAnswerIn drill.task nodes (declared_by (made_for drill)) (IsDrillAnswer drill) answer
 IsUnreadAnswerIn nodes None answer = IsUnreadAnswer None answer
 
 -- what an answer tells of the links between nodes, where this is that there are more nodes than one, and this that the dialer is honest: the dialer's count rose where it tells that they failed, and in no other case; and a difference is told over no honest dialer

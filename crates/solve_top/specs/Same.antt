@@ -61,6 +61,15 @@ abbrev pub HasFitProblem : Format → Input → Type 0
 HasFitProblem format (Whole bytes) = (told : Told) × (input_read format bytes ≡ Ok told) × HasFitTree told.declared
 HasFitProblem format input = ⊥
 
+-- words that ask for DPOP, or for auto on an input that tells such a problem, with a certificate or without
+abbrev pub ComeToDpop : Format → Bool → Input → List (List ℕ) → Type 0
+ComeToDpop format certified input words = AskForDpop format certified words ⊎ (AskForAuto format certified words × HasFitProblem format input)
+
+-- whatever words come to DPOP, in any number of nodes, all with a certificate or all without: the solved answers on inputs that are read alike are one
+abbrev pub FitAnswersAreOne : Type 0
+FitAnswersAreOne = (format format' : Format) (certified : Bool) (words words' : List (List ℕ)) (input input' : Input) (a b : Answer) → ComeToDpop format certified input words → ComeToDpop format' certified input' words'
+    → AreReadAlike format format' input input' → IsGiven words input a → IsGiven words' input' b → status_of a ≡ Solved → status_of b ≡ Solved → a ≡ b
+
 -- an answer of auto on such an input is one of DPOP, with a certificate or without alike
 abbrev pub AutoAnswersAreThoseOfDpop : Type 0
 AutoAnswersAreThoseOfDpop = (format : Format) (certified : Bool) (words words' : List (List ℕ)) (input : Input) (answer : Answer) → AskForAuto format certified words → AskForDpop format certified words' → HasFitProblem format input

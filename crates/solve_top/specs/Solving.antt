@@ -29,7 +29,7 @@ use Rattle.solve_top.specs.declared.task.Task.TheVariants.{File, Check, Replay, 
 use Rattle.solve_top.specs.declared.task.FileTask.{FileTask}
 use Rattle.solve_top.specs.declared.task.FileTask.TheVariants as tasks
 use Rattle.solve_top.specs.Answering.{IsAnswer, IsFileAnswer, lines_in}
-use Rattle.solve_top.specs.Nodes.{IsLinkAnswer}
+use Rattle.solve_top.specs.Nodes.{AskForNodes, IsLinkAnswer, TellsAnswer}
 use Rattle.solve_top.specs.Taken.{AreLinesTaken}
 use Rattle.solve_cut.specs.Allowed.{HasAllowedCut}
 use Rattle.solve_methods.specs.Dpop.{wide_in}
@@ -52,10 +52,11 @@ pub record Answered (words : List (List ℕ)) (before after : SourceState) (answ
   pub belongs : IsAnswer words input answer ⊎ IsLinkAnswer words input answer
   pub right : TellsRight answer
 
--- a call on these words answered and showed its answer, or its sink failed
-pub record Solves (words : List (List ℕ)) (source source' : SourceState) (sink sink' : SinkState) (status : Status) : Type 0 where
+-- a call on these words answered, and showed its answer, or its sink failed behind a prefix of it; where this is that its dialer is honest, and the dialer's count of faults went from here to there, the answer tells of the links between nodes what is so of them
+pub record Solves (words : List (List ℕ)) (honest : Type 0) (old new : ℕ) (source source' : SourceState) (sink sink' : SinkState) (status : Status) : Type 0 where
   pub answer : Answer
   pub answered : Answered words source source' answer
+  pub links : TellsAnswer (AskForNodes words) honest old new answer
   pub shown : IsShown answer sink sink' status ⊎ IsCut answer sink sink' status
 
 -- a text that declares this is a file in whose depth-first tree, that of the problem solved, nothing is too wide: it is narrow and light
@@ -71,7 +72,7 @@ IsWithinLimits tasks.Plain d = product d.sizes ≤ assignment_limit
 IsWithinLimits (tasks.Dpop certified) d = HasFitTree d
 IsWithinLimits (tasks.Adopt error budget certified) d = Unit {0}
 IsWithinLimits (tasks.Auto error budget certified) d = Unit {0}
-IsWithinLimits (tasks.Cut limit) d = (size_limit ≤ limit) × HasAllowedCut d limit
+IsWithinLimits (tasks.Cut limit certified) d = (size_limit ≤ limit) × HasAllowedCut d limit certified
 IsWithinLimits tasks.Tree d = Unit {0}
 IsWithinLimits tasks.Upgrade d = Unit {0}
 
@@ -85,7 +86,7 @@ pub record IsProblemFor (format : Format) (task : FileTask) (text : List ℕ) : 
 abbrev pub IsReadableEvent : LogEvent → Type 0
 IsReadableEvent e = (e.stamp ≤ amount_limit) × All (λ t. t.count ≤ take_limit) e.takes
 
--- the numbers that a report with this certificate prints can be read again: those of a report of DPOP always can, and those of a report with a log where its deliveries and stamps are at most amount_limit and its counts at most take_limit
+-- the numbers that a report with this certificate prints can be read again: those of a report of DPOP or of a cut always can, and those of a report with a log where its deliveries and stamps are at most amount_limit and its counts at most take_limit
 abbrev pub IsReadable : Report → Option Certificate → Type 0
 IsReadable report (Some (Log log)) = (report.deliveries ≤ amount_limit) × All IsReadableEvent log
 IsReadable report certificate = Unit {0}

@@ -127,7 +127,7 @@ where
     D: Dialer,
     G: Gate,
     requires range { IsFileTaskInRange task }
-    ensures belongs { IfOk result (IsAnswerRead crew.now.nodes (input_read format bytes.now) (IsTextAnswer task (input_read format bytes.now))) }
+    ensures belongs { IfOk result (IsAnswerRead task crew.now.nodes (input_read format bytes.now) (IsTextAnswer task (input_read format bytes.now))) }
     ensures links { TellsLinks (1 < crew.now.nodes) (D.is_honest dialer.old) (D.faults dialer.old) (D.faults dialer.new) result }
     ensures right { IfOk result TellsRight }
     ensures told { IfOk result HasText }
@@ -153,7 +153,7 @@ where
     D: Dialer,
     G: Gate,
     requires range { IsFileTaskInRange task }
-    ensures belongs { IfOk result (IsAnswerIn crew.now.nodes (declared_by read.file) (IsFileAnswer task (told_of read.file read.bar))) }
+    ensures belongs { IfOk result (IsAnswerIn task crew.now.nodes (declared_by read.file) (IsFileAnswer task (told_of read.file read.bar))) }
     ensures links { TellsLinks (1 < crew.now.nodes) (D.is_honest dialer.old) (D.faults dialer.old) (D.faults dialer.new) result }
     ensures right { IfOk result TellsRight }
     ensures told { IfOk result HasText }
@@ -186,7 +186,7 @@ where
             };
             by_auto(crew, alloc, dialer, file, asked)
         }
-        FileTask::Cut { limit } => by_cut(crew, alloc, file, limit),
+        FileTask::Cut { limit, certified } => by_cut(crew, alloc, file, limit, certified),
         FileTask::Tree => by_search(crew, alloc, file),
         FileTask::Upgrade => Ok(upgrade_answer(file, bar)),
     }

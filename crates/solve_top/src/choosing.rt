@@ -9,11 +9,13 @@ ghost use Rattle.solve_methods.specs.Dpop.{AnswersDpop, GivesChosen, HaveAgreed}
 ghost use Rattle.tree_search.specs.Found.{IsFound};
 ghost use Rattle.solve_methods.specs.Goal.{TellsRight};
 ghost use Rattle.solve_top.specs.Nodes.{IsAnswerIn, TellsLinks};
+ghost use Rattle.solve_top.specs.Phases.{IsDpopPhase, IsPhaseOf};
 ghost use Rattle.solve_top.specs.Wiring.{nodes_in, IsWiringFor, IsHonestWiring, MayFail};
 
 use crate::crew::Crew;
 use crate::linking::fault_told;
 use crate::nodes::{Wiring, find_over, run_over};
+use crate::task::FileTask;
 use dcop_base::{NoMemory, Problem, problem_is_whole};
 use dcop_edge::Gate;
 use delivery_core::Start;
@@ -45,7 +47,7 @@ where
     R: Threads + Wait + Clock + RandomSource + Net + AllocGlobal + Sync,
     D: Dialer,
     G: Gate,
-    ensures belongs { IfOk result (IsAnswerIn crew.now.nodes (declared_by file) (AnswersDpop (declared_by file) certified)) }
+    ensures belongs { IfOk result (IsAnswerIn (FileTask.Dpop certified) crew.now.nodes (declared_by file) (AnswersDpop (declared_by file) certified)) }
     ensures links { TellsLinks (1 < crew.now.nodes) (D.is_honest dialer.old) (D.faults dialer.old) (D.faults dialer.new) result }
     ensures right { IfOk result TellsRight }
     ensures told { IfOk result HasText }
@@ -70,7 +72,7 @@ where
     D: Dialer,
     G: Gate,
     ensures chosen { IfOk result (GivesChosen (problem_solved file.now) certified) }
-    ensures links { MayFail (problem_solved file.now) crew.now.nodes (D.is_honest dialer.old) (D.faults dialer.old) (D.faults dialer.new) result }
+    ensures links { MayFail (problem_solved file.now) (IsPhaseOf (FileTask.Dpop certified) (problem_solved file.now)) crew.now.nodes (D.is_honest dialer.old) (D.faults dialer.old) (D.faults dialer.new) result }
 {
     let solved = ProblemSolved::of(alloc, file)?;
     let problem = solved.problem();
@@ -94,7 +96,7 @@ where
     G: Gate,
     requires wiring { IsWiringFor (length problem.now.sizes) wiring.old }
     ensures chosen { IfOk result (GivesChosen problem.now certified) }
-    ensures links { MayFail problem.now (nodes_in wiring.old) (IsHonestWiring D.W.told D.W.is_joined wiring.old) (D.faults dialer.old) (D.faults dialer.new) result }
+    ensures links { MayFail problem.now (IsPhaseOf (FileTask.Dpop certified) problem.now) (nodes_in wiring.old) (IsHonestWiring D.W.told D.W.is_joined wiring.old) (D.faults dialer.old) (D.faults dialer.new) result }
 {
     let found = find_over(crew, alloc, dialer, wiring, problem)?;
     match widths(&found.tree, problem) {
@@ -125,7 +127,7 @@ where
     requires wiring { IsWiringFor (length problem.now.sizes) wiring.old }
     ensures asked { IfOk result (λ chosen. is_some chosen.certificate ≡ certified) }
     ensures agreed { IfOk result (HaveAgreed problem.now) }
-    ensures links { MayFail problem.now (nodes_in wiring.old) (IsHonestWiring D.W.told D.W.is_joined wiring.old) (D.faults dialer.old) (D.faults dialer.new) result }
+    ensures links { MayFail problem.now (IsDpopPhase problem.now) (nodes_in wiring.old) (IsHonestWiring D.W.told D.W.is_joined wiring.old) (D.faults dialer.old) (D.faults dialer.new) result }
 {
     let rows = node_rows_if(alloc, certified, &found.tree)?;
     let budget = choice_deliveries(problem);

@@ -1,6 +1,6 @@
 //! The laws of the answers of DPOP, auto and `edit`.
 
-ghost use Rattle.solve_top.specs.Same.{AutoAnswersAreThoseOfDpop, DpopAnswersAreOne, EditAnswersAreThoseOfDpop, SolvedAnswersAreOne};
+ghost use Rattle.solve_top.specs.Same.{AutoAnswersAreThoseOfDpop, DpopAnswersAreOne, EditAnswersAreThoseOfDpop, FitAnswersAreOne, SolvedAnswersAreOne};
 
 use dcop_optimum::first_optima_of_trees_are_one;
 use pseudotree::depth_first_trees_are_linked;
@@ -36,6 +36,18 @@ pub fn solved_answers_are_one()
 pub fn auto_answers_are_those_of_dpop()
     ensures { AutoAnswersAreThoseOfDpop }
 {}
+
+/// The solved answers of `solve --method auto` too, where nothing is too wide for DPOP in the tree of
+/// what was read, are that one function of the file and of whether it is certified, for every number
+/// of workers and of nodes: a solved answer of auto or of DPOP is the same as any other.
+///
+/// It is the contract of a call that does nothing: who needs the law calls it.
+pub fn fit_answers_are_one()
+    ensures { FitAnswersAreOne }
+{
+    first_optima_of_trees_are_one();
+    depth_first_trees_are_linked();
+}
 
 /// An optimum that `edit` answers has the values and the cost that `solve --method dpop` reports of a
 /// text which declares the problem as it is then, for either goal.

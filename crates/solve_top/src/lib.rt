@@ -26,6 +26,6 @@ pub use answer_edge::{MAX_INPUT, Status};
 pub use answering::answer_of;
 pub use law::{
     auto_answers_are_those_of_dpop, dpop_answers_are_one, edit_answers_are_those_of_dpop,
-    solved_answers_are_one,
+    fit_answers_are_one, solved_answers_are_one,
 };
 pub use top::solve;

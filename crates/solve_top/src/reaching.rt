@@ -10,11 +10,13 @@ ghost use Rattle.tree_search.specs.Found.{IsFound};
 ghost use Rattle.solve_methods.specs.Goal.{TellsRight};
 ghost use Rattle.solve_methods.specs.Reached.{HaveReached};
 ghost use Rattle.solve_top.specs.Nodes.{IsAnswerIn, TellsLinks};
+ghost use Rattle.solve_top.specs.Phases.{IsAdoptPhase, IsPhaseOf};
 ghost use Rattle.solve_top.specs.Wiring.{nodes_in, IsWiringFor, IsHonestWiring, MayFail};
 
 use crate::crew::Crew;
 use crate::linking::fault_told;
 use crate::nodes::{Wiring, find_over, run_over};
+use crate::task::FileTask;
 use dcop_base::{NoMemory, Problem, problem_is_whole};
 use dcop_edge::Gate;
 use delivery_core::Start;
@@ -47,7 +49,7 @@ where
     G: Gate,
     requires error { asked.error ≤ amount_limit }
     requires budget { asked.budget ≤ budget_limit }
-    ensures belongs { IfOk result (IsAnswerIn crew.now.nodes (declared_by file) (AnswersAdopt (declared_by file) asked.error asked.budget asked.certified)) }
+    ensures belongs { IfOk result (IsAnswerIn (FileTask.Adopt asked.error asked.budget asked.certified) crew.now.nodes (declared_by file) (AnswersAdopt (declared_by file) asked.error asked.budget asked.certified)) }
     ensures links { TellsLinks (1 < crew.now.nodes) (D.is_honest dialer.old) (D.faults dialer.old) (D.faults dialer.new) result }
     ensures right { IfOk result TellsRight }
     ensures told { IfOk result HasText }
@@ -74,7 +76,7 @@ where
     requires error { asked.error ≤ amount_limit }
     requires budget { asked.budget ≤ budget_limit }
     ensures reached { IfOk result (HaveReached (problem_solved file.now) asked.error asked.budget asked.certified) }
-    ensures links { MayFail (problem_solved file.now) crew.now.nodes (D.is_honest dialer.old) (D.faults dialer.old) (D.faults dialer.new) result }
+    ensures links { MayFail (problem_solved file.now) (IsPhaseOf (FileTask.Adopt asked.error asked.budget asked.certified) (problem_solved file.now)) crew.now.nodes (D.is_honest dialer.old) (D.faults dialer.old) (D.faults dialer.new) result }
 {
     let solved = ProblemSolved::of(alloc, file)?;
     let problem = solved.problem();
@@ -99,7 +101,7 @@ where
     requires budget { asked.budget ≤ budget_limit }
     requires wiring { IsWiringFor (length problem.now.sizes) wiring.old }
     ensures reached { IfOk result (HaveReached problem.now asked.error asked.budget asked.certified) }
-    ensures links { MayFail problem.now (nodes_in wiring.old) (IsHonestWiring D.W.told D.W.is_joined wiring.old) (D.faults dialer.old) (D.faults dialer.new) result }
+    ensures links { MayFail problem.now (IsPhaseOf (FileTask.Adopt asked.error asked.budget asked.certified) problem.now) (nodes_in wiring.old) (IsHonestWiring D.W.told D.W.is_joined wiring.old) (D.faults dialer.old) (D.faults dialer.new) result }
 {
     let found = find_over(crew, alloc, dialer, wiring, problem)?;
     reach_on(crew, alloc, dialer, wiring, problem, found, asked)
@@ -124,7 +126,7 @@ where
     requires budget { asked.budget ≤ budget_limit }
     requires wiring { IsWiringFor (length problem.now.sizes) wiring.old }
     ensures reached { IfOk result (HaveReached problem.now asked.error asked.budget asked.certified) }
-    ensures links { MayFail problem.now (nodes_in wiring.old) (IsHonestWiring D.W.told D.W.is_joined wiring.old) (D.faults dialer.old) (D.faults dialer.new) result }
+    ensures links { MayFail problem.now (IsAdoptPhase problem.now asked.error asked.budget) (nodes_in wiring.old) (IsHonestWiring D.W.told D.W.is_joined wiring.old) (D.faults dialer.old) (D.faults dialer.new) result }
 {
     let start = Start::Adopt(found.tree, asked.error);
     let ran = run_over(

@@ -8,6 +8,7 @@ ghost use Rattle.solve_report.specs.AnswerText.{HasText};
 ghost use Rattle.solve_methods.specs.Auto.{AnswersAuto, GivesSettled};
 ghost use Rattle.solve_methods.specs.Goal.{TellsRight};
 ghost use Rattle.solve_top.specs.Nodes.{IsAnswerIn, TellsLinks};
+ghost use Rattle.solve_top.specs.Phases.{IsPhaseOf};
 ghost use Rattle.solve_top.specs.Wiring.{nodes_in, IsWiringFor, IsHonestWiring, MayFail};
 
 use crate::choosing::choose_on;
@@ -15,6 +16,7 @@ use crate::crew::Crew;
 use crate::linking::fault_told;
 use crate::nodes::{Wiring, find_over};
 use crate::reaching::reach_on;
+use crate::task::FileTask;
 use dcop_base::{NoMemory, Problem, problem_is_whole};
 use dcop_edge::Gate;
 use problem_solved::ProblemSolved;
@@ -45,7 +47,7 @@ where
     G: Gate,
     requires error { asked.error ≤ amount_limit }
     requires budget { asked.budget ≤ budget_limit }
-    ensures belongs { IfOk result (IsAnswerIn crew.now.nodes (declared_by file) (AnswersAuto (declared_by file) asked.error asked.budget asked.certified)) }
+    ensures belongs { IfOk result (IsAnswerIn (FileTask.Auto asked.error asked.budget asked.certified) crew.now.nodes (declared_by file) (AnswersAuto (declared_by file) asked.error asked.budget asked.certified)) }
     ensures links { TellsLinks (1 < crew.now.nodes) (D.is_honest dialer.old) (D.faults dialer.old) (D.faults dialer.new) result }
     ensures right { IfOk result TellsRight }
     ensures told { IfOk result HasText }
@@ -72,7 +74,7 @@ where
     requires error { asked.error ≤ amount_limit }
     requires budget { asked.budget ≤ budget_limit }
     ensures settled { IfOk result (GivesSettled (problem_solved file.now) asked.error asked.budget asked.certified) }
-    ensures links { MayFail (problem_solved file.now) crew.now.nodes (D.is_honest dialer.old) (D.faults dialer.old) (D.faults dialer.new) result }
+    ensures links { MayFail (problem_solved file.now) (IsPhaseOf (FileTask.Auto asked.error asked.budget asked.certified) (problem_solved file.now)) crew.now.nodes (D.is_honest dialer.old) (D.faults dialer.old) (D.faults dialer.new) result }
 {
     let solved = ProblemSolved::of(alloc, file)?;
     let problem = solved.problem();
@@ -98,7 +100,7 @@ where
     requires budget { asked.budget ≤ budget_limit }
     requires wiring { IsWiringFor (length problem.now.sizes) wiring.old }
     ensures settled { IfOk result (GivesSettled problem.now asked.error asked.budget asked.certified) }
-    ensures links { MayFail problem.now (nodes_in wiring.old) (IsHonestWiring D.W.told D.W.is_joined wiring.old) (D.faults dialer.old) (D.faults dialer.new) result }
+    ensures links { MayFail problem.now (IsPhaseOf (FileTask.Auto asked.error asked.budget asked.certified) problem.now) (nodes_in wiring.old) (IsHonestWiring D.W.told D.W.is_joined wiring.old) (D.faults dialer.old) (D.faults dialer.new) result }
 {
     let found = find_over(crew, alloc, dialer, wiring, problem)?;
     match widths(&found.tree, problem) {

@@ -46,8 +46,9 @@ use wire_edge::Dialer;
 /// [`Status::ReadFault`], [`Status::WriteFault`] and [`Status::LinkFault`] come only where the
 /// source, the sink or the dialer failed in this call, and [`Status::LinkDiffers`] only over a dialer
 /// that is not honest; the last two only with more nodes than one. With `WriteFault` a prefix of the
-/// answer is written, with [`Status::NoMemory`], where memory was wanted and not had, nothing, and
-/// otherwise the whole answer, and the sink is finished.
+/// answer is written, which tells that the links failed or differ in the same cases alone; with
+/// [`Status::NoMemory`], where memory was wanted and not had, nothing, and otherwise the whole
+/// answer, and the sink is finished.
 pub fn solve<
     R: Threads + Wait + Clock + RandomSource + Net + AllocGlobal + Sync,
     S: Source,
@@ -64,6 +65,7 @@ pub fn solve<
     gate: &G,
 ) -> Status
     ensures answered { result ≢ Status.NoMemory → Solves (map string_bytes words.now)
+        (D.is_honest dialer.old) (D.faults dialer.old) (D.faults dialer.new)
         (source_state (S.left source.old) (S.faults source.old))
         (source_state (S.left source.new) (S.faults source.new))
         (sink_state (K.held sink.old) (K.finished sink.old))

@@ -4,7 +4,7 @@ use Rattle.solve_top.proofs.top.solve.Goals as goal
 
 pub returns-clause-answered : goal.returns-clause-answered
 returns-clause-answered g c = λ some.
-    solved-so _ _ _ c.in-Ok.answer c.in-Ok.ensures.answered _ _ _ _ _ c.show.ensures.shows some
+    solved-so _ _ _ _ c.in-Ok.answer c.in-Ok.ensures.links _ _ _ _ _ c.show.ensures.shows _ _ c.in-Ok.ensures.answered some
 
 pub returns-clause-read_fault : goal.returns-clause-read_fault
 returns-clause-read_fault g c = λ fault.
