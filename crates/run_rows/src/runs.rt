@@ -16,7 +16,7 @@ use std::process::Abort;
 use std::test::Fail;
 
 // The triangle of 0, 1 and 2 with the tail 3 at 1, where two variables that are both 1 cost nothing.
-fn paw(alloc: Global) -> Result<Problem, Fail> {
+pub(crate) fn paw(alloc: Global) -> Result<Problem, Fail> {
     let mut tables = Vec::new(alloc);
     for (one, other) in [(0, 1), (0, 2), (1, 2), (1, 3)] {
         let scope = Sequence::from_vec(vec![in alloc; VarId(one), VarId(other)]?);
@@ -68,7 +68,12 @@ fn see_links(rt: &impl Abort, alloc: Global, problem: &Problem, tree: &Tree) -> 
 }
 
 // The tree of these parents, in which each variable but the root is a neighbour of its parent.
-fn tree_of(rt: &impl Abort, alloc: Global, problem: &Problem, above: &[u32]) -> Result<Tree, Fail>
+pub(crate) fn tree_of(
+    rt: &impl Abort,
+    alloc: Global,
+    problem: &Problem,
+    above: &[u32],
+) -> Result<Tree, Fail>
     ensures { IfOk result (IsTreeFor problem.now) }
 {
     let parents = parents_of(alloc, above)?;
