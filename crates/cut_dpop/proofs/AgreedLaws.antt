@@ -16,6 +16,7 @@ use Rattle.delivery_core.specs.declared.start.Start.{Start}
 use Rattle.delivery_core.specs.declared.start.Start.TheVariants.{Token, Dpop, Adopt}
 use Rattle.delivery_core.specs.Agents.{IsStartFor, agents_of}
 use Rattle.dpop_runs.specs.Laws.{DpopRuns}
+use Rattle.util_tables.proofs.RunLaws.{have_made}
 use Rattle.tree_search.proofs.EndLaws.{run-ended}
 use Rattle.cut_laws.specs.Slice.{slice_of}
 use Rattle.cut_laws.specs.Trees.{SlicesKeepTrees}
@@ -52,6 +53,7 @@ have-first p (Dpop tree) whole fits narrow law rounds outcome is =
           let values = all.all_values in
           let sum = holds.nothing_else in
           omega (arith, told, utils, values, sum);
+      tables = have_made p tree.paths is.end outcome.tables holds all is.told.tables;
     }
 
 -- what follows of a value that is there

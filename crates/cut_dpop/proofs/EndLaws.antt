@@ -19,6 +19,8 @@ use Rattle.cut_dpop.specs.declared.fault.CutFault.{CutFault}
 use Rattle.cut_dpop.specs.declared.fault.CutFault.TheVariants.{TooMany, Total, NoMemory}
 use Rattle.cut_dpop.specs.declared.turn.Played.{Played}
 use Rattle.cut_dpop.specs.Start.{IsNarrowInTurns, turn_deliveries}
+use Rattle.certificate_text.specs.declared.certificate.Turn.{Turn}
+use Rattle.cut_dpop.specs.Kept.{AreKept}
 use Rattle.cut_dpop.specs.Played.{IsBestOf}
 use Rattle.cut_dpop.specs.Refusal.{turn_limit, cells_sent, refusal, IsRefusal, AreAllowed}
 use Rattle.cut_dpop.specs.End.{IsCutEnd, IsRefused}
@@ -54,15 +56,17 @@ few-messages p turns deliveries problem few e =
     omega (arith, all)
 
 -- the best of all turns is the end
-pub cut-end : (p : Dcop) (paths other : List (List ℕ)) (limit : ℕ) (keep : Bool) (cut : List ℕ) (turns : ℕ) (best : Played) → IsCutSet p paths limit cut → AreAllowed p paths cut keep turns → other ≡ paths
-    → IsBestOf p other cut turns best → IsCutEnd p paths limit keep (record { cost = best.cost; values = best.values; cut = cut; turns = turns; deliveries = turns * best.deliveries })
-cut-end p paths other limit keep cut turns best h allowed same is =
+pub cut-end : (p : Dcop) (paths other : List (List ℕ)) (limit : ℕ) (keep : Bool) (cut : List ℕ) (turns : ℕ) (best : Played) (tables : List Turn) → IsCutSet p paths limit cut → AreAllowed p paths cut keep turns → other ≡ paths
+    → IsBestOf p other cut turns best → AreKept keep p other cut turns tables
+    → IsCutEnd p paths limit keep (record { cost = best.cost; values = best.values; cut = cut; turns = turns; deliveries = turns * best.deliveries; tables = tables })
+cut-end p paths other limit keep cut turns best tables h allowed same is kept =
     let at : IsBestOf p paths cut (turn_count p cut) best = subst (λ (n : ℕ). IsBestOf p paths cut n best) allowed.1 (subst (λ (ps : List (List ℕ)). IsBestOf p ps cut turns best) same is) in record {
       cut = h;
       allowed = allowed.0;
       turns = allowed.1;
       deliveries = ap (λ (n : ℕ). turns * n) at.played.deliveries ∙ ap (λ (n : ℕ). n * turn_deliveries p) allowed.1;
       answer = best-answer p paths cut best at;
+      tables = subst (λ (n : ℕ). AreKept keep p paths cut n tables) allowed.1 (subst (λ (ps : List (List ℕ)). AreKept keep p ps cut turns tables) same kept);
     }
 
 -- what refuses the cut set refuses each

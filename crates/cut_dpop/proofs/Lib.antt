@@ -4,3 +4,5 @@ pub mod RoomLaws
 pub mod RunLaws
 pub mod PlayedLaws
 pub mod EndLaws
+pub mod KeptLaws
+pub mod CertificateLaws

@@ -17,7 +17,7 @@ use Rattle.cut_dpop.specs.Played.{turn_of, IsPlayed}
 use Rattle.cut_dpop.proofs.BestLaws.{turn-within}
 
 module _ (p : Dcop) (paths : List (List ℕ)) (cut sizes : List ℕ) (sized : sizes ≡ sizes_of p cut) (number : ℕ) (turn : List ℕ) (is : turn ≡ get_or (choices sizes) number []) where
-  turn-is : turn ≡ turn_of p cut number
+  pub turn-is : turn ≡ turn_of p cut number
   turn-is = is ∙ ap (λ (ss : List ℕ). get_or (choices ss) number []) sized
 
   pub turn-values : number < turn_count p cut → AreCutValues p cut turn

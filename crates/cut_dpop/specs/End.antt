@@ -5,17 +5,19 @@ use Rattle.cut_laws.specs.Turns.{turn_count}
 use Rattle.cut_laws.specs.CutSet.{IsCutSet}
 use Rattle.cut_laws.specs.Kept.{IsCutAnswer}
 use Rattle.cut_dpop.specs.Start.{turn_deliveries}
+use Rattle.cut_dpop.specs.Kept.{AreKept}
 use Rattle.cut_dpop.specs.Refusal.{refusal, IsRefusal}
 use Rattle.cut_dpop.specs.declared.run.CutEnd.{CutEnd}
 use Rattle.cut_dpop.specs.declared.fault.CutFault.{CutFault}
 
--- the cut set at a limit was played in turns, which nothing refuses, and this is its answer
+-- the cut set at a limit was played in turns, which nothing refuses, and this is its answer, with the tables of all turns where they are kept
 pub record IsCutEnd (p : Dcop) (paths : List (List ℕ)) (limit : ℕ) (keep : Bool) (end : CutEnd) : Type 0 where
   pub cut : IsCutSet p paths limit end.cut
   pub allowed : refusal p paths end.cut keep ≡ None
   pub turns : end.turns ≡ turn_count p end.cut
   pub deliveries : end.deliveries ≡ turn_count p end.cut * turn_deliveries p
   pub answer : IsCutAnswer p paths end.cut end.cost end.values
+  pub tables : AreKept keep p paths end.cut (turn_count p end.cut) end.tables
 
 -- the cut set at a limit is refused for this; want of memory may come at any
 pub record IsRefused (p : Dcop) (paths : List (List ℕ)) (limit : ℕ) (keep : Bool) (fault : CutFault) : Type 0 where

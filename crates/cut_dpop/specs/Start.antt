@@ -8,6 +8,7 @@ use Rattle.delivery_core.specs.declared.start.Start.{Start}
 use Rattle.delivery_core.specs.declared.start.Start.TheVariants.{Token, Dpop, Adopt}
 use Rattle.delivery_core.specs.Agents.{IsTreeFor}
 use Rattle.cut_laws.specs.Slice.{slice_of}
+use Rattle.util_tables.specs.Utils.{HaveMade}
 
 -- the paths of the tree on which agents start
 abbrev pub paths_in : Start → List (List ℕ)
@@ -29,7 +30,8 @@ IsNarrowInTurns p paths cut = (values : List ℕ) → IsNarrow (slice_of p cut v
 abbrev pub turn_deliveries : Dcop → ℕ
 turn_deliveries p = 2 * (length p.sizes - 1)
 
--- the agents have the first optimum of the problem on the tree, and took so many messages
+-- the agents have the first optimum of the problem on the tree, they have made their tables, and they took so many messages
 pub record HaveFirst (p : Dcop) (paths : List (List ℕ)) (outcome : Outcome) : Type 0 where
   pub first : IsFirstOptimumOf p paths outcome.values
   pub deliveries : outcome.deliveries ≡ turn_deliveries p
+  pub tables : HaveMade p paths outcome.tables

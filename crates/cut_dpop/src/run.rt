@@ -11,6 +11,7 @@ use crate::fault::CutFault;
 use crate::room::turns_of;
 use crate::tree::copy_of;
 use crate::turn::play_turns;
+use certificate_text::CutList;
 use cut_laws::{cut_sets_are_one, cut_sets_make_narrow};
 use dcop_base::{Problem, ValList, VarList, problem_is_whole, sizes_of};
 use dcop_edge::Gate;
@@ -33,11 +34,13 @@ pub struct CutEnd {
     pub turns: u64,
     /// How many messages were taken in all turns.
     pub deliveries: u64,
+    /// The tables of all turns in order, where they are kept; else none.
+    pub tables: CutList,
 }
 
 /// Cuts variables so that no joined table has more than `limit` cells, and lets DPOP agents solve
 /// the slice of each turn on the tree, with so many workers. The first turn of least cost is kept.
-/// `keep` says whether the tables of all turns are to be kept.
+/// `keep` says whether the tables of all turns are kept.
 ///
 /// # Errors
 ///
@@ -70,12 +73,22 @@ pub fn run_cut<R: Threads + Sync, G: Gate>(
     let turns = turns_of(alloc, tree, problem, &cut, sizes.as_slice(), keep)?;
     let start = Start::Dpop(copy_of(alloc, tree, problem)?);
     let crew = Crew { rt, gate, workers };
-    let best = play_turns(&crew, alloc, problem, &start, &cut, sizes.as_slice(), turns)?;
+    let all = play_turns(
+        &crew,
+        alloc,
+        problem,
+        &start,
+        &cut,
+        sizes.as_slice(),
+        turns,
+        keep,
+    )?;
     Ok(CutEnd {
-        cost: best.cost,
-        values: best.values,
+        cost: all.best.cost,
+        values: all.best.values,
         cut,
         turns,
-        deliveries: turns * best.deliveries,
+        deliveries: turns * all.best.deliveries,
+        tables: all.tables,
     })
 }

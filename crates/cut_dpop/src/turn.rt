@@ -1,6 +1,6 @@
 //! One turn after the other.
 
-ghost use Rattle.std.specs.Prelude.{◌≡◌, ◌<◌, ◌≤◌, length, IfOk};
+ghost use Rattle.std.specs.Prelude.{◌≡◌, ◌<◌, ◌≤◌, length, IfOk, OnOk};
 ghost use Rattle.std.specs.List.{All};
 ghost use Rattle.cost_table.specs.Slices.{put_in};
 ghost use Rattle.pseudotree.specs.Place.{sizes_of};
@@ -8,11 +8,14 @@ ghost use Rattle.pseudotree.specs.Width.{IsNarrow};
 ghost use Rattle.cut_laws.specs.Slice.{AreCut};
 ghost use Rattle.cut_laws.specs.Turns.{turn_count};
 ghost use Rattle.cut_dpop.specs.Start.{paths_in, IsDpopStart, IsNarrowInTurns, HaveFirst};
+ghost use Rattle.cut_dpop.specs.Kept.{AreKept, IsKeptNext};
 ghost use Rattle.cut_dpop.specs.Played.{IsPlayed, IsBestOf};
 ghost use Rattle.cut_dpop.specs.Refusal.{turn_limit};
 
 use crate::agents::run_agents;
 use crate::crew::Crew;
+use crate::keep::keep_turn;
+use certificate_text::{CutList, Turn};
 use cut_laws::{slices_are_problems, slices_keep_trees, turns_are_in_order};
 use dcop_base::{NoMemory, Problem, Val, ValList, VarId, VarList, cost_of, problem_is_whole};
 use dcop_edge::Gate;
@@ -34,7 +37,16 @@ pub(crate) struct Played {
     pub(crate) deliveries: u64,
 }
 
-/// What came of the first turn of least cost, of all turns of a cut.
+/// What came of all turns.
+#[derive(Debug, Drop)]
+pub(crate) struct AllPlayed {
+    /// What came of the first turn of least cost.
+    pub(crate) best: Played,
+    /// The tables of all turns in order, where they are kept; else none.
+    pub(crate) tables: CutList,
+}
+
+/// What came of all turns of a cut. `keep` says whether their tables are kept.
 pub(crate) fn play_turns<R: Threads + Sync, G: Gate>(
     crew: &Crew<R, G>,
     alloc: Global,
@@ -43,27 +55,36 @@ pub(crate) fn play_turns<R: Threads + Sync, G: Gate>(
     cut: &VarList,
     sizes: &[u16],
     turns: u64,
-) -> Result<Played, NoMemory>
+    keep: bool,
+) -> Result<AllPlayed, NoMemory>
     requires start { IsDpopStart problem.now start.now }
     requires cut { AreCut problem.now cut.now }
     requires narrow { IsNarrowInTurns problem.now (paths_in start.now) cut.now }
     requires sizes { sizes.now ≡ sizes_of problem.now cut.now }
     requires turns { turns ≡ turn_count problem.now cut.now }
     requires few { turns ≤ turn_limit }
-    ensures { IfOk result (IsBestOf problem.now (paths_in start.now) cut.now turns) }
+    ensures best { IfOk result (λ all. IsBestOf problem.now (paths_in start.now) cut.now turns all.best) }
+    ensures kept { IfOk result (λ all. AreKept keep problem.now (paths_in start.now) cut.now turns all.tables) }
 {
     problem_is_whole(problem);
-    let mut best = play_turn(crew, alloc, problem, start, cut, sizes, 0)?;
+    let mut kept = Vec::new(alloc);
+    let mut best = play_turn(crew, alloc, problem, start, cut, sizes, 0, keep, &mut kept)?;
     for number in 1..turns {
-        let played = play_turn(crew, alloc, problem, start, cut, sizes, number)?;
+        let played = play_turn(
+            crew, alloc, problem, start, cut, sizes, number, keep, &mut kept,
+        )?;
         if played.cost < best.cost {
             best = played;
         }
     }
-    Ok(best)
+    Ok(AllPlayed {
+        best,
+        tables: CutList::from_vec(kept),
+    })
 }
 
-/// What came of the turn with this number.
+/// What came of the turn with this number. Its tables are kept behind those of earlier turns, where
+/// `keep` says so.
 fn play_turn<R: Threads + Sync, G: Gate>(
     crew: &Crew<R, G>,
     alloc: Global,
@@ -72,6 +93,8 @@ fn play_turn<R: Threads + Sync, G: Gate>(
     cut: &VarList,
     sizes: &[u16],
     number: u64,
+    keep: bool,
+    kept: &mut Vec<Turn>,
 ) -> Result<Played, NoMemory>
     requires start { IsDpopStart problem.now start.now }
     requires cut { AreCut problem.now cut.now }
@@ -79,7 +102,8 @@ fn play_turn<R: Threads + Sync, G: Gate>(
     requires sizes { sizes.now ≡ sizes_of problem.now cut.now }
     requires few { turn_count problem.now cut.now ≤ turn_limit }
     requires within { number < turn_count problem.now cut.now }
-    ensures { IfOk result (IsPlayed problem.now (paths_in start.now) cut.now number) }
+    ensures played { IfOk result (IsPlayed problem.now (paths_in start.now) cut.now number) }
+    ensures kept { OnOk result (IsKeptNext keep problem.now (paths_in start.now) cut.now number kept.old.items kept.new.items) }
 {
     slices_are_problems();
     slices_keep_trees();
@@ -89,6 +113,7 @@ fn play_turn<R: Threads + Sync, G: Gate>(
     let outcome = solve_left(crew, alloc, &left, start)?;
     let cost = cost_of(&left, outcome.values.as_slice());
     let values = with_own(outcome.values, cut.as_slice(), turn.as_slice());
+    keep_turn(alloc, start, keep, kept, turn, outcome.tables.as_slice())?;
     Ok(Played {
         cost,
         values,

@@ -1,5 +1,5 @@
 -- The answer of the method cut, from what a cut of the problem solved came to.
-use Rattle.std.proofs.Common.{◌≡◌, ℕ, ◌*◌, ◌≤◌, false, List, Some, None, Option, Result, Ok, Err, IfOk, refl, sym, ap, subst, ◌∙◌, arith}
+use Rattle.std.proofs.Common.{◌≡◌, ℕ, ◌*◌, ◌≤◌, Bool, List, Some, Option, Result, Ok, Err, IfOk, refl, sym, ap, subst, ◌∙◌, arith}
 use Rattle.std.specs.Prelude.{IfErr}
 use Rattle.std.specs.List.{All}
 use Rattle.dcop_base.specs.Limits.{size_limit}
@@ -11,6 +11,7 @@ use Rattle.pseudotree.specs.DepthFirst.{dfs, DepthFirstTreesAreLinked}
 use Rattle.cut_laws.specs.CutSet.{CutSetsAreOne, HasOneCutSet}
 use Rattle.cut_laws.specs.Kept.{IsCutAnswer, IsOptimal, CutAnswersAreOptimal}
 use Rattle.cut_laws.specs.Turns.{turn_count}
+use Rattle.cut_dpop.specs.Certificate.{KeptTablesCertify}
 use Rattle.cut_dpop.specs.End.{IsCutEnd, IsRefused}
 use Rattle.cut_dpop.specs.Start.{turn_deliveries}
 use Rattle.cut_dpop.specs.declared.run.CutEnd.{CutEnd}
@@ -31,7 +32,9 @@ use Rattle.solve_report.specs.declared.answer.Answer.TheVariants as answers
 use Rattle.solve_methods.specs.Goal.{IsRightReport}
 use Rattle.solve_methods.proofs.BestLaws.{best_of}
 use Rattle.solve_methods.proofs.RightLaws.{right_of_best}
-use Rattle.solve_cut.specs.Cut.{IsCutOf, refusal_of, IsCutReport, IsRefusalAnswer, IsCutAnswerBy, AnswersCut, GivesCut, IsBestCut}
+use Rattle.solve_cut.specs.Certified.{certificate_if}
+use Rattle.solve_cut.specs.Cut.{refusal_of, IsCutReport, IsRefusalAnswer, IsCutAnswerBy, AnswersCut, GivesCut, IsBestCut}
+use Rattle.solve_cut.proofs.CertifiedLaws.{has-turns, certified}
 
 -- no size exceeds the limit
 pub sizes-few : (p : Dcop) (limit : ℕ) → IsProblem p → size_limit ≤ limit → All (λ s. s ≤ limit) p.sizes
@@ -47,9 +50,9 @@ turns-same Min p cut = refl
 turns-same Max p cut = refl
 
 -- the values that a cut came to have the best sum
-pub best-cut : (file : TextFile) (limit : ℕ) (end : CutEnd) → CutSetsAreOne → CutAnswersAreOptimal → DepthFirstTreesAreLinked → IsProblem file.problem → size_limit ≤ limit
-    → IsCutEnd (problem_solved file) (dfs (problem_solved file)) limit false end → IsBestCut file end
-best-cut file limit end sets optimal trees whole least h =
+pub best-cut : (file : TextFile) (limit : ℕ) (keeps : Bool) (end : CutEnd) → CutSetsAreOne → CutAnswersAreOptimal → KeptTablesCertify → DepthFirstTreesAreLinked → IsProblem file.problem → size_limit ≤ limit
+    → IsCutEnd (problem_solved file) (dfs (problem_solved file)) limit keeps end → IsBestCut file keeps end
+best-cut file limit keeps end sets optimal certify trees whole least h =
     let q : Dcop = problem_solved file in
     let whole_q = solved_problem file.goal file.problem whole in
     let is : IsOptimal q end.cost end.values = optimal q (dfs q) end.cut end.cost end.values whole_q ((one-cut q limit sets trees whole_q least).are_cut end.cut h.cut) h.answer in
@@ -58,12 +61,14 @@ best-cut file limit end sets optimal trees whole least h =
       first = (end.cost, h.answer);
       assignment = best.0;
       best = best.1;
+      turns = has-turns keeps file limit end certify whole_q (trees q whole_q).0 (sizes-few q limit whole_q least) h;
     }
 
 -- a report of them is one of a cut
-pub cut-form : (file : TextFile) (end : CutEnd) (report : Report) → IsBestCut file end → report.values ≡ end.values → report.status ≡ Solved → report.method ≡ Cut → report.goal ≡ file.goal → report.error ≡ 0
-    → report.deliveries ≡ end.deliveries → report.cost ≡ cost file.problem report.values → report.lower ≡ report.cost → report.upper ≡ report.cost → report.certificate ≡ None → IsCutReport file end.cut report
-cut-form file end report best values status method goal error deliveries sum lower upper certificate = record {
+pub cut-form : (file : TextFile) (keeps : Bool) (end : CutEnd) (report : Report) → IsBestCut file keeps end → report.values ≡ end.values → report.status ≡ Solved → report.method ≡ Cut → report.goal ≡ file.goal → report.error ≡ 0
+    → report.deliveries ≡ end.deliveries → report.cost ≡ cost file.problem report.values → report.lower ≡ report.cost → report.upper ≡ report.cost → report.certificate ≡ certificate_if keeps end.cut end.tables
+    → IsCutReport file end.cut keeps report
+cut-form file keeps end report best values status method goal error deliveries sum lower upper certificate = record {
   status = status;
   method = method;
   goal = goal;
@@ -74,48 +79,48 @@ cut-form file end report best values status method goal error deliveries sum low
   best = subst (IsBestSum file.goal file.problem) (sym (sum ∙ ap (cost file.problem) values)) best.best;
   lower = lower;
   upper = upper;
-  certificate = certificate;
+  certificate = certified keeps file end report best.turns values status error (deliveries ∙ best.deliveries) sum lower upper certificate;
 }
 
 -- it is right
-pub cut-right : (file : TextFile) (end : CutEnd) (report : Report) → IsBestCut file end → report.values ≡ end.values → IsCutReport file end.cut report → IsRightReport file report
-cut-right file end report best values form = right_of_best file report (subst (IsAssignment file.problem) (sym values) best.assignment) form.cost form.best form.lower form.upper
+pub cut-right : (file : TextFile) (keeps : Bool) (end : CutEnd) (report : Report) → IsBestCut file keeps end → report.values ≡ end.values → IsCutReport file end.cut keeps report → IsRightReport file report
+cut-right file keeps end report best values form = right_of_best file report (subst (IsAssignment file.problem) (sym values) best.assignment) form.cost form.best form.lower form.upper
 
 -- and the answer
-pub report-answers : (file : TextFile) (limit : ℕ) (end : CutEnd) (report : Report) → IsProblem file.problem → IsCutEnd (problem_solved file) (dfs (problem_solved file)) limit false end
-    → IsCutReport file end.cut report → AnswersCut (declared_by file) limit (answers.Report report file)
-report-answers file limit end report whole h form = record {
+pub report-answers : (file : TextFile) (limit : ℕ) (keeps : Bool) (end : CutEnd) (report : Report) → IsProblem file.problem → IsCutEnd (problem_solved file) (dfs (problem_solved file)) limit keeps end
+    → IsCutReport file end.cut keeps report → AnswersCut (declared_by file) limit keeps (answers.Report report file)
+report-answers file limit keeps end report whole h form = record {
   file = file;
   whole = whole;
   declared = refl;
   cut = end.cut;
   is_cut = h.cut;
-  is = subst (λ (o : Option CutFault). IsCutAnswerBy file end.cut o (answers.Report report file)) (sym h.allowed) (record { report = report; is = refl; form = form });
+  is = subst (λ (o : Option CutFault). IsCutAnswerBy file end.cut keeps o (answers.Report report file)) (sym h.allowed) (record { report = report; is = refl; form = form });
 }
 
-refused-answers : (file : TextFile) (limit : ℕ) (one : HasOneCutSet (problem_solved file) (dfs (problem_solved file)) limit) (fault : CutFault) (answer : Answer) → IsProblem file.problem
-    → refusal_of (problem_solved file) one.some.0 ≡ Some fault → IsRefusalAnswer fault answer → AnswersCut (declared_by file) limit answer
-refused-answers file limit one fault answer whole refused same = record {
+refused-answers : (file : TextFile) (limit : ℕ) (keeps : Bool) (one : HasOneCutSet (problem_solved file) (dfs (problem_solved file)) limit) (fault : CutFault) (answer : Answer) → IsProblem file.problem
+    → refusal_of (problem_solved file) one.some.0 keeps ≡ Some fault → IsRefusalAnswer fault answer → AnswersCut (declared_by file) limit keeps answer
+refused-answers file limit keeps one fault answer whole refused same = record {
   file = file;
   whole = whole;
   declared = refl;
   cut = one.some.0;
   is_cut = one.some.1;
-  is = subst (λ (o : Option CutFault). IsCutAnswerBy file one.some.0 o answer) (sym refused) same;
+  is = subst (λ (o : Option CutFault). IsCutAnswerBy file one.some.0 keeps o answer) (sym refused) same;
 }
 
 -- what refuses the one cut is the answer
-pub refusal-answers : (file : TextFile) (limit : ℕ) (fault : CutFault) (result : Result Answer NoMemory) → HasOneCutSet (problem_solved file) (dfs (problem_solved file)) limit → IsProblem file.problem
-    → GivesCut (problem_solved file) limit (Err fault) → IfOk result (IsRefusalAnswer fault) → IfOk result (AnswersCut (declared_by file) limit)
-refusal-answers file limit (TooMany turns) (Ok answer) one whole gives is = refused-answers file limit one (TooMany turns) answer whole (gives.refused one.some.0 one.some.1) is
-refusal-answers file limit (Total cells) (Ok answer) one whole gives is = refused-answers file limit one (Total cells) answer whole (gives.refused one.some.0 one.some.1) is
-refusal-answers file limit faults.NoMemory (Ok answer) one whole gives is = absurd is
-refusal-answers file limit (TooMany turns) (Err none) one whole gives is = tt
-refusal-answers file limit (Total cells) (Err none) one whole gives is = tt
-refusal-answers file limit faults.NoMemory (Err none) one whole gives is = tt
+pub refusal-answers : (file : TextFile) (limit : ℕ) (keeps : Bool) (fault : CutFault) (result : Result Answer NoMemory) → HasOneCutSet (problem_solved file) (dfs (problem_solved file)) limit → IsProblem file.problem
+    → GivesCut (problem_solved file) limit keeps (Err fault) → IfOk result (IsRefusalAnswer fault) → IfOk result (AnswersCut (declared_by file) limit keeps)
+refusal-answers file limit keeps (TooMany turns) (Ok answer) one whole gives is = refused-answers file limit keeps one (TooMany turns) answer whole (gives.refused one.some.0 one.some.1) is
+refusal-answers file limit keeps (Total cells) (Ok answer) one whole gives is = refused-answers file limit keeps one (Total cells) answer whole (gives.refused one.some.0 one.some.1) is
+refusal-answers file limit keeps faults.NoMemory (Ok answer) one whole gives is = absurd is
+refusal-answers file limit keeps (TooMany turns) (Err none) one whole gives is = tt
+refusal-answers file limit keeps (Total cells) (Err none) one whole gives is = tt
+refusal-answers file limit keeps faults.NoMemory (Err none) one whole gives is = tt
 
 -- what a cut on the depth-first tree gives, as its end or by what refuses it
-pub given-by : (p : Dcop) (paths : List (List ℕ)) (limit : ℕ) (result : Result CutEnd CutFault) → paths ≡ dfs p → IfOk result (IsCutEnd p paths limit false) → IfErr result (IsRefused p paths limit false)
-    → GivesCut p limit result
-given-by p paths limit (Ok end) same is refused = subst (λ (ps : List (List ℕ)). IsCutEnd p ps limit false end) same is
-given-by p paths limit (Err fault) same is refused = subst (λ (ps : List (List ℕ)). IsRefused p ps limit false fault) same refused
+pub given-by : (p : Dcop) (paths : List (List ℕ)) (limit : ℕ) (keeps : Bool) (result : Result CutEnd CutFault) → paths ≡ dfs p → IfOk result (IsCutEnd p paths limit keeps) → IfErr result (IsRefused p paths limit keeps)
+    → GivesCut p limit keeps result
+given-by p paths limit keeps (Ok end) same is refused = subst (λ (ps : List (List ℕ)). IsCutEnd p ps limit keeps end) same is
+given-by p paths limit keeps (Err fault) same is refused = subst (λ (ps : List (List ℕ)). IsRefused p ps limit keeps fault) same refused

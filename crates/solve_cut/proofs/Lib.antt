@@ -1,2 +1,3 @@
+mod CertifiedLaws
 mod CutLaws
 pub mod AllowedLaws

@@ -1,5 +1,5 @@
 -- Cuts that nothing refuses.
-use Rattle.std.specs.Prelude.{◌≡◌, ℕ, ◌≤◌, List, None}
+use Rattle.std.specs.Prelude.{◌≡◌, ℕ, ◌≤◌, Bool, List, None}
 use Rattle.dcop_base.specs.Limits.{size_limit}
 use Rattle.dcop_base.specs.Whole.{IsProblem}
 use Rattle.problem_text.specs.File.{TextFile}
@@ -12,14 +12,14 @@ use Rattle.solve_report.specs.declared.answer.Answer.{Answer}
 use Rattle.solve_report.specs.declared.answer.Answer.TheVariants as answers
 use Rattle.solve_cut.specs.Cut.{IsCutOf, refusal_of, AnswersCut}
 
--- nothing refuses the cut, with this limit of cells, of the file of a text that declares this
-pub record HasAllowedCut (d : Declared) (limit : ℕ) : Type 0 where
+-- nothing refuses the cut, with this limit of cells and with or without a certificate, of the file of a text that declares this
+pub record HasAllowedCut (d : Declared) (limit : ℕ) (keeps : Bool) : Type 0 where
   pub file : TextFile
   pub whole : IsProblem file.problem
   pub declared : declared_by file ≡ d
   pub cut : List ℕ
   pub is_cut : IsCutOf (problem_solved file) limit cut
-  pub allowed : refusal_of (problem_solved file) cut ≡ None
+  pub allowed : refusal_of (problem_solved file) cut keeps ≡ None
 
 -- an answer is a solved report
 pub record IsSolvedReport (answer : Answer) : Type 0 where
@@ -30,4 +30,4 @@ pub record IsSolvedReport (answer : Answer) : Type 0 where
 
 -- where nothing refuses the cut, the answer of the method cut is a solved report
 abbrev pub AllowedCutsAreSolved : Type 0
-AllowedCutsAreSolved = (d : Declared) (limit : ℕ) (answer : Answer) → size_limit ≤ limit → HasAllowedCut d limit → AnswersCut d limit answer → IsSolvedReport answer
+AllowedCutsAreSolved = (d : Declared) (limit : ℕ) (keeps : Bool) (answer : Answer) → size_limit ≤ limit → HasAllowedCut d limit keeps → AnswersCut d limit keeps answer → IsSolvedReport answer

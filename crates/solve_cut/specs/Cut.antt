@@ -1,5 +1,5 @@
 -- What the method cut gives on a file.
-use Rattle.std.specs.Prelude.{◌≡◌, ℕ, ◌*◌, false, List, Option, Some, None, Result, Ok, Err}
+use Rattle.std.specs.Prelude.{◌≡◌, ℕ, ◌*◌, Bool, List, Option, Some, None, Result, Ok, Err}
 use Rattle.dcop_base.specs.Problem.{Dcop, IsAssignment, cost}
 use Rattle.dcop_base.specs.Whole.{IsProblem}
 use Rattle.pseudotree.specs.DepthFirst.{dfs}
@@ -21,21 +21,22 @@ use Rattle.certificate_text.specs.declared.report.Method.TheVariants.{Cut}
 use Rattle.problem_solved.specs.Goal.{problem_solved, IsBestSum}
 use Rattle.solve_report.specs.declared.answer.Answer.{Answer}
 use Rattle.solve_report.specs.declared.answer.Answer.TheVariants as answers
+use Rattle.solve_cut.specs.Certified.{IsCutCertified, HasTurnsIf}
 
 -- the variables that are cut so that no joined table on the depth-first tree of a problem has more cells than a limit
 abbrev pub IsCutOf : Dcop → ℕ → List ℕ → Type 0
 IsCutOf p limit cut = IsCutSet p (dfs p) limit cut
 
--- why a cut of a problem on its depth-first tree is refused, if it is; no tables are kept
-abbrev pub refusal_of : Dcop → List ℕ → Option CutFault
-refusal_of p cut = refusal p (dfs p) cut false
+-- why a cut of a problem on its depth-first tree is refused, if it is, where the tables of all turns are kept or not
+abbrev pub refusal_of : Dcop → List ℕ → Bool → Option CutFault
+refusal_of p cut keeps = refusal p (dfs p) cut keeps
 
 -- values of a problem are those of the first turn of least cost, on its depth-first tree
 abbrev pub AreOfFirstTurn : Dcop → List ℕ → List ℕ → Type 0
 AreOfFirstTurn p cut values = (least : ℕ) × IsCutAnswer p (dfs p) cut least values
 
--- a report of a cut on a file: its values are those of the first turn of least cost of the problem solved, its deliveries are those of all turns, and its cost is that of its values in the file's problem, which is the best sum, and is lower and upper too
-pub record IsCutReport (file : TextFile) (cut : List ℕ) (report : Report) : Type 0 where
+-- a report of a cut on a file: its values are those of the first turn of least cost of the problem solved, its deliveries are those of all turns, and its cost is that of its values in the file's problem, which is the best sum, and is lower and upper too; it has a certificate where one is asked for
+pub record IsCutReport (file : TextFile) (cut : List ℕ) (keeps : Bool) (report : Report) : Type 0 where
   pub status : report.status ≡ Solved
   pub method : report.method ≡ Cut
   pub goal : report.goal ≡ file.goal
@@ -46,13 +47,13 @@ pub record IsCutReport (file : TextFile) (cut : List ℕ) (report : Report) : Ty
   pub best : IsBestSum file.goal file.problem report.cost
   pub lower : report.lower ≡ report.cost
   pub upper : report.upper ≡ report.cost
-  pub certificate : report.certificate ≡ None
+  pub certificate : IsCutCertified keeps file cut report
 
 -- an answer with such a report, beside its file
-pub record IsCutSolved (file : TextFile) (cut : List ℕ) (answer : Answer) : Type 0 where
+pub record IsCutSolved (file : TextFile) (cut : List ℕ) (keeps : Bool) (answer : Answer) : Type 0 where
   pub report : Report
   pub is : answer ≡ answers.Report report file
-  pub form : IsCutReport file cut report
+  pub form : IsCutReport file cut keeps report
 
 -- the answer where a cut is refused for this; want of memory has none
 abbrev pub IsRefusalAnswer : CutFault → Answer → Type 0
@@ -61,27 +62,28 @@ IsRefusalAnswer (faults.Total cells) answer = answer ≡ answers.WideTotal cells
 IsRefusalAnswer faults.NoMemory answer = ⊥
 
 -- the answer of a cut on a file, which this refuses, or nothing
-abbrev pub IsCutAnswerBy : TextFile → List ℕ → Option CutFault → Answer → Type 0
-IsCutAnswerBy file cut (Some fault) answer = IsRefusalAnswer fault answer
-IsCutAnswerBy file cut None answer = IsCutSolved file cut answer
+abbrev pub IsCutAnswerBy : TextFile → List ℕ → Bool → Option CutFault → Answer → Type 0
+IsCutAnswerBy file cut keeps (Some fault) answer = IsRefusalAnswer fault answer
+IsCutAnswerBy file cut keeps None answer = IsCutSolved file cut keeps answer
 
--- the answer of the method cut on a text that declares this, with this limit of cells: what refuses the cut of the problem solved for its file, whose joints follow from the tables, else a report
-pub record AnswersCut (d : Declared) (limit : ℕ) (answer : Answer) : Type 0 where
+-- the answer of the method cut on a text that declares this, with this limit of cells: what refuses the cut of the problem solved for its file, whose joints follow from the tables, else a report, with a certificate where one is asked for
+pub record AnswersCut (d : Declared) (limit : ℕ) (keeps : Bool) (answer : Answer) : Type 0 where
   pub file : TextFile
   pub whole : IsProblem file.problem
   pub declared : declared_by file ≡ d
   pub cut : List ℕ
   pub is_cut : IsCutOf (problem_solved file) limit cut
-  pub is : IsCutAnswerBy file cut (refusal_of (problem_solved file) cut) answer
+  pub is : IsCutAnswerBy file cut keeps (refusal_of (problem_solved file) cut keeps) answer
 
 -- what a cut of a problem on its depth-first tree comes to: its end, or what refuses it; want of memory may come at any
-abbrev pub GivesCut : Dcop → ℕ → Result CutEnd CutFault → Type 0
-GivesCut p limit (Ok end) = IsCutEnd p (dfs p) limit false end
-GivesCut p limit (Err fault) = IsRefused p (dfs p) limit false fault
+abbrev pub GivesCut : Dcop → ℕ → Bool → Result CutEnd CutFault → Type 0
+GivesCut p limit keeps (Ok end) = IsCutEnd p (dfs p) limit keeps end
+GivesCut p limit keeps (Err fault) = IsRefused p (dfs p) limit keeps fault
 
--- what a cut of the problem solved came to, seen from the file's own problem: an assignment whose cost is the best sum
-pub record IsBestCut (file : TextFile) (end : CutEnd) : Type 0 where
+-- what a cut of the problem solved came to, seen from the file's own problem: an assignment whose cost is the best sum, with the tables of all turns where a certificate is asked for
+pub record IsBestCut (file : TextFile) (keeps : Bool) (end : CutEnd) : Type 0 where
   pub deliveries : end.deliveries ≡ turn_count file.problem end.cut * turn_deliveries file.problem
   pub first : AreOfFirstTurn (problem_solved file) end.cut end.values
   pub assignment : IsAssignment file.problem end.values
   pub best : IsBestSum file.goal file.problem (cost file.problem end.values)
+  pub turns : HasTurnsIf keeps file end

@@ -9,13 +9,14 @@ ghost use Rattle.problem_solved.specs.Goal.{problem_solved};
 ghost use Rattle.problem_text.specs.Steps.{declared_by};
 ghost use Rattle.solve_methods.specs.Goal.{TellsRight};
 ghost use Rattle.solve_report.specs.AnswerText.{HasText};
+ghost use Rattle.solve_cut.specs.Certified.{certificate_if};
 ghost use Rattle.solve_cut.specs.Cut.{AnswersCut, GivesCut, IsBestCut, IsCutReport, IsRefusalAnswer};
 
 use crate::cutting::cut_for;
-use certificate_text::{Ending, Method, Report};
-use cut_dpop::{CutEnd, CutFault, MAX_TURNS};
+use certificate_text::{Certificate, CutList, Ending, Method, Report};
+use cut_dpop::{CutEnd, CutFault, MAX_TURNS, kept_tables_certify};
 use cut_laws::{cut_answers_are_optimal, cut_sets_are_one};
-use dcop_base::{NoMemory, cost_of, problem_is_whole};
+use dcop_base::{NoMemory, VarList, cost_of, problem_is_whole};
 use dcop_edge::Gate;
 use problem_text::ProblemFile;
 use pseudotree::{Tree, depth_first_trees_are_linked};
@@ -24,9 +25,10 @@ use std::alloc::Global;
 use std::thread::Threads;
 
 /// The answer of the method cut on a file, from the depth-first tree of the problem solved for it: a
-/// report, or that the cut has too many turns or sends too many cells in one. No joined table of any
-/// turn has more than `limit` cells. So many workers run the agents, and each visit of an agent
-/// passes the gate.
+/// report, or that the cut has too many turns or sends too many cells. No joined table of any turn has
+/// more than `limit` cells. So many workers run the agents, and each visit of an agent passes the gate.
+/// `keeps` says whether a certificate is asked for: then the tables of all turns are kept, and counted
+/// among the cells that are sent.
 ///
 /// # Errors
 ///
@@ -38,6 +40,7 @@ pub fn cut_answer<R: Threads + Sync, G: Gate>(
     tree: Tree,
     limit: u64,
     workers: u32,
+    keeps: bool,
     gate: &G,
 ) -> Result<Answer, NoMemory>
     requires tree { IsPseudotreeOf (problem_solved file) tree }
@@ -45,33 +48,35 @@ pub fn cut_answer<R: Threads + Sync, G: Gate>(
     requires least { size_limit ≤ limit }
     requires most { limit ≤ joined_limit }
     requires workers { 0 < workers }
-    ensures belongs { IfOk result (AnswersCut (declared_by file) limit) }
+    ensures belongs { IfOk result (AnswersCut (declared_by file) limit keeps) }
     ensures right { IfOk result TellsRight }
     ensures told { IfOk result HasText }
 {
-    let cut = cut_for(rt, alloc, &file, &tree, limit, workers, gate);
-    answer_of(file, limit, cut)
+    let cut = cut_for(rt, alloc, &file, &tree, limit, workers, keeps, gate);
+    answer_of(file, limit, keeps, cut)
 }
 
 /// The answer that tells what a cut of the problem solved for a file came to.
 fn answer_of(
     file: ProblemFile,
     limit: u64,
+    keeps: bool,
     cut: Result<CutEnd, CutFault>,
 ) -> Result<Answer, NoMemory>
     requires least { size_limit ≤ limit }
-    requires cut { GivesCut (problem_solved file) limit cut }
-    ensures belongs { IfOk result (AnswersCut (declared_by file) limit) }
+    requires cut { GivesCut (problem_solved file) limit keeps cut }
+    ensures belongs { IfOk result (AnswersCut (declared_by file) limit keeps) }
     ensures right { IfOk result TellsRight }
     ensures told { IfOk result HasText }
 {
     cut_answers_are_optimal();
     cut_sets_are_one();
+    kept_tables_certify();
     depth_first_trees_are_linked();
     problem_is_whole(&file.problem);
     match cut {
         Ok(end) => Ok(Answer::Report {
-            report: cut_report(&file, end),
+            report: cut_report(&file, keeps, end),
             file,
         }),
         Err(fault) => refusal_answer(fault),
@@ -94,10 +99,10 @@ fn refusal_answer(fault: CutFault) -> Result<Answer, NoMemory>
     }
 }
 
-/// The report of what a cut came to.
-fn cut_report(file: &ProblemFile, end: CutEnd) -> Report
-    requires { IsBestCut file.now end }
-    ensures form { IsCutReport file.now end.cut result }
+/// The report of what a cut came to, with a certificate where one is asked for.
+fn cut_report(file: &ProblemFile, keeps: bool, end: CutEnd) -> Report
+    requires { IsBestCut file.now keeps end }
+    ensures form { IsCutReport file.now end.cut keeps result }
     ensures values { result.values ≡ end.values }
     ensures told { CanTell result file.now }
 {
@@ -112,6 +117,17 @@ fn cut_report(file: &ProblemFile, end: CutEnd) -> Report
         lower: cost,
         upper: cost,
         values: end.values,
-        certificate: None,
+        certificate: certificate_if(keeps, end.cut, end.tables),
+    }
+}
+
+/// The certificate of a cut and its turns, where one is asked for.
+fn certificate_if(keeps: bool, cut: VarList, turns: CutList) -> Option<Certificate>
+    ensures { result ≡ certificate_if keeps cut turns }
+{
+    if keeps {
+        Some(Certificate::Cut { cut, turns })
+    } else {
+        None
     }
 }

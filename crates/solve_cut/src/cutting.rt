@@ -16,7 +16,8 @@ use pseudotree::{Tree, depth_first_trees_are_linked};
 use std::alloc::Global;
 use std::thread::Threads;
 
-/// What a cut of the problem solved for a file comes to on its depth-first tree.
+/// What a cut of the problem solved for a file comes to on its depth-first tree. `keeps` says whether
+/// the tables of all turns are kept.
 pub(crate) fn cut_for<R: Threads + Sync, G: Gate>(
     rt: &R,
     alloc: Global,
@@ -24,6 +25,7 @@ pub(crate) fn cut_for<R: Threads + Sync, G: Gate>(
     tree: &Tree,
     limit: u64,
     workers: u32,
+    keeps: bool,
     gate: &G,
 ) -> Result<CutEnd, CutFault>
     requires tree { IsPseudotreeOf (problem_solved file.now) tree.now }
@@ -31,13 +33,22 @@ pub(crate) fn cut_for<R: Threads + Sync, G: Gate>(
     requires least { size_limit ≤ limit }
     requires most { limit ≤ joined_limit }
     requires workers { 0 < workers }
-    ensures { GivesCut (problem_solved file.now) limit result }
+    ensures { GivesCut (problem_solved file.now) limit keeps result }
 {
     let solved = ProblemSolved::of(alloc, file)?;
-    cut_on(rt, alloc, solved.problem(), tree, limit, workers, gate)
+    cut_on(
+        rt,
+        alloc,
+        solved.problem(),
+        tree,
+        limit,
+        workers,
+        keeps,
+        gate,
+    )
 }
 
-/// What a cut of a problem comes to on its depth-first tree.
+/// What a cut of a problem comes to on its depth-first tree, with the tables of all turns or not.
 fn cut_on<R: Threads + Sync, G: Gate>(
     rt: &R,
     alloc: Global,
@@ -45,6 +56,7 @@ fn cut_on<R: Threads + Sync, G: Gate>(
     tree: &Tree,
     limit: u64,
     workers: u32,
+    keeps: bool,
     gate: &G,
 ) -> Result<CutEnd, CutFault>
     requires tree { IsPseudotreeOf problem.now tree.now }
@@ -52,9 +64,9 @@ fn cut_on<R: Threads + Sync, G: Gate>(
     requires least { size_limit ≤ limit }
     requires most { limit ≤ joined_limit }
     requires workers { 0 < workers }
-    ensures { GivesCut problem.now limit result }
+    ensures { GivesCut problem.now limit keeps result }
 {
     depth_first_trees_are_linked();
     problem_is_whole(problem);
-    run_cut(rt, alloc, problem, tree, limit, workers, false, gate)
+    run_cut(rt, alloc, problem, tree, limit, workers, keeps, gate)
 }

@@ -1,14 +1,12 @@
 -- A report that tells what ADOPT agents of the problem solved have reached is right.
-use Rattle.std.proofs.Common.{◌≡◌, ℕ, ◌≤◌, Bool, true, List, length, Option, Some, None, IfSome, is_some, refl, sym, ap, subst, ◌∙◌, arith, All}
+use Rattle.std.proofs.Common.{◌≡◌, ℕ, ◌≤◌, Bool, true, List, length, Option, Some, None, IfSome, is_some, sym, ap, subst, ◌∙◌, arith, All}
 use Rattle.dcop_base.specs.Problem.{Dcop, IsAssignment, cost}
 use Rattle.dcop_base.specs.Whole.{IsProblem}
 use Rattle.dcop_optimum.specs.Goal.{top_of}
 use Rattle.dcop_optimum.proofs.OptimumLaws.{some_optimum}
 use Rattle.dcop_optimum.proofs.TurnLaws.{sum_to_top}
 use Rattle.protocol_steps.specs.AdoptBounds.{lower_bound, upper_bound}
-use Rattle.pseudotree.specs.DepthFirst.{dfs}
 use Rattle.protocol_steps.specs.Effect.{has_ended}
-use Rattle.protocol_steps.specs.TreeAgents.{adopt_agents}
 use Rattle.token_runs.specs.Laws.{TokenRuns}
 use Rattle.adopt_runs.specs.RunLaws.{AdoptBoundsEnclose}
 use Rattle.adopt_ends.specs.EndLaw.{AdoptEnds}

@@ -1,9 +1,6 @@
 -- What DPOP agents have agreed on that have run under the budget of their messages.
-use Rattle.std.proofs.Common.{◌≡◌, ℕ, ◌+◌, List, map, Option, Some, sym, ap, subst, ◌∙◌, arith}
-use Rattle.std.specs.List.{flat_map, slice_get}
-use Rattle.std.specs.Option.{option_map}
-use Rattle.std.proofs.lemmas.Option.{same_Some, slice_get-map}
-use Rattle.dcop_base.specs.Table.{CostTable}
+use Rattle.std.proofs.Common.{List, sym, subst, arith}
+use Rattle.std.specs.List.{flat_map}
 use Rattle.dcop_base.specs.Problem.{Dcop}
 use Rattle.dcop_base.specs.Whole.{IsProblem}
 use Rattle.pseudotree.specs.DepthFirst.{dfs}
@@ -11,12 +8,11 @@ use Rattle.pseudotree.specs.Pseudotree.{IsPseudotree, IsLinked}
 use Rattle.pseudotree.specs.Width.{IsNarrow}
 use Rattle.protocol_steps.specs.declared.event.Event.{Event}
 use Rattle.protocol_steps.specs.declared.outcome.Outcome.{Outcome}
-use Rattle.protocol_steps.specs.View.{View, table_of}
 use Rattle.protocol_steps.specs.Network.{start_state}
 use Rattle.protocol_steps.specs.Rounds.{RoundsAreARun}
 use Rattle.protocol_steps.specs.TreeAgents.{dpop_agents}
-use Rattle.dcop_optimum.specs.Certificate.{util_of}
-use Rattle.dpop_runs.specs.Laws.{DpopRuns, separators_of}
+use Rattle.dpop_runs.specs.Laws.{DpopRuns}
+use Rattle.util_tables.proofs.RunLaws.{have_made}
 use Rattle.solve_methods.specs.Agreed.{HaveValues}
 use Rattle.solve_methods.specs.Dpop.{IsFirstOfTree, dpop_deliveries}
 use Rattle.protocol_steps.specs.Outcomes.{HaveRun}
@@ -36,16 +32,5 @@ run-agreed p whole is_tree linked narrow law rounds outcome is =
           let values = all.all_values in
           let sum = holds.nothing_else in
           omega (arith, told, utils, values, sum);
-      tables = λ i lt.
-          let made = all.tables i lt in
-          let agent = holds.agents i lt in
-          let same : agent.0 ≡ made.0 = same_Some agent.0 made.0 (sym agent.1 ∙ made.1) in
-          let t : CostTable = util_of p (separators_of p (dfs p)) all.cells i in (
-            t,
-            ap (λ (ts : List (Option CostTable)). slice_get ts i) is.told.tables
-                ∙ slice_get-map table_of is.end.views i
-                ∙ ap (λ (o : Option View). option_map table_of o) made.1
-                ∙ ap (λ (o : Option CostTable). Some o) made.2,
-            agent.2.table t (ap table_of same ∙ made.2),
-          );
+      tables = have_made p (dfs p) is.end outcome.tables holds all is.told.tables;
     }

@@ -1,15 +1,15 @@
 -- The answer of auto, from what the agents of the problem solved came to.
-use Rattle.std.proofs.Common.{◌≡◌, ℕ, Bool, List, Option, Some, None, is_some, refl, sym, ap, subst, ◌∙◌}
+use Rattle.std.proofs.Common.{◌≡◌, ℕ, Bool, Option, is_some, refl, sym, subst}
 use Rattle.dcop_base.specs.Whole.{IsProblem}
 use Rattle.pseudotree.specs.declared.width.Wide.{Wide}
 use Rattle.problem_text.specs.File.{TextFile}
 use Rattle.problem_text.specs.Steps.{declared_by}
 use Rattle.certificate_text.specs.declared.report.Report.{Report}
-use Rattle.problem_solved.specs.Goal.{problem_solved, solved}
+use Rattle.problem_solved.specs.Goal.{problem_solved}
 use Rattle.solve_report.specs.declared.answer.Answer.TheVariants as answers
 use Rattle.solve_methods.specs.Adopt.{IsAdoptReport}
 use Rattle.solve_methods.specs.Auto.{AnswersAuto, IsAutoBy, IsWide}
-use Rattle.solve_methods.specs.Dpop.{AreBestChosen, IsDpopReport, wide_in}
+use Rattle.solve_methods.specs.Dpop.{AreBestChosen, IsDpopReport}
 use Rattle.solve_methods.specs.declared.dpop.Chosen.{Chosen}
 
 -- a report of what DPOP agents chose is the answer

@@ -1,10 +1,10 @@
 -- Optimal values of the problem solved have the best sum.
-use Rattle.std.proofs.Common.{◌≡◌, ℕ, ◌-◌, ◌≤◌, List, Result, Ok, Err, sym, ap, subst, arith}
+use Rattle.std.proofs.Common.{◌≡◌, ℕ, ◌-◌, ◌≤◌, List, Result, Ok, Err, subst, arith}
 use Rattle.dcop_base.specs.Limits.{assignment_limit}
 use Rattle.dcop_base.specs.Problem.{Dcop, IsAssignment, cost}
 use Rattle.dcop_base.specs.Whole.{IsProblem}
 use Rattle.dcop_base.specs.Table.{product}
-use Rattle.dcop_optimum.specs.Optimum.{IsOptimum, assignment_count}
+use Rattle.dcop_optimum.specs.Optimum.{IsOptimum}
 use Rattle.dcop_optimum.specs.Goal.{turned, top_of, IsGreatestSum}
 use Rattle.dcop_optimum.specs.declared.plain.PlainFault.{PlainFault}
 use Rattle.dcop_optimum.specs.declared.plain.PlainFault.TheVariants.{TooMany, NoMemory}

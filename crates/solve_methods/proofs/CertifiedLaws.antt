@@ -1,12 +1,10 @@
 -- The certificate of a report of DPOP: it fits the file, holds, and can be told.
-use Rattle.std.proofs.Common.{◌≡◌, ℕ, List, length, Option, Some, None, IfSome, is_some, refl, sym, subst, ◌∙◌, All}
+use Rattle.std.proofs.Common.{◌≡◌, ℕ, List, length, Option, Some, None, IfSome, is_some, sym, subst, ◌∙◌, All}
 use Rattle.std.proofs.lemmas.List.Elements.{All-weaker}
 use Rattle.dcop_base.specs.Problem.{Dcop, IsAssignment, cost}
 use Rattle.dcop_base.specs.Whole.{IsProblem}
 use Rattle.pseudotree.specs.DepthFirst.{dfs, DepthFirstTreesAreLinked}
 use Rattle.problem_text.specs.File.{TextFile, IsFile}
-use Rattle.problem_text.specs.declared.file.Goal.{Goal}
-use Rattle.problem_text.specs.declared.file.Goal.TheVariants.{Min, Max}
 use Rattle.certificate_text.specs.declared.certificate.Certificate.{Certificate}
 use Rattle.certificate_text.specs.declared.certificate.Certificate.TheVariants.{Tables, Log, Cut}
 use Rattle.certificate_text.specs.declared.certificate.Util.{Util}
@@ -15,17 +13,18 @@ use Rattle.certificate_text.specs.declared.report.Ending.TheVariants.{Solved}
 use Rattle.certificate_text.specs.declared.report.Method.TheVariants.{Dpop}
 use Rattle.certificate_text.specs.Fits.{FitsUtil, FitsTables}
 use Rattle.certificate_text.specs.Named.{IsNamedUtil, IsNamedCertificate, CanTell}
-use Rattle.problem_solved.specs.Goal.{solved, problem_solved}
+use Rattle.problem_solved.specs.Goal.{problem_solved}
 use Rattle.problem_solved.proofs.SolvedLaws.{solved_problem, solved_sizes}
-use Rattle.solve_methods.specs.Certified.{AreUtilsOf, HasUtilsOf, AreTablesOf, IsCertifiedBy, IsCertified}
+use Rattle.util_tables.specs.Utils.{AreUtilsOf}
+use Rattle.solve_methods.specs.Certified.{HasUtilsOf, AreTablesOf, IsCertifiedBy, IsCertified}
 use Rattle.solve_methods.specs.Dpop.{dpop_deliveries, IsFirstOfTree, IsDpopReport, AreBestChosen}
 use Rattle.solve_methods.specs.declared.dpop.Chosen.{Chosen}
 use Rattle.solve_methods.proofs.TellLaws.{CanTell-certified}
-use Rattle.solve_methods.proofs.UtilLaws.{tables_fit, tables_show}
+use Rattle.util_tables.proofs.UtilLaws.{tables_fit, tables_show}
 
 module _ (trees : DepthFirstTreesAreLinked) (file : TextFile) (whole : IsProblem file.problem) where
   -- the tables of the problem solved fit the file's problem
-  tables_fit_file : (utils : List Util) → AreUtilsOf (problem_solved file) utils → FitsTables file.problem.sizes utils
+  tables_fit_file : (utils : List Util) → AreUtilsOf (problem_solved file) (dfs (problem_solved file)) utils → FitsTables file.problem.sizes utils
   tables_fit_file utils are =
       let q : Dcop = problem_solved file in
       let whole_q = solved_problem file.goal file.problem whole in
@@ -69,7 +68,7 @@ module _ (trees : DepthFirstTreesAreLinked) (file : TextFile) (whole : IsProblem
       first : IsFirstOfTree (problem_solved file) report.values
       first = subst (IsFirstOfTree (problem_solved file)) (sym values) best.first
 
-      tables_hold : (utils : List Util) → AreUtilsOf (problem_solved file) utils → AreTablesOf file report utils
+      tables_hold : (utils : List Util) → AreUtilsOf (problem_solved file) (dfs (problem_solved file)) utils → AreTablesOf file report utils
       tables_hold utils are =
           let q : Dcop = problem_solved file in
           let whole_q = solved_problem file.goal file.problem whole in record {

@@ -10,12 +10,9 @@ use Rattle.pseudotree.specs.Width.{told, joined_cells, sent_total, first_wide, w
 use Rattle.pseudotree.specs.declared.width.Wide.{Wide}
 use Rattle.pseudotree.specs.declared.width.Wide.TheVariants.{Agent, Total}
 use Rattle.dcop_base.specs.Limits.{joined_limit, sent_limit}
-use Rattle.dcop_optimum.specs.Goal.{turned, top_of, IsGreatestSum}
-use Rattle.dcop_optimum.proofs.TurnLaws.{sum_to_top, tells_greatest}
 use Rattle.problem_text.specs.File.{TextFile}
 use Rattle.problem_text.specs.Steps.{declared_by}
 use Rattle.problem_text.specs.declared.file.Goal.{Goal}
-use Rattle.problem_text.specs.declared.file.Goal.TheVariants.{Min, Max}
 use Rattle.certificate_text.specs.declared.report.Report.{Report}
 use Rattle.solve_report.specs.AnswerText.{HasText}
 use Rattle.solve_report.specs.declared.answer.Answer.{Answer}
@@ -25,7 +22,7 @@ use Rattle.problem_solved.proofs.SolvedLaws.{solved_sizes}
 use Rattle.solve_methods.proofs.RightLaws.{right_of_best}
 use Rattle.solve_methods.proofs.BestLaws.{best_of}
 use Rattle.solve_methods.specs.Goal.{IsRightReport, TellsRight}
-use Rattle.solve_methods.specs.Dpop.{wide_in, wide_answer, IsFirstOfTree, IsDpopReport, IsAnswerBy, AnswersDpop, HaveAgreed, AreBestChosen}
+use Rattle.solve_methods.specs.Dpop.{wide_in, wide_answer, IsDpopReport, IsAnswerBy, AnswersDpop, HaveAgreed, AreBestChosen}
 use Rattle.solve_methods.specs.declared.dpop.Chosen.{Chosen}
 
 pub best_chosen : (goal : Goal) (p : Dcop) → IsProblem p → (chosen : Chosen) → wide_in (solved goal p) ≡ None → HaveAgreed (solved goal p) chosen → AreBestChosen goal p chosen

@@ -7,11 +7,8 @@ pub mod ChosenLaws
 mod TreeLaws
 mod AdoptRunLaws
 mod AdoptRightLaws
-mod OnceLaws
-mod ScopeLaws
 mod MarkLaws
 mod AutoLaws
-mod UtilLaws
 pub mod NamedLaws
 mod MadeLaws
 mod CertifiedLaws

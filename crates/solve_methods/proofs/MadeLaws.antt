@@ -1,54 +1,32 @@
 -- The tables that the agents of a problem made are those of its variables, by the nodes of its tree in preorder.
-use Rattle.std.proofs.Common.{◌≡◌, ℕ, ◌<◌, Bool, true, false, cond, List, [], ◌∷◌, length, map, Option, Some, None, IfSome, is_some, refl, sym, ap, subst, ◌∙◌, arith, All}
-use Rattle.std.specs.List.{AllZip, slice_get}
+use Rattle.std.proofs.Common.{◌≡◌, ℕ, ◌<◌, List, [], ◌∷◌, map, Option, Some, None, IfSome, is_some, refl, sym, ap, subst, All}
 use Rattle.std.specs.Option.{option_map}
-use Rattle.std.proofs.lemmas.List.Elements.{All-head, All-tail, All-weaker}
 use Rattle.dcop_base.specs.Table.{CostTable}
 use Rattle.dcop_base.specs.Problem.{Dcop}
 use Rattle.pseudotree.specs.DepthFirst.{dfs}
 use Rattle.pseudotree.specs.Preorder.{preorder_of}
-use Rattle.pseudotree.specs.Place.{sizes_of}
 use Rattle.pseudotree.specs.Pseudotree.{separator_of, IsPseudotree}
-use Rattle.dpop_runs.specs.Agents.{IsOptimumTable}
 use Rattle.certificate_text.specs.declared.certificate.Certificate.{Certificate}
-use Rattle.certificate_text.specs.declared.certificate.Certificate.TheVariants.{Tables}
+use Rattle.certificate_text.specs.declared.certificate.Util.{Util}
+use Rattle.util_tables.specs.Utils.{AreUtilsOf, HaveMade, util_with}
+use Rattle.util_tables.proofs.MadeLaws.{utils_made}
 use Rattle.solve_report.specs.declared.tree.NodeRow.{NodeRow}
-use Rattle.solve_methods.specs.Agreed.{HaveMade, cells_on, util_with, certificate_with}
-use Rattle.solve_methods.specs.Certified.{IsUtilOf, AreUtilsOf, HasUtilsOf}
+use Rattle.solve_methods.specs.Agreed.{node_util, certificate_with}
+use Rattle.solve_methods.specs.Certified.{HasUtilsOf}
 use Rattle.solve_methods.specs.Tree.{row_with, rows_of}
 use Rattle.solve_methods.proofs.RowLaws.{preorder_below}
 
--- a table with these parts
-table_with : List ℕ → List ℕ → List ℕ → CostTable
-table_with scope sizes cells = record { scope = scope; sizes = sizes; cells = cells }
+-- the tables of nodes are those of their variables
+utils_same : (p : Dcop) (paths : List (List ℕ)) (tables : List (Option CostTable)) (vs : List ℕ) → map (node_util tables) (map (row_with (separator_of p paths) paths) vs) ≡ map (util_with (separator_of p paths) paths tables) vs
+utils_same p paths tables [] = refl
+utils_same p paths tables (v ∷ vs) = ap (λ (us : List Util). util_with (separator_of p paths) paths tables v ∷ us) (utils_same p paths tables vs)
 
-same_with : (a b s t x y : List ℕ) → a ≡ b → s ≡ t → x ≡ y → table_with a s x ≡ table_with b t y
-same_with a b s t x y ea es ex = cc
-
--- a table is the one with its parts
-table_is : (t : CostTable) (scope sizes cells : List ℕ) → t.scope ≡ scope → t.sizes ≡ sizes → t.cells ≡ cells → t ≡ record { scope = scope; sizes = sizes; cells = cells }
-unfolding table_with
-table_is t scope sizes cells = same_with t.scope scope t.sizes sizes t.cells cells
-
-module _ (p : Dcop) (tables : List (Option CostTable)) (made : HaveMade p tables) where
-  util_made : (v : ℕ) → v < length p.sizes → IsUtilOf p (dfs p) v (util_with tables (row_with (separator_of p (dfs p)) (dfs p) v))
-  util_made v lt =
-      let own = made v lt in
-      let scope : List ℕ = separator_of p (dfs p) v in
-      let cells : List ℕ = cells_on (slice_get tables v) in record {
-        var = refl;
-        parent = refl;
-        table =
-            subst (IsOptimumTable p (dfs p) v)
-            (table_is own.0 scope (sizes_of p scope) cells own.2.scope (own.2.sizes ∙ ap (sizes_of p) own.2.scope) (sym (ap cells_on own.1))) own.2;
-      }
-
-  utils_made : (vs : List ℕ) → All (λ v. v < length p.sizes) vs → AllZip (IsUtilOf p (dfs p)) vs (map (util_with tables) (map (row_with (separator_of p (dfs p)) (dfs p)) vs))
-  utils_made [] below = tt
-  utils_made (v ∷ vs) below = (util_made v (All-head (λ w. w < length p.sizes) v vs below), utils_made vs (All-tail (λ w. w < length p.sizes) v vs below))
-
-  utils_are : IsPseudotree p (dfs p) → AreUtilsOf p (map (util_with tables) (rows_of p (dfs p)))
-  utils_are is_tree = utils_made (preorder_of (dfs p)) (subst (λ (n : ℕ). All (λ v. v < n) (preorder_of (dfs p))) is_tree.sized (preorder_below (dfs p)))
+module _ (p : Dcop) (tables : List (Option CostTable)) (made : HaveMade p (dfs p) tables) where
+  utils_are : IsPseudotree p (dfs p) → AreUtilsOf p (dfs p) (map (node_util tables) (rows_of p (dfs p)))
+  utils_are is_tree =
+      subst (AreUtilsOf p (dfs p)) (sym (utils_same p (dfs p) tables (preorder_of (dfs p))))
+      (utils_made p (dfs p) tables made (separator_of p (dfs p)) (λ v lt. refl) (preorder_of (dfs p))
+      (subst (λ (n : ℕ). All (λ v. v < n) (preorder_of (dfs p))) is_tree.sized (preorder_below (dfs p))))
 
   -- a certificate is there exactly where nodes are given, and it has the tables of all variables
   pub certificate_made : IsPseudotree p (dfs p) → (nodes : Option (List NodeRow)) (certificate : Option Certificate) → IfSome nodes (λ rows. rows ≡ rows_of p (dfs p)) → certificate ≡ option_map (certificate_with tables) nodes
@@ -57,5 +35,5 @@ module _ (p : Dcop) (tables : List (Option CostTable)) (made : HaveMade p tables
   certificate_made is_tree (Some nodes) certificate are is = (
     ap is_some is,
     subst (λ (o : Option Certificate). IfSome o (HasUtilsOf p)) (sym is)
-        (subst (λ (rows : List NodeRow). AreUtilsOf p (map (util_with tables) rows)) (sym are) (utils_are is_tree)),
+        (subst (λ (rows : List NodeRow). AreUtilsOf p (dfs p) (map (node_util tables) rows)) (sym are) (utils_are is_tree)),
   )

@@ -1,5 +1,5 @@
 -- The events of a run are of agents that are there, which is what the names of a file can tell.
-use Rattle.std.proofs.Common.{◌≡◌, ℕ, ◌<◌, false, nat_le, List, [], ◌∷◌, map, length, get_or, Option, Some, None, IfSome, refl, sym, ap, subst, ◌∙◌, inl, inr, arith}
+use Rattle.std.proofs.Common.{◌≡◌, ℕ, ◌<◌, false, nat_le, List, [], ◌∷◌, length, get_or, Option, Some, None, refl, sym, ap, subst, ◌∙◌, inl, inr}
 use Rattle.std.specs.List.{All, list_any, range_with_len}
 use Rattle.std.proofs.lemmas.Bool.{cases_Bool, false≢true, leb-false}
 use Rattle.std.proofs.lemmas.List.{length-set, length-map}

@@ -22,10 +22,11 @@ use Rattle.certificate_text.specs.declared.report.Ending.{Ending}
 use Rattle.certificate_text.specs.declared.report.Method.{Method}
 use Rattle.problem_solved.specs.Goal.{problem_solved}
 use Rattle.dpop_runs.specs.Agents.{IsOptimumTable}
-use Rattle.solve_methods.specs.Certified.{IsUtilOf, IsCertifiedBy, IsCertified}
+use Rattle.util_tables.specs.Utils.{IsUtilOf}
+use Rattle.solve_methods.specs.Certified.{IsCertifiedBy, IsCertified}
 use Rattle.solve_methods.specs.Dpop.{IsDpopReport}
 use Rattle.problem_solved.proofs.SolvedLaws.{solved_problem}
-use Rattle.solve_methods.proofs.UtilLaws.{cell_optimum}
+use Rattle.util_tables.proofs.UtilLaws.{cell_optimum}
 
 -- a table with these parts
 util_with : ℕ → Option ℕ → List ℕ → List ℕ → Util

@@ -1,12 +1,13 @@
 //! The tables that DPOP agents made, as a certificate.
 
-ghost use Rattle.std.specs.Prelude.{◌≡◌, map, option_map, slice_get, IfOk};
-ghost use Rattle.solve_methods.specs.Agreed.{cells_on, certificate_with, util_with};
+ghost use Rattle.std.specs.Prelude.{◌≡◌, map, option_map, IfOk};
+ghost use Rattle.solve_methods.specs.Agreed.{certificate_with, node_util};
 
 use certificate_text::{Certificate, Util, UtilList};
-use dcop_base::{CellList, NoMemory, Table, VarId};
+use dcop_base::{NoMemory, Table};
 use solve_report::{NodeRow, NodeRowList};
 use std::alloc::Global;
+use util_tables::cells_of;
 
 /// The certificate of the tables that the agents of these nodes made, where there are nodes.
 pub(crate) fn certificate_of(
@@ -28,7 +29,7 @@ fn utils_of(
     nodes: NodeRowList,
     tables: &[Option<Table>],
 ) -> Result<UtilList, NoMemory>
-    ensures { IfOk result (λ utils. utils ≡ map (util_with tables.now) nodes) }
+    ensures { IfOk result (λ utils. utils ≡ map (node_util tables.now) nodes) }
 {
     let mut utils = Vec::with_capacity(alloc, nodes.as_slice().len())?;
     for node in nodes.into_vec() {
@@ -39,7 +40,7 @@ fn utils_of(
 
 /// The table that the agent of a node made.
 fn util_of(alloc: Global, node: NodeRow, tables: &[Option<Table>]) -> Result<Util, NoMemory>
-    ensures { IfOk result (λ util. util ≡ util_with tables.now node) }
+    ensures { IfOk result (λ util. util ≡ node_util tables.now node) }
 {
     let NodeRow {
         var,
@@ -52,17 +53,4 @@ fn util_of(alloc: Global, node: NodeRow, tables: &[Option<Table>]) -> Result<Uti
         scope: separator,
         cells: cells_of(alloc, var, tables)?,
     })
-}
-
-/// The cells of the table that an agent made.
-fn cells_of(alloc: Global, var: VarId, tables: &[Option<Table>]) -> Result<CellList, NoMemory>
-    ensures { IfOk result (λ cells. cells ≡ cells_on (slice_get tables.now var)) }
-{
-    match tables.get(var.0 as usize) {
-        Some(Some(table)) => {
-            let cells = Vec::from_slice(alloc, table.cells.as_slice())?;
-            Ok(CellList::from_vec(cells))
-        }
-        _ => Ok(CellList::from_vec(Vec::new(alloc))),
-    }
 }

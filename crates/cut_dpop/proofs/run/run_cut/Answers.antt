@@ -35,11 +35,11 @@ overflow_mul-result g c =
     let allowed = c.in_ok-turns.ensures.allowed in
     let few = few-turns c.args.problem.now c.args.tree.now.paths c.in_ok-cut.cut c.args.keep allowed.0 in
     let low : c.in_ok-turns.turns ≤ turn_limit = subst (λ (n : ℕ). n ≤ turn_limit) (sym allowed.1) few in
-    let best = c.in_ok-best.ensures in
-    let most = few-messages c.args.problem.now c.in_ok-turns.turns c.in_ok-best.best.deliveries c.problem_is_whole.ensures low best.played.deliveries in
+    let best = c.in_ok-all.ensures.best in
+    let most = few-messages c.args.problem.now c.in_ok-turns.turns c.in_ok-all.all.best.deliveries c.problem_is_whole.ensures low best.played.deliveries in
     omega (arith, most)
 
 pub returns-clause-end : goal.returns-clause-end
 returns-clause-end g c =
-    cut-end c.args.problem.now c.args.tree.now.paths c.in_ok-copy_of.field-0.paths c.args.limit c.args.keep c.in_ok-cut.cut c.in_ok-turns.turns c.in_ok-best.best c.in_ok-cut.ensures c.in_ok-turns.ensures.allowed
-    c.in_ok-copy_of.ensures.paths c.in_ok-best.ensures
+    cut-end c.args.problem.now c.args.tree.now.paths c.in_ok-copy_of.field-0.paths c.args.limit c.args.keep c.in_ok-cut.cut c.in_ok-turns.turns c.in_ok-all.all.best c.in_ok-all.all.tables c.in_ok-cut.ensures c.in_ok-turns.ensures.allowed
+    c.in_ok-copy_of.ensures.paths c.in_ok-all.ensures.best c.in_ok-all.ensures.kept

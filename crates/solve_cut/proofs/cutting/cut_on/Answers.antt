@@ -16,4 +16,4 @@ pub run_cut-requires-clause-limit : goal.run_cut-requires-clause-limit
 run_cut-requires-clause-limit g c κs within = sizes-few c.args.problem.now c.args.limit c.problem_is_whole.ensures c.requires.least
 
 pub returns : goal.returns
-returns g c = given-by c.args.problem.now c.args.tree.now.paths c.args.limit c.run_cut.result c.requires.paths c.run_cut.ensures.end c.run_cut.ensures.refused
+returns g c = given-by c.args.problem.now c.args.tree.now.paths c.args.limit c.args.keeps c.run_cut.result c.requires.paths c.run_cut.ensures.end c.run_cut.ensures.refused

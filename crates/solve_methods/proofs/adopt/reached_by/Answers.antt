@@ -1,4 +1,4 @@
-use Rattle.std.proofs.Common.{◌≡◌, Bool, ℕ, List, refl, sym, ap, subst, ◌∙◌, if◌then◌else◌}
+use Rattle.std.proofs.Common.{Bool, ℕ, refl, sym, ap, subst, ◌∙◌, if◌then◌else◌}
 use Rattle.dcop_base.specs.Problem.{IsAssignment, cost}
 use Rattle.dcop_base.specs.Whole.{IsProblem}
 use Rattle.certificate_text.specs.declared.report.Ending.TheVariants.{Solved, Spent}

@@ -1,4 +1,4 @@
-use Rattle.std.proofs.Common.{◌≡◌, sym, subst}
+use Rattle.std.proofs.Common.{subst}
 use Rattle.dcop_base.specs.Whole.{IsProblem}
 use Rattle.problem_text.specs.File.{TextFile}
 use Rattle.solve_methods.specs.Dpop.{AreBestChosen}

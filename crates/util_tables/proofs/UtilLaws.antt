@@ -27,9 +27,9 @@ use Rattle.certificate_text.specs.Fits.{FitsUtil, FitsTables}
 use Rattle.problem_solved.specs.Told.{told, parents_told, scopes_told, cells_told}
 use Rattle.problem_solved.proofs.TellingLaws.{map_same, table_is}
 use Rattle.dpop_runs.specs.Agents.{IsOptimumTable}
-use Rattle.solve_methods.specs.Certified.{IsUtilOf}
-use Rattle.solve_methods.proofs.OnceLaws.{preorder_once}
-use Rattle.solve_methods.proofs.ScopeLaws.{separator_apart, values_at}
+use Rattle.util_tables.specs.Utils.{IsUtilOf}
+use Rattle.util_tables.proofs.OnceLaws.{preorder_once}
+use Rattle.util_tables.proofs.ScopeLaws.{separator_apart, values_at}
 
 module _ (p : Dcop) (paths : List (List ℕ)) where
   -- the tables of these variables, each counted for its variable
@@ -125,11 +125,15 @@ module _ (p : Dcop) (paths : List (List ℕ)) (problem : IsProblem p) (pseudo : 
           subst (λ (t : CostTable). IsSubtreeOptimum p paths i value (cell_with t value)) (sym (table_is p utils i (omega arith))) ((told_is i lt).table.cells value above);
     }
 
-    -- and with optimal values they are a certificate
-    pub tables_show : (values : List ℕ) → IsOptimum p (cost p values) → IsTableCertificate p (parents_told p utils) (scopes_told p utils) (cells_told p utils) values
-    tables_show values optimal =
-        let parents : parents_told p utils ≡ parents_of paths =
+    -- their parents are those of the tree
+    pub parents_are : parents_told p utils ≡ parents_of paths
+    parents_are =
         map_same (λ v. (told utils v).parent) (parent_of paths) (length p.sizes) (λ i lt. let count = pseudo.sized in (told_is i (omega arith)).parent)
-        ∙ ap (λ (n : ℕ). map (parent_of paths) (range_with_len 0 n)) (sym pseudo.sized) in
-        subst (λ (ps : List (Option ℕ)). IsTableCertificate p ps (scopes_told p utils) (cells_told p utils) values) (sym parents)
-        (optima_make_certificates p paths (scopes_told p utils) (cells_told p utils) values problem pseudo told_tables optimal)
+        ∙ ap (λ (n : ℕ). map (parent_of paths) (range_with_len 0 n)) (sym pseudo.sized)
+
+    -- and with optimal values they are a certificate
+    pub tables_show_on : (values : List ℕ) → IsOptimum p (cost p values) → IsTableCertificate p (parents_of paths) (scopes_told p utils) (cells_told p utils) values
+    tables_show_on values optimal = optima_make_certificates p paths (scopes_told p utils) (cells_told p utils) values problem pseudo told_tables optimal
+
+    pub tables_show : (values : List ℕ) → IsOptimum p (cost p values) → IsTableCertificate p (parents_told p utils) (scopes_told p utils) (cells_told p utils) values
+    tables_show values optimal = subst (λ (ps : List (Option ℕ)). IsTableCertificate p ps (scopes_told p utils) (cells_told p utils) values) (sym parents_are) (tables_show_on values optimal)

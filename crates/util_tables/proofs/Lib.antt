@@ -1,0 +1,5 @@
+pub mod RunLaws
+pub mod MadeLaws
+mod OnceLaws
+mod ScopeLaws
+pub mod UtilLaws
