@@ -156,7 +156,7 @@ module _ (words : List (List ℕ)) (command : Command) (nodes : ℕ) (asked : an
 
   unread_given : (drill : Option Drill) (answer : Answer) → task_of command ≡ None → drill_of command ≡ drill → IsUnreadAnswerIn nodes drill answer → IsGiven words Unread answer
   unread_given (Some drill) answer unread drills is = drill_given drill answer unread drills is
-  unread_given None answer unread drills is = inl (unread-IsAnswer answer unread (subst (λ (d : Option Drill). IsUnreadAnswer d answer) (sym drills) is))
+  unread_given None answer unread drills is = absurd is
 
   -- the same, unless memory was wanted
   pub Answered-unread : (before after : SourceState) (result : Result Answer NoMemory)
@@ -319,9 +319,9 @@ refusal_sound (faults.TooMany turns) is = cc is
 refusal_sound (faults.Total cells) is = cc is
 refusal_sound faults.NoMemory is = is
 
-cut_sound : (file : TextFile) (cut : List ℕ) (refusal : Option CutFault) → ¬ IsCutAnswerBy file cut refusal answers.Read
-cut_sound file cut (Some fault) is = refusal_sound fault is
-cut_sound file cut None is = cc is.is
+cut_sound : (file : TextFile) (cut : List ℕ) (certified : Bool) (refusal : Option CutFault) → ¬ IsCutAnswerBy file cut certified refusal answers.Read
+cut_sound file cut certified (Some fault) is = refusal_sound fault is
+cut_sound file cut certified None is = cc is.is
 
 -- an answer to what a text declares is no failed reading
 file-sound : (task : FileTask) (t : Told) → ¬ IsFileAnswer task t answers.Read
@@ -330,7 +330,7 @@ file-sound (tasks.Dpop certified) t is = dpop-sound is.file certified (wide_in (
 file-sound (tasks.Adopt error budget certified) t is = is.is
 file-sound (tasks.Auto error budget certified) t is =
     let told = auto-status is.file error budget certified (wide_in (problem_solved is.file)) answers.Read is.is in (ending-told told.0).2 (sym told.1)
-file-sound (tasks.Cut limit) t is = cut_sound is.file is.cut (refusal_of (problem_solved is.file) is.cut) is.is
+file-sound (tasks.Cut limit certified) t is = cut_sound is.file is.cut certified (refusal_of (problem_solved is.file) is.cut certified) is.is
 file-sound tasks.Tree t is = is.is
 file-sound tasks.Upgrade t is = let s = upgraded-solved t.declared t.bar answers.Read is in cc
 
@@ -406,7 +406,7 @@ unread-sound : (drill : Option Drill) (answer : Answer) → IsUnreadAnswer drill
 unread-sound (Some drill) answer is fault =
     let solved : status_of is.solved ≡ ReadFault = sym (drilled-status drill.seed is.solved) ∙ sym (ap status_of is.told) ∙ fault in
     file-sound drill.task (told_of (made_for drill) None) (subst (λ (a : Answer). IsFileAnswer drill.task (told_of (made_for drill) None) a) (read-alone is.solved solved) is.is)
-unread-sound None answer is fault = let s = ap status_of is in cc
+unread-sound None answer is fault = is
 
 served-sound : (command : Command) (task : Option Task) (input : Input) (answer : Answer) → IsServedAnswer command task input answer → status_of answer ≡ ReadFault → input ≡ Broken
 served-sound command (Some task) input answer is fault = input-sound task input answer is fault
@@ -502,7 +502,8 @@ file-well format (tasks.Dpop certified) t answer few is =
     solved-well (status_of answer) (File format (tasks.Dpop certified)) (dpop-solved is.file certified answer (fit-none t.declared few is.file is.whole is.declared) is.is)
 file-well format (tasks.Adopt error budget certified) t answer few is = adopt-well format is.file error budget certified answer is.is
 file-well format (tasks.Auto error budget certified) t answer few is = auto-well format is.file error budget certified answer is.is
-file-well format (tasks.Cut limit) t answer few is = solved-well (status_of answer) (File format (tasks.Cut limit)) (cut-solved answer (allowed-solved cut_sets_are_one depth_first_trees_are_linked t.declared limit answer few.0 few.1 is))
+file-well format (tasks.Cut limit certified) t answer few is =
+    solved-well (status_of answer) (File format (tasks.Cut limit certified)) (cut-solved answer (allowed-solved cut_sets_are_one depth_first_trees_are_linked t.declared limit certified answer few.0 few.1 is))
 file-well format tasks.Tree t answer few is = solved-well (status_of answer) (File format tasks.Tree) (tree-solved is.file answer is.is)
 file-well format tasks.Upgrade t answer few is = solved-well (status_of answer) (File format tasks.Upgrade) (upgraded-solved t.declared t.bar answer is)
 

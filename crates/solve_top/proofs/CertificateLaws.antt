@@ -1,14 +1,17 @@
 -- A report that was printed with its certificate fits its file, and holds.
-use Rattle.std.proofs.Common.{◌≡◌, ℕ, ◌<◌, ◌≤◌, Bool, true, false, List, [], ◌∷◌, length, Option, Some, None, IfSome, IsTrue, is_some, refl, sym, ap, subst, arith, ◌∙◌}
+use Rattle.std.proofs.Common.{◌≡◌, ℕ, ◌*◌, ◌<◌, ◌≤◌, Bool, true, false, List, [], ◌∷◌, length, Option, Some, None, IfSome, IsTrue, is_some, refl, sym, subst, arith}
 use Rattle.std.specs.List.{All, AllZip}
+use Rattle.std.proofs.Math.Nat.{mul-le-mul_right}
 use Rattle.std.proofs.lemmas.Bool.{false≢true}
 use Rattle.std.proofs.lemmas.List.Elements.{All-nil, All-cons, All-head, All-tail}
-use Rattle.dcop_base.specs.Limits.{amount_limit}
+use Rattle.dcop_base.specs.Limits.{amount_limit, size_limit, variable_limit}
 use Rattle.dcop_base.specs.Problem.{Dcop, IsAssignment, cost}
 use Rattle.dcop_base.specs.Table.{AreWithin}
 use Rattle.dcop_base.specs.Whole.{IsProblem}
 use Rattle.dcop_base.proofs.ProblemLaws.{cost-le-cap}
 use Rattle.dcop_optimum.specs.Goal.{top_of}
+use Rattle.pseudotree.specs.DepthFirst.{dfs}
+use Rattle.pseudotree.proofs.SearchLaws.{depth_first_trees_are_linked}
 use Rattle.pseudotree.specs.declared.width.Wide.{Wide}
 use Rattle.pseudotree.specs.declared.width.Wide.TheVariants.{Agent, Total}
 use Rattle.token_runs.proofs.RunLaws.{token_runs}
@@ -29,7 +32,7 @@ use Rattle.certificate_text.specs.declared.report.Report.{Report}
 use Rattle.certificate_text.specs.Fits.{FitsCertificate, Fits}
 use Rattle.problem_solved.specs.Goal.{solved, problem_solved}
 use Rattle.problem_solved.specs.Holds.{HoldsTables, HoldsCut}
-use Rattle.problem_solved.proofs.SolvedLaws.{solved_sizes}
+use Rattle.problem_solved.proofs.SolvedLaws.{solved_problem, solved_sizes}
 use Rattle.log_holds.specs.Ends.{least_known, lower_for, upper_for, least_shown, TellsEnd}
 use Rattle.log_holds.specs.Holds.{HoldsLog}
 use Rattle.log_holds.specs.Laws.{LogsShow}
@@ -40,9 +43,15 @@ use Rattle.solve_methods.specs.Auto.{IsAutoBy}
 use Rattle.solve_methods.specs.Certified.{IsCertifiedBy, IsLoggedBy}
 use Rattle.solve_methods.specs.Dpop.{wide_in, wide_answer, IsDpopReport, IsAnswerBy}
 use Rattle.solve_methods.proofs.NamedLaws.{log_named}
+use Rattle.cut_laws.specs.Turns.{turn_count}
+use Rattle.cut_laws.proofs.CutSetLaws.{cut_sets_are_one}
+use Rattle.cut_laws.proofs.KeptLaws.{cut_answers_are_optimal}
+use Rattle.cut_dpop.specs.Refusal.{turn_limit}
+use Rattle.cut_dpop.specs.Start.{turn_deliveries}
+use Rattle.cut_dpop.proofs.EndLaws.{few-turns}
 use Rattle.cut_dpop.specs.declared.fault.CutFault.{CutFault}
 use Rattle.cut_dpop.specs.declared.fault.CutFault.TheVariants as faults
-use Rattle.solve_cut.specs.Cut.{refusal_of, IsRefusalAnswer, IsCutAnswerBy}
+use Rattle.solve_cut.specs.Cut.{IsCutOf, refusal_of, IsCutReport, IsRefusalAnswer, IsCutAnswerBy}
 use Rattle.solve_inputs.specs.Told.{Told}
 use Rattle.solve_top.specs.declared.task.FileTask.{FileTask}
 use Rattle.solve_top.specs.declared.task.FileTask.TheVariants as tasks
@@ -174,10 +183,67 @@ module _ (d : Declared) (file : TextFile) (report : Report) (error budget : ℕ)
   adopt_certified : IsReadable report report.certificate → IsCertified d file report
   adopt_certified readable = by_certificate report.certificate refl is.certificate readable
 
+-- a report of a cut: so few turns take few messages
+few_turns : (goal : Goal) (p : Dcop) (cut : List ℕ) → turn_count (solved goal p) cut ≤ turn_limit → turn_count p cut ≤ turn_limit
+few_turns Min p cut few = few
+few_turns Max p cut few = few
+
+few_deliveries : (deliveries turns each : ℕ) → deliveries ≡ turns * each → turns ≤ turn_limit → each ≤ 2 * variable_limit → deliveries ≤ amount_limit
+few_deliveries deliveries turns each is few small = let low : turns * each ≤ turn_limit * each = mul-le-mul_right each few in omega (arith, low, is, small)
+
+-- no size exceeds the limit
+few_values : (p : Dcop) (limit : ℕ) → IsProblem p → size_limit ≤ limit → All (λ s. s ≤ limit) p.sizes
+few_values p limit whole least k d lt = let small = (whole.sizes k d lt).1 in omega (arith, small, least)
+
+module _ (d : Declared) (file : TextFile) (report : Report) (limit : ℕ) (cut : List ℕ) (whole : IsProblem file.problem) (declared : declared_by file ≡ d) (least : size_limit ≤ limit) (is_cut : IsCutOf (problem_solved file) limit cut)
+    (allowed : refusal_of (problem_solved file) cut true ≡ None) (is : IsCutReport file cut true report) where
+  -- its values are an assignment
+  cut_assignment : IsAssignment (problem_solved file) report.values
+  cut_assignment =
+      let q : Dcop = problem_solved file in
+      let whole_q = solved_problem file.goal file.problem whole in
+      let are_cut = (cut_sets_are_one q (dfs q) limit whole_q (depth_first_trees_are_linked q whole_q).0 (few_values q limit whole_q least)).are_cut cut is_cut in
+      (cut_answers_are_optimal q (dfs q) cut is.first.0 report.values whole_q are_cut is.first.1).assignment
+
+  -- and its messages an amount
+  cut_deliveries : report.deliveries ≤ amount_limit
+  cut_deliveries =
+      let few = few_turns file.goal file.problem cut (few-turns (problem_solved file) (dfs (problem_solved file)) cut true allowed) in
+      let each : turn_deliveries file.problem ≤ 2 * variable_limit = omega (arith, whole.few) in
+      few_deliveries report.deliveries (turn_count file.problem cut) (turn_deliveries file.problem) is.deliveries few each
+
+  cut_certified : IsCertified d file report
+  cut_certified =
+      let most = cost-le-cap file.problem report.values whole in
+      let cheap : report.cost ≤ amount_limit = omega (arith, most, is.cost) in
+      let told : report.certificate ≡ Some (Cut cut is.certificate.0) = is.certificate.1 in
+      let turns = is.certificate.2 in
+      let certificate : IfSome (Some (Cut cut is.certificate.0)) (FitsCertificate file.problem.sizes report.method) = (is.method, turns.fits) in
+      record {
+        whole = whole;
+        declared = declared;
+        fits = record {
+          values = values_fit file.goal file.problem report.values cut_assignment;
+          error = omega (arith, is.error);
+          deliveries = cut_deliveries;
+          cost = cheap;
+          lower = omega (arith, cheap, is.lower);
+          upper = omega (arith, cheap, is.upper);
+          certificate = subst (λ (c : Option Certificate). IfSome c (FitsCertificate file.problem.sizes report.method)) (sym told) certificate;
+          goal = is.goal;
+        };
+        holds = subst (Certifies file report) (sym told) turns.holds;
+      }
+
 -- an answer with a report tells of its own file
 wide_no_report : (names : List (List ℕ)) (wide : Wide) (report : Report) (file : TextFile) → ¬ (answers.Report report file ≡ wide_answer names wide)
 wide_no_report names (Agent var cells) report file e = cc
 wide_no_report names (Total cells) report file e = cc
+
+no_refusal_report : (fault : CutFault) (report : Report) (file : TextFile) → ¬ IsRefusalAnswer fault (answers.Report report file)
+no_refusal_report (faults.TooMany turns) report file is = cc is
+no_refusal_report (faults.Total cells) report file is = cc is
+no_refusal_report faults.NoMemory report file is = is
 
 module _ (d : Declared) (report : Report) (file same : TextFile) (whole : IsProblem file.problem) (declared : declared_by file ≡ d) (some : IsTrue (is_some report.certificate)) (readable : IsReadable report report.certificate) where
   by_dpop : (certified : Bool) → (same ≡ file) × IsDpopReport file certified report → IsCertified d same report
@@ -196,23 +262,23 @@ module _ (d : Declared) (report : Report) (file same : TextFile) (whole : IsProb
   by_auto error budget certified None small is = by_dpop certified is
   by_auto error budget certified (Some wide) small is = by_adopt error budget certified small is
 
+  by_cut : (limit : ℕ) (cut : List ℕ) (certified : Bool) → size_limit ≤ limit → IsCutOf (problem_solved file) limit cut → refusal_of (problem_solved file) cut certified ≡ None → IsCutReport file cut certified report → same ≡ file
+      → IsCertified d same report
+  by_cut limit cut false least is_cut allowed is own = absurd (some_none report.certificate is.certificate some)
+  by_cut limit cut true least is_cut allowed is own = subst (λ (f : TextFile). IsCertified d f report) (sym own) (cut_certified d file report limit cut whole declared least is_cut allowed is)
+
+  by_refusal : (limit : ℕ) (cut : List ℕ) (certified : Bool) (refusal : Option CutFault) → size_limit ≤ limit → IsCutOf (problem_solved file) limit cut → refusal_of (problem_solved file) cut certified ≡ refusal
+      → IsCutAnswerBy file cut certified refusal (answers.Report report same) → IsCertified d same report
+  by_refusal limit cut certified (Some fault) least is_cut refused is = absurd (no_refusal_report fault report same is)
+  by_refusal limit cut certified None least is_cut allowed is =
+      let told = is.is in
+      let one : is.report ≡ report = cc in
+      let own : same ≡ file = cc in
+      by_cut limit cut certified least is_cut allowed (subst (λ (r : Report). IsCutReport file cut certified r) one is.form) own
+
 upgraded_no_report : (d : Declared) (bar : Option ℕ) (report : Report) (file : TextFile) → ¬ IsUpgraded d bar (answers.Report report file)
 upgraded_no_report d None report file is = is
 upgraded_no_report d (Some bar) report file is = is
-
--- a report of a cut has no certificate
-no_refusal_report : (fault : CutFault) (report : Report) (file : TextFile) → ¬ IsRefusalAnswer fault (answers.Report report file)
-no_refusal_report (faults.TooMany turns) report file is = cc is
-no_refusal_report (faults.Total cells) report file is = cc is
-no_refusal_report faults.NoMemory report file is = is
-
-no_cut_certificate : (solved : TextFile) (cut : List ℕ) (report : Report) (file : TextFile) (refusal : Option CutFault) → IsCutAnswerBy solved cut refusal (answers.Report report file)
-    → ¬ IsTrue (is_some report.certificate)
-no_cut_certificate solved cut report file (Some fault) is some = no_refusal_report fault report file is
-no_cut_certificate solved cut report file None is some =
-    let told = is.is in
-    let same : report ≡ is.report = cc in
-    some_none report.certificate (ap (λ (r : Report). r.certificate) same ∙ is.form.certificate) some
 
 -- a report that any task prints with a certificate
 pub task_certified : (task : FileTask) (told : Told) (report : Report) (file : TextFile) → IsFileTaskInRange task → IsFileAnswer task told (answers.Report report file) → IsTrue (is_some report.certificate)
@@ -224,7 +290,7 @@ task_certified (tasks.Adopt error budget certified) told report file range is so
     by_adopt told.declared report is.file file is.whole is.declared some readable error budget certified range.0 is.is
 task_certified (tasks.Auto error budget certified) told report file range is some readable =
     by_auto told.declared report is.file file is.whole is.declared some readable error budget certified (wide_in (problem_solved is.file)) range.0 is.is
-task_certified (tasks.Cut limit) told report file range is some readable =
-    absurd (no_cut_certificate is.file is.cut report file (refusal_of (problem_solved is.file) is.cut) is.is some)
+task_certified (tasks.Cut limit certified) told report file range is some readable =
+    by_refusal told.declared report is.file file is.whole is.declared some readable limit is.cut certified (refusal_of (problem_solved is.file) is.cut certified) range.0 is.is_cut refl is.is
 task_certified tasks.Tree told report file range is some readable = absurd is.is
 task_certified tasks.Upgrade told report file range is some readable = absurd (upgraded_no_report told.declared told.bar report file is)

@@ -4,6 +4,7 @@ mod CertificateLaws
 mod PrintedLaws
 mod EditLaws
 mod GivenLaws
+mod ServedLaws
 mod AnswerLaws
 mod OneLaws
 mod NodeLaws

@@ -107,9 +107,9 @@ refusal-linkless (faults.TooMany turns) answer is = status-linkless answer _ (ap
 refusal-linkless (faults.Total cells) answer is = status-linkless answer _ (ap status_of is) tt
 refusal-linkless faults.NoMemory answer is = absurd is
 
-cut-linkless : (file : TextFile) (cut : List ℕ) (refusal : Option CutFault) (answer : Answer) → IsCutAnswerBy file cut refusal answer → TellsNoLink answer
-cut-linkless file cut (Some fault) answer is = refusal-linkless fault answer is
-cut-linkless file cut None answer is = status-linkless answer _ (ap status_of is.is) (ending-linkless is.report.status)
+cut-linkless : (file : TextFile) (cut : List ℕ) (certified : Bool) (refusal : Option CutFault) (answer : Answer) → IsCutAnswerBy file cut certified refusal answer → TellsNoLink answer
+cut-linkless file cut certified (Some fault) answer is = refusal-linkless fault answer is
+cut-linkless file cut certified None answer is = status-linkless answer _ (ap status_of is.is) (ending-linkless is.report.status)
 
 -- with every answer to what a text declares
 pub file-linkless : (task : FileTask) (t : Told) (answer : Answer) → IsFileAnswer task t answer → TellsNoLink answer
@@ -119,7 +119,7 @@ file-linkless (tasks.Adopt error budget certified) t answer is =
     let told = adopt-status is.file error budget certified answer is.is in status-linkless answer _ told.1 (ending-linkless told.0)
 file-linkless (tasks.Auto error budget certified) t answer is =
     let told = auto-status is.file error budget certified (wide_in (problem_solved is.file)) answer is.is in status-linkless answer _ told.1 (ending-linkless told.0)
-file-linkless (tasks.Cut limit) t answer is = cut-linkless is.file is.cut (refusal_of (problem_solved is.file) is.cut) answer is.is
+file-linkless (tasks.Cut limit certified) t answer is = cut-linkless is.file is.cut certified (refusal_of (problem_solved is.file) is.cut certified) answer is.is
 file-linkless tasks.Tree t answer is = status-linkless answer _ (tree-solved is.file answer is.is) tt
 file-linkless tasks.Upgrade t answer is = status-linkless answer _ (upgraded-solved t.declared t.bar answer is) tt
 

@@ -50,7 +50,7 @@ IsFileAnswer tasks.Plain t (answers.Many assignments) = IsTooMany (product t.dec
 IsFileAnswer (tasks.Dpop certified) t answer = AnswersDpop t.declared certified answer
 IsFileAnswer (tasks.Adopt error budget certified) t answer = AnswersAdopt t.declared error budget certified answer
 IsFileAnswer (tasks.Auto error budget certified) t answer = AnswersAuto t.declared error budget certified answer
-IsFileAnswer (tasks.Cut limit) t answer = AnswersCut t.declared limit answer
+IsFileAnswer (tasks.Cut limit certified) t answer = AnswersCut t.declared limit certified answer
 IsFileAnswer tasks.Tree t answer = AnswersTree t.declared answer
 IsFileAnswer tasks.Upgrade t answer = IsUpgraded t.declared t.bar answer
 IsFileAnswer task t answer = ⊥
@@ -99,10 +99,10 @@ pub record IsDrillAnswer (drill : Drill) (answer : Answer) : Type 0 where
   pub is : IsFileAnswer drill.task (told_of (made_for drill) None) solved
   pub told : answer ≡ drilled drill.seed solved
 
--- the answer to a command for which nothing is read: a drill, or one that is not served yet
+-- the answer to a command for which nothing is read: that of a drill, since every other command asks for something on an input
 abbrev pub IsUnreadAnswer : Option Drill → Answer → Type 0
 IsUnreadAnswer (Some drill) answer = IsDrillAnswer drill answer
-IsUnreadAnswer None answer = answer ≡ answers.NotYet
+IsUnreadAnswer None answer = ⊥
 
 -- the answer to a command, by its task on an input where it has one
 abbrev pub IsServedAnswer : Command → Option Task → Input → Answer → Type 0

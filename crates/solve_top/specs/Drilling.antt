@@ -22,7 +22,7 @@ drill_by seed vars size degree top (Some (File format task)) =
     Some (record { seed = seed; vars = vars; size = size; degree = degree; top = top; task = task })
 drill_by seed vars size degree top _ = None
 
--- what a command asks to be made and solved, where `solve` with the same options is served without a certificate
+-- what a command asks to be made and solved: what `solve` does with the same options, without a certificate
 abbrev pub drill_of : Command → Option Drill
 drill_of (commands.Drill method workers error budget nodes seed vars size degree top cells) =
     drill_by seed vars size degree top (task_of (commands.Solve method workers error budget nodes false Own cells))

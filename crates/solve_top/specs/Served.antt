@@ -1,5 +1,5 @@
--- The commands that are served.
-use Rattle.std.specs.Prelude.{◌≤◌, Option, Some, None, if◌then◌else◌}
+-- What the commands ask for on an input.
+use Rattle.std.specs.Prelude.{◌≤◌, Option, Some, None}
 use Rattle.dcop_base.specs.Limits.{amount_limit, budget_limit, joined_limit, size_limit}
 use Rattle.solve_words.specs.declared.command.Command.{Command}
 use Rattle.solve_words.specs.declared.command.Command.TheVariants.{Solve, Tree, Check, Replay, Upgrade, Edit}
@@ -9,13 +9,13 @@ use Rattle.solve_top.specs.declared.task.Task.TheVariants.{File, Check as CheckR
 use Rattle.solve_top.specs.declared.task.FileTask.{FileTask}
 use Rattle.solve_top.specs.declared.task.FileTask.TheVariants as tasks
 
--- what a command asks for, where it is served: `solve --method plain` and `tree` with any number of workers, `solve --method dpop`, `solve --method adopt` and `solve --method auto` with any number of workers and nodes, `solve --method cut` without a certificate, `check`, `replay` and `upgrade`, all of a problem in either format, and `edit`
+-- what a command asks for on an input, for each but `drill`, which reads none: `solve` by any method, with or without a certificate, `tree`, `check`, `replay` and `upgrade`, all of a problem in either format, and `edit`; with any number of workers, and `dpop`, `adopt` and `auto` of nodes too
 abbrev pub task_of : Command → Option Task
 task_of (Solve Plain workers error budget nodes certificate format cells) = Some (File format tasks.Plain)
 task_of (Solve Dpop workers error budget nodes certificate format cells) = Some (File format (tasks.Dpop certificate))
 task_of (Solve Adopt workers error budget nodes certificate format cells) = Some (File format (tasks.Adopt error budget certificate))
 task_of (Solve Auto workers error budget nodes certificate format cells) = Some (File format (tasks.Auto error budget certificate))
-task_of (Solve Cut workers error budget nodes certificate format cells) = if certificate then None else Some (File format (tasks.Cut cells))
+task_of (Solve Cut workers error budget nodes certificate format cells) = Some (File format (tasks.Cut cells certificate))
 task_of (Tree workers format) = Some (File format tasks.Tree)
 task_of (Check format) = Some (CheckReport format)
 task_of (Replay after format) = Some (ReplayReport format after)
@@ -27,7 +27,7 @@ task_of _ = None
 abbrev pub IsFileTaskInRange : FileTask → Type 0
 IsFileTaskInRange (tasks.Adopt error budget certified) = (error ≤ amount_limit) × (budget ≤ budget_limit)
 IsFileTaskInRange (tasks.Auto error budget certified) = (error ≤ amount_limit) × (budget ≤ budget_limit)
-IsFileTaskInRange (tasks.Cut limit) = (size_limit ≤ limit) × (limit ≤ joined_limit)
+IsFileTaskInRange (tasks.Cut limit certified) = (size_limit ≤ limit) × (limit ≤ joined_limit)
 IsFileTaskInRange _ = Unit {0}
 
 -- a task whose numbers are in their range

@@ -72,7 +72,7 @@ IsWithinLimits tasks.Plain d = product d.sizes ≤ assignment_limit
 IsWithinLimits (tasks.Dpop certified) d = HasFitTree d
 IsWithinLimits (tasks.Adopt error budget certified) d = Unit {0}
 IsWithinLimits (tasks.Auto error budget certified) d = Unit {0}
-IsWithinLimits (tasks.Cut limit) d = (size_limit ≤ limit) × HasAllowedCut d limit
+IsWithinLimits (tasks.Cut limit certified) d = (size_limit ≤ limit) × HasAllowedCut d limit certified
 IsWithinLimits tasks.Tree d = Unit {0}
 IsWithinLimits tasks.Upgrade d = Unit {0}
 
@@ -86,7 +86,7 @@ pub record IsProblemFor (format : Format) (task : FileTask) (text : List ℕ) : 
 abbrev pub IsReadableEvent : LogEvent → Type 0
 IsReadableEvent e = (e.stamp ≤ amount_limit) × All (λ t. t.count ≤ take_limit) e.takes
 
--- the numbers that a report with this certificate prints can be read again: those of a report of DPOP always can, and those of a report with a log where its deliveries and stamps are at most amount_limit and its counts at most take_limit
+-- the numbers that a report with this certificate prints can be read again: those of a report of DPOP or of a cut always can, and those of a report with a log where its deliveries and stamps are at most amount_limit and its counts at most take_limit
 abbrev pub IsReadable : Report → Option Certificate → Type 0
 IsReadable report (Some (Log log)) = (report.deliveries ≤ amount_limit) × All IsReadableEvent log
 IsReadable report certificate = Unit {0}

@@ -186,7 +186,7 @@ where
             };
             by_auto(crew, alloc, dialer, file, asked)
         }
-        FileTask::Cut { limit } => by_cut(crew, alloc, file, limit),
+        FileTask::Cut { limit, certified } => by_cut(crew, alloc, file, limit, certified),
         FileTask::Tree => by_search(crew, alloc, file),
         FileTask::Upgrade => Ok(upgrade_answer(file, bar)),
     }

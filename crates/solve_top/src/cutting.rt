@@ -18,19 +18,30 @@ use std::alloc::Global;
 use std::thread::Threads;
 
 /// The answer of the method cut on a file: the agents of the problem solved find its tree, and then
-/// those of each turn solve a slice, in which no joined table has more than `limit` cells.
+/// those of each turn solve a slice, in which no joined table has more than `limit` cells. Where it is
+/// to be certified, the report has the tables of all turns as its certificate.
 pub(crate) fn by_cut<R: Threads + Sync, G: Gate>(
     crew: &Crew<R, G>,
     alloc: Global,
     file: ProblemFile,
     limit: u64,
+    certified: bool,
 ) -> Result<Answer, NoMemory>
     requires least { size_limit ≤ limit }
     requires most { limit ≤ joined_limit }
-    ensures belongs { IfOk result (AnswersCut (declared_by file) limit) }
+    ensures belongs { IfOk result (AnswersCut (declared_by file) limit certified) }
     ensures right { IfOk result TellsRight }
     ensures told { IfOk result HasText }
 {
     let tree = tree_for(crew, alloc, &file)?;
-    cut_answer(crew.rt, alloc, file, tree, limit, crew.workers, crew.gate)
+    cut_answer(
+        crew.rt,
+        alloc,
+        file,
+        tree,
+        limit,
+        crew.workers,
+        certified,
+        crew.gate,
+    )
 }

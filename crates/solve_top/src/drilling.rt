@@ -1,11 +1,12 @@
-//! Answers for which nothing is read: drills, and commands that are not served yet.
+//! Answers for which nothing is read: those of drills.
 
-ghost use Rattle.std.specs.Prelude.{◌≡◌, ◌<◌, Some, IfOk, IfSome};
+ghost use Rattle.std.specs.Prelude.{◌≡◌, ◌<◌, Some, None, IfOk, IfSome};
 ghost use Rattle.solve_report.specs.AnswerText.{HasText};
 ghost use Rattle.solve_methods.specs.Goal.{TellsRight};
 ghost use Rattle.solve_words.specs.Ranges.{IsInRange};
 ghost use Rattle.solve_top.specs.Nodes.{IsUnreadAnswerIn, TellsLinks};
 ghost use Rattle.solve_top.specs.Drilling.{drill_of, IsDrillInRange};
+ghost use Rattle.solve_top.specs.Served.{task_of};
 
 use crate::answering::file_answer;
 use crate::crew::Crew;
@@ -43,8 +44,7 @@ pub struct Drill {
 }
 
 impl Drill {
-    /// What a command asks to be made and solved; `None` exactly where it asks for no drill, or
-    /// where `solve` with the same options is not served yet.
+    /// What a command asks to be made and solved; `None` exactly where it asks for no drill.
     pub fn of(command: &Command) -> Option<Drill>
         requires { IsInRange command.now }
         ensures same { result ≡ drill_of command.now }
@@ -90,7 +90,8 @@ impl Drill {
     }
 }
 
-/// The answer to a command that reads nothing: a drill's, or that it is not served yet.
+/// The answer to a command that reads nothing, which is a drill: every other one is served on an
+/// input, so that no command is answered as not served.
 pub(crate) fn unread_answer<R, D, G>(
     crew: &Crew<R, G>,
     alloc: Global,
@@ -101,7 +102,8 @@ where
     R: Threads + Wait + Clock + RandomSource + Net + AllocGlobal + Sync,
     D: Dialer,
     G: Gate,
-    requires { IsInRange command.now }
+    requires range { IsInRange command.now }
+    requires unread { task_of command.now ≡ None }
     ensures belongs { IfOk result (IsUnreadAnswerIn crew.now.nodes (drill_of command.now)) }
     ensures links { TellsLinks (1 < crew.now.nodes) (D.is_honest dialer.old) (D.faults dialer.old) (D.faults dialer.new) result }
     ensures right { IfOk result TellsRight }

@@ -8,7 +8,7 @@ ghost use Rattle.solve_top.specs.Served.{task_of, IsTaskInRange};
 
 use solve_words::{Choice, Command, Format};
 
-/// What a served command asks for.
+/// What a command asks for on an input.
 #[derive(Clone, Copy, Debug, PartialEq, Eq)]
 pub enum Task {
     /// An answer on the file of a problem that is given in this format.
@@ -44,9 +44,10 @@ pub enum FileTask {
         certified: bool,
     },
     /// Solve the problem by DPOP on the slices of a cut, so that no joined table has more than
-    /// `limit` cells.
+    /// `limit` cells, and certify the answer by the tables of all turns or not.
     Cut {
         limit: u64,
+        certified: bool,
     },
     /// Find the depth-first tree of the problem.
     Tree,
@@ -55,7 +56,7 @@ pub enum FileTask {
 }
 
 impl Task {
-    /// What a command asks for; `None` exactly where it is not served yet.
+    /// What a command asks for on an input; `None` exactly for a drill, which reads nothing.
     pub fn of(command: &Command) -> Option<Task>
         requires { IsInRange command.now }
         ensures same { result ≡ task_of command.now }
@@ -105,11 +106,11 @@ impl Task {
             )),
             Command::Solve {
                 method: Choice::Cut,
-                certificate: false,
+                certificate: certified,
                 format,
                 cells: limit,
                 ..
-            } => Some(Task::on_file(format, FileTask::Cut { limit })),
+            } => Some(Task::on_file(format, FileTask::Cut { limit, certified })),
             Command::Tree { format, .. } => Some(Task::on_file(format, FileTask::Tree)),
             Command::Check { format } => Some(Task::Check { format }),
             Command::Replay { after, format } => Some(Task::Replay { format, after }),
