@@ -6,13 +6,14 @@ import argparse
 import json
 import re
 import sys
+from collections.abc import Callable
 from fractions import Fraction
 from pathlib import Path
 
 from . import __version__, draw, meetings, pydcop, replay, wcsp
 from .explain import differs, explain
 from .problem import MOST_BYTES, TextFault, Trouble, parse
-from .programs import Answer, Programs
+from .programs import VERIFIED, VERIFIED_UNPROVED, Answer, Programs
 from .progress import Progress
 from .report import Report, fitted, read_report, read_tree
 from .solving import START, Best, Refused, Solver, accepts, cost_of, deadline, in_order
@@ -22,6 +23,7 @@ SOLVED, OPEN, USAGE, TEXT = 0, 1, 2, 3
 OWN_SEARCH = "found by a short search of sefwllon's own, since no method of dcop came to an assignment in time"
 NO_CERTIFICATE = "there is no certificate of it to check"
 UNCHECKED_CUT = "exact by the proved program, but there is no certificate of a cut to check yet"
+UNPROVED_CUT = "exact by the program, which was compiled without proofs, and there is no certificate of a cut to check yet"
 
 
 def main(arguments: list[str] | None = None) -> int:
@@ -266,33 +268,42 @@ def headline(best: Best, told: Translation) -> str:
     own = f"{noun(told)} {number(told.own_sum(best.values))}"
     gap, checked = best.gap(goal), best.checked_gap
     if gap == 0:
-        known = "verified" if checked == 0 else f"not verified: {unchecked(best) or NO_CERTIFICATE}"
+        known = verified(best) if checked == 0 else f"not verified: {unchecked(best) or NO_CERTIFICATE}"
         return f"{own}, and {from_best(gap, told)} ({known})"
     worse = "" if gap is None else f", {from_best(gap, told)}"
-    shown = "" if checked is None else f" (verified: {from_best(checked, told)})"
+    shown = "" if checked is None else f" ({verified(best)}: {from_best(checked, told)})"
     return f"{own}{worse}{f' ({OWN_SEARCH})' if best.method == START else shown}"
 
 
 def from_best(gap: int, told: Translation) -> str:
     """How far a sum is from the best one at most, by the difference of two sums of the problem."""
     if gap == 0 and told.slack:
+def verified(best: Best) -> str:
+    """What is told of what was checked."""
+    return VERIFIED_UNPROVED if best.quick else VERIFIED
+
+
+def known_by(holds: Callable[[int | None], bool], best: Best, told: Translation) -> str | None:
+    """How it is known what follows from a bound: verified or not; None where it is not known."""
+    if holds(best.checked):
+        return verified(best)
+    return "not verified" if holds(best.lower if told.problem.goal == "min" else best.upper) else None
+
+
         return f"none is better by more than {number(told.slack)}, to which costs are rounded"
     return "none is better" if gap == 0 else f"at most {number(Fraction(gap, told.scale) + told.slack)} from the best"
 
 
 def hard_headline(best: Best, told: Translation) -> str:
     """What is known where the best assignment breaks a hard constraint."""
-    if told.none_keeps(best.checked):
-        return "no assignment keeps all hard constraints (verified)"
-    if told.none_keeps(best.lower if told.problem.goal == "min" else best.upper):
-        return "no assignment keeps all hard constraints (not verified)"
-    return "no assignment that keeps all hard constraints was found"
+    known = known_by(told.none_keeps, best, told)
+    return f"no assignment keeps all hard constraints ({known})" if known else "no assignment that keeps all hard constraints was found"
 
 
 def unchecked(best: Best) -> str | None:
     """Why an exact answer is not called verified, where that is known."""
     if best.method == "cut" and best.checked_gap != 0:
-        return UNCHECKED_CUT
+        return UNPROVED_CUT if best.quick else UNCHECKED_CUT
     return OWN_SEARCH if best.method == START else None
 
 
@@ -313,6 +324,7 @@ def as_json(best: Best, told: Translation) -> str:
     goal = told.problem.goal
     values = best.values
     broken = [] if values is None else told.broken(values)
+    checked = best.checked_gap is not None and best.checked_gap == best.gap(goal)
 
     def plain_number(cost: Fraction | None) -> float | int | None:
         return None if cost is None else cost.numerator if cost.denominator == 1 else float(cost)
@@ -323,7 +335,8 @@ def as_json(best: Best, told: Translation) -> str:
         lower, upper = (lower, cost) if goal == "min" else (cost, upper)
     answer = {
         "solved": best.solved and not broken,
-        "verified": best.checked_gap is not None and best.checked_gap == best.gap(goal),
+        "verified": checked,
+        "verified_by": None if not checked else "a check that was compiled without proofs" if best.quick else "dcop check",
         "note": "; ".join(filter(None, [note(best), *([] if values is None else told.notes(values))])) or None,
         "method": best.method,
         "goal": goal,
@@ -359,11 +372,11 @@ def run_check(options: argparse.Namespace) -> int:
     bound = read.lower if told.problem.goal == "min" else read.upper
     if broken:
         none = "no assignment keeps all hard constraints" if told.none_keeps(bound) else "the report holds"
-        print(f"yes, verified: {none}; this one breaks: {', '.join(broken)}")
+        print(f"yes, {programs.verified}: {none}; this one breaks: {', '.join(broken)}")
         return SOLVED
     gap = abs(read.cost - bound)
     own = number(told.own_sum(values))
-    print(f"yes, verified: {noun(told)} {own}, {'and ' if gap == 0 else ''}{from_best(gap, told)}")
+    print(f"yes, {programs.verified}: {noun(told)} {own}, {'and ' if gap == 0 else ''}{from_best(gap, told)}")
     return SOLVED
 
 
@@ -472,13 +485,13 @@ def bounds_of(programs: Programs, told: Translation, report: str, title: str, po
         raise Refused(answer)
     with Progress(told) as progress:
         moments = replay.moments(programs, problem, report, max(2, points), progress.replayed)
-    return draw.bounds(moments, lambda total: number(told.own_cost(total)), bounds_title(told, read, title), read.cost)
+    return draw.bounds(moments, lambda total: number(told.own_cost(total)), f"{bounds_title(told, read, title)} ({programs.verified})", read.cost)
 
 
 def bounds_title(told: Translation, read: Report, title: str) -> str:
     own = {what: number(told.own_cost(getattr(read, what))) for what in ("cost", "lower", "upper")}
     known = "none is better" if read.exact else f"the best lies between {own['lower']} and {own['upper']}"
-    return f"{title}: {read.deliveries:,} messages, {noun(told)} {own['cost']}, {known} (verified)"
+    return f"{title}: {read.deliveries:,} messages, {noun(told)} {own['cost']}, {known}"
 
 
 def run_cost(options: argparse.Namespace) -> int:
@@ -509,7 +522,7 @@ def from_the_best(programs: Programs, told: Translation, total: int, report: str
         raise Trouble(explain(answer.text, problem.text() + report))
     read = read_report(report, problem)
     gap = abs(total - (read.lower if problem.goal == "min" else read.upper))
-    return f"{from_best(gap, told)} (verified)"
+    return f"{from_best(gap, told)} ({programs.verified})"
 
 
 def assignment(words: list[str], told: Translation) -> list[int]:
