@@ -17,7 +17,7 @@ from .programs import VERIFIED, VERIFIED_UNPROVED, Answer, Programs
 from .progress import Progress
 from .report import Report, fitted, read_report, read_tree
 from .solving import START, Best, Refused, Solver, accepts, cost_of, deadline, in_order
-from .translate import Translation, plain, translate
+from .translate import Translation, number, plain, translate
 
 SOLVED, OPEN, USAGE, TEXT = 0, 1, 2, 3
 OWN_SEARCH = "found by a short search of sefwllon's own, since no method of dcop came to an assignment in time"
@@ -101,7 +101,7 @@ def parser() -> argparse.ArgumentParser:
     )
     when.add_argument("file", metavar="CSV")
     when.add_argument("--ics", metavar="OUT", help="write the timetable there as iCalendar")
-    when.add_argument("--svg", metavar="OUT", help="write a picture of the timetable there")
+    when.add_argument("--svg", metavar="OUT", help="write a picture of the timetable there, as SVG, which a browser opens")
     when.add_argument("--report", metavar="OUT", help="write the report of dcop there, with its certificate")
     when.add_argument("--time", type=seconds, metavar="30s", help="stop after this time with the best so far")
     when.add_argument("--workers", type=threads, default=1, metavar="N", help="threads, 1 to 64")
@@ -238,10 +238,6 @@ def status_of(best: Best, told: Translation) -> int:
     return SOLVED if best.solved and best.values is not None and not told.broken(best.values) else OPEN
 
 
-def number(value: Fraction) -> str:
-    return str(value.numerator) if value.denominator == 1 else str(float(value))
-
-
 def as_text(best: Best, told: Translation) -> str:
     """The answer for people."""
     if best.values is None or best.cost is None:
@@ -278,6 +274,10 @@ def headline(best: Best, told: Translation) -> str:
 def from_best(gap: int, told: Translation) -> str:
     """How far a sum is from the best one at most, by the difference of two sums of the problem."""
     if gap == 0 and told.slack:
+        return f"none is better by more than {number(told.slack)}, to which costs are rounded"
+    return "none is better" if gap == 0 else f"at most {number(Fraction(gap, told.scale) + told.slack)} from the best"
+
+
 def verified(best: Best) -> str:
     """What is told of what was checked."""
     return VERIFIED_UNPROVED if best.quick else VERIFIED
@@ -288,10 +288,6 @@ def known_by(holds: Callable[[int | None], bool], best: Best, told: Translation)
     if holds(best.checked):
         return verified(best)
     return "not verified" if holds(best.lower if told.problem.goal == "min" else best.upper) else None
-
-
-        return f"none is better by more than {number(told.slack)}, to which costs are rounded"
-    return "none is better" if gap == 0 else f"at most {number(Fraction(gap, told.scale) + told.slack)} from the best"
 
 
 def hard_headline(best: Best, told: Translation) -> str:
@@ -324,11 +320,11 @@ def as_json(best: Best, told: Translation) -> str:
     goal = told.problem.goal
     values = best.values
     broken = [] if values is None else told.broken(values)
-    checked = best.checked_gap is not None and best.checked_gap == best.gap(goal)
 
     def plain_number(cost: Fraction | None) -> float | int | None:
         return None if cost is None else cost.numerator if cost.denominator == 1 else float(cost)
 
+    checked = best.checked_gap is not None and best.checked_gap == best.gap(goal)
     cost = None if values is None else told.own_sum(values)
     lower, upper = told.own_bounds(best.lower, best.upper)
     if cost is not None and not broken:
@@ -416,16 +412,34 @@ def run_meetings(options: argparse.Namespace) -> int:
     if best.values is None:
         print(as_text(best, made), end="")
         return OPEN
-    print(headline(best, made))
-    for name in made.broken(best.values):
-        print(f"broken: {name}")
     chosen = made.told(best.values)
+    print("\n".join(timetable_headline(best, made)))
+    if best.stopped:
+        print(f"stopped: {best.stopped}")
+    for clash in meetings.clashes(told, chosen):
+        print(f"broken: {clash.sentence()}")
     print(meetings.table(told, chosen), end="")
+    for line in meetings.unmet(told, chosen):
+        print(f"wish not met, {line}")
     if options.ics:
         write(options.ics, meetings.icalendar(told, chosen))
     if options.svg:
         write(options.svg, draw.timetable(told, chosen))
     return status_of(best, made)
+
+
+def timetable_headline(best: Best, made: Translation) -> list[str]:
+    """What is known of a timetable: where it breaks rules in the words of who makes one, and then in exact ones."""
+    assert best.values is not None
+    count, exact = len(made.broken(best.values)), headline(best, made)
+    if not count:
+        return [exact]
+    none = known_by(made.none_keeps, best, made)
+    fewest = known_by(lambda bound: made.fewest_broken(bound) == count, best, made)
+    if none is None:
+        return [f"no timetable that keeps all the rules was found; this one breaks {count}", exact]
+    told = "no timetable keeps all the rules" + ("" if none == fewest else f" ({none})") + f"; this one breaks {count}"
+    return [told + (f", and none breaks fewer ({fewest})" if fewest else ""), exact]
 
 
 def run_draw(options: argparse.Namespace) -> int:
