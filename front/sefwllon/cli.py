@@ -6,22 +6,24 @@ import argparse
 import json
 import re
 import sys
+from collections.abc import Callable
 from fractions import Fraction
 from pathlib import Path
 
 from . import __version__, draw, meetings, pydcop, replay, wcsp
 from .explain import differs, explain
 from .problem import MOST_BYTES, TextFault, Trouble, parse
-from .programs import Answer, Programs
+from .programs import VERIFIED, VERIFIED_UNPROVED, Answer, Programs
 from .progress import Progress
 from .report import Report, fitted, read_report, read_tree
 from .solving import START, Best, Refused, Solver, accepts, cost_of, deadline, in_order
-from .translate import Translation, plain, translate
+from .translate import Translation, number, plain, translate
 
 SOLVED, OPEN, USAGE, TEXT = 0, 1, 2, 3
 OWN_SEARCH = "found by a short search of sefwllon's own, since no method of dcop came to an assignment in time"
 NO_CERTIFICATE = "there is no certificate of it to check"
 UNCHECKED_CUT = "exact by the proved program, but there is no certificate of a cut to check yet"
+UNPROVED_CUT = "exact by the program, which was compiled without proofs, and there is no certificate of a cut to check yet"
 
 
 def main(arguments: list[str] | None = None) -> int:
@@ -99,7 +101,7 @@ def parser() -> argparse.ArgumentParser:
     )
     when.add_argument("file", metavar="CSV")
     when.add_argument("--ics", metavar="OUT", help="write the timetable there as iCalendar")
-    when.add_argument("--svg", metavar="OUT", help="write a picture of the timetable there")
+    when.add_argument("--svg", metavar="OUT", help="write a picture of the timetable there, as SVG, which a browser opens")
     when.add_argument("--report", metavar="OUT", help="write the report of dcop there, with its certificate")
     when.add_argument("--time", type=seconds, metavar="30s", help="stop after this time with the best so far")
     when.add_argument("--workers", type=threads, default=1, metavar="N", help="threads, 1 to 64")
@@ -236,10 +238,6 @@ def status_of(best: Best, told: Translation) -> int:
     return SOLVED if best.solved and best.values is not None and not told.broken(best.values) else OPEN
 
 
-def number(value: Fraction) -> str:
-    return str(value.numerator) if value.denominator == 1 else str(float(value))
-
-
 def as_text(best: Best, told: Translation) -> str:
     """The answer for people."""
     if best.values is None or best.cost is None:
@@ -266,10 +264,10 @@ def headline(best: Best, told: Translation) -> str:
     own = f"{noun(told)} {number(told.own_sum(best.values))}"
     gap, checked = best.gap(goal), best.checked_gap
     if gap == 0:
-        known = "verified" if checked == 0 else f"not verified: {unchecked(best) or NO_CERTIFICATE}"
+        known = verified(best) if checked == 0 else f"not verified: {unchecked(best) or NO_CERTIFICATE}"
         return f"{own}, and {from_best(gap, told)} ({known})"
     worse = "" if gap is None else f", {from_best(gap, told)}"
-    shown = "" if checked is None else f" (verified: {from_best(checked, told)})"
+    shown = "" if checked is None else f" ({verified(best)}: {from_best(checked, told)})"
     return f"{own}{worse}{f' ({OWN_SEARCH})' if best.method == START else shown}"
 
 
@@ -280,19 +278,28 @@ def from_best(gap: int, told: Translation) -> str:
     return "none is better" if gap == 0 else f"at most {number(Fraction(gap, told.scale) + told.slack)} from the best"
 
 
+def verified(best: Best) -> str:
+    """What is told of what was checked."""
+    return VERIFIED_UNPROVED if best.quick else VERIFIED
+
+
+def known_by(holds: Callable[[int | None], bool], best: Best, told: Translation) -> str | None:
+    """How it is known what follows from a bound: verified or not; None where it is not known."""
+    if holds(best.checked):
+        return verified(best)
+    return "not verified" if holds(best.lower if told.problem.goal == "min" else best.upper) else None
+
+
 def hard_headline(best: Best, told: Translation) -> str:
     """What is known where the best assignment breaks a hard constraint."""
-    if told.none_keeps(best.checked):
-        return "no assignment keeps all hard constraints (verified)"
-    if told.none_keeps(best.lower if told.problem.goal == "min" else best.upper):
-        return "no assignment keeps all hard constraints (not verified)"
-    return "no assignment that keeps all hard constraints was found"
+    known = known_by(told.none_keeps, best, told)
+    return f"no assignment keeps all hard constraints ({known})" if known else "no assignment that keeps all hard constraints was found"
 
 
 def unchecked(best: Best) -> str | None:
     """Why an exact answer is not called verified, where that is known."""
     if best.method == "cut" and best.checked_gap != 0:
-        return UNCHECKED_CUT
+        return UNPROVED_CUT if best.quick else UNCHECKED_CUT
     return OWN_SEARCH if best.method == START else None
 
 
@@ -317,13 +324,15 @@ def as_json(best: Best, told: Translation) -> str:
     def plain_number(cost: Fraction | None) -> float | int | None:
         return None if cost is None else cost.numerator if cost.denominator == 1 else float(cost)
 
+    checked = best.checked_gap is not None and best.checked_gap == best.gap(goal)
     cost = None if values is None else told.own_sum(values)
     lower, upper = told.own_bounds(best.lower, best.upper)
     if cost is not None and not broken:
         lower, upper = (lower, cost) if goal == "min" else (cost, upper)
     answer = {
         "solved": best.solved and not broken,
-        "verified": best.checked_gap is not None and best.checked_gap == best.gap(goal),
+        "verified": checked,
+        "verified_by": None if not checked else "a check that was compiled without proofs" if best.quick else "dcop check",
         "note": "; ".join(filter(None, [note(best), *([] if values is None else told.notes(values))])) or None,
         "method": best.method,
         "goal": goal,
@@ -359,11 +368,11 @@ def run_check(options: argparse.Namespace) -> int:
     bound = read.lower if told.problem.goal == "min" else read.upper
     if broken:
         none = "no assignment keeps all hard constraints" if told.none_keeps(bound) else "the report holds"
-        print(f"yes, verified: {none}; this one breaks: {', '.join(broken)}")
+        print(f"yes, {programs.verified}: {none}; this one breaks: {', '.join(broken)}")
         return SOLVED
     gap = abs(read.cost - bound)
     own = number(told.own_sum(values))
-    print(f"yes, verified: {noun(told)} {own}, {'and ' if gap == 0 else ''}{from_best(gap, told)}")
+    print(f"yes, {programs.verified}: {noun(told)} {own}, {'and ' if gap == 0 else ''}{from_best(gap, told)}")
     return SOLVED
 
 
@@ -403,16 +412,34 @@ def run_meetings(options: argparse.Namespace) -> int:
     if best.values is None:
         print(as_text(best, made), end="")
         return OPEN
-    print(headline(best, made))
-    for name in made.broken(best.values):
-        print(f"broken: {name}")
     chosen = made.told(best.values)
+    print("\n".join(timetable_headline(best, made)))
+    if best.stopped:
+        print(f"stopped: {best.stopped}")
+    for clash in meetings.clashes(told, chosen):
+        print(f"broken: {clash.sentence()}")
     print(meetings.table(told, chosen), end="")
+    for line in meetings.unmet(told, chosen):
+        print(f"wish not met, {line}")
     if options.ics:
         write(options.ics, meetings.icalendar(told, chosen))
     if options.svg:
         write(options.svg, draw.timetable(told, chosen))
     return status_of(best, made)
+
+
+def timetable_headline(best: Best, made: Translation) -> list[str]:
+    """What is known of a timetable: where it breaks rules in the words of who makes one, and then in exact ones."""
+    assert best.values is not None
+    count, exact = len(made.broken(best.values)), headline(best, made)
+    if not count:
+        return [exact]
+    none = known_by(made.none_keeps, best, made)
+    fewest = known_by(lambda bound: made.fewest_broken(bound) == count, best, made)
+    if none is None:
+        return [f"no timetable that keeps all the rules was found; this one breaks {count}", exact]
+    told = "no timetable keeps all the rules" + ("" if none == fewest else f" ({none})") + f"; this one breaks {count}"
+    return [told + (f", and none breaks fewer ({fewest})" if fewest else ""), exact]
 
 
 def run_draw(options: argparse.Namespace) -> int:
@@ -472,13 +499,13 @@ def bounds_of(programs: Programs, told: Translation, report: str, title: str, po
         raise Refused(answer)
     with Progress(told) as progress:
         moments = replay.moments(programs, problem, report, max(2, points), progress.replayed)
-    return draw.bounds(moments, lambda total: number(told.own_cost(total)), bounds_title(told, read, title), read.cost)
+    return draw.bounds(moments, lambda total: number(told.own_cost(total)), f"{bounds_title(told, read, title)} ({programs.verified})", read.cost)
 
 
 def bounds_title(told: Translation, read: Report, title: str) -> str:
     own = {what: number(told.own_cost(getattr(read, what))) for what in ("cost", "lower", "upper")}
     known = "none is better" if read.exact else f"the best lies between {own['lower']} and {own['upper']}"
-    return f"{title}: {read.deliveries:,} messages, {noun(told)} {own['cost']}, {known} (verified)"
+    return f"{title}: {read.deliveries:,} messages, {noun(told)} {own['cost']}, {known}"
 
 
 def run_cost(options: argparse.Namespace) -> int:
@@ -509,7 +536,7 @@ def from_the_best(programs: Programs, told: Translation, total: int, report: str
         raise Trouble(explain(answer.text, problem.text() + report))
     read = read_report(report, problem)
     gap = abs(total - (read.lower if problem.goal == "min" else read.upper))
-    return f"{from_best(gap, told)} (verified)"
+    return f"{from_best(gap, told)} ({programs.verified})"
 
 
 def assignment(words: list[str], told: Translation) -> list[int]:

@@ -1,12 +1,12 @@
-"""Pictures as SVG: a problem's graph, its tree, and the root's bounds over the messages."""
+"""Pictures as SVG: a problem's graph, its tree, the root's bounds over the messages, and a timetable."""
 
 from __future__ import annotations
 
 import math
-from collections.abc import Callable
+from collections.abc import Callable, Iterable
 from html import escape
 
-from .meetings import Meetings
+from .meetings import Meetings, Slot, clashes
 from .problem import Problem, Trouble
 from .replay import Moment
 from .report import Node
@@ -14,10 +14,14 @@ from .report import Node
 _STYLE = (
     "<style>text{font:12px sans-serif;text-anchor:middle;fill:#222;paint-order:stroke;stroke:#fff;stroke-width:2px}"
     ".small{font-size:10px;fill:#666}line,path{stroke:#888;fill:none}"
-    ".dashed{stroke-dasharray:4 3;stroke:#b55}circle{fill:#eef4ff;stroke:#35a}.name{stroke:none}"
+    ".dashed{stroke-dasharray:4 3;stroke:#b55}ellipse{fill:#eef4ff;stroke:#35a}.name{stroke:none}"
     ".title{font-size:13px}.left{text-anchor:end}.legend{text-anchor:start}.grid{stroke:#ddd}"
-    ".lower{stroke:#35a;stroke-width:2}.upper{stroke:#b55;stroke-width:2}.cost{fill:#222;stroke:none}</style>"
+    ".lower{stroke:#35a;stroke-width:2}.upper{stroke:#b55;stroke-width:2}.cost{fill:#222;stroke:none}"
+    ".broken{fill:#c00;text-anchor:start}rect.clash{stroke:#c00;stroke-width:2}</style>"
 )
+_LONGEST = 20
+"""How many letters of a name are shown in a picture of a graph or a tree."""
+_ROW = 34
 _LEFT, _TOP, _WIDE, _HIGH = 70, 76, 560, 280
 
 
@@ -26,8 +30,20 @@ def svg(width: float, height: float, parts: list[str]) -> str:
     return "\n".join([head, _STYLE, *parts, "</svg>"]) + "\n"
 
 
-def circle(x: float, y: float, name: str, below: str = "") -> list[str]:
-    parts = [f'<circle cx="{x:.1f}" cy="{y:.1f}" r="22"/>', f'<text class="name" x="{x:.1f}" y="{y + 4:.1f}">{escape(name[:12])}</text>']
+def short(name: str) -> str:
+    return name if len(name) <= _LONGEST else name[: _LONGEST - 1] + "\N{HORIZONTAL ELLIPSIS}"
+
+
+def half_width(names: Iterable[str]) -> float:
+    """Half the width of the ellipses in which all these names fit."""
+    return max([22.0, *(4.0 * len(short(name)) + 8 for name in names)])
+
+
+def oval(x: float, y: float, half: float, name: str, below: str = "") -> list[str]:
+    parts = [
+        f'<ellipse cx="{x:.1f}" cy="{y:.1f}" rx="{half:.1f}" ry="22"/>',
+        f'<text class="name" x="{x:.1f}" y="{y + 4:.1f}">{escape(short(name))}</text>',
+    ]
     if below:
         parts.append(f'<text class="small" x="{x:.1f}" y="{y + 36:.1f}">{escape(below)}</text>')
     return parts
@@ -37,24 +53,24 @@ def edge(a: tuple[float, float], b: tuple[float, float], kind: str = "") -> str:
     return f'<line{f" class={chr(34)}{kind}{chr(34)}" if kind else ""} x1="{a[0]:.1f}" y1="{a[1]:.1f}" x2="{b[0]:.1f}" y2="{b[1]:.1f}"/>'
 
 
-def bow(a: tuple[float, float], b: tuple[float, float]) -> str:
-    """A dashed line between two spots, bent past those that lie between them."""
-    bend = max(a[0], b[0]) + 14 + 0.13 * abs(a[1] - b[1])
+def bow(a: tuple[float, float], b: tuple[float, float], half: float) -> str:
+    """A dashed line between two spots, bent past the ellipses that lie between them."""
+    bend = max(a[0], b[0]) + 2 * half + 14 + 0.13 * abs(a[1] - b[1])
     return f'<path class="dashed" d="M{a[0]:.1f},{a[1]:.1f} Q{bend:.1f},{(a[1] + b[1]) / 2:.1f} {b[0]:.1f},{b[1]:.1f}"/>'
 
 
 def graph(problem: Problem, names: list[str], below: list[str]) -> str:
     """The variables on a ring, with a line between two that share a table, and a word below each."""
-    count = len(problem.variables)
-    radius = max(90.0, count * 60 / (2 * math.pi))
-    middle = radius + 60
+    count, half = len(problem.variables), half_width(names)
+    radius = max(90.0, count * (2 * half + 16) / (2 * math.pi))
+    middle = radius + half + 38
     spots = [
         (middle + radius * math.sin(2 * math.pi * i / count), middle - radius * math.cos(2 * math.pi * i / count))
         for i in range(count)
     ]
     parts = [edge(spots[a], spots[b]) for a, near in enumerate(problem.neighbours()) for b in sorted(near) if a < b]
     for spot, name, word in zip(spots, names, below):
-        parts += circle(*spot, name, word)
+        parts += oval(*spot, half, name, word)
     return svg(2 * middle, 2 * middle + 20, parts)
 
 
@@ -69,7 +85,7 @@ def tree(problem: Problem, nodes: list[Node], own: dict[str, str]) -> str:
         raise Trouble("the tree has not one root")
     depth: dict[str, int] = {}
     spots: dict[str, tuple[float, float]] = {}
-    leaves = 0
+    leaves, half = 0, half_width(own.values())
     for node in nodes:
         depth[node.name] = 0 if node.parent is None else depth[node.parent] + 1
     for node in reversed(nodes):
@@ -77,23 +93,23 @@ def tree(problem: Problem, nodes: list[Node], own: dict[str, str]) -> str:
         if below:
             x = sum(spots[c][0] for c in below) / len(below)
         else:
-            x = 0.0
             leaves += 1
-            x = -90.0 * leaves
+            x = -max(90.0, 2 * half + 16) * leaves
         spots[node.name] = (x, 60 + 90.0 * depth[node.name])
-    left = min(x for x, _ in spots.values()) - 60
+    left = min(x for x, _ in spots.values()) - half - 38
     spots = {name: (x - left, y) for name, (x, y) in spots.items()}
     parts = []
     for node in nodes:
         for other in node.separator:
-            parts.append((edge if other == node.parent else bow)(spots[node.name], spots[other]))
+            ends = spots[node.name], spots[other]
+            parts.append(edge(*ends) if other == node.parent else bow(*ends, half))
         if node.parent is not None and node.parent not in node.separator:
             parts.append(edge(spots[node.name], spots[node.parent], "dashed"))
     for node in nodes:
         cells = math.prod(sizes[name] for name in [node.name, *node.separator])
-        parts += circle(*spots[node.name], own[node.name], f"{cells:,} cells")
+        parts += oval(*spots[node.name], half, own[node.name], f"{cells:,} cells")
     bent = max((abs(depth[n.name] - depth[o]) for n in nodes for o in n.separator if o != n.parent), default=0)
-    return svg(max(x for x, _ in spots.values()) + 60 + 6 * bent, max(y for _, y in spots.values()) + 60, parts)
+    return svg(max(x for x, _ in spots.values()) + half + 38 + 6 * bent, max(y for _, y in spots.values()) + 60, parts)
 
 
 def bounds(moments: list[Moment], told: Callable[[int], str], title: str, cost: int) -> str:
@@ -131,25 +147,58 @@ def bounds(moments: list[Moment], told: Callable[[int], str], title: str, cost: 
 
 
 def timetable(told: Meetings, chosen: dict[str, object]) -> str:
-    """A row for each slot and a column for each person, with the meetings in it; grey where somebody can't."""
-    people = sorted(told.people())
-    left = 30 + 7 * max(len(slot.name) for slot in told.slots)
-    wide = 30 + 7 * max(len(word) for word in [*people, *told.meetings])
+    """A row for each slot and a column for each person, with the meetings in it; grey where somebody can't. Two meetings
+    that a person has in one slot stand side by side. Meetings that clash have a red edge, and a red line on top."""
+    people, barred, found = sorted(told.people()), told.barred(), clashes(told, chosen)
+    clashing = {name for clash in found for name in (clash.first, clash.second)}
     hues = {name: 360 * place // len(told.meetings) for place, name in enumerate(told.meetings)}
-    parts = [f'<text x="{left + wide * (i + 0.5):.1f}" y="30">{escape(name)}</text>' for i, name in enumerate(people)]
+    warnings = [f"breaks a rule: {clash.sentence()}" for clash in found]
+    parts = [f'<text class="broken" x="20" y="{24 + 18 * at}">{escape(line)}</text>' for at, line in enumerate(warnings)]
+    top = 42 + 18 * len(warnings)
+    left = 30 + max(max(7 * len(slot.name), 6 * len(slot.hours)) for slot in told.slots)
+    wide = 30 + 7 * max(len(word) for word in [*people, *told.meetings])
+    columns = {name: wide * most_at_once(told, chosen, name) for name in people}
+    right = left + sum(columns.values())
     for row, slot in enumerate(told.slots):
-        y = 42 + 34 * row
-        parts.append(f'<text class="left" x="{left - 10}" y="{y + 20}">{escape(slot.name)}</text>')
-        parts.append(edge((left, y), (left + wide * len(people), y), "grid"))
-        for column, person in enumerate(people):
-            x = left + wide * column
-            if slot.name in told.absent.get(person, ()):
-                parts.append(f'<rect x="{x + 2}" y="{y + 2}" width="{wide - 4}" height="30" fill="#eee"/>')
-            for name in (n for n, who in told.meetings.items() if person in who and chosen[n] == slot.name):
-                fill = f"hsl({hues[name]},60%,85%)"
-                parts.append(f'<rect x="{x + 2}" y="{y + 2}" width="{wide - 4}" height="30" rx="4" fill="{fill}"/>')
-                parts.append(f'<text class="name" x="{x + wide / 2:.1f}" y="{y + 21}">{escape(name)}</text>')
-    return svg(left + wide * len(people) + 20, 42 + 34 * len(told.slots) + 12, parts)
+        parts += label(slot, left - 10, top + _ROW * row)
+        parts.append(edge((left, top + _ROW * row), (right, top + _ROW * row), "grid"))
+    x = left
+    for person, width in columns.items():
+        parts.append(f'<text x="{x + width / 2:.1f}" y="{top - 12}">{escape(person)}</text>')
+        for row, slot in enumerate(told.slots):
+            y, here = top + _ROW * row + 2, meetings_of(told, chosen, person, slot)
+            if slot.name in barred.get(person, ()):
+                parts.append(f'<rect x="{x + 2}" y="{y}" width="{width - 4}" height="30" fill="#eee"/>')
+            for at, name in enumerate(here):
+                parts += box(x + width / len(here) * at, y, width / len(here), name, hues[name], name in clashing)
+        x += width
+    wanted = 40 + 7 * max(map(len, warnings), default=0)
+    return svg(max(right + 20, wanted), top + _ROW * len(told.slots) + 12, parts)
+
+
+def meetings_of(told: Meetings, chosen: dict[str, object], person: str, slot: Slot) -> list[str]:
+    return [name for name, people in told.meetings.items() if person in people and chosen[name] == slot.name]
+
+
+def most_at_once(told: Meetings, chosen: dict[str, object], person: str) -> int:
+    """How many boxes stand side by side in a person's column."""
+    return max([1, *(len(meetings_of(told, chosen, person, slot)) for slot in told.slots)])
+
+
+def label(slot: Slot, x: float, y: float) -> list[str]:
+    """A slot's name, and below it when it is, where that is told."""
+    parts = [f'<text class="left" x="{x}" y="{y + (15 if slot.hours else 20)}">{escape(slot.name)}</text>']
+    if slot.hours:
+        parts.append(f'<text class="left small" x="{x}" y="{y + 28}">{slot.hours}</text>')
+    return parts
+
+
+def box(x: float, y: float, width: float, name: str, hue: int, clashes: bool) -> list[str]:
+    kind = ' class="clash"' if clashes else ""
+    return [
+        f'<rect{kind} x="{x + 2:.1f}" y="{y}" width="{width - 4:.1f}" height="30" rx="4" fill="hsl({hue},60%,85%)"/>',
+        f'<text class="name" x="{x + width / 2:.1f}" y="{y + 19}">{escape(name)}</text>',
+    ]
 
 
 def steps(spots: list[tuple[float, float]], end: tuple[float, float], kind: str) -> str:

@@ -8,8 +8,14 @@ Each line begins with what it tells:
     like,PERSON or MEETING,SLOT;..,COST    what every other slot costs
     dislike,PERSON or MEETING,SLOT;..,COST what these slots cost
 
-Two meetings that share a person never stand in one slot, nor in two that overlap by their times.
-From # at the beginning of a line it is a comment. The file is UTF-8, with commas.
+Two meetings that share a person never stand in one slot, nor in two that overlap by their times. Who is absent in
+a slot is so too in each slot that overlaps it by its time.
+
+What somebody likes or dislikes counts for each meeting of theirs, and what a meeting does for that meeting. The cost
+of a timetable is the sum of the wishes that it does not meet: 0 where it meets all of them.
+
+A line absent, like or dislike is of one person or meeting, and may name many slots. The names of a list stand between
+semicolons or commas. From # at the beginning of a line it is a comment. The file is UTF-8, with commas.
 """
 
 from __future__ import annotations
@@ -21,9 +27,10 @@ import re
 from collections.abc import Callable
 from dataclasses import dataclass, field
 from fractions import Fraction
+from itertools import combinations
 
 from .problem import Trouble
-from .translate import Constraint, Source
+from .translate import Constraint, Source, number
 
 STAMP = datetime.datetime(2000, 1, 1)
 FORMS = {
@@ -53,6 +60,28 @@ class Slot:
             return False
         return self.begin < other.end and other.begin < self.end
 
+    @property
+    def hours(self) -> str:
+        """When it is, for people; nothing where that is not told."""
+        return "" if self.begin is None or self.end is None else f"{self.begin:%Y-%m-%d %H:%M}\N{EN DASH}{self.end:%H:%M}"
+
+
+@dataclass(frozen=True)
+class Clash:
+    """Two meetings that stand at once in a timetable, though they share people."""
+
+    first: str
+    second: str
+    slots: tuple[str, str]
+    shared: list[str]
+
+    def sentence(self) -> str:
+        here, there = self.slots
+        who = f"share {', '.join(self.shared)}"
+        if here == there:
+            return f"{self.first} and {self.second} are both in {here}, and {who}"
+        return f"{self.first} in {here} and {self.second} in {there} overlap, and {who}"
+
 
 @dataclass
 class Meetings:
@@ -65,6 +94,16 @@ class Meetings:
 
     def people(self) -> set[str]:
         return {person for people in self.meetings.values() for person in people}
+
+    def barred(self) -> dict[str, set[str]]:
+        """For each person the slots in which they are absent, and those that overlap such a slot by their times."""
+        absent = {person: [slot for slot in self.slots if slot.name in names] for person, names in self.absent.items()}
+        return {person: {slot.name for slot in self.slots for away in gone if slot.meets(away)} for person, gone in absent.items()}
+
+    def places(self, chosen: dict[str, object]) -> dict[str, Slot]:
+        """The slot of each meeting in a timetable."""
+        slots = {slot.name: slot for slot in self.slots}
+        return {name: slots[str(chosen[name])] for name in self.meetings}
 
 
 def read(text: str) -> Meetings:
@@ -132,6 +171,8 @@ def check_row(told: Meetings, cells: list[str]) -> None:
     """Whether the names of a line are there, wherever they are told."""
     slots = {slot.name for slot in told.slots}
     match cells:
+        case [("absent" | "like" | "dislike") as what, who, *_] if ";" in who:
+            raise Trouble(f"a line `{what}` is of one person or meeting: write a line for each of {', '.join(parts([who]))}")
         case ["absent", person, *named]:
             if person not in told.people():
                 raise Trouble(f"{person} is absent, and takes part in no meeting")
@@ -180,34 +221,64 @@ def source(told: Meetings, title: str) -> Source:
     """The problem: a variable for each meeting, whose values are the slots."""
     names = list(told.meetings)
     slots = [slot.name for slot in told.slots]
+    barred = told.barred()
     constraints = []
     for i, name in enumerate(names):
-        free = [own_cost(told, name, slot) for slot in slots]
+        gone = set().union(*(barred.get(person, ()) for person in told.meetings[name]))
+        free = [None if slot in gone else own_cost(told, name, slot) for slot in slots]
         if all(cost is None for cost in free):
-            raise Trouble(f"{name} has no slot: in each of them somebody of {', '.join(told.meetings[name])} is absent")
+            raise Trouble(f"{name} has no slot: in each of them, or in one that overlaps it, somebody of {', '.join(told.meetings[name])} is absent")
         if any(cost is None or cost for cost in free):
             constraints.append(Constraint(f"when {name} can be", (i,), free))
     for i, first in enumerate(names):
         for j in range(i + 1, len(names)):
-            shared = [p for p in told.meetings[first] if p in told.meetings[names[j]]]
+            shared = in_both(told, first, names[j])
             if shared:
                 cells = [None if a.meets(b) else Fraction(0) for a in told.slots for b in told.slots]
-                constraints.append(Constraint(f"{first} and {names[j]} share {shared[0]}", (i, j), cells))
+                constraints.append(Constraint(f"{first} and {names[j]} share {', '.join(shared)}", (i, j), cells))
     return Source("min", names, [list(slots) for _ in names], constraints, title)
 
 
-def own_cost(told: Meetings, meeting: str, slot: str) -> Fraction | None:
-    """What a slot costs a meeting; None where somebody is absent."""
+def in_both(told: Meetings, first: str, second: str) -> list[str]:
+    """Who takes part in two meetings."""
+    return [person for person in told.meetings[first] if person in told.meetings[second]]
+
+
+def own_cost(told: Meetings, meeting: str, slot: str) -> Fraction:
+    """What a slot costs a meeting in which nobody is absent."""
+    return sum((cost for *_, cost in against(told, meeting, slot)), Fraction(0))
+
+
+def against(told: Meetings, meeting: str, slot: object) -> list[tuple[str, str, list[str], Fraction]]:
+    """The wishes that a meeting does not meet in a slot."""
     people = told.meetings[meeting]
-    if any(slot in told.absent.get(person, ()) for person in people):
-        return None
-    return Fraction(
-        sum(
-            cost
-            for taste, who, named, cost in told.tastes
-            if (who == meeting or who in people) and (slot in named) == (taste == "dislike")
-        )
-    )
+    return [
+        (taste, who, named, cost)
+        for taste, who, named, cost in told.tastes
+        if (who == meeting or who in people) and (slot in named) == (taste == "dislike")
+    ]
+
+
+def unmet(told: Meetings, chosen: dict[str, object]) -> list[str]:
+    """A sentence for each wish that a timetable does not meet, with what that costs."""
+    lines = []
+    for name, slot in chosen.items():
+        for taste, who, named, cost in against(told, name, slot):
+            why = f"which {who} dislikes" if taste == "dislike" else f"and {who} likes {' or '.join(named)}"
+            if cost:
+                lines.append(f"costs {number(cost)}: {name} is in {slot}, {why}")
+    return lines
+
+
+def clashes(told: Meetings, chosen: dict[str, object]) -> list[Clash]:
+    """The meetings that stand at once in a timetable, though they share people."""
+    found, places = [], told.places(chosen)
+    for first, second in combinations(told.meetings, 2):
+        here, there = places[first], places[second]
+        shared = in_both(told, first, second)
+        if shared and here.meets(there):
+            found.append(Clash(first, second, (here.name, there.name), shared))
+    return found
 
 
 def table(told: Meetings, chosen: dict[str, object]) -> str:
@@ -222,20 +293,26 @@ def table(told: Meetings, chosen: dict[str, object]) -> str:
 
 
 def icalendar(told: Meetings, chosen: dict[str, object]) -> str:
-    """The timetable as iCalendar (RFC 5545), for slots with a begin."""
+    """The timetable as iCalendar (RFC 5545), for slots with a begin. Where it has clashes, the calendar and their meetings
+    say so."""
+    found, places = clashes(told, chosen), told.places(chosen)
     lines = ["BEGIN:VCALENDAR", "VERSION:2.0", "PRODID:-//Sefwllon//sefwllon//EN"]
+    if found:
+        warning = escaped("This timetable breaks rules:\n" + "\n".join(clash.sentence() for clash in found))
+        lines += [f"DESCRIPTION:{warning}", f"X-WR-CALDESC:{warning}"]
     for place, (name, people) in enumerate(told.meetings.items()):
-        slot = next(s for s in told.slots if s.name == chosen[name])
+        slot = places[name]
         if slot.begin is None:
             raise Trouble(f"the slot {slot.name} has no begin, so it can't be put into a calendar")
+        own = [clash.sentence() for clash in found if name in (clash.first, clash.second)]
         lines += [
             "BEGIN:VEVENT",
             f"UID:{place}-{slot.begin:%Y%m%dT%H%M%S}@sefwllon",
             f"DTSTAMP:{STAMP:%Y%m%dT%H%M%SZ}",
             f"DTSTART:{slot.begin:%Y%m%dT%H%M%S}",
             f"DTEND:{slot.end:%Y%m%dT%H%M%S}",
-            f"SUMMARY:{escaped(name)}",
-            f"DESCRIPTION:{escaped(', '.join(people))}",
+            f"SUMMARY:{escaped(f'CLASH: {name}' if own else name)}",
+            "DESCRIPTION:" + escaped("\n".join([", ".join(people), *(f"Clash: {line}" for line in own)])),
             "END:VEVENT",
         ]
     lines.append("END:VCALENDAR")
@@ -245,7 +322,7 @@ def icalendar(told: Meetings, chosen: dict[str, object]) -> str:
 def escaped(text: str) -> str:
     for mark in "\\;,":
         text = text.replace(mark, "\\" + mark)
-    return text
+    return text.replace("\n", "\\n")
 
 
 def folded(line: str) -> str:

@@ -21,7 +21,14 @@ END_SECONDS = 2
 QUICK = "quick-dcop.sh"
 """The script that compiles `dcop` for each run. It says so on standard error, where no other program says anything."""
 
-_CRATES = Path(__file__).resolve().parents[2] / "crates"
+VERIFIED = "verified"
+"""What an answer is called whose certificate `dcop check` accepted."""
+
+VERIFIED_UNPROVED = "verified by a check that was compiled without proofs"
+"""What it is called where that was the `dcop` of the script."""
+
+_CLONE = Path(__file__).resolve().parents[2]
+_CRATES = _CLONE / "crates"
 
 
 @dataclass(frozen=True)
@@ -44,16 +51,21 @@ class Programs:
         self.dcop = dcop or found("SEFWLLON_DCOP", "dcop", "solve_cli")
         self.order = order or found("SEFWLLON_ORDER", "dcop_order", "order_cli")
 
+    @property
+    def quick(self) -> bool:
+        """Whether `dcop` is the script that compiles it without proofs."""
+        return self.dcop is not None and is_quick(self.dcop)
+
+    @property
+    def verified(self) -> str:
+        return VERIFIED_UNPROVED if self.quick else VERIFIED
+
     def run(
         self, words: list[str], text: str, until: float | None = None, tick: Callable[[], None] | None = None
     ) -> Answer:
         """Runs `dcop` on a text, at most until this moment of `time.monotonic`."""
         if self.dcop is None:
-            raise Trouble(
-                "the program dcop is not built: run `cd crates/solve_cli && rt run -- tree < ../../examples/pair.dcop`, which "
-                "proves it first and may take half an hour, or name it by SEFWLLON_DCOP; for a first look, "
-                "SEFWLLON_DCOP=front/quick-dcop.sh compiles it for each run and proves nothing"
-            )
+            raise Trouble(unbuilt(_CLONE))
         return run([self.dcop, *words], text, until, tick)
 
     def reorder(
@@ -61,6 +73,21 @@ class Programs:
     ) -> Answer | None:
         """Runs `dcop_order`, where it is built, at most until this moment."""
         return run([self.order, "--tries", str(tries)], text, until, tick) if self.order else None
+
+
+def is_quick(program: str) -> bool:
+    """Whether a program is the script of a first look, by its name or by where its links lead."""
+    return QUICK in (Path(program).name, Path(os.path.realpath(program)).name)
+
+
+def unbuilt(clone: Path) -> str:
+    """What to do where `dcop` is not built."""
+    here = clone if (clone / "crates").is_dir() else Path("the clone of Sefwllon")
+    return (
+        f"the program dcop is not built: in {here} run `(cd crates/solve_cli && rt run -- solve < ../../examples/pair.dcop)`, which "
+        "proves it first and takes about half an hour, or name the built program by SEFWLLON_DCOP; for a first look run "
+        f"`export SEFWLLON_DCOP={here}/front/quick-dcop.sh`: that compiles it anew for each run, which takes minutes, and proves nothing"
+    )
 
 
 def found(variable: str, name: str, crate: str) -> str | None:
@@ -79,7 +106,7 @@ def run(command: list[str], text: str, until: float | None, tick: Callable[[], N
     left = None if until is None else until - time.monotonic()
     if left is not None and left <= 0:
         return Answer("", None)
-    told = None if Path(command[0]).name == QUICK else subprocess.DEVNULL
+    told = None if is_quick(command[0]) else subprocess.DEVNULL
     try:
         process = subprocess.Popen(command, stdin=subprocess.PIPE, stdout=subprocess.PIPE, stderr=told)
     except OSError as fault:

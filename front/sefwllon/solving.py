@@ -46,6 +46,8 @@ class Best:
     """After how many seconds, its share of the time, a cut was stopped."""
     report: str | None = None
     text: str | None = None
+    quick: bool = False
+    """Whether the program was compiled without proofs, by the script of a first look."""
 
     def take(self, report: Report, goal: str) -> None:
         """Takes what a report says: bounds only narrow, an assignment only gets better."""
@@ -115,6 +117,7 @@ class Solver:
 
     def solve(self) -> Best:
         """Solves it, or keeps the best that is known when the time is over or the user stops it."""
+        self.best.quick = self.programs.quick
         try:
             self.by_ways()
         except KeyboardInterrupt:

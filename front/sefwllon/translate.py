@@ -104,16 +104,26 @@ class Translation:
                 names.append(self.hard_names[at])
         return names
 
-    def none_keeps(self, bound: int | None) -> bool:
-        """Whether no assignment keeps all hard constraints, by a bound of the best sum: a lower one, or an upper one for
-        a greatest sum."""
+    def fewest_broken(self, bound: int | None) -> int:
+        """How many hard constraints every assignment breaks at least, by a bound of the best sum: a lower one, or an upper
+        one for a greatest sum. What is forbidden costs more than all else together, so a sum tells how many are broken."""
         if bound is None or not self.hard:
-            return False
-        return bound >= self.hard_cost if self.problem.goal == "min" else bound < self.hard_cost * len(self.hard)
+            return 0
+        count = bound // self.hard_cost
+        return count if self.problem.goal == "min" else max(0, len(self.hard) - count)
+
+    def none_keeps(self, bound: int | None) -> bool:
+        """Whether no assignment keeps all hard constraints, by a bound as above."""
+        return self.fewest_broken(bound) > 0
 
     def told(self, assignment: list[int]) -> dict[str, object]:
         """The assignment by the user's own names and values."""
         return {name: values[value] for name, values, value in zip(self.names, self.values, assignment)}
+
+
+def number(value: Fraction) -> str:
+    """A cost as it is told to people."""
+    return str(value.numerator) if value.denominator == 1 else str(float(value))
 
 
 def plain(problem: Problem) -> Translation:

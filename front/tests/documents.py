@@ -77,8 +77,8 @@ def missing(command: str, path: str) -> str | None:
     return None
 
 
-def run(document: str, programs: dict[str, str]) -> tuple[list[str], list[str]]:
-    """Runs a document. Gives what differs, and what was passed over."""
+def run(document: str, programs: dict[str, str], files: dict[str, str] | None = None) -> tuple[list[str], list[str]]:
+    """Runs a document, in a folder with these files. Gives what differs, and what was passed over."""
     differ: list[str] = []
     passed_over: list[str] = []
     with tempfile.TemporaryDirectory() as name:
@@ -88,6 +88,8 @@ def run(document: str, programs: dict[str, str]) -> tuple[list[str], list[str]]:
             (folder / "bin" / program).symlink_to(Path(path).resolve())
         for part in ("examples", "front"):
             (folder / part).symlink_to(TOP / part)
+        for file, text in (files or {}).items():
+            (folder / file).write_text(text)
         kept = {name: value for name, value in os.environ.items() if not name.startswith("SEFWLLON_")}
         environment = kept | {"PATH": f"{folder / 'bin'}:{os.environ['PATH']}", "PYTHONDONTWRITEBYTECODE": "1"}
         for step in steps(document):

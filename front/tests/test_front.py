@@ -27,13 +27,13 @@ PROBLEMS = FRONT.parent / "examples"
 sys.path[:0] = [str(FRONT), str(HERE)]
 
 import documents  # noqa: E402
-from sefwllon import meetings, pydcop, replay, wcsp  # noqa: E402
-from sefwllon.cli import main, seconds  # noqa: E402
+from sefwllon import draw, meetings, programs, pydcop, replay, wcsp  # noqa: E402
+from sefwllon.cli import main, seconds, timetable_headline  # noqa: E402
 from sefwllon.evaluator import Formula  # noqa: E402
 from sefwllon.explain import differs, explain  # noqa: E402
 from sefwllon.problem import Trouble, parse  # noqa: E402
 from sefwllon.programs import Programs  # noqa: E402
-from sefwllon.report import Report, read_report  # noqa: E402
+from sefwllon.report import Node, Report, read_report  # noqa: E402
 from sefwllon.solving import Best, Solver  # noqa: E402
 from sefwllon.translate import Constraint, Source, translate  # noqa: E402
 
@@ -215,6 +215,49 @@ class Solving(Case):
             self.assertIn(why, ran.stderr)
             self.assertIn("quick-dcop: compiling dcop without proofs for `solve`", ran.stderr)
 
+    def test_the_script_of_a_first_look_says_that_it_is_under_way(self):
+        rt = self.file("rt", "#!/bin/sh\nsleep 2.5\necho status solved\necho run=ended >&2\n")
+        os.chmod(rt, 0o755)
+        environment = dict(os.environ, QUICK_DCOP_SECONDS="1", PATH=f"{Path(rt).parent}:{os.environ['PATH']}")
+        ran = subprocess.run([str(FRONT / "quick-dcop.sh"), "solve"], env=environment, input="", capture_output=True, text=True)
+        self.assertEqual((ran.returncode, ran.stdout), (0, "status solved\n"))
+        self.assertIn("quick-dcop: `solve` under way for 1 s\n", ran.stderr)
+
+    def test_what_was_checked_without_proofs_is_told_as_such(self):
+        pair, link = str(PROBLEMS / "pair.dcop"), self.file("dcop", "")
+        script = self.file("quick-dcop.sh", f"#!/bin/sh\nexec {FAKE} \"$@\"\n")
+        os.chmod(script, 0o755)
+        Path(link).unlink()
+        Path(link).symlink_to(script)
+        by, report = "a check that was compiled without proofs", self.file("report", "")
+        self.assertEqual([Programs(it).quick for it in (script, link, FAKE)], [True, True, False])
+        _, told, _ = self.front("solve", pair, "--report", report, program=script)
+        self.assertEqual(told.splitlines()[0], f"cost 2, and none is better (verified by {by})")
+        answer = json.loads(self.front("solve", "--json", pair, program=script)[1])
+        self.assertEqual((answer["verified"], answer["verified_by"]), (True, by))
+        self.assertEqual(self.front("check", pair, report, program=script)[1], f"yes, verified by {by}: cost 2, and none is better\n")
+        told = self.front("cost", pair, "x=0", "y=1", "--report", report, program=script)[1]
+        self.assertEqual(told, f"cost 3\nat most 1 from the best (verified by {by})\n")
+        clash = self.file("week.csv", "slot,a\nmeeting,m,Ann\nmeeting,n,Ann\n")
+        self.assertIn(f"none breaks fewer (verified by {by})\n", self.front("meetings", clash, program=script)[1])
+        self.front("solve", pair, "--method", "adopt", "--report", report, fake="logs", program=script)
+        self.assertIn(f"none is better (verified by {by})</text>", self.front("draw", pair, report, fake="logs", program=script)[1])
+        _, told, _ = self.front("solve", pair, fake="wide", program=script)
+        self.assertIn("exact by the program, which was compiled without proofs, and there is no certificate", told)
+        answer = json.loads(self.front("solve", "--json", pair)[1])
+        self.assertEqual((answer["verified"], answer["verified_by"]), (True, "dcop check"))
+        answer = json.loads(self.front("solve", "--json", "--method", "plain", pair)[1])
+        self.assertEqual((answer["verified"], answer["verified_by"]), (False, None))
+
+    def test_how_dcop_is_built_is_told_as_on_the_first_page(self):
+        why = programs.unbuilt(FRONT.parent)
+        command = "(cd crates/solve_cli && rt run -- solve < ../../examples/pair.dcop)"
+        for page in (FRONT.parent / "README.md", FRONT / "README.md"):
+            self.assertIn(command, page.read_text())
+        self.assertIn(f"in {FRONT.parent} run `{command}`", why)
+        self.assertIn(f"export SEFWLLON_DCOP={FRONT}/quick-dcop.sh", why)
+        self.assertIn("in the clone of Sefwllon run", programs.unbuilt(HERE))
+
     def test_an_assignment_is_told_where_no_method_comes_to_one_in_time(self):
         for name in ("tracking", "sensors"):
             file = PROBLEMS / f"{name}.dcop"
@@ -290,6 +333,13 @@ class Documents(unittest.TestCase):
             differ, _ = documents.run(document, {"dcop": REAL, "dcop_order": ORDER})
             self.assertEqual(differ, [])
 
+    @unittest.skipUnless(REAL and ORDER, "no built programs")
+    def test_the_answers_of_the_front_s_page(self):
+        page = (FRONT / "README.md").read_text()
+        week = page[page.index("slot,Mon 9,") : page.index("```", page.index("slot,Mon 9,"))]
+        differ, _ = documents.run("front/README.md", {"dcop": REAL, "dcop_order": ORDER}, {"week.csv": week})
+        self.assertEqual(differ, [])
+
 
 class Translating(Case):
     def test_every_assignment_costs_what_it_did(self):
@@ -350,7 +400,8 @@ class Translating(Case):
             soft = Constraint("soft", (0,), [Fraction(4), Fraction(7)])
             told = translate(Source(goal, ["a", "b", "c"], [[0, 1]] * 3, [*pairs, soft]))
             sums = [told.problem.cost(list(choice)) for choice in itertools.product(range(2), repeat=3)]
-            self.assertTrue(told.none_keeps(min(sums) if goal == "min" else max(sums)))
+            best = min(sums) if goal == "min" else max(sums)
+            self.assertEqual((told.none_keeps(best), told.fewest_broken(best)), (True, 1))
             told = translate(Source(goal, ["a", "b", "c"], [[0, 1]] * 3, [*pairs[1:], soft]))
             sums = [told.problem.cost(list(choice)) for choice in itertools.product(range(2), repeat=3)]
             self.assertFalse(told.none_keeps(min(sums) if goal == "min" else max(sums)))
@@ -425,6 +476,14 @@ class Translating(Case):
                 wcsp.read_uai(text, "file")
 
 
+CROWD = (
+    "slot,Mon 18,2026-09-07 18:00\nslot,Mon 18:30,2026-09-07 18:30\nslot,Tue 18,2026-09-08 18:00\n"
+    "meeting,Board,Anna;Bero;Cleo\nmeeting,Programme,Anna;Dai;Erik\nmeeting,Money,Anna;Fritz\nmeeting,Tour,Cleo;Dai;Fritz\n"
+    "like,Board,Tue 18,3\ndislike,Erik,Tue 18,0.5\n"
+)
+"""Meetings of which no timetable keeps all rules."""
+
+
 class Meetings(Case):
     def test_a_timetable_keeps_the_rules(self):
         with tempfile.TemporaryDirectory() as folder:
@@ -446,9 +505,75 @@ class Meetings(Case):
         week = self.file("week.csv", "slot,a\nmeeting,m,Ann\nmeeting,n,Ann\n")
         report = self.file("report", "")
         status, told, _ = self.front("meetings", week, "--report", report)
-        self.assertEqual((status, told.splitlines()[:2]), (1, ["no assignment keeps all hard constraints (verified)", "broken: m and n share Ann"]))
+        wanted = ["no timetable keeps all the rules; this one breaks 1, and none breaks fewer (verified)"]
+        wanted += ["no assignment keeps all hard constraints (verified)", "broken: m and n are both in a, and share Ann"]
+        self.assertEqual((status, told.splitlines()[:3]), (1, wanted))
         _, told, _ = self.front("check", week, report)
         self.assertEqual(told, "yes, verified: no assignment keeps all hard constraints; this one breaks: m and n share Ann\n")
+
+    def test_broken_rules_are_told_no_better_than_they_are_known(self):
+        week = self.file("week.csv", CROWD)
+        told = self.front("meetings", week, fake="wide")[1]
+        self.assertEqual(told.splitlines()[0], "no timetable keeps all the rules; this one breaks 2, and none breaks fewer (not verified)")
+        told = self.front("meetings", week, "--time", "300ms", fake="slow")[1]
+        self.assertRegex(told, "^no timetable that keeps all the rules was found; this one breaks [0-9]\n")
+        self.assertIn("\nstopped: the time is over\n", told)
+        made = translate(meetings.source(meetings.read(CROWD), "crowd"))
+        best = Best(values=[0, 0, 0, 0], cost=made.problem.cost([0, 0, 0, 0]), lower=0, checked=made.hard_cost)
+        self.assertEqual(timetable_headline(best, made)[0], "no timetable keeps all the rules (verified); this one breaks 6")
+
+    def test_a_timetable_with_clashes_shows_them(self):
+        picture, calendar = self.file("week.svg", ""), self.file("week.ics", "")
+        self.assertEqual(self.front("meetings", self.file("week.csv", CROWD), "--svg", picture, "--ics", calendar)[0], 1)
+        svg, ics = minidom.parse(picture), Path(calendar).read_bytes().decode().replace("\r\n ", "")
+        sentences = ["Board and Tour are both in Tue 18, and share Cleo", "Programme and Money are both in Mon 18, and share Anna"]
+        red = [it.firstChild.data for it in svg.getElementsByTagName("text") if it.getAttribute("class") == "broken"]
+        self.assertEqual(red, [f"breaks a rule: {sentence}" for sentence in sentences])
+        boxes = [[float(it.getAttribute(name)) for name in ("x", "y", "width")] for it in svg.getElementsByTagName("rect")]
+        self.assertEqual(len(boxes), 11)
+        for (x, y, width), (other, below, _) in itertools.permutations(boxes, 2):
+            self.assertTrue(y != below or other >= x + width or other < x)
+        self.assertEqual([it.getAttribute("class") for it in svg.getElementsByTagName("rect")], ["clash"] * 11)
+        self.assertEqual(ics.count("SUMMARY:CLASH: "), 4)
+        for sentence in sentences:
+            self.assertEqual(ics.count(sentence.replace(",", "\\,")), 4)
+        self.assertIn("\r\nDESCRIPTION:Anna\\, Fritz\\nClash: Programme and Money", ics)
+        self.assertIn("\r\nDESCRIPTION:This timetable breaks rules:\\nBoard and Tour", ics)
+        overlap = meetings.read("slot,a,2026-03-02 09:00,120\nslot,b,2026-03-02 10:00\nmeeting,m,Ann;Bo\nmeeting,n,Bo;Ann\n")
+        told = [clash.sentence() for clash in meetings.clashes(overlap, {"m": "a", "n": "b"})]
+        self.assertEqual(told, ["m in a and n in b overlap, and share Ann, Bo"])
+
+    def test_the_clashes_are_the_broken_rules(self):
+        told = meetings.read(CROWD)
+        made = translate(meetings.source(told, "crowd"))
+        for values in itertools.product(range(3), repeat=4):
+            found = meetings.clashes(told, made.told(list(values)))
+            names = [f"{clash.first} and {clash.second} share {', '.join(clash.shared)}" for clash in found]
+            self.assertEqual(names, made.broken(list(values)))
+
+    def test_who_is_absent_is_so_in_slots_that_overlap(self):
+        text = "slot,a,2026-03-02 09:00\nslot,b,2026-03-02 09:30\nslot,c,2026-03-02 10:00\nmeeting,m,Ann;Bo\nabsent,Ann,a\nlike,m,a;b,3\n"
+        picture = self.file("week.svg", "")
+        status, told, _ = self.front("meetings", self.file("week.csv", text), "--svg", picture)
+        wanted = ["cost 3, and none is better (verified)", "c  m  (Ann, Bo)", "wish not met, costs 3: m is in c, and m likes a or b"]
+        self.assertEqual((status, told.splitlines()), (0, wanted))
+        grey = [it for it in minidom.parse(picture).getElementsByTagName("rect") if it.getAttribute("fill") == "#eee"]
+        self.assertEqual(len(grey), 2)
+        self.assertEqual(meetings.read(text).barred(), {"Ann": {"a", "b"}})
+        with self.assertRaisesRegex(Trouble, "m has no slot: in each of them, or in one that overlaps it, somebody of Ann, Bo is absent"):
+            meetings.source(meetings.read(text + "absent,Bo,c\n"), "file")
+
+    def test_what_is_not_met_sums_to_the_cost(self):
+        text = "slot,a\nslot,b\nslot,c\nmeeting,m,Ann;Bo\nmeeting,n,Ann\nlike,Ann,a;b,1.5\ndislike,Bo,a,2\nlike,n,a,0\nlike,m,c,0.25\n"
+        told = meetings.read(text)
+        made = translate(meetings.source(told, "file"))
+        for values in itertools.product(range(3), repeat=2):
+            lines = meetings.unmet(told, made.told(list(values)))
+            costs = [Fraction(line.split(":")[0].removeprefix("costs ")) for line in lines]
+            self.assertEqual(sum(costs, Fraction(0)), made.own_sum(list(values)))
+        wanted = ["costs 1.5: m is in c, and Ann likes a or b", "costs 1.5: n is in c, and Ann likes a or b"]
+        self.assertEqual(meetings.unmet(told, {"m": "c", "n": "c"}), wanted)
+        self.assertIn("costs 2: m is in a, which Bo dislikes", meetings.unmet(told, {"m": "a", "n": "b"}))
 
     def test_a_csv_is_explained_as_one(self):
         status, _, why = self.front("explain", self.file("week.csv", "slot,a\nmeeting,m,Ann\nabsent,Bo,a\n"))
@@ -471,7 +596,9 @@ class Meetings(Case):
             ("slot,a\nmeeting,m,Ann\nlike,Ann,3,a\n", "line 3: the last cell is the cost"),
             ("slot,a,2026-03-02 09:00,²\n", "line 1: ² is no number of minutes"),
             ("slot,a,2026-03-02 09:00+01:00\n", "line 1: .* names a time zone"),
-            ("slot,a\nmeeting,m,Ann;Bo\nabsent,Bo,a\n", "m has no slot: in each of them somebody of Ann, Bo is absent"),
+            ("slot,a\nmeeting,m,Ann;Bo\nabsent,Bo,a\n", "m has no slot: in each of them, or in one that overlaps it, somebody of Ann, Bo is absent"),
+            ("slot,a\nmeeting,m,Ann;Bo\nabsent,Ann; Bo,a\n", "line 3: a line `absent` is of one person .* for each of Ann, Bo"),
+            ("slot,a\nmeeting,m,Ann;Bo\nlike,Ann;Bo,a,2\n", "line 3: a line `like` is of one person or meeting"),
         ):
             with self.assertRaisesRegex(Trouble, why):
                 meetings.source(meetings.read(text), "file")
@@ -511,7 +638,19 @@ class Telling(Case):
         status, told, _ = self.front("draw", "graph", str(PROBLEMS / "tracking.dcop"))
         self.assertEqual(status, 0)
         picture = minidom.parseString(told)
-        self.assertEqual(len(picture.getElementsByTagName("circle")), 6)
+        self.assertEqual(len(picture.getElementsByTagName("ellipse")), 6)
+
+    def test_names_stay_within_their_ellipses(self):
+        long = "A_name_of_thirty_letters_or_so"
+        problem = parse(f"dcop 1\nvar Programme 2\nvar {long} 2\ntable Programme {long} : 1 2 3 4\nend\n")
+        nodes = [Node("Programme", None), Node(long, "Programme", ["Programme"])]
+        own = {v.name: v.name for v in problem.variables}
+        for told in (draw.graph(problem, list(own), ["", ""]), draw.tree(problem, nodes, own)):
+            picture = minidom.parseString(told)
+            half = min(float(it.getAttribute("rx")) for it in picture.getElementsByTagName("ellipse"))
+            names = [it.firstChild.data for it in picture.getElementsByTagName("text") if it.getAttribute("class") == "name"]
+            self.assertEqual(names, ["Programme", long[:19] + "\N{HORIZONTAL ELLIPSIS}"])
+            self.assertTrue(all(8 * len(name) <= 2 * half for name in names))
 
     def test_bounds_are_drawn_from_a_log(self):
         pair = str(PROBLEMS / "pair.dcop")
@@ -569,6 +708,7 @@ class Telling(Case):
         status, _, _ = self.front("meetings", str(EXAMPLES / "meetings.csv"), "--svg", picture)
         words = [it.firstChild.data for it in minidom.parse(picture).getElementsByTagName("text")]
         self.assertEqual((status, words.count("standup"), words.count("Mon 9")), (0, 3, 1))
+        self.assertIn("2026-03-03 10:00\N{EN DASH}11:30", words)
 
     def test_an_assignment_costs_what_dcop_says(self):
         status, told, _ = self.front("cost", str(PROBLEMS / "pair.dcop"), "x=0", "y=1")
