@@ -22,8 +22,8 @@ from .translate import Translation, number, plain, translate
 SOLVED, OPEN, USAGE, TEXT = 0, 1, 2, 3
 OWN_SEARCH = "found by a short search of sefwllon's own, since no method of dcop came to an assignment in time"
 NO_CERTIFICATE = "there is no certificate of it to check"
-UNCHECKED_CUT = "exact by the proved program, but there is no certificate of a cut to check yet"
-UNPROVED_CUT = "exact by the program, which was compiled without proofs, and there is no certificate of a cut to check yet"
+UNCHECKED_CUT = "exact by the proved program, but the tables of all turns of the cut are too many for a certificate"
+UNPROVED_CUT = "exact by the program, which was compiled without proofs, and the tables of all turns of the cut are too many for a certificate"
 
 
 def main(arguments: list[str] | None = None) -> int:

@@ -32,12 +32,11 @@ REPORT = {
     2: "a number is not 1 to 19 digits, or above 2^62",
     3: "a name is none of the problem's, or not the next variable's",
     4: "the line has not as many cells as its variables have choices of values",
-    5: "the report has no certificate: make it with `--certificate yes`; those of plain, and as yet those of cut, have none",
+    5: "the report has no certificate: make it with `--certificate yes`; those of plain have none",
     6: "the report is over before its line `end`",
     7: "words follow behind the report's line `end`",
     8: "a value is not among its variable's values",
     9: "the certificate is no log, so there is nothing to replay",
-    10: "certificates of this kind are not read yet",
 }
 LINES = ("goal", "var", "table", "end")
 WORDS = {
@@ -50,13 +49,8 @@ WORDS = {
     7: "the number is not in the option's range",
     8: "the value is none of the option's words",
     9: "the option does not go with this command, or with this method",
-    10: "these words are right, and this program does not serve them yet: `--certificate yes` with `--method cut`, whose answer is "
-    "exact without one too",
+    10: "these words are right, and this program, of an earlier day, does not serve them: build a later one",
 }
-UNSERVED_CUT = (
-    "There is no certificate of a cut yet: leave `--certificate yes` out. The answer is exact all the same, by the proved "
-    "program, and nothing can be checked."
-)
 WCSP = {
     1: "a whole number from 0 up was expected",
     2: "the text is over before its last word",
@@ -93,8 +87,6 @@ def explain(answer: str, text: str = "", words: list[str] | None = None) -> str:
 def explained(answer: str, text: str, words: list[str] | None) -> str:
     told = answer.split()
     match told:
-        case ["refused", "words", "at", _, "kind", "10"] if words and "cut" in words and "--certificate" in words:
-            return UNSERVED_CUT
         case ["refused", "words", "at", place, "kind", kind]:
             here = f" (word {place}" + (f", `{words[int(place) - 1]}`" if words and int(place) <= len(words) else "") + ")"
             return f"The words are refused{here}: {WORDS.get(int(kind), 'kind ' + kind)}."
@@ -114,8 +106,9 @@ def explained(answer: str, text: str, words: list[str] | None) -> str:
             )
         case ["refused", "wide", "total", "cells", cells, "limit", limit]:
             return (
-                f"DPOP, or one turn of cut, would send {int(cells):,} cells in all, and {int(limit):,} are the most. "
-                "Change the order of the `var` lines, take fewer values, or use cut, with a smaller `--cells`, or adopt."
+                f"DPOP, or one turn of cut, with a certificate all turns, would send {int(cells):,} cells in all, and "
+                f"{int(limit):,} are the most. Change the order of the `var` lines, take fewer values, use cut, with a smaller "
+                "`--cells` or without a certificate, or use adopt."
             )
         case ["refused", "many", "turns", count, "limit", limit]:
             return (

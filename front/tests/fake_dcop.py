@@ -52,7 +52,7 @@ def main() -> int:
         print("refused words at 1 kind 10")
         return 2
     if method == "cut":
-        refused = cut_refusal(text, int(options.get("--cells", "1048576")))
+        refused = cut_refusal(text, int(options.get("--cells", "1048576")), "--certificate" in options)
         if refused is not None:
             return refused
     return solve(text, method, int(options.get("--budget", "1000000")))
@@ -60,11 +60,11 @@ def main() -> int:
 
 def unserved(method: str, certificate: bool) -> bool:
     if method == "cut":
-        return certificate or "earlier" in FAKE
+        return "earlier" in FAKE
     return method == "adopt" and certificate and "logs" not in FAKE
 
 
-def cut_refusal(text: str, cells: int) -> int | None:
+def cut_refusal(text: str, cells: int, certified: bool) -> int | None:
     """The exit status of a cut that is refused; None where it is not."""
     if "long" in FAKE:
         time.sleep(60)
@@ -72,7 +72,7 @@ def cut_refusal(text: str, cells: int) -> int | None:
     if "turns" in FAKE or ("turned" in FAKE and names == sorted(names)):
         print("refused many turns 1048576 limit 65536")
         return 11
-    if "heavy" in FAKE and cells > 65_536:
+    if certified or ("heavy" in FAKE and cells > 65_536):
         print("refused wide total cells 5000000 limit 4194304")
         return 4
     return None

@@ -108,7 +108,7 @@ class Solving(Case):
 
     def test_a_cut_is_exact_and_not_called_verified(self):
         pair = str(PROBLEMS / "pair.dcop")
-        known = "exact by the proved program, but there is no certificate of a cut to check yet"
+        known = "exact by the proved program, but the tables of all turns of the cut are too many for a certificate"
         for words in ((), ("--method", "cut")):
             status, told, _ = self.front("solve", pair, *words, fake="wide")
             self.assertEqual((status, told.splitlines()[0]), (0, f"cost 2, and none is better (not verified: {known})"))
@@ -298,6 +298,12 @@ class Solving(Case):
     def test_a_wcsp_is_solved(self):
         status, told, _ = self.front("solve", "--json", str(EXAMPLES / "knapsack.wcsp"))
         self.assertEqual((status, json.loads(told)["cost"]), (0, 8))
+
+    @unittest.skipUnless(REAL, "no built program")
+    def test_a_cut_with_a_certificate_is_verified(self):
+        status, told, _ = self.front("solve", "--json", "--method", "cut", str(PROBLEMS / "pair.dcop"), program=REAL)
+        answer = json.loads(told)
+        self.assertEqual((status, answer["method"], answer["cost"], answer["verified"]), (0, "cut", 2, True))
 
     @unittest.skipUnless(REAL, "no built program")
     def test_the_real_program(self):
@@ -630,9 +636,8 @@ class Telling(Case):
         for part in ("1,185,921 turns", "larger `--cells`", "dcop_order", "adopt"):
             self.assertIn(part, why)
         self.assertIn("one turn of cut", explain("refused wide total cells 5000000 limit 4194304"))
-        self.assertIn("`--method cut`, whose answer is exact", explain("refused words at 1 kind 10"))
-        words = ["solve", "--method", "cut", "--certificate", "yes"]
-        self.assertIn("no certificate of a cut yet: leave", explain("refused words at 1 kind 10", words=words))
+        self.assertIn("without a certificate", explain("refused wide total cells 5000000 limit 4194304"))
+        self.assertIn("build a later one", explain("refused words at 1 kind 10"))
 
     def test_pictures_are_svg(self):
         status, told, _ = self.front("draw", "graph", str(PROBLEMS / "tracking.dcop"))
