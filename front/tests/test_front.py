@@ -243,7 +243,7 @@ class Solving(Case):
         self.front("solve", pair, "--method", "adopt", "--report", report, fake="logs", program=script)
         self.assertIn(f"none is better (verified by {by})</text>", self.front("draw", pair, report, fake="logs", program=script)[1])
         _, told, _ = self.front("solve", pair, fake="wide", program=script)
-        self.assertIn("exact by the program, which was compiled without proofs, and there is no certificate", told)
+        self.assertIn("exact by the program, which was compiled without proofs, and the tables of all turns", told)
         answer = json.loads(self.front("solve", "--json", pair)[1])
         self.assertEqual((answer["verified"], answer["verified_by"]), (True, "dcop check"))
         answer = json.loads(self.front("solve", "--json", "--method", "plain", pair)[1])
