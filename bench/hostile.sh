@@ -10,7 +10,7 @@
 # written. Once a run has ended with 7, none may end with 12. Between nodes a request may be one of the event loop or of
 # a socket: these count as a link that failed, so there a run may end with exit 8 and `refused link` too; and only one
 # request is refused there, since the event loop of the kit, where it is refused memory for good, asks again for ever.
-# A case that the program does not serve yet is left out, which is said. Prints how many requests there were of each case
+# A case that is not there, or that a program of an earlier day does not serve, is left out, which is said. Prints how many requests there were of each case
 # and how the runs ended; stops with status 1 at the first run that is wrong.
 # `pair-two-nodes` is run over wires in memory too, by the program of crates/worked_cases where that is built: there the
 # status must be the case's, or 7 with nothing written, unless what was refused was a request of that program itself, which

@@ -3,7 +3,7 @@
 #
 # usage: bench/runs.sh PROGRAM [COUNT [NODES]]
 # PROGRAM is the built program `dcop`. COUNT runs (2,000, where it is not given) go through each file of
-# examples, 2 to 64 workers, and dpop, adopt, and adopt with an error of 3, in turn. With NODES they go through 2 to NODES
+# examples/*.dcop that dpop or adopt solves as given, 2 to 64 workers, and dpop, adopt, and adopt with an error of 3, in turn. With NODES they go through 2 to NODES
 # nodes and 1 to 8 workers in place of that, in an order that is the same each time. A run by dpop must end
 # with the status and the bytes of the run with one worker. A run by adopt must be solved; its cost must be what its values
 # cost by the file's tables, and miss the optimum by at most the error. The optimum is dpop's cost with

@@ -6,7 +6,7 @@
 # Joins 20 tables of pairs over four variables of size 32, so into 2^20 cells: ten times one whose cells
 # follow the last variable, and ten times one whose cells stride along it. A join makes the cells, adds
 # the tables and copies the cells out. Projects a table of 2^20 cells by its first and by its last
-# variable. The crate of bench/tables/lib.rt.txt calls `util_join` and `util_project` and is a static
+# variable. The crate of bench/tables/crate calls `util_join` and `util_project` and is a static
 # library; it is proved and built in a copy of the repository, where it is one more crate.
 # bench/tables/harness.rs has the plain loops. Prints the best of nine runs each.
 set -eu

@@ -22,8 +22,8 @@ from .translate import Translation, number, plain, translate
 SOLVED, OPEN, USAGE, TEXT = 0, 1, 2, 3
 OWN_SEARCH = "found by a short search of sefwllon's own, since no method of dcop came to an assignment in time"
 NO_CERTIFICATE = "there is no certificate of it to check"
-UNCHECKED_CUT = "exact by the proved program, but the tables of all turns of the cut are too many for a certificate"
-UNPROVED_CUT = "exact by the program, which was compiled without proofs, and the tables of all turns of the cut are too many for a certificate"
+UNCHECKED_CUT = "exact by the proved program, but no certificate of the cut was checked"
+UNPROVED_CUT = "exact by the program, which was compiled without proofs, and no certificate of the cut was checked"
 
 
 def main(arguments: list[str] | None = None) -> int:
@@ -66,7 +66,7 @@ def parser() -> argparse.ArgumentParser:
         choices=("auto", "plain", "dpop", "order", "cut", "adopt"),
         default="auto",
         help="auto, which is meant where none is named, tries dpop, order (dpop in an order by dcop_order), cut (dpop with some "
-        "variables fixed in turn: exact, without a certificate yet) and adopt, one behind the other",
+        "variables fixed in turn: exact, with a certificate unless its tables are too many) and adopt, one behind the other",
     )
     solve.add_argument("--workers", type=threads, default=1, metavar="N", help="threads, 1 to 64")
     solve.add_argument("--json", action="store_true", help="the answer as JSON")

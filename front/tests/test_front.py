@@ -108,7 +108,7 @@ class Solving(Case):
 
     def test_a_cut_is_exact_and_not_called_verified(self):
         pair = str(PROBLEMS / "pair.dcop")
-        known = "exact by the proved program, but the tables of all turns of the cut are too many for a certificate"
+        known = "exact by the proved program, but no certificate of the cut was checked"
         for words in ((), ("--method", "cut")):
             status, told, _ = self.front("solve", pair, *words, fake="wide")
             self.assertEqual((status, told.splitlines()[0]), (0, f"cost 2, and none is better (not verified: {known})"))
@@ -243,7 +243,7 @@ class Solving(Case):
         self.front("solve", pair, "--method", "adopt", "--report", report, fake="logs", program=script)
         self.assertIn(f"none is better (verified by {by})</text>", self.front("draw", pair, report, fake="logs", program=script)[1])
         _, told, _ = self.front("solve", pair, fake="wide", program=script)
-        self.assertIn("exact by the program, which was compiled without proofs, and the tables of all turns", told)
+        self.assertIn("exact by the program, which was compiled without proofs, and no certificate", told)
         answer = json.loads(self.front("solve", "--json", pair)[1])
         self.assertEqual((answer["verified"], answer["verified_by"]), (True, "dcop check"))
         answer = json.loads(self.front("solve", "--json", "--method", "plain", pair)[1])
