@@ -54,7 +54,7 @@ from collections import Counter
 program, folder, crate, *named = sys.argv[1:]
 program, data, cases = os.path.abspath(program), f"{crate}/data", f"{crate}/out/worked_cases"
 CASES = named or ("paw-certificate", "pair-log", "pair-two-nodes", "paw-check", "pair-log-check", "paw-tree", "upgrade-pair",
-                  "drill-two-1234567", "pair-plain", "pair-dpop-workers")
+                  "drill-two-1234567", "pair-plain", "pair-dpop-workers", "cut-paw-certified", "cut-check")
 class Case:
     """A worked case: its words, its input, its status and its output."""
     def __init__(self, name):

@@ -107,7 +107,9 @@ class Trials:
                 problem = parse(text.decode("latin-1"))
                 self.problems.append((problem.source.encode("latin-1"), problem))
         self.best = {}
-        self.tables, self.logs = [], []
+        self.tables, self.logs, self.cuts = [], [], []
+        with open(f"{top}/crates/worked_cases/data/samples/paw.dcop", "rb") as paw, open(f"{top}/crates/worked_cases/data/samples/paw-cut.report", "rb") as cut:
+            paw, turns = paw.read(), cut.read()
         for at, (text, problem) in enumerate(self.problems):
             plain = Answer(program, ["solve", "--method", "plain"], text)
             if plain.status == 0:
@@ -117,12 +119,18 @@ class Trials:
             report = Answer(program, ["solve", "--method", "dpop", "--certificate", "yes"], text)
             if report.status == 0:
                 self.tables.append((at, report.out))
+            report = Answer(program, ["solve", "--method", "cut", "--certificate", "yes"], text)
+            if report.status == 0 and len(report.out) < 100_000:
+                self.cuts.append((at, report.out))
+            if text == paw:
+                # (a cut of more turns than one, which small problems do not need)
+                self.cuts += [(at, turns)] * 40
             for error, budget, workers in (("0", "2000", "1"), ("3", "2000", "3"), ("0", "7", "1")):
                 report = Answer(program, ["solve", "--method", "adopt", "--certificate", "yes", "--error", error, "--budget", budget, "--workers", workers], text)
                 if report.status in (0, 1):
                     self.logs.append((at, report.out))
-        print(f"seed {seed}: {len(self.problems)} problems, {len(self.best)} of which plain takes, {len(self.tables)} reports with tables and {len(self.logs)} with logs", flush=True)
-        self.kinds = [self.of_words] * 3 + [self.of_text] * 5 + [self.of_tables] * 5 + [self.of_log] * 5 + [self.of_wcsp, self.of_edits]
+        print(f"seed {seed}: {len(self.problems)} problems, {len(self.best)} of which plain takes, {len(self.tables)} reports with tables, {len(self.logs)} with logs and {len(self.cuts)} with cuts", flush=True)
+        self.kinds = [self.of_words] * 3 + [self.of_text] * 5 + [self.of_tables] * 5 + [self.of_log] * 5 + [self.of_cut] * 3 + [self.of_wcsp, self.of_edits]
 
     def make(self, number):
         """Trial so many: its kind, its words, its input, and what further is asked of the answer."""
@@ -175,6 +183,9 @@ class Trials:
 
     def of_log(self, rng):
         return self.of_report(rng, "log", self.logs)
+
+    def of_cut(self, rng):
+        return self.of_report(rng, "cut", self.cuts)
 
     def of_wcsp(self, rng):
         text = altered(rng, wcsp_text(rng))
@@ -243,9 +254,17 @@ class Trials:
             return "its output ends in no line"
         if not answer.out.startswith(STARTS[answer.status]):
             return f"its output does not begin as status {answer.status} asks"
-        if answer.seconds > MOST_SECONDS and (answer.number("deliveries") or 0) < MANY:
+        if answer.seconds > MOST_SECONDS * nodes_in(words) and (answer.number("deliveries") or 0) < MANY:
             return f"it took {answer.seconds:.2f} s"
         return None
+
+
+def nodes_in(words):
+    """In how many nodes the words ask agents to be, where they are right."""
+    for name, value in zip(words, words[1:]):
+        if name == b"--nodes" and value.isdigit():
+            return max(1, min(8, int(value)))
+    return 1
 
 
 def is_text(word):
