@@ -217,6 +217,14 @@ def time_of(word: str) -> datetime.datetime | None:
     return told
 
 
+def who_bars(told: Meetings, name: str) -> str:
+    """Which slots each person of a meeting bars, in the order of the slots."""
+    barred = told.barred()
+    slots = [slot.name for slot in told.slots]
+    told_of = [(person, [slot for slot in slots if slot in barred.get(person, ())]) for person in told.meetings[name]]
+    return "; ".join(f"{person}: {', '.join(gone)}" for person, gone in told_of if gone)
+
+
 def source(told: Meetings, title: str) -> Source:
     """The problem: a variable for each meeting, whose values are the slots."""
     names = list(told.meetings)
@@ -227,7 +235,8 @@ def source(told: Meetings, title: str) -> Source:
         gone = set().union(*(barred.get(person, ()) for person in told.meetings[name]))
         free = [None if slot in gone else own_cost(told, name, slot) for slot in slots]
         if all(cost is None for cost in free):
-            raise Trouble(f"{name} has no slot: in each of them, or in one that overlaps it, somebody of {', '.join(told.meetings[name])} is absent")
+            who = ", ".join(told.meetings[name])
+            raise Trouble(f"{name} has no slot: in each of them, or in one that overlaps it, somebody of {who} is absent ({who_bars(told, name)})")
         if any(cost is None or cost for cost in free):
             constraints.append(Constraint(f"when {name} can be", (i,), free))
     for i, first in enumerate(names):

@@ -566,7 +566,7 @@ class Meetings(Case):
         grey = [it for it in minidom.parse(picture).getElementsByTagName("rect") if it.getAttribute("fill") == "#eee"]
         self.assertEqual(len(grey), 2)
         self.assertEqual(meetings.read(text).barred(), {"Ann": {"a", "b"}})
-        with self.assertRaisesRegex(Trouble, "m has no slot: in each of them, or in one that overlaps it, somebody of Ann, Bo is absent"):
+        with self.assertRaisesRegex(Trouble, r"m has no slot: in each of them, or in one that overlaps it, somebody of Ann, Bo is absent \(Ann: a, b; Bo: b, c\)"):
             meetings.source(meetings.read(text + "absent,Bo,c\n"), "file")
 
     def test_what_is_not_met_sums_to_the_cost(self):
