@@ -1,16 +1,12 @@
 -- Why a cut is refused.
 use Rattle.std.specs.Prelude.{◌≡◌, ℕ, ◌*◌, Bool, List, Option, Some, None, nat_lt, if◌then◌else◌}
 use Rattle.dcop_base.specs.Problem.{Dcop}
-use Rattle.dcop_base.specs.Limits.{sent_limit}
+use Rattle.dcop_base.specs.Limits.{sent_limit, turn_limit}
 use Rattle.pseudotree.specs.Width.{told, sent_total}
 use Rattle.cut_laws.specs.Turns.{turn_count}
 use Rattle.cut_laws.specs.CutSet.{counted}
 use Rattle.cut_dpop.specs.declared.fault.CutFault.{CutFault}
 use Rattle.cut_dpop.specs.declared.fault.CutFault.TheVariants.{TooMany, Total, NoMemory}
-
--- the most turns of a cut
-abbrev pub turn_limit : ℕ
-turn_limit = 65536
 
 -- the cells that are sent in one turn, or in all turns where the tables are kept
 abbrev pub cells_sent : Dcop → List (List ℕ) → List ℕ → Bool → ℕ

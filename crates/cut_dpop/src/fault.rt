@@ -3,13 +3,10 @@
 use dcop_base::NoMemory;
 use std::alloc::AllocError;
 
-/// The most turns of a cut, 2^16.
-pub const MAX_TURNS: u64 = 65_536;
-
 /// Why [`run_cut`](crate::run_cut) answers nothing.
 #[derive(Clone, Copy, Debug, PartialEq, Eq)]
 pub enum CutFault {
-    /// The cut has more than [`MAX_TURNS`] turns: so many, or [`u64::MAX`] where there are more.
+    /// The cut has more than [`MAX_TURNS`](dcop_base::MAX_TURNS) turns: so many, or [`u64::MAX`] where there are more.
     TooMany { turns: u64 },
     /// The tables to be sent in one turn, or in all turns where they are kept, have more than
     /// [`MAX_SENT_CELLS`](dcop_base::MAX_SENT_CELLS) cells: so many, or [`u64::MAX`] where there are

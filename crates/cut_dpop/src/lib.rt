@@ -16,7 +16,7 @@ mod run;
 mod tree;
 mod turn;
 
-pub use fault::{CutFault, MAX_TURNS};
+pub use fault::CutFault;
 pub use law::kept_tables_certify;
 pub use problem_cut::cut_set;
 pub use run::{CutEnd, run_cut};

@@ -44,7 +44,7 @@ pub struct CutEnd {
 ///
 /// # Errors
 ///
-/// [`CutFault::TooMany`] exactly where the cut has more than [`MAX_TURNS`](crate::MAX_TURNS) turns;
+/// [`CutFault::TooMany`] exactly where the cut has more than [`MAX_TURNS`](dcop_base::MAX_TURNS) turns;
 /// else [`CutFault::Total`] exactly where the tables to be sent in one turn, or in all turns where
 /// they are kept, have more than [`MAX_SENT_CELLS`](dcop_base::MAX_SENT_CELLS) cells;
 /// [`CutFault::NoMemory`] where memory was wanted and not had.

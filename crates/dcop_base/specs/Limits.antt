@@ -53,6 +53,10 @@ joined_limit = 1048576
 abbrev pub sent_limit : ℕ
 sent_limit = 4194304
 
+-- the most turns of a cut
+abbrev pub turn_limit : ℕ
+turn_limit = 65536
+
 -- the greatest budget of deliveries
 abbrev pub budget_limit : ℕ
 budget_limit = 10000000

@@ -25,7 +25,8 @@ pub use cost::cost_of;
 pub use knowledge::Private;
 pub use limit::{
     CAP, MAX_ASSIGNMENTS, MAX_BUDGET, MAX_CELLS, MAX_COST, MAX_COUNT, MAX_DIGITS, MAX_INPUT,
-    MAX_JOINED_CELLS, MAX_NAME, MAX_SCOPE, MAX_SENT_CELLS, MAX_SIZE, MAX_VARIABLES, limits_agree,
+    MAX_JOINED_CELLS, MAX_NAME, MAX_SCOPE, MAX_SENT_CELLS, MAX_SIZE, MAX_TURNS, MAX_VARIABLES,
+    limits_agree,
 };
 pub use memory::NoMemory;
 pub use number::{Amount, Val, VarId};

@@ -2,7 +2,7 @@
 
 ghost use Rattle.std.specs.Prelude.{◌≡◌};
 ghost use Rattle.dcop_base.specs.Limits.{amount_limit, count_limit, variable_limit, size_limit, scope_limit, cost_limit, cell_limit};
-ghost use Rattle.dcop_base.specs.Limits.{digit_limit, name_limit, input_limit, assignment_limit, joined_limit, sent_limit, budget_limit};
+ghost use Rattle.dcop_base.specs.Limits.{digit_limit, name_limit, input_limit, assignment_limit, joined_limit, sent_limit, turn_limit, budget_limit};
 
 /// The greatest amount, 2^62. No cost, bound, threshold or UTIL cell is ever above it.
 pub const CAP: u64 = 4_611_686_018_427_387_904;
@@ -43,6 +43,9 @@ pub const MAX_JOINED_CELLS: u64 = 1_048_576;
 /// The most cells that all agents of a light tree send together, 2^22.
 pub const MAX_SENT_CELLS: u64 = 4_194_304;
 
+/// The most turns of a cut, 2^16.
+pub const MAX_TURNS: u64 = 65_536;
+
 /// The greatest budget of deliveries.
 pub const MAX_BUDGET: u64 = 10_000_000;
 
@@ -61,5 +64,6 @@ pub fn limits_agree()
     ensures assignments { MAX_ASSIGNMENTS ≡ assignment_limit }
     ensures joined { MAX_JOINED_CELLS ≡ joined_limit }
     ensures sent { MAX_SENT_CELLS ≡ sent_limit }
+    ensures turns { MAX_TURNS ≡ turn_limit }
     ensures budgets { MAX_BUDGET ≡ budget_limit }
 {}

@@ -40,5 +40,8 @@ returns-clause-joined c = refl
 pub returns-clause-sent : goal.returns-clause-sent
 returns-clause-sent c = refl
 
+pub returns-clause-turns : goal.returns-clause-turns
+returns-clause-turns c = refl
+
 pub returns-clause-budgets : goal.returns-clause-budgets
 returns-clause-budgets c = refl
