@@ -35,14 +35,13 @@ told-status (answers.WcspText line kind problem) = (λ e. cc, λ e. cc)
 told-status (answers.ReportText line kind) = (λ e. cc, λ e. cc)
 told-status (answers.EditText line kind) = (λ e. cc, λ e. cc)
 told-status (answers.Many n) = (λ e. cc, λ e. cc)
-told-status (answers.ManyTurns n limit) = (λ e. cc, λ e. cc)
+told-status (answers.ManyTurns n) = (λ e. cc, λ e. cc)
 told-status (answers.WideAgent var cells names) = (λ e. cc, λ e. cc)
 told-status (answers.WideTotal cells) = (λ e. cc, λ e. cc)
 told-status answers.Read = (λ e. cc, λ e. cc)
 told-status answers.Link = (λ e. cc, λ e. cc)
 told-status (answers.LinkDiffers from to at sent taken names) = (λ e. cc, λ e. cc)
 told-status (answers.LinkBytes round from_node to_node place sent taken) = (λ e. cc, λ e. cc)
-told-status answers.NotYet = (λ e. cc, λ e. cc)
 
 -- one answer alone has the status of a source that failed
 pub read-alone : (answer : Answer) → status_of answer ≡ ReadFault → answer ≡ answers.Read
@@ -61,13 +60,12 @@ read-alone (answers.WcspText line kind problem) e = cc
 read-alone (answers.ReportText line kind) e = cc
 read-alone (answers.EditText line kind) e = cc
 read-alone (answers.Many n) e = cc
-read-alone (answers.ManyTurns n limit) e = cc
+read-alone (answers.ManyTurns n) e = cc
 read-alone (answers.WideAgent var cells names) e = cc
 read-alone (answers.WideTotal cells) e = cc
 read-alone answers.Link e = cc
 read-alone (answers.LinkDiffers from to at sent taken names) e = cc
 read-alone (answers.LinkBytes round from_node to_node place sent taken) e = cc
-read-alone answers.NotYet e = cc
 
 -- a report has no status of links
 ending-fine : (ending : Ending) → status_of_ending ending ≢ LinkFault
@@ -104,13 +102,12 @@ link-alone (answers.WcspText line kind problem) e = cc
 link-alone (answers.ReportText line kind) e = cc
 link-alone (answers.EditText line kind) e = cc
 link-alone (answers.Many n) e = cc
-link-alone (answers.ManyTurns n limit) e = cc
+link-alone (answers.ManyTurns n) e = cc
 link-alone (answers.WideAgent var cells names) e = cc
 link-alone (answers.WideTotal cells) e = cc
 link-alone answers.Link e = refl
 link-alone (answers.LinkDiffers from to at sent taken names) e = cc
 link-alone (answers.LinkBytes round from_node to_node place sent taken) e = cc
-link-alone answers.NotYet e = cc
 
 -- an answer that tells a difference between what was sent on a link and what was taken
 abbrev pub IsOfDifference : Answer → Type 0
@@ -135,10 +132,9 @@ differs-alone (answers.WcspText line kind problem) e = cc
 differs-alone (answers.ReportText line kind) e = cc
 differs-alone (answers.EditText line kind) e = cc
 differs-alone (answers.Many n) e = cc
-differs-alone (answers.ManyTurns n limit) e = cc
+differs-alone (answers.ManyTurns n) e = cc
 differs-alone (answers.WideAgent var cells names) e = cc
 differs-alone (answers.WideTotal cells) e = cc
 differs-alone answers.Link e = cc
 differs-alone (answers.LinkDiffers from to at sent taken names) e = tt
 differs-alone (answers.LinkBytes round from_node to_node place sent taken) e = tt
-differs-alone answers.NotYet e = cc

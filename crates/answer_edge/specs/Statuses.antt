@@ -30,7 +30,6 @@ status_of (answers.Upgraded file) = Solved
 status_of (answers.UpgradedWcsp bar file) = Solved
 status_of (answers.Edits optima file) = Solved
 status_of (answers.Words at kind) = BadWords
-status_of answers.NotYet = BadWords
 status_of (answers.ProblemText line kind problem) = BadText
 status_of (answers.WcspText line kind problem) = BadText
 status_of (answers.ReportText line kind) = BadText
@@ -42,7 +41,7 @@ status_of answers.Link = LinkFault
 status_of (answers.LinkDiffers from to at sent taken names) = LinkDiffers
 status_of (answers.LinkBytes round from_node to_node place sent taken) = LinkDiffers
 status_of (answers.Many assignments) = TooMany
-status_of (answers.ManyTurns turns limit) = TooMany
+status_of (answers.ManyTurns turns) = TooMany
 
 -- the code with which a program ends
 abbrev pub code_of : Status → ℕ

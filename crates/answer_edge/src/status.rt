@@ -14,7 +14,7 @@ pub enum Status {
     Solved,
     /// ADOPT has spent its budget. A report or a summary with bounds was printed.
     Spent,
-    /// The words are refused, or ask for what is not served yet.
+    /// The words are refused.
     BadWords,
     /// The text of the problem, that of the report behind it or that of its edits is refused.
     BadText,
@@ -88,7 +88,7 @@ impl Status {
             Answer::Tree { .. } | Answer::Replay { .. } => Status::Solved,
             Answer::Upgraded { .. } | Answer::UpgradedWcsp { .. } => Status::Solved,
             Answer::Edits { .. } => Status::Solved,
-            Answer::Words { .. } | Answer::NotYet => Status::BadWords,
+            Answer::Words { .. } => Status::BadWords,
             Answer::ProblemText { .. } | Answer::WcspText { .. } => Status::BadText,
             Answer::ReportText { .. } | Answer::EditText { .. } => Status::BadText,
             Answer::WideAgent { .. } | Answer::WideTotal { .. } => Status::TooWide,

@@ -1,4 +1,4 @@
-//! Checking of certificates: whether a report shows that no better values exist.
+//! Checking of certificates: whether a report holds, and so how far its cost can be from the best sum.
 //!
 //! [`check`] trusts neither who made a report nor how. It uses the file and the report alone: the
 //! answer is yes exactly where the certificate holds, and then the cost is at most the printed gap

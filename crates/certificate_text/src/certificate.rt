@@ -1,4 +1,4 @@
-//! Certificates: what lets a reader check that no better values exist.
+//! Certificates: what lets a reader check the bounds that a report gives.
 
 use dcop_base::{CellList, Sequence, ValList, VarId, VarList};
 use run_log::Log;

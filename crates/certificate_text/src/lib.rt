@@ -1,8 +1,8 @@
 //! Reports of solving, the certificates in them, and the text that tells both.
 //!
 //! [`write_report`] writes exactly the text of a report, and [`read_report`] reads exactly the
-//! reports with a certificate, or tells the line and the kind of the first fault. A
-//! certificate lets a reader who trusts no one check that no better values exist.
+//! reports with a certificate, or tells the line and the kind of the first fault. A certificate lets
+//! a reader who trusts no one check how far the report's cost can be from the best sum.
 #![tactic(auto)]
 
 mod certificate;

@@ -6,7 +6,7 @@ use Rattle.std.specs.List.{All}
 use Rattle.std.proofs.lemmas.Bool.{cases_lt, lt-ltb}
 use Rattle.std.proofs.lemmas.Nat.{mul-le}
 use Rattle.std.proofs.lemmas.Option.{none-some}
-use Rattle.dcop_base.specs.Limits.{sent_limit, joined_limit}
+use Rattle.dcop_base.specs.Limits.{sent_limit, joined_limit, turn_limit}
 use Rattle.dcop_base.specs.Problem.{Dcop}
 use Rattle.dcop_base.specs.Whole.{IsProblem}
 use Rattle.pseudotree.specs.Pseudotree.{RootedTree, IsPseudotreeOf, IsLinked}
@@ -22,7 +22,7 @@ use Rattle.cut_dpop.specs.Start.{IsNarrowInTurns, turn_deliveries}
 use Rattle.certificate_text.specs.declared.certificate.Turn.{Turn}
 use Rattle.cut_dpop.specs.Kept.{AreKept}
 use Rattle.cut_dpop.specs.Played.{IsBestOf}
-use Rattle.cut_dpop.specs.Refusal.{turn_limit, cells_sent, refusal, IsRefusal, AreAllowed}
+use Rattle.cut_dpop.specs.Refusal.{cells_sent, refusal, IsRefusal, AreAllowed}
 use Rattle.cut_dpop.specs.End.{IsCutEnd, IsRefused}
 use Rattle.cut_dpop.proofs.BestLaws.{best-answer}
 

@@ -3,13 +3,13 @@ use Rattle.std.proofs.Common.{◌≡◌, ℕ, ◌*◌, ◌<◌, ◌≤◌, Bool,
 use Rattle.std.proofs.Math.Nat.{mul_comm}
 use Rattle.std.proofs.lemmas.Bool.{lt-ltb, le-ltb}
 use Rattle.dcop_base.specs.Problem.{Dcop}
-use Rattle.dcop_base.specs.Limits.{sent_limit}
+use Rattle.dcop_base.specs.Limits.{sent_limit, turn_limit}
 use Rattle.pseudotree.specs.Width.{told, sent_total}
 use Rattle.pseudotree.proofs.WidthLaws.{told_times}
 use Rattle.cut_laws.specs.Turns.{turn_count}
 use Rattle.cut_laws.specs.CutSet.{counted}
 use Rattle.cut_dpop.specs.declared.fault.CutFault.TheVariants.{TooMany, Total}
-use Rattle.cut_dpop.specs.Refusal.{turn_limit, cells_sent, refusal, AreAllowed}
+use Rattle.cut_dpop.specs.Refusal.{cells_sent, refusal, AreAllowed}
 
 -- a told count of many times a told count
 pub told-product : (x y : ℕ) → told (x * told y) ≡ told (x * y)

@@ -8,7 +8,7 @@ ghost use Rattle.cut_laws.specs.Slice.{AreCut};
 ghost use Rattle.cut_dpop.specs.Refusal.{AreAllowed, IsRefusal};
 
 use crate::fault::CutFault;
-use dcop_base::{MAX_SENT_CELLS, Problem, VarList, product_of};
+use dcop_base::{MAX_SENT_CELLS, MAX_TURNS, Problem, VarList, product_of};
 use problem_cut::sent_in_turn;
 use pseudotree::Tree;
 use std::alloc::Global;

@@ -2,6 +2,7 @@
 
 ghost use Rattle.std.specs.Prelude.{◌≡◌, ◌<◌, ◌≤◌, length, IfOk, OnOk};
 ghost use Rattle.std.specs.List.{All};
+ghost use Rattle.dcop_base.specs.Limits.{turn_limit};
 ghost use Rattle.cost_table.specs.Slices.{put_in};
 ghost use Rattle.pseudotree.specs.Place.{sizes_of};
 ghost use Rattle.pseudotree.specs.Width.{IsNarrow};
@@ -10,7 +11,6 @@ ghost use Rattle.cut_laws.specs.Turns.{turn_count};
 ghost use Rattle.cut_dpop.specs.Start.{paths_in, IsDpopStart, IsNarrowInTurns, HaveFirst};
 ghost use Rattle.cut_dpop.specs.Kept.{AreKept, IsKeptNext};
 ghost use Rattle.cut_dpop.specs.Played.{IsPlayed, IsBestOf};
-ghost use Rattle.cut_dpop.specs.Refusal.{turn_limit};
 
 use crate::agents::run_agents;
 use crate::crew::Crew;

@@ -102,14 +102,13 @@ ordered-well asked d (answers.WcspText line kind problem) is = absurd is
 ordered-well asked d (answers.ReportText line kind) is = absurd is
 ordered-well asked d (answers.EditText line kind) is = absurd is
 ordered-well asked d (answers.Many n) is = absurd is
-ordered-well asked d (answers.ManyTurns n limit) is = absurd is
+ordered-well asked d (answers.ManyTurns n) is = absurd is
 ordered-well asked d (answers.WideAgent var cells names) is = absurd is
 ordered-well asked d (answers.WideTotal cells) is = absurd is
 ordered-well asked d answers.Read is = absurd is
 ordered-well asked d answers.Link is = absurd is
 ordered-well asked d (answers.LinkDiffers from to at sent taken links) is = absurd is
 ordered-well asked d (answers.LinkBytes round from_node to_node place sent taken) is = absurd is
-ordered-well asked d answers.NotYet is = absurd is
 
 -- all of a text that is told, and accepted, is read and goes well
 input-well : (words : List (List ℕ)) (text : List ℕ) (accepted : IsAccepted words text) (before after : SourceState) (input : Input) (answer : Answer)

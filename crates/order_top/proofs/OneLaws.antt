@@ -39,14 +39,13 @@ file_in asked d (answers.WcspText line kind problem) is = absurd is
 file_in asked d (answers.ReportText line kind) is = absurd is
 file_in asked d (answers.EditText line kind) is = absurd is
 file_in asked d (answers.Many n) is = absurd is
-file_in asked d (answers.ManyTurns n limit) is = absurd is
+file_in asked d (answers.ManyTurns n) is = absurd is
 file_in asked d (answers.WideAgent var cells names) is = absurd is
 file_in asked d (answers.WideTotal cells) is = absurd is
 file_in asked d answers.Read is = absurd is
 file_in asked d answers.Link is = absurd is
 file_in asked d (answers.LinkDiffers from to at sent taken links) is = absurd is
 file_in asked d (answers.LinkBytes round from_node to_node place sent taken) is = absurd is
-file_in asked d answers.NotYet is = absurd is
 
 module _ (law : SearchedFilesAreOne) where
   one_ordered : (asked : Asked) (d : Declared) (f g : TextFile) → IsOrderedAs asked d f → IsOrderedAs asked d g → f ≡ g

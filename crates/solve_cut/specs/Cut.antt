@@ -7,7 +7,7 @@ use Rattle.cut_laws.specs.CutSet.{IsCutSet}
 use Rattle.cut_laws.specs.Kept.{IsCutAnswer}
 use Rattle.cut_laws.specs.Turns.{turn_count}
 use Rattle.cut_dpop.specs.End.{IsCutEnd, IsRefused}
-use Rattle.cut_dpop.specs.Refusal.{turn_limit, refusal}
+use Rattle.cut_dpop.specs.Refusal.{refusal}
 use Rattle.cut_dpop.specs.Start.{turn_deliveries}
 use Rattle.cut_dpop.specs.declared.run.CutEnd.{CutEnd}
 use Rattle.cut_dpop.specs.declared.fault.CutFault.{CutFault}
@@ -57,7 +57,7 @@ pub record IsCutSolved (file : TextFile) (cut : List ℕ) (keeps : Bool) (answer
 
 -- the answer where a cut is refused for this; want of memory has none
 abbrev pub IsRefusalAnswer : CutFault → Answer → Type 0
-IsRefusalAnswer (faults.TooMany turns) answer = answer ≡ answers.ManyTurns turns turn_limit
+IsRefusalAnswer (faults.TooMany turns) answer = answer ≡ answers.ManyTurns turns
 IsRefusalAnswer (faults.Total cells) answer = answer ≡ answers.WideTotal cells
 IsRefusalAnswer faults.NoMemory answer = ⊥
 

@@ -14,7 +14,7 @@ ghost use Rattle.solve_cut.specs.Cut.{AnswersCut, GivesCut, IsBestCut, IsCutRepo
 
 use crate::cutting::cut_for;
 use certificate_text::{Certificate, CutList, Ending, Method, Report};
-use cut_dpop::{CutEnd, CutFault, MAX_TURNS, kept_tables_certify};
+use cut_dpop::{CutEnd, CutFault, kept_tables_certify};
 use cut_laws::{cut_answers_are_optimal, cut_sets_are_one};
 use dcop_base::{NoMemory, VarList, cost_of, problem_is_whole};
 use dcop_edge::Gate;
@@ -90,10 +90,7 @@ fn refusal_answer(fault: CutFault) -> Result<Answer, NoMemory>
     ensures told { IfOk result HasText }
 {
     match fault {
-        CutFault::TooMany { turns } => Ok(Answer::ManyTurns {
-            turns,
-            limit: MAX_TURNS,
-        }),
+        CutFault::TooMany { turns } => Ok(Answer::ManyTurns { turns }),
         CutFault::Total { cells } => Ok(Answer::WideTotal { cells }),
         CutFault::NoMemory => Err(NoMemory),
     }

@@ -71,7 +71,7 @@ solved_short : (file : TextFile) (answer : Answer) → IsDpopSolved file false a
 solved_short file (answers.Report report same) is named whole = subst (λ (f : TextFile). length (report_text report f) ≤ reply_limit) (sym is.0) (report_short file report is.1 named whole)
 solved_short file (answers.Tree deliveries nodes names) is named whole = absurd is
 solved_short file (answers.Many n) is named whole = absurd is
-solved_short file (answers.ManyTurns n limit) is named whole = absurd is
+solved_short file (answers.ManyTurns n) is named whole = absurd is
 solved_short file (answers.WideAgent var cells names) is named whole = absurd is
 solved_short file (answers.WideTotal cells) is named whole = absurd is
 solved_short file (answers.Verdict verdict names) is named whole = absurd is
@@ -89,7 +89,6 @@ solved_short file answers.Read is named whole = absurd is
 solved_short file answers.Link is named whole = absurd is
 solved_short file (answers.LinkDiffers from to at sent taken links) is named whole = absurd is
 solved_short file (answers.LinkBytes round from_node to_node place sent taken) is named whole = absurd is
-solved_short file answers.NotYet is named whole = absurd is
 
 -- a count of cells that is told
 abbrev IsLow : Option Wide → Type 0

@@ -7,7 +7,7 @@ use Rattle.certificate_text.specs.ReportText.{report_text}
 use Rattle.solve_report.specs.Edits.{IsNamedOptimum, edits_text}
 use Rattle.solve_report.specs.Links.{link_refusal, differs_refusal, bytes_refusal}
 use Rattle.solve_report.specs.Refusal.{words_refusal, text_refusal, wcsp_refusal, report_refusal, edit_refusal}
-use Rattle.solve_report.specs.Refusal.{many_refusal, turns_refusal, wide_refusal, total_refusal, read_refusal, not_yet_refusal}
+use Rattle.solve_report.specs.Refusal.{many_refusal, turns_refusal, wide_refusal, total_refusal, read_refusal}
 use Rattle.solve_report.specs.Replay.{IsNamedAgent, replay_text}
 use Rattle.solve_report.specs.Summary.{summary_text}
 use Rattle.solve_report.specs.Tree.{IsNamedRow, tree_text}
@@ -15,7 +15,7 @@ use Rattle.solve_report.specs.Upgrade.{barred_text}
 use Rattle.solve_report.specs.Verdict.{IsNamedVerdict, verdict_text}
 use Rattle.solve_report.specs.declared.answer.Answer.{Answer}
 use Rattle.solve_report.specs.declared.answer.Answer.TheVariants.{Report, Tree, Verdict, Replay, Drill, Upgraded, UpgradedWcsp, Edits}
-use Rattle.solve_report.specs.declared.answer.Answer.TheVariants.{Words, ProblemText, WcspText, ReportText, EditText, Many, ManyTurns, WideAgent, WideTotal, Read, Link, LinkDiffers, LinkBytes, NotYet}
+use Rattle.solve_report.specs.declared.answer.Answer.TheVariants.{Words, ProblemText, WcspText, ReportText, EditText, Many, ManyTurns, WideAgent, WideTotal, Read, Link, LinkDiffers, LinkBytes}
 
 -- an answer that has a text: the file beside a report or beside optima can tell them, and each variable of a tree or of a replay has its name, as has an agent whose table is too wide, one of which a verdict speaks, or one at an end of a link
 abbrev pub HasText : Answer → Type 0
@@ -44,11 +44,10 @@ answer_text (WcspText at kind problem) = line (wcsp_refusal at kind problem)
 answer_text (ReportText at kind) = line (report_refusal at kind)
 answer_text (EditText at kind) = line (edit_refusal at kind)
 answer_text (Many assignments) = line (many_refusal assignments)
-answer_text (ManyTurns turns limit) = line (turns_refusal turns limit)
+answer_text (ManyTurns turns) = line (turns_refusal turns)
 answer_text (WideAgent var cells names) = line (wide_refusal (slice_index_or names var []) cells)
 answer_text (WideTotal cells) = line (total_refusal cells)
 answer_text Read = line read_refusal
 answer_text Link = line link_refusal
 answer_text (LinkDiffers from to at sent taken names) = line (differs_refusal (slice_index_or names from []) (slice_index_or names to []) at sent taken)
 answer_text (LinkBytes round from_node to_node place sent taken) = line (bytes_refusal round from_node to_node place sent taken)
-answer_text NotYet = line not_yet_refusal

@@ -1,7 +1,7 @@
 -- The words of each refusal's line.
 use Rattle.std.specs.Prelude.{ℕ, List, [], ◌∷◌, codes, ◌==◌, if◌then◌else◌}
 use Rattle.std.specs.Fmt.{decimal}
-use Rattle.dcop_base.specs.Limits.{assignment_limit, joined_limit, sent_limit}
+use Rattle.dcop_base.specs.Limits.{assignment_limit, joined_limit, sent_limit, turn_limit}
 use Rattle.problem_text.specs.Kinds.{problem_kind}
 
 -- `refused words at A kind K`
@@ -41,9 +41,9 @@ edit_refusal at kind = line_refusal (codes "edit") at kind
 abbrev pub many_refusal : ℕ → List (List ℕ)
 many_refusal assignments = codes "refused" ∷ codes "many" ∷ codes "assignments" ∷ decimal assignments ∷ codes "limit" ∷ decimal assignment_limit ∷ []
 
--- `refused many turns N limit M`
-abbrev pub turns_refusal : ℕ → ℕ → List (List ℕ)
-turns_refusal turns limit = codes "refused" ∷ codes "many" ∷ codes "turns" ∷ decimal turns ∷ codes "limit" ∷ decimal limit ∷ []
+-- `refused many turns N limit 65536`
+abbrev pub turns_refusal : ℕ → List (List ℕ)
+turns_refusal turns = codes "refused" ∷ codes "many" ∷ codes "turns" ∷ decimal turns ∷ codes "limit" ∷ decimal turn_limit ∷ []
 
 -- `refused wide agent NAME cells N limit 1048576`
 abbrev pub wide_refusal : List ℕ → ℕ → List (List ℕ)
@@ -57,7 +57,3 @@ total_refusal cells = codes "refused" ∷ codes "wide" ∷ codes "total" ∷ cod
 -- `refused read`
 abbrev pub read_refusal : List (List ℕ)
 read_refusal = codes "refused" ∷ codes "read" ∷ []
-
--- `refused words at 1 kind 10`, where the words are accepted and not served yet
-abbrev pub not_yet_refusal : List (List ℕ)
-not_yet_refusal = codes "refused" ∷ codes "words" ∷ codes "at" ∷ codes "1" ∷ codes "kind" ∷ codes "10" ∷ []

@@ -6,8 +6,8 @@ ghost use Rattle.solve_report.specs.AnswerText.{HasText, answer_text};
 use crate::edits::write_edits;
 use crate::links::{refuse_bytes, refuse_differs, refuse_link};
 use crate::refusal::{
-    refuse_edit, refuse_many, refuse_not_yet, refuse_read, refuse_report, refuse_text,
-    refuse_total, refuse_turns, refuse_wcsp, refuse_wide, refuse_words,
+    refuse_edit, refuse_many, refuse_read, refuse_report, refuse_text, refuse_total, refuse_turns,
+    refuse_wcsp, refuse_wide, refuse_words,
 };
 use crate::replay::{AgentRowList, write_replay};
 use crate::summary::{Summary, write_summary};
@@ -102,10 +102,10 @@ pub enum Answer {
     Many {
         assignments: u64,
     },
-    /// A cut has more turns than this limit: so many, or [`u64::MAX`] where there are more than that.
+    /// A cut has more than [`MAX_TURNS`](dcop_base::MAX_TURNS) turns: so many, or [`u64::MAX`] where
+    /// there are more than that.
     ManyTurns {
         turns: u64,
-        limit: u64,
     },
     /// The joined table of an agent would have too many cells: so many, or [`u64::MAX`] where there
     /// are more than that. `names` are those of all variables.
@@ -146,8 +146,6 @@ pub enum Answer {
         sent: Option<u8>,
         taken: Option<u8>,
     },
-    /// The words are accepted, and what they ask for is not served yet.
-    NotYet,
 }
 
 /// The exact text of an answer.
@@ -189,7 +187,7 @@ pub fn text_of(alloc: Global, answer: &Answer) -> Result<Bytes, NoMemory>
         Answer::ReportText { line, kind } => refuse_report(alloc, *line, *kind),
         Answer::EditText { line, kind } => refuse_edit(alloc, *line, *kind),
         Answer::Many { assignments } => refuse_many(alloc, *assignments),
-        Answer::ManyTurns { turns, limit } => refuse_turns(alloc, *turns, *limit),
+        Answer::ManyTurns { turns } => refuse_turns(alloc, *turns),
         Answer::WideAgent { var, cells, names } => refuse_wide(alloc, names.name(*var), *cells),
         Answer::WideTotal { cells } => refuse_total(alloc, *cells),
         Answer::Read => refuse_read(alloc),
@@ -210,6 +208,5 @@ pub fn text_of(alloc: Global, answer: &Answer) -> Result<Bytes, NoMemory>
             sent,
             taken,
         } => refuse_bytes(alloc, *round, *from_node, *to_node, *place, *sent, *taken),
-        Answer::NotYet => refuse_not_yet(alloc),
     }
 }

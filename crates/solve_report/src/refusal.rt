@@ -4,9 +4,9 @@ ghost use Rattle.std.specs.Prelude.{◌≡◌, IfOk};
 ghost use Rattle.std.specs.String.{string_bytes};
 ghost use Rattle.problem_text.specs.Canonical.{line as line_of};
 ghost use Rattle.solve_report.specs.Refusal.{words_refusal, problem_refusal, text_refusal, wcsp_refusal, line_refusal, report_refusal, edit_refusal};
-ghost use Rattle.solve_report.specs.Refusal.{many_refusal, turns_refusal, wide_refusal, total_refusal, read_refusal, not_yet_refusal};
+ghost use Rattle.solve_report.specs.Refusal.{many_refusal, turns_refusal, wide_refusal, total_refusal, read_refusal};
 
-use dcop_base::{Bytes, MAX_ASSIGNMENTS, MAX_JOINED_CELLS, MAX_SENT_CELLS, NoMemory};
+use dcop_base::{Bytes, MAX_ASSIGNMENTS, MAX_JOINED_CELLS, MAX_SENT_CELLS, MAX_TURNS, NoMemory};
 use std::alloc::Global;
 
 /// The kind of a problem text's fault that has a number of its own behind it.
@@ -103,12 +103,12 @@ pub(crate) fn refuse_many(alloc: Global, assignments: u64) -> Result<Bytes, NoMe
     Ok(bytes_of(text))
 }
 
-/// `refused many turns N limit M`
-pub(crate) fn refuse_turns(alloc: Global, turns: u64, limit: u64) -> Result<Bytes, NoMemory>
-    ensures { IfOk result (λ text. text ≡ line_of (turns_refusal turns limit)) }
+/// `refused many turns N limit 65536`
+pub(crate) fn refuse_turns(alloc: Global, turns: u64) -> Result<Bytes, NoMemory>
+    ensures { IfOk result (λ text. text ≡ line_of (turns_refusal turns)) }
 {
     let mut text = String::new(alloc);
-    write!(text, "refused many turns {turns} limit {limit}\n")?;
+    write!(text, "refused many turns {turns} limit {MAX_TURNS}\n")?;
     Ok(bytes_of(text))
 }
 
@@ -141,13 +141,6 @@ pub(crate) fn refuse_read(alloc: Global) -> Result<Bytes, NoMemory>
     ensures { IfOk result (λ text. text ≡ line_of read_refusal) }
 {
     Ok(bytes_of(String::from_str(alloc, "refused read\n")?))
-}
-
-/// `refused words at 1 kind 10`
-pub(crate) fn refuse_not_yet(alloc: Global) -> Result<Bytes, NoMemory>
-    ensures { IfOk result (λ text. text ≡ line_of not_yet_refusal) }
-{
-    Ok(bytes_of(String::from_str(alloc, "refused words at 1 kind 10\n")?))
 }
 
 /// The bytes of a text.

@@ -185,14 +185,13 @@ tree-solved file (answers.WcspText line kind problem) is = absurd is
 tree-solved file (answers.ReportText line kind) is = absurd is
 tree-solved file (answers.EditText line kind) is = absurd is
 tree-solved file (answers.Many n) is = absurd is
-tree-solved file (answers.ManyTurns n limit) is = absurd is
+tree-solved file (answers.ManyTurns n) is = absurd is
 tree-solved file (answers.WideAgent var cells names) is = absurd is
 tree-solved file (answers.WideTotal cells) is = absurd is
 tree-solved file answers.Read is = absurd is
 tree-solved file answers.Link is = absurd is
 tree-solved file (answers.LinkDiffers from to at sent taken links) is = absurd is
 tree-solved file (answers.LinkBytes round from_node to_node place sent taken) is = absurd is
-tree-solved file answers.NotYet is = absurd is
 
 -- an answer with a report of DPOP is solved
 pub report-solved : (file : TextFile) (certified : Bool) (answer : Answer) → IsDpopSolved file certified answer → status_of answer ≡ Solved
@@ -233,14 +232,13 @@ adopt-status file error budget certified (answers.WcspText line kind problem) is
 adopt-status file error budget certified (answers.ReportText line kind) is = absurd is
 adopt-status file error budget certified (answers.EditText line kind) is = absurd is
 adopt-status file error budget certified (answers.Many n) is = absurd is
-adopt-status file error budget certified (answers.ManyTurns n limit) is = absurd is
+adopt-status file error budget certified (answers.ManyTurns n) is = absurd is
 adopt-status file error budget certified (answers.WideAgent var cells names) is = absurd is
 adopt-status file error budget certified (answers.WideTotal cells) is = absurd is
 adopt-status file error budget certified answers.Read is = absurd is
 adopt-status file error budget certified answers.Link is = absurd is
 adopt-status file error budget certified (answers.LinkDiffers from to at sent taken links) is = absurd is
 adopt-status file error budget certified (answers.LinkBytes round from_node to_node place sent taken) is = absurd is
-adopt-status file error budget certified answers.NotYet is = absurd is
 
 -- a report of ADOPT goes well
 ending-well : (format : Format) (error budget : ℕ) (certified : Bool) (ending : Ending) → GoesWell (status_of_ending ending) (File format (tasks.Adopt error budget certified))
@@ -282,14 +280,13 @@ upgraded-solved d None (answers.WcspText line kind problem) is = absurd is
 upgraded-solved d None (answers.ReportText line kind) is = absurd is
 upgraded-solved d None (answers.EditText line kind) is = absurd is
 upgraded-solved d None (answers.Many n) is = absurd is
-upgraded-solved d None (answers.ManyTurns n limit) is = absurd is
+upgraded-solved d None (answers.ManyTurns n) is = absurd is
 upgraded-solved d None (answers.WideAgent var cells names) is = absurd is
 upgraded-solved d None (answers.WideTotal cells) is = absurd is
 upgraded-solved d None answers.Read is = absurd is
 upgraded-solved d None answers.Link is = absurd is
 upgraded-solved d None (answers.LinkDiffers from to at sent taken links) is = absurd is
 upgraded-solved d None (answers.LinkBytes round from_node to_node place sent taken) is = absurd is
-upgraded-solved d None answers.NotYet is = absurd is
 upgraded-solved d (Some bar) (answers.UpgradedWcsp same file) is = refl
 upgraded-solved d (Some bar) (answers.Upgraded file) is = absurd is
 upgraded-solved d (Some bar) (answers.Report report file) is = absurd is
@@ -304,14 +301,13 @@ upgraded-solved d (Some bar) (answers.WcspText line kind problem) is = absurd is
 upgraded-solved d (Some bar) (answers.ReportText line kind) is = absurd is
 upgraded-solved d (Some bar) (answers.EditText line kind) is = absurd is
 upgraded-solved d (Some bar) (answers.Many n) is = absurd is
-upgraded-solved d (Some bar) (answers.ManyTurns n limit) is = absurd is
+upgraded-solved d (Some bar) (answers.ManyTurns n) is = absurd is
 upgraded-solved d (Some bar) (answers.WideAgent var cells names) is = absurd is
 upgraded-solved d (Some bar) (answers.WideTotal cells) is = absurd is
 upgraded-solved d (Some bar) answers.Read is = absurd is
 upgraded-solved d (Some bar) answers.Link is = absurd is
 upgraded-solved d (Some bar) (answers.LinkDiffers from to at sent taken links) is = absurd is
 upgraded-solved d (Some bar) (answers.LinkBytes round from_node to_node place sent taken) is = absurd is
-upgraded-solved d (Some bar) answers.NotYet is = absurd is
 
 -- nor is the answer of a cut
 refusal_sound : (fault : CutFault) → ¬ IsRefusalAnswer fault answers.Read
@@ -392,14 +388,13 @@ drilled-status seed (answers.WcspText line kind problem) = refl
 drilled-status seed (answers.ReportText line kind) = refl
 drilled-status seed (answers.EditText line kind) = refl
 drilled-status seed (answers.Many n) = refl
-drilled-status seed (answers.ManyTurns n limit) = refl
+drilled-status seed (answers.ManyTurns n) = refl
 drilled-status seed (answers.WideAgent var cells names) = refl
 drilled-status seed (answers.WideTotal cells) = refl
 drilled-status seed answers.Read = refl
 drilled-status seed answers.Link = refl
 drilled-status seed (answers.LinkDiffers from to at sent taken links) = refl
 drilled-status seed (answers.LinkBytes round from_node to_node place sent taken) = refl
-drilled-status seed answers.NotYet = refl
 
 -- nothing was read for such an answer, so no reading failed
 unread-sound : (drill : Option Drill) (answer : Answer) → IsUnreadAnswer drill answer → status_of answer ≡ ReadFault → ⊥
@@ -478,7 +473,7 @@ cut-solved answer is = ap status_of is.is ∙ ap status_of_ending is.solved
 file-well : (format : Format) (task : FileTask) (t : Told) (answer : Answer) → IsWithinLimits task t.declared → IsFileAnswer task t answer → GoesWell (status_of answer) (File format task)
 file-well format tasks.Plain t (answers.Report report file) few is = solved-well (status_of_ending report.status) (File format tasks.Plain) (ap status_of_ending is.2.status)
 file-well format tasks.Plain t (answers.Many n) few is = absurd (omega (arith, few, is.0))
-file-well format tasks.Plain t (answers.ManyTurns n limit) few is = absurd is
+file-well format tasks.Plain t (answers.ManyTurns n) few is = absurd is
 file-well format tasks.Plain t (answers.Tree deliveries nodes names) few is = absurd is
 file-well format tasks.Plain t (answers.Verdict verdict names) few is = absurd is
 file-well format tasks.Plain t (answers.Replay events agents names) few is = absurd is
@@ -497,7 +492,6 @@ file-well format tasks.Plain t answers.Read few is = absurd is
 file-well format tasks.Plain t answers.Link few is = absurd is
 file-well format tasks.Plain t (answers.LinkDiffers from to at sent taken links) few is = absurd is
 file-well format tasks.Plain t (answers.LinkBytes round from_node to_node place sent taken) few is = absurd is
-file-well format tasks.Plain t answers.NotYet few is = absurd is
 file-well format (tasks.Dpop certified) t answer few is =
     solved-well (status_of answer) (File format (tasks.Dpop certified)) (dpop-solved is.file certified answer (fit-none t.declared few is.file is.whole is.declared) is.is)
 file-well format (tasks.Adopt error budget certified) t answer few is = adopt-well format is.file error budget certified answer is.is

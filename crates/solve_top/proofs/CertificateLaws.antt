@@ -4,7 +4,7 @@ use Rattle.std.specs.List.{All, AllZip}
 use Rattle.std.proofs.Math.Nat.{mul-le-mul_right}
 use Rattle.std.proofs.lemmas.Bool.{false≢true}
 use Rattle.std.proofs.lemmas.List.Elements.{All-nil, All-cons, All-head, All-tail}
-use Rattle.dcop_base.specs.Limits.{amount_limit, size_limit, variable_limit}
+use Rattle.dcop_base.specs.Limits.{amount_limit, size_limit, turn_limit, variable_limit}
 use Rattle.dcop_base.specs.Problem.{Dcop, IsAssignment, cost}
 use Rattle.dcop_base.specs.Table.{AreWithin}
 use Rattle.dcop_base.specs.Whole.{IsProblem}
@@ -46,7 +46,6 @@ use Rattle.solve_methods.proofs.NamedLaws.{log_named}
 use Rattle.cut_laws.specs.Turns.{turn_count}
 use Rattle.cut_laws.proofs.CutSetLaws.{cut_sets_are_one}
 use Rattle.cut_laws.proofs.KeptLaws.{cut_answers_are_optimal}
-use Rattle.cut_dpop.specs.Refusal.{turn_limit}
 use Rattle.cut_dpop.specs.Start.{turn_deliveries}
 use Rattle.cut_dpop.proofs.EndLaws.{few-turns}
 use Rattle.cut_dpop.specs.declared.fault.CutFault.{CutFault}

@@ -83,14 +83,13 @@ no-link P fine same alike (answers.WcspText line kind problem) is = tt
 no-link P fine same alike (answers.ReportText line kind) is = tt
 no-link P fine same alike (answers.EditText line kind) is = tt
 no-link P fine same alike (answers.Many n) is = tt
-no-link P fine same alike (answers.ManyTurns n limit) is = tt
+no-link P fine same alike (answers.ManyTurns n) is = tt
 no-link P fine same alike (answers.WideAgent var cells names) is = tt
 no-link P fine same alike (answers.WideTotal cells) is = tt
 no-link P fine same alike answers.Read is = tt
 no-link P fine same alike answers.Link is = absurd (fine is)
 no-link P fine same alike (answers.LinkDiffers from to at sent taken names) is = absurd (same from to at sent taken names is)
 no-link P fine same alike (answers.LinkBytes round from_node to_node place sent taken) is = absurd (alike round from_node to_node place sent taken is)
-no-link P fine same alike answers.NotYet is = tt
 
 -- so it is with what is too wide
 wide-linkless : (names : List (List ℕ)) (wide : Wide) (answer : Answer) → answer ≡ wide_answer names wide → TellsNoLink answer

@@ -68,14 +68,13 @@ read_solved file before report (answers.WcspText line kind problem) is holds = a
 read_solved file before report (answers.ReportText line kind) is holds = absurd is
 read_solved file before report (answers.EditText line kind) is holds = absurd is
 read_solved file before report (answers.Many n) is holds = absurd is
-read_solved file before report (answers.ManyTurns n limit) is holds = absurd is
+read_solved file before report (answers.ManyTurns n) is holds = absurd is
 read_solved file before report (answers.WideAgent var cells names) is holds = absurd is
 read_solved file before report (answers.WideTotal cells) is holds = absurd is
 read_solved file before report answers.Read is holds = absurd is
 read_solved file before report answers.Link is holds = absurd is
 read_solved file before report (answers.LinkDiffers from to at sent taken links) is holds = absurd is
 read_solved file before report (answers.LinkBytes round from_node to_node place sent taken) is holds = absurd is
-read_solved file before report answers.NotYet is holds = absurd is
 
 -- the first events of a run are lawful
 lawful-first : (k : ℕ) (net : Network) (log : List LogEvent) (after : ℕ) → fault_in k net log ≡ None → fault_in k net (take after log) ≡ None
@@ -133,14 +132,13 @@ module _ (file : TextFile) (net : Network) (log : List LogEvent) (none : fault_i
   run_replayed (answers.ReportText line kind) is = absurd is
   run_replayed (answers.EditText line kind) is = absurd is
   run_replayed (answers.Many n) is = absurd is
-  run_replayed (answers.ManyTurns n limit) is = absurd is
+  run_replayed (answers.ManyTurns n) is = absurd is
   run_replayed (answers.WideAgent var cells names) is = absurd is
   run_replayed (answers.WideTotal cells) is = absurd is
   run_replayed answers.Read is = absurd is
   run_replayed answers.Link is = absurd is
   run_replayed (answers.LinkDiffers from to at sent taken links) is = absurd is
   run_replayed (answers.LinkBytes round from_node to_node place sent taken) is = absurd is
-  run_replayed answers.NotYet is = absurd is
 
 log_replayed : (file : TextFile) (report : Report) (log : List LogEvent) (after : Option ℕ) (answer : Answer) → HoldsLog file report log
     → IsReplay file (start_state (agents_for file report.error)) (events_of (log_up_to after log)) answer → status_of answer ≡ Solved

@@ -39,7 +39,7 @@ pub report_in : (file : TextFile) (certified : Bool) (answer : Answer) → IsDpo
 report_in file certified (answers.Report report same) is = (report, ap (λ (f : TextFile). answers.Report report f) is.0, is.1)
 report_in file certified (answers.Tree deliveries nodes names) is = absurd is
 report_in file certified (answers.Many n) is = absurd is
-report_in file certified (answers.ManyTurns n limit) is = absurd is
+report_in file certified (answers.ManyTurns n) is = absurd is
 report_in file certified (answers.WideAgent var cells names) is = absurd is
 report_in file certified (answers.WideTotal cells) is = absurd is
 report_in file certified (answers.Verdict verdict names) is = absurd is
@@ -57,7 +57,6 @@ report_in file certified answers.Read is = absurd is
 report_in file certified answers.Link is = absurd is
 report_in file certified (answers.LinkDiffers from to at sent taken links) is = absurd is
 report_in file certified (answers.LinkBytes round from_node to_node place sent taken) is = absurd is
-report_in file certified answers.NotYet is = absurd is
 
 module _ (optima : FirstOptimaOfTreesAreOne) (trees : DepthFirstTreesAreLinked) (certified : Bool) where
   -- one answer of DPOP belongs to a file in whose tree this is too wide, or nothing

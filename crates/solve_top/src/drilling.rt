@@ -91,7 +91,7 @@ impl Drill {
 }
 
 /// The answer to a command that reads nothing, which is a drill: every other one is served on an
-/// input, so that no command is answered as not served.
+/// input.
 pub(crate) fn unread_answer<R, D, G>(
     crew: &Crew<R, G>,
     alloc: Global,
@@ -111,7 +111,7 @@ where
 {
     match Drill::of(command) {
         Some(drill) => made_answer(crew, alloc, dialer, drill),
-        None => Ok(Answer::NotYet),
+        None => unreachable!(),
     }
 }
 

@@ -29,15 +29,17 @@ use wire_edge::Dialer;
 /// is the best of any; with `--method adopt`, by agents that agree step by step, it is at most the
 /// requested error worse than the best, or the budget of messages is spent and the report's bounds
 /// enclose the best sum; with `--method auto`, or without a method, as with `dpop` unless its tables
-/// would be too wide, and else as with `adopt`. `drill` reads nothing: it makes a problem from a
-/// number, solves it in the same ways and writes a summary. `check` reads a problem and a report
-/// behind it, and says whether the report's certificate shows that no better values exist. `replay`
-/// reads these too, plays the report's log as far as it is asked to, and writes what each agent has
-/// come to there. `tree` reads a problem and writes the tree over which its agents work, and
-/// `upgrade` reads a problem and writes it in the newest version of its text. With `--format wcsp`
-/// all of these but `drill` read a WCSP text as their problem. `edit` reads a problem and edit lines
-/// behind it, and writes the optimum of the problem as it is at each line that asks for it: the
-/// values and the cost that DPOP gives.
+/// would be too wide, and else as with `adopt`; with `--method cut`, by `dpop` in turns, in each of
+/// which some variables have a fixed value so that no joined table has more cells than `--cells`, its
+/// sum is the best of any, unless there are too many turns or cells. `drill` reads nothing: it makes
+/// a problem from a number, solves it in the same ways and writes a summary. `check` reads a problem
+/// and a report behind it, and says whether the report's certificate holds, so that its cost is at
+/// most the printed gap worse than the best sum. `replay` reads these too, plays the report's log as
+/// far as it is asked to, and writes what each agent has come to there. `tree` reads a problem and
+/// writes the tree over which its agents work, and `upgrade` reads a problem and writes it in the
+/// newest version of its text. With `--format wcsp` all of these but `drill` read a WCSP text as
+/// their problem. `edit` reads a problem and edit lines behind it, and writes the optimum of the
+/// problem as it is at each line that asks for it: the values and the cost that DPOP gives.
 ///
 /// With `--nodes` the agents of `dpop`, `adopt` and `auto` are spread over so many nodes, which talk
 /// over wires that the dialer gives; what is answered then stands on no trust in these wires.

@@ -1,7 +1,7 @@
 use Rattle.std.proofs.Common.{◌≡◌, ℕ, ◌<◌, ◌≤◌, List, length, refl, sym, ap, subst, ◌∙◌, arith}
 use Rattle.std.specs.List.{All}
 use Rattle.dcop_base.specs.Problem.{Dcop}
-use Rattle.cut_dpop.specs.Refusal.{turn_limit}
+use Rattle.dcop_base.specs.Limits.{turn_limit}
 use Rattle.cut_dpop.specs.End.{IsRefused}
 use Rattle.cut_dpop.proofs.EndLaws.{few-turns, may-cut, copy-narrow, few-messages, cut-end, cut-refused, passed-on}
 use Rattle.cut_dpop.proofs.run.run_cut.Goals as goal
