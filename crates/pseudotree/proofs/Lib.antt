@@ -3,6 +3,7 @@ pub mod TreeLaws
 pub mod MarkLaws
 pub mod OrderLaws
 pub mod GatherLaws
+pub mod RowLaws
 pub mod SpreadLaws
 pub mod CheckLaws
 pub mod PlaceLaws

@@ -5,6 +5,7 @@ pub mod Parts
 pub mod Fault
 pub mod Climb
 pub mod Marks
+pub mod Rows
 pub mod Splits
 pub mod Place
 pub mod Width

@@ -58,7 +58,7 @@ fn tree_of(alloc: Global, problem: &Problem, paths: Vec<VarList>) -> Result<Tree
         return Err(TreeFault::Pair { one, other });
     }
     let lower = lower_of_all(alloc, lists, marks.as_slice())?;
-    gather(marks.as_mut_slice(), lists);
+    gather(alloc, marks.as_mut_slice(), lists)?;
     let separators = marked_of_paths(alloc, lists, marks.as_slice())?;
     let children = all_children(alloc, lists)?;
     let preorder = preorder_of(alloc, lists, children.as_slice())?;

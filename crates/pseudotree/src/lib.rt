@@ -16,6 +16,7 @@ mod fault;
 mod law;
 mod marks;
 mod order;
+mod rows;
 mod separator;
 mod tree;
 mod width;

@@ -1,46 +1,41 @@
 //! The children of each variable of a tree, and the preorder.
 
-ghost use Rattle.std.specs.Prelude.{◌≡◌, ◌<◌, ◌≤◌, ◌-◌, ◌++◌, length, IfOk, OnOk, slice_get};
+ghost use Rattle.std.specs.Prelude.{◌≡◌, ◌<◌, ◌≤◌, ◌++◌, length, IfOk, OnOk, replicate, []};
 ghost use Rattle.dcop_base.specs.Limits.{variable_limit};
-ghost use Rattle.pseudotree.specs.Tree.{path_of, children_of, is_variable};
+ghost use Rattle.pseudotree.specs.Tree.{path_of, parent_of, IsTree};
 ghost use Rattle.pseudotree.specs.Preorder.{subtree, preorder_of};
 ghost use Rattle.pseudotree.specs.Parts.{AreChildren, AreClosed};
+ghost use Rattle.pseudotree.specs.Rows.{rows_in, AreRows};
 
+use crate::rows::{empty_rows, lists_of, push_at};
 use dcop_base::{MAX_VARIABLES, NoMemory, VarId, VarList};
 use std::alloc::Global;
 
 /// The children of each variable, ascending.
 pub(crate) fn all_children(alloc: Global, paths: &[VarList]) -> Result<Vec<VarList>, NoMemory>
-    requires { length paths.now ≤ variable_limit }
+    requires few { length paths.now ≤ variable_limit }
+    requires tree { IsTree paths.now }
     ensures { IfOk result (λ children. AreChildren paths.now children.items) }
 {
-    let mut children = Vec::with_capacity(alloc, paths.len())?;
-    for index in 0..paths.len() {
-        children.push(children_of(alloc, paths, VarId(index as u32))?)?;
-    }
-    Ok(children)
+    let mut rows = empty_rows(alloc, paths.len())?;
+    push_children(rows.as_mut_slice(), paths)?;
+    lists_of(alloc, rows)
 }
 
-fn children_of(alloc: Global, paths: &[VarList], parent: VarId) -> Result<VarList, NoMemory>
-    requires { length paths.now ≤ variable_limit }
-    ensures { IfOk result (λ children. children ≡ children_of paths.now parent) }
+/// Adds each variable to the row of its parent.
+fn push_children(rows: &mut [Vec<VarId>], paths: &[VarList]) -> Result<(), NoMemory>
+    requires few { length paths.now ≤ variable_limit }
+    requires tree { IsTree paths.now }
+    requires empty { rows_in rows.old ≡ replicate (length paths.now) [] }
+    ensures added { OnOk result (AreRows (parent_of paths.now) (length paths.now) (rows_in rows.new)) }
+    ensures size { length rows.new ≡ length rows.old }
 {
-    let mut children = Vec::new(alloc);
     for index in 0..paths.len() {
-        if ends_in(paths[index].as_slice(), parent) {
-            children.push(VarId(index as u32))?;
+        if let Some(parent) = paths[index].as_slice().last() {
+            push_at(rows, parent.0 as usize, VarId(index as u32))?;
         }
     }
-    Ok(VarList::from_vec(children))
-}
-
-fn ends_in(path: &[VarId], var: VarId) -> bool
-    ensures { result ≡ is_variable var (slice_get path.now (length path.now - 1)) }
-{
-    match path.last() {
-        Some(last) => *last == var,
-        None => false,
-    }
+    Ok(())
 }
 
 /// All variables in preorder.

@@ -26,7 +26,7 @@ returns-clause-tree c =
     c.as_slice-3.ensures.value ∙ take_at c.gather.new.marks (drop (length c.gather.new.marks) c.in_ok-marks.marks.items) c.in_ok-marks.marks.len (c.gather.auto.marks ∙ c.as_mut_slice.ensures.len) in
     let gathered : AreGathered c.args.paths.items c.in_ok-marks.marks.items c.gather.new.marks =
     subst (λ (xs : List (List ℕ)). AreGathered xs c.in_ok-marks.marks.items c.gather.new.marks) c.as_slice-lists.ensures.value
-    (subst (λ (ms : List Bool). AreGathered c.as_slice-lists.result.now ms c.gather.new.marks) c.as_mut_slice.ensures.value c.gather.ensures) in
+    (subst (λ (ms : List Bool). AreGathered c.as_slice-lists.result.now ms c.gather.new.marks) c.as_mut_slice.ensures.value c.in_ok-gather.ensures) in
     let none : NoneApart c.args.paths.items c.in_ok-marks.marks.items =
     subst (λ (xs : List (List ℕ)). NoneApart xs c.in_ok-marks.marks.items) c.as_slice-lists.ensures.value
     (subst (λ (ms : List Bool). NoneApart c.as_slice-lists.result.now ms) c.as_slice.ensures.value c.in_default.ensures) in
