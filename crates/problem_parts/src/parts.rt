@@ -1,0 +1,95 @@
+//! What all agents know of a problem.
+
+ghost use Rattle.std.specs.Prelude.{◌≡◌, ◌<◌, length, map, IfOk, OnOk, slice_index, slice_index_or};
+ghost use Rattle.std.specs.List.{range_with_len};
+ghost use Rattle.dcop_base.specs.Knowledge.{private_of, acquaintance_of};
+ghost use Rattle.dcop_base.specs.Graph.{neighbours as neighbours_of};
+
+use crate::neighbours::neighbour_rows;
+use crate::tables::table_rows;
+use dcop_base::{NoMemory, Private, Problem, Sequence, VarId, sizes_of};
+use std::alloc::Global;
+use std::mem;
+
+/// What each agent knows that looks at no cost, in the variables' order: its size, and its
+/// neighbours by tables and joints with their sizes, without tables. Takes time for the pairs of
+/// each scope, the joints and the neighbours.
+///
+/// # Errors
+///
+/// [`NoMemory`] where memory was wanted and not had.
+pub fn acquaintances(alloc: Global, problem: &Problem) -> Result<Vec<Private>, NoMemory>
+    ensures { IfOk result (λ known. known.items ≡ map (acquaintance_of problem.now) (range_with_len 0 (length problem.now.sizes))) }
+{
+    let mut rows = neighbour_rows(alloc, problem)?;
+    let mut known = Vec::with_capacity(alloc, rows.len())?;
+    for me in 0..problem.sizes.as_slice().len() {
+        let neighbours = take_row(alloc, &mut rows, me);
+        known.push(acquaintance_with(alloc, problem, VarId(me as u32), neighbours)?)?;
+    }
+    Ok(known)
+}
+
+/// One of some lists, which leaves an empty one in its place.
+fn take_row<T: Drop>(alloc: Global, rows: &mut Vec<Vec<T>>, place: usize) -> Vec<T>
+    requires { place < length rows.old.items }
+    ensures row { (d : _) → result ≡ slice_index_or rows.old.items place d }
+    ensures rest { (k : _) (d : _) → place < k → slice_index_or rows.new.items k d ≡ slice_index_or rows.old.items k d }
+    ensures size { length rows.new.items ≡ length rows.old.items }
+{
+    mem::replace(&mut rows[place], Vec::new(alloc))
+}
+
+/// What the agent of a variable with these neighbours knows that looks at no cost.
+fn acquaintance_with(
+    alloc: Global,
+    problem: &Problem,
+    me: VarId,
+    neighbours: Vec<VarId>,
+) -> Result<Private, NoMemory>
+    requires inside { me < length problem.now.sizes }
+    requires neighbours { neighbours.items ≡ neighbours_of problem.now me }
+    ensures { IfOk result (λ own. own ≡ acquaintance_of problem.now me) }
+{
+    let sizes = problem.sizes.as_slice();
+    let neighbour_sizes = sizes_of(alloc, sizes, neighbours.as_slice())?;
+    Ok(Private {
+        me,
+        size: sizes[me.0 as usize],
+        neighbours: Sequence::from_vec(neighbours),
+        neighbour_sizes,
+        tables: Sequence::from_vec(Vec::new(alloc)),
+    })
+}
+
+/// Gives each agent the tables that name its variable, in the problem's order. Each table is copied
+/// once for each variable of its scope.
+///
+/// # Errors
+///
+/// [`NoMemory`] where memory was wanted and not had. Some agents may then have their tables.
+pub fn add_tables(alloc: Global, problem: &Problem, known: &mut [Private]) -> Result<(), NoMemory>
+    requires { known.old ≡ map (acquaintance_of problem.now) (range_with_len 0 (length problem.now.sizes)) }
+    ensures { OnOk result (known.new ≡ map (private_of problem.now) (range_with_len 0 (length problem.now.sizes))) }
+{
+    let mut rows = table_rows(alloc, problem)?;
+    for me in 0..known.len() {
+        known[me].tables = Sequence::from_vec(take_row(alloc, &mut rows, me));
+    }
+    Ok(())
+}
+
+/// What each agent knows, in the variables' order: its size, its neighbours by tables and joints
+/// with their sizes, and the tables that name its variable. Takes time as [`acquaintances`] and for
+/// the copied cells.
+///
+/// # Errors
+///
+/// [`NoMemory`] where memory was wanted and not had.
+pub fn privates(alloc: Global, problem: &Problem) -> Result<Vec<Private>, NoMemory>
+    ensures { IfOk result (λ known. known.items ≡ map (private_of problem.now) (range_with_len 0 (length problem.now.sizes))) }
+{
+    let mut known = acquaintances(alloc, problem)?;
+    add_tables(alloc, problem, known.as_mut_slice())?;
+    Ok(known)
+}
