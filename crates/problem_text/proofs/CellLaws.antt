@@ -17,6 +17,10 @@ abbrev pub behind : List ℕ → Option (List ℕ) → Option (List ℕ)
 behind xs (Some ys) = Some (xs ++ ys)
 behind xs None = None
 
+pub behind-nil : (o : Option (List ℕ)) → behind [] o ≡ o
+behind-nil None = refl
+behind-nil (Some ys) = refl
+
 pub behind-push : (xs : List ℕ) (x : ℕ) (o : Option (List ℕ)) → behind (xs ++ (x ∷ [])) o ≡ behind xs (onto (Some x) o)
 behind-push xs x None = refl
 behind-push xs x (Some ys) = ap (λ zs. Some zs) (append_assoc xs (x ∷ []) ys)

@@ -1,5 +1,5 @@
 -- The line of a table by its parts.
-use Rattle.std.proofs.Common.{◌≡◌, ℕ, ◌+◌, ◌<◌, Bool, true, false, not, cond, List, [], ◌∷◌, length, map, Option, Some, None, position, get_or, nat_lt, nat_eq, ◌||◌, refl, sym, ap, ◌∙◌, subst, arith}
+use Rattle.std.proofs.Common.{◌≡◌, ℕ, ◌+◌, ◌<◌, ◌≤◌, min, Bool, true, false, not, cond, List, [], ◌∷◌, length, map, Option, Some, None, position, get_or, nat_lt, nat_eq, ◌||◌, refl, sym, ap, ◌∙◌, subst, arith}
 use Rattle.std.specs.List.{list_any, All}
 use Rattle.std.specs.Option.{option_map}
 use Rattle.std.specs.Str.{bytes_eq}
@@ -47,6 +47,18 @@ with_cells-fault d scope sizes None s r kind told own f is = absurd (cc told)
 with_cells-fault d scope sizes (Some cells) s r kind told own f is =
     let t : CostTable = record { scope = scope; sizes = map (λ v. get_or d.sizes v 0) scope; cells = cells } in
     ap (λ k. unless k (with_table d t)) (sym (f t (sym own) (some-same (summary cells) s told)) ∙ is)
+
+-- cells without a fault are no more than are kept
+pub cells-few : (d : Declared) (scope sizes : List ℕ) (most : ℕ) (o : Option (List ℕ)) (s : Summary) (r : Option TextKind) → most ≡ min (product sizes) cell_limit → option_map summary o ≡ Some s → ((t : CostTable) → t.sizes ≡ sizes → summary t.cells ≡ s → r ≡ cells_fault d.tables t) → r ≡ None → s.count ≤ most
+cells-few d scope sizes most None s r m told f is = absurd (cc told)
+cells-few d scope sizes most (Some cells) s r m told f is =
+    let same = some-same (summary cells) s told in
+    let none = sym (f (record { scope = scope; sizes = sizes; cells = cells }) refl same) ∙ is in
+    let tests = four-fail (not (nat_eq (length cells) (product sizes))) (list_any (λ c. nat_lt cost_limit c) cells) (nat_lt cell_limit (cell_count d.tables + length cells)) (nat_lt amount_limit (greatest_sum d.tables + greatest cells)) (Problem 6) (Problem 7) (Problem 9) (Problem 8) None none in
+    let count : length cells ≡ s.count = ap (λ (x : Summary). x.count) same in
+    let many = not-false (nat_eq (length cells) (product sizes)) tests.0 in
+    let few : nat_lt 4194304 (cell_count d.tables + length cells) ≡ false = tests.2 in
+    grind (arith, nat_tests, many, few, count, m)
 
 -- a table whose cells have no fault, by what is told of them
 pub cells-sound : (d : Declared) (scope sizes cells : List ℕ) (o : Option (List ℕ)) (s : Summary) (r : Option TextKind) → option_map summary o ≡ Some s → o ≡ Some cells → ((t : CostTable) → t.sizes ≡ sizes → summary t.cells ≡ s → r ≡ cells_fault d.tables t) → r ≡ None → cells_fault d.tables (record { scope = scope; sizes = sizes; cells = cells }) ≡ None

@@ -37,4 +37,3 @@ number_of_report reports.NoEnd = 6
 number_of_report reports.AfterEnd = 7
 number_of_report reports.BadValue = 8
 number_of_report reports.NoLog = 9
-number_of_report reports.NotYet = 10

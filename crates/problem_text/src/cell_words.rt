@@ -1,6 +1,6 @@
 //! Cells among the words of a line.
 
-ghost use Rattle.std.specs.Prelude.{◌≡◌, ◌<◌, ℕ, List, Some, length, ◌^◌, ◌-◌, ◌≤◌, IfOk, IfErr, IfSome};
+ghost use Rattle.std.specs.Prelude.{◌≡◌, ◌<◌, ℕ, List, Some, length, ◌^◌, ◌-◌, ◌≤◌, IfOk, IfErr};
 ghost use Rattle.std.specs.Option.{option_map};
 ghost use Rattle.dcop_base.specs.Table.{CostTable};
 ghost use Rattle.problem_text.specs.Lines.{words};
@@ -21,24 +21,6 @@ use std::alloc::Global;
 pub struct Summary {
     pub count: u64,
     pub greatest: u64,
-}
-
-/// What the words of a text are as cells; `None` exactly where one is no number. It takes no
-/// memory, so that cells are kept only where nothing is wrong with them.
-pub fn summary_of(text: &[u8]) -> Option<Summary>
-    ensures told { result ≡ option_map summary (numbers_of (words text.now)) }
-    ensures few { IfSome result (λ s. s.count ≤ length text.now) }
-{
-    let mut count: u64 = 0;
-    let mut greatest: u64 = 0;
-    let mut rest = text;
-    while let Some((word, after)) = next_word(rest) {
-        let number = number_of_word(word)?;
-        count += 1;
-        greatest = greatest.max(number);
-        rest = after;
-    }
-    Some(Summary { count, greatest })
 }
 
 /// The first fault of a further table's cells, by what is told of them.
@@ -64,20 +46,38 @@ pub fn fault_of(draft: &Draft, sizes: &[u16], cells: &Summary) -> Option<TextKin
     None
 }
 
-/// The cells that the words of a text write, of which there are so many.
-pub fn cells_of(alloc: Global, text: &[u8], count: usize) -> Result<Vec<u64>, LineEnd<TextKind>>
-    ensures found { IfOk result (λ v. numbers_of (words text.now) ≡ Some v.items) }
+/// The cells that the words of a text write, and what is told of them. Only the first `most` are
+/// kept: that is all of them where there are no more.
+pub fn cells_of(
+    alloc: Global,
+    text: &[u8],
+    most: usize,
+) -> Result<(Vec<u64>, Summary), LineEnd<TextKind>>
+    ensures told { IfOk result (λ r. option_map summary (numbers_of (words text.now)) ≡ Some r.1) }
+    ensures few { IfOk result (λ r. r.1.count ≤ length text.now) }
+    ensures kept { IfOk result (λ r. r.1.count ≤ most
+        → numbers_of (words text.now) ≡ Some r.0.items) }
     ensures bad { (d : Declared) → (scope : List ℕ)
         → IfErr result (λ e. Ends e (with_cells d scope (numbers_of (words text.now)))) }
 {
-    let mut cells = Vec::with_capacity(alloc, count)?;
+    let mut cells = Vec::with_capacity(alloc, most.min(text.len()))?;
+    let mut count: usize = 0;
+    let mut greatest: u64 = 0;
     let mut rest = text;
     while let Some((word, after)) = next_word(rest) {
         let Some(number) = number_of_word(word) else {
             return Err(LineEnd::Fault(TextKind::BadNumber));
         };
-        cells.push(number)?;
+        if count < most {
+            cells.push(number)?;
+        }
+        count += 1;
+        greatest = greatest.max(number);
         rest = after;
     }
-    Ok(cells)
+    let told = Summary {
+        count: count as u64,
+        greatest,
+    };
+    Ok((cells, told))
 }

@@ -169,8 +169,6 @@ pub enum ReportKind {
     BadValue = 8,
     /// The certificate is not that of a log.
     NoLog = 9,
-    /// The certificate is of a form that is not read yet.
-    NotYet = 10,
 }
 
 impl ReportKind {

@@ -1,19 +1,20 @@
 //! The lines of tables.
 
-ghost use Rattle.std.specs.Prelude.{◌≡◌, ◌<◌, false, None, length, IfOk};
+ghost use Rattle.std.specs.Prelude.{◌≡◌, ◌<◌, false, None, length, min, IfOk};
 ghost use Rattle.std.specs.List.{All};
-ghost use Rattle.dcop_base.specs.Table.{has_repeat};
+ghost use Rattle.dcop_base.specs.Table.{has_repeat, product};
+ghost use Rattle.dcop_base.specs.Limits.{cell_limit};
 ghost use Rattle.problem_text.specs.Lines.{words};
 ghost use Rattle.problem_text.specs.LineEnds.{GivesTable};
 ghost use Rattle.problem_text.specs.Tables as lines;
 ghost use Rattle.problem_text.specs.Cells.{summary};
 
-use crate::cell_words::{Summary, cells_of, fault_of, summary_of};
+use crate::cell_words::{Summary, cells_of, fault_of};
 use crate::draft::Draft;
 use crate::fault::TextKind;
 use crate::line_end::LineEnd;
 use crate::scope_words::{most_names, past_colon, scope_of};
-use dcop_base::{CellList, Table, VarId, VarList, repeats, sizes_of};
+use dcop_base::{CellList, MAX_CELLS, Table, VarId, VarList, product_of, repeats, sizes_of};
 use std::alloc::Global;
 
 /// The table that the words behind `table` declare, and what is told of its cells.
@@ -53,18 +54,23 @@ fn table_with(
     ensures told { IfOk result (λ r. summary r.0.cells ≡ r.1) }
     ensures sound { IfOk result (λ r. lines.cells_fault draft.now.tables r.0 ≡ None) }
 {
-    let Some(summary) = summary_of(text) else {
-        return Err(LineEnd::Fault(TextKind::BadNumber));
-    };
     let sizes = sizes_of(alloc, draft.sizes.as_slice(), scope.as_slice())?;
+    let most = most_cells(sizes.as_slice());
+    let (cells, summary) = cells_of(alloc, text, most)?;
     if let Some(kind) = fault_of(draft, sizes.as_slice(), &summary) {
         return Err(LineEnd::Fault(kind));
     }
-    let cells = cells_of(alloc, text, summary.count as usize)?;
     let table = Table {
         scope: VarList::from_vec(scope),
         sizes,
         cells: CellList::from_vec(cells),
     };
     Ok((table, summary))
+}
+
+/// The most cells that are kept of a table of these sizes: with more it has a fault.
+fn most_cells(sizes: &[u16]) -> usize
+    ensures { result ≡ min (product sizes.now) cell_limit }
+{
+    product_of(sizes).min(MAX_CELLS as usize)
 }
