@@ -4,6 +4,7 @@ pub mod NumberedLaws
 pub mod PlainLaws
 mod SplitLaws
 mod WordLaws
+mod NumberLaws
 pub mod NameLaws
 pub mod CellLaws
 pub mod ScopeLaws

@@ -20,7 +20,7 @@ between-run [] = ([], refl, refl)
 between-run (b ∷ bs) = run-step (is_blank b) b (position_or_len is_blank bs) bs (between-run bs) (λ h. rw h refl)
 
 -- a word, and the words of what stands behind it
-abbrev with_first : List ℕ → List (List ℕ)
+abbrev pub with_first : List ℕ → List (List ℕ)
 with_first bytes = take (position_or_len is_blank bytes) bytes ∷ words (drop (position_or_len is_blank bytes) bytes)
 
 word-step : (b n : ℕ) (bs : List ℕ) → BeginsWithRun bs n (between_blanks bs) → filter has_some (onto_first b (between_blanks bs)) ≡ take (1 + n) (b ∷ bs) ∷ words (drop (1 + n) (b ∷ bs))
@@ -29,11 +29,11 @@ word-step b n bs ih =
     rw (e, ih.1, ih.2) refl
 
 -- bytes that begin with a word
-words-word : (b : ℕ) (bs : List ℕ) → is_blank b ≡ false → words (b ∷ bs) ≡ with_first (b ∷ bs)
+pub words-word : (b : ℕ) (bs : List ℕ) → is_blank b ≡ false → words (b ∷ bs) ≡ with_first (b ∷ bs)
 words-word b bs h = rw h (word-step b (position_or_len is_blank bs) bs (between-run bs))
 
 -- how many blanks stand first
-abbrev blanks_of : List ℕ → ℕ
+abbrev pub blanks_of : List ℕ → ℕ
 blanks_of bytes = position_or_len (λ b. not (is_blank b)) bytes
 
 next-step : (t : Bool) (b n : ℕ) (bs : List ℕ) → is_blank b ≡ t → (0 < length (drop n bs) → words bs ≡ with_first (drop n bs)) → 0 < length (drop (cond (not (not t)) (1 + n) 0) (b ∷ bs)) → words (b ∷ bs) ≡ with_first (drop (cond (not (not t)) (1 + n) 0) (b ∷ bs))

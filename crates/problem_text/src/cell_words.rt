@@ -12,8 +12,8 @@ ghost use Rattle.problem_text.specs.Cells.{summary};
 use crate::draft::Draft;
 use crate::fault::TextKind;
 use crate::line_end::LineEnd;
-use crate::word::next_word;
-use dcop_base::{CAP, MAX_CELLS, MAX_COST, number_of_word, product_of};
+use crate::number_words::next_number;
+use dcop_base::{CAP, MAX_CELLS, MAX_COST, product_of};
 use std::alloc::Global;
 
 /// How many cells there are, and the greatest, 0 of none.
@@ -64,8 +64,8 @@ pub fn cells_of(
     let mut count: usize = 0;
     let mut greatest: u64 = 0;
     let mut rest = text;
-    while let Some((word, after)) = next_word(rest) {
-        let Some(number) = number_of_word(word) else {
+    while let Some((number, after)) = next_number(rest) {
+        let Some(number) = number else {
             return Err(LineEnd::Fault(TextKind::BadNumber));
         };
         if count < most {

@@ -18,6 +18,7 @@ mod line_end;
 mod name;
 mod name_word;
 mod names;
+mod number_words;
 mod numbered;
 mod plain_line;
 mod reader;

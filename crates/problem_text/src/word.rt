@@ -17,6 +17,13 @@ pub fn next_word(text: &[u8]) -> Option<(&[u8], &[u8])>
     Some(from_word.split_at(run_of(from_word)))
 }
 
+/// A text without the blanks that it begins with.
+pub fn after_blanks(text: &[u8]) -> &[u8]
+    ensures { words result.now ≡ words text.now }
+{
+    text.split_at(blanks_of(text)).1
+}
+
 /// How many blanks a text begins with.
 fn blanks_of(text: &[u8]) -> usize
     ensures { result ≡ position_or_len (λ b. not (is_blank b)) text.now }
@@ -43,7 +50,8 @@ fn first_blank(text: &[u8]) -> Option<usize>
     text.iter().position(|byte| is_blank_byte(*byte))
 }
 
-fn is_blank_byte(byte: u8) -> bool
+/// Whether a byte divides words.
+pub fn is_blank_byte(byte: u8) -> bool
     ensures { result ≡ is_blank byte }
 {
     byte == b' ' || byte == b'\t'
