@@ -1,7 +1,11 @@
 -- Lines of a text, by the first LF.
-use Rattle.std.proofs.Common.{◌≡◌, ℕ, ◌+◌, suc, ◌<◌, ◌≤◌, Bool, true, false, not, cond, List, [], ◌∷◌, ◌++◌, length, take, drop, nat_eq, nat_lt, refl, arith}
+use Rattle.std.proofs.Common.{◌≡◌, ℕ, ◌+◌, suc, ◌<◌, ◌≤◌, Bool, true, false, not, cond, List, [], ◌∷◌, ◌++◌, length, take, drop, nat_eq, nat_lt, refl, sym, ◌∙◌, ⊎_elim, arith}
 use Rattle.std.specs.List.{position_or_len, position}
-use Rattle.std.specs.Prelude.{unwrap_or, Some, None}
+use Rattle.std.specs.Prelude.{unwrap_or, Option, Some, None}
+use Rattle.std.proofs.lemmas.Bool.{cases_lt, false≢true}
+use Rattle.std.proofs.lemmas.List.Quantifiers.{position-Some}
+use Rattle.dcop_base.proofs.FaultLaws.{position-none}
+use Rattle.memchr.specs.Find.{IsFirstByte}
 use Rattle.std.proofs.lemmas.List.Sums.{prefix_len-le-length}
 use Rattle.problem_text.specs.Lines.{onto_first, lines, without_last}
 
@@ -69,3 +73,21 @@ first-ended text line rest end e h front back = rw (front, back, e) (lines-ended
 -- the first line, where there is no LF
 pub first-open : (text line rest : List ℕ) (end : ℕ) → end ≡ position_or_len (λ b. nat_eq b 10) text → 0 < length text → length text ≤ end → line ≡ take (length text) text → rest ≡ drop (length text) text → lines text ≡ line ∷ lines rest
 first-open text line rest end e some h front back = rw (front, back) (lines-one text some (rw e at h))
+
+-- the place of the first byte that passes, as a search tells it
+pub first-position : (p : ℕ → Bool) (bytes : List ℕ) (r o : Option ℕ) → position p bytes ≡ o → IsFirstByte p bytes r → r ≡ o
+first-position p bytes None None e first = refl
+first-position p bytes None (Some i) e first =
+    let at = position-Some p bytes i 0 e in
+    absurd (first i (omega arith) at.0 at.1)
+first-position p bytes (Some k) None e first =
+    absurd (false≢true (sym (position-none p bytes e k 0 first.0.high) ∙ first.1))
+first-position p bytes (Some k) (Some i) e first =
+    let at = position-Some p bytes i 0 e in
+    ⊎_elim
+    (λ below. absurd (false≢true (sym (at.2 k below) ∙ first.1)))
+    (λ above. ⊎_elim
+    (λ before. absurd (first.0.before i (omega arith) before at.1))
+    (λ after. let same : k ≡ i = omega arith in rw same refl)
+    (cases_lt i k))
+    (cases_lt k i)

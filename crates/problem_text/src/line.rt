@@ -6,6 +6,8 @@ ghost use Rattle.problem_text.specs.Bytes.{line_feed};
 ghost use Rattle.problem_text.specs.Lines.{before_comment, without_last, content, lines};
 ghost use Rattle.problem_text.specs.PlainLines.{plain_content};
 
+use memchr::memchr;
+
 /// The byte that ends a line.
 pub const LF: u8 = b'\n';
 
@@ -69,7 +71,7 @@ fn place_of(bytes: &[u8], sought: u8) -> usize
 fn found(bytes: &[u8], sought: u8) -> Option<usize>
     ensures { result ≡ position (λ b. b == sought) bytes.now }
 {
-    bytes.iter().position(|byte| *byte == sought)
+    memchr(sought, bytes)
 }
 
 /// The number of the line behind a text: 1 plus the number of its LF bytes.
