@@ -1,5 +1,5 @@
 -- What the tables that count cost: each has a cell at the own value and the known values, and the costs add up.
-use Rattle.std.proofs.Common.{◌≡◌, ℕ, ◌+◌, ◌<◌, Bool, true, false, cond, ◌&&◌, ◌||◌, eqb, List, [], ◌∷◌, ◌++◌, map, length, take, get_or, min, Option, Some, None, is_some, refl, sym, ap, subst, ◌∙◌, inl, inr, arith}
+use Rattle.std.proofs.Common.{◌≡◌, ℕ, ◌+◌, ◌<◌, Bool, true, false, cond, ◌&&◌, ◌||◌, eqb, List, [], ◌∷◌, ◌++◌, map, length, take, get_or, min, Option, Some, None, is_some, refl, sym, ap, ap₂, subst, ◌∙◌, inl, inr, arith}
 use Rattle.std.specs.List.{AllZip, filter, list_all, zip}
 use Rattle.std.proofs.lemmas.Bool.{cases_Bool, cond-true, cond-false, eqb-true, eq-eqb, and_parts, or_left, or_right, ltb-true, false≢true}
 use Rattle.std.proofs.lemmas.Option.{none-some, same_Some}
@@ -32,6 +32,11 @@ found_there (v ∷ vs) (t ∷ ss) u s e = elim (cases_Bool (eqb v u)) [
 named_value : (o : Option ℕ) → is_some o ≡ true → o ≡ Some (or_zero o)
 named_value None h = absurd (false≢true h)
 named_value (Some d) h = refl
+
+and_implied : (a b : Bool) → (b ≡ true → a ≡ true) → b ≡ (a && b)
+and_implied true b h = refl
+and_implied false true h = sym (h refl)
+and_implied false false h = refl
 
 within_size : (o : Option ℕ) (s d : ℕ) → o ≡ Some s → is_within o d ≡ true → d < s
 within_size None s d e h = absurd (none-some s e)
@@ -81,6 +86,23 @@ module _ (own : Private) (place : Place) (known : Context) (ground : IsGround ow
   counted_within k t lt e h d below =
       let one : IsKnownTable own t = subst (IsKnownTable own) (sym e) (ground.own_fits.tables k t lt) in
       all_below d below t.scope t.sizes one.sized h
+
+  -- only variables of the path are known
+  named_in_path : (u : ℕ) → is_some (value_in known u) ≡ true → has place.path u ≡ true
+  named_in_path u some = ranged_there (value_in (zip place.path place.path_sizes) u) refl
+      (each_pair (in_range (knowing own place known)) known ground.known_fits u (valued known u) (named_value (value_in known u) some))
+    where
+      ranged_there : (o : Option ℕ) → value_in (zip place.path place.path_sizes) u ≡ o → is_within o (valued known u) ≡ true → has place.path u ≡ true
+      ranged_there None e h = absurd (false≢true h)
+      ranged_there (Some s) e h = found_there place.path place.path_sizes u s e
+
+  settled_known : (u : ℕ) → (eqb u own.me || is_some (value_in known u)) ≡ is_settled u
+  settled_known u = ap (λ (b : Bool). eqb u own.me || b) (and_implied (has place.path u) (is_some (value_in known u)) (named_in_path u))
+
+  -- a table whose variables are known, but for the agent, is one that counts
+  pub counts_known : (scope : List ℕ) → list_all (λ u. eqb u own.me || is_some (value_in known u)) scope ≡ list_all (λ u. eqb u own.me || (has place.path u && is_some (value_in known u))) scope
+  counts_known [] = refl
+  counts_known (u ∷ us) = ap₂ (λ (b : Bool) (c : Bool). b && c) (settled_known u) (counts_known us)
 
 cap_more : (a b c : ℕ) → a ≡ min b amount_limit → min (a + c) amount_limit ≡ min (b + c) amount_limit
 cap_more a b c e = omega (arith, e)

@@ -1,17 +1,18 @@
 //! What each own value costs by the agent's own tables.
 
-ghost use Rattle.std.specs.Prelude.{◌≡◌, ℕ, ◌<◌, ◌≤◌, ◌+◌, true, ◌&&◌, ◌||◌, ◌==◌, length, map, is_some, slice_index, IfOk};
+ghost use Rattle.std.specs.Prelude.{◌≡◌, ℕ, ◌<◌, ◌≤◌, ◌+◌, ◌*◌, true, ◌||◌, ◌==◌, length, map, min, is_some, slice_index, IfOk};
 ghost use Rattle.std.specs.List.{All, filter, list_all};
-ghost use Rattle.dcop_base.specs.Limits.{amount_limit, size_limit};
+ghost use Rattle.dcop_base.specs.Limits.{amount_limit};
 ghost use Rattle.dcop_base.specs.Table.{AreWithin, cell_place, has, product};
 ghost use Rattle.dcop_base.specs.Values.{cell_with, cost_with, with_own};
 ghost use Rattle.adopt_context.specs.Bounds.{cap};
 ghost use Rattle.adopt_context.specs.Context.{names_all, value_in};
 ghost use Rattle.protocol_steps.specs.Values.{valued};
+ghost use Rattle.adopt_agent.specs.Costs.{stride};
 ghost use Rattle.adopt_agent.specs.Sound.{AreCosts, IsGround};
 
 use adopt_context::AgentContext;
-use dcop_base::{CAP, NoMemory, Private, Table, Val, VarId, VarList, place_of, stands_in};
+use dcop_base::{CAP, NoMemory, Private, Table, Val, VarId, VarList, place_of, product_of, stands_in};
 use pseudotree::Place;
 use std::alloc::Global;
 
@@ -29,19 +30,19 @@ pub(crate) fn copy_of(alloc: Global, vars: &[VarId]) -> Result<VarList, NoMemory
     Ok(VarList::from_vec(Vec::from_slice(alloc, vars)?))
 }
 
-/// Whether a variable is the agent's own, or one of the path that is known.
-fn is_settled(var: VarId, me: VarId, path: &[VarId], known: &AgentContext) -> bool
-    ensures { result ≡ (var == me || (has path.now var && is_some (value_in known.now var))) }
+/// Whether a variable is the agent's own, or one that is known.
+fn is_settled(var: VarId, me: VarId, known: &AgentContext) -> bool
+    ensures { result ≡ (var == me || is_some (value_in known.now var)) }
 {
-    var == me || (stands_in(path, var) && known.get(var).is_some())
+    var == me || known.get(var).is_some()
 }
 
-/// Whether a table counts: besides the agent it names only variables of the path that are known.
-fn counts(scope: &[VarId], me: VarId, path: &[VarId], known: &AgentContext) -> bool
-    ensures { result ≡ list_all
-        (λ u. u == me || (has path.now u && is_some (value_in known.now u))) scope.now }
+/// Whether a table counts: besides the agent it names only variables that are known. Only
+/// variables of the path are.
+fn counts(scope: &[VarId], me: VarId, known: &AgentContext) -> bool
+    ensures { result ≡ list_all (λ u. u == me || is_some (value_in known.now u)) scope.now }
 {
-    scope.iter().all(|var| is_settled(*var, me, path, known))
+    scope.iter().all(|var| is_settled(*var, me, known))
 }
 
 /// Whether all neighbours that stand in the path are known.
@@ -81,21 +82,40 @@ fn place_at(scope: &[VarId], sizes: &[u16], me: VarId, d: Val, known: &AgentCont
     )
 }
 
-/// A table's cell at an own value and the known values.
-fn cell_at(table: &Table, me: VarId, d: Val, known: &AgentContext) -> u64
-    requires { AreWithin table.now.sizes (map (with_own me d (valued known.now)) table.now.scope) }
-    ensures cell { result ≡ cell_with table.now (with_own me d (valued known.now)) }
-    ensures within { result ≤ amount_limit }
+/// How far apart the cells of a variable's neighbouring values stand: the product of the sizes
+/// behind it, or `usize::MAX` where that is more; 0 where the variable is none of these.
+#[tactic(auto, using(crate::proofs::PlaceLaws::stride_next))]
+fn stride_of(scope: &[VarId], sizes: &[u16], var: VarId) -> usize
+    requires { length sizes.now ≡ length scope.now }
+    ensures { result ≡ min (stride scope.now sizes.now var) usize.MAX }
 {
-    let scope = table.scope.as_slice();
-    let sizes = table.sizes.as_slice();
-    let cells = table.cells.as_slice();
-    cells[place_at(scope, sizes, me, d, known)]
+    for (k, other) in scope.iter().enumerate() {
+        if *other == var {
+            let (_, behind) = sizes.split_at(k + 1);
+            return product_of(behind);
+        }
+    }
+    0
+}
+
+/// Adds to each cost its cell, capped: the first cell to the first cost, and one so many cells on
+/// to each further cost.
+fn add_cells(costs: &mut [u64], cells: &[u64], first: usize, stride: usize)
+    requires costs { All (λ c. c ≤ amount_limit) costs.old }
+    requires cells { All (λ c. c ≤ amount_limit) cells.now }
+    requires within { (d : ℕ) → d < length costs.old → first + d * stride < length cells.now }
+    ensures costs { All (λ c. c ≤ amount_limit) costs.new }
+    ensures added { (d : ℕ) → d < length costs.old → slice_index costs.new d
+        ≡ cap (slice_index costs.old d + slice_index cells.now (first + d * stride)) }
+{
+    for (d, cost) in costs.iter_mut().enumerate() {
+        *cost = (*cost + cells[first + d * stride]).min(CAP);
+    }
 }
 
 /// Adds a table's cells to the costs of the own values, capped.
 fn add_table(costs: &mut [u64], table: &Table, me: VarId, known: &AgentContext)
-    requires few { length costs.old ≤ size_limit }
+    requires some { 1 ≤ length costs.old }
     requires costs { All (λ c. c ≤ amount_limit) costs.old }
     requires within { (d : ℕ) → d < length costs.old
         → AreWithin table.now.sizes (map (with_own me d (valued known.now)) table.now.scope) }
@@ -103,10 +123,12 @@ fn add_table(costs: &mut [u64], table: &Table, me: VarId, known: &AgentContext)
     ensures added { (d : ℕ) → d < length costs.old → slice_index costs.new d
         ≡ cap (slice_index costs.old d + cell_with table.now (with_own me d (valued known.now))) }
 {
-    for (d, cost) in costs.iter_mut().enumerate() {
-        let cell = cell_at(table, me, Val(d as u16), known);
-        *cost = (*cost + cell).min(CAP);
-    }
+    let scope = table.scope.as_slice();
+    let sizes = table.sizes.as_slice();
+    let cells = table.cells.as_slice();
+    let first = place_at(scope, sizes, me, Val(0), known);
+    let stride = stride_of(scope, sizes, me);
+    add_cells(costs, cells, first, stride);
 }
 
 /// The cost of each own value by the tables that count.
@@ -117,7 +139,7 @@ pub(crate) fn set_costs(costs: &mut [u64], own: &Private, place: &Place, known: 
 {
     costs.fill(0);
     for table in own.tables.as_slice() {
-        if counts(table.scope.as_slice(), own.me, place.path.as_slice(), known) {
+        if counts(table.scope.as_slice(), own.me, known) {
             add_table(costs, table, own.me, known);
         }
     }

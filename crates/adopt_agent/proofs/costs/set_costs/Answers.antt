@@ -1,13 +1,13 @@
-use Rattle.std.proofs.Common.{◌≡◌, ℕ, ◌<◌, ◌≤◌, ◌&&◌, ◌||◌, eqb, List, length, get_or, is_some, sym, ap, ap₂, subst, ◌∙◌, arith}
+use Rattle.std.proofs.Common.{◌≡◌, ℕ, ◌<◌, ◌≤◌, ◌||◌, eqb, List, length, get_or, is_some, sym, ap, subst, ◌∙◌, arith}
 use Rattle.std.specs.List.{All, list_all}
-use Rattle.dcop_base.specs.Table.{CostTable, has}
+use Rattle.dcop_base.specs.Table.{CostTable}
 use Rattle.dcop_base.specs.Values.{with_own}
 use Rattle.dcop_base.specs.Limits.{amount_limit}
 use Rattle.adopt_context.specs.Context.{value_in}
 use Rattle.protocol_steps.specs.Values.{valued}
 use Rattle.protocol_steps.specs.AdoptBounds.{counts}
 use Rattle.adopt_agent.specs.Stage.{knowing}
-use Rattle.adopt_agent.proofs.CountLaws.{counted_within, cost_more, cost_same}
+use Rattle.adopt_agent.proofs.CountLaws.{counted_within, counts_known, cost_more, cost_same}
 use Rattle.adopt_agent.proofs.costs.set_costs.Goals as goal
 use Rattle.adopt_agent.proofs.costs.set_costs.Goals.{then-counts, else-counts}
 
@@ -18,7 +18,8 @@ add_table-requires-clause-within c =
     let known = c.args.known.now in
     let t : CostTable = c.table-item.result in
     let test : c.counts.result ≡ counts (knowing own place known) t =
-    c.counts.ensures ∙ ap₂ (λ (path : List ℕ) (scope : List ℕ). list_all (λ u. eqb u own.me || (has path u && is_some (value_in known u))) scope) c.as_slice-in-loop-table.ensures (c.as_slice.ensures ∙ ap (λ (u : CostTable). u.scope) c.table.view_is) in
+    c.counts.ensures ∙ ap (λ (scope : List ℕ). list_all (λ u. eqb u own.me || is_some (value_in known u)) scope) (c.as_slice.ensures ∙ ap (λ (u : CostTable). u.scope) c.table.view_is)
+    ∙ counts_known own place known c.requires.ground t.scope in
     let counted = c.loop-table.invariant.counted in
     let tables = ap (λ (ts : List CostTable). get_or ts c.loop-table.table-index t) c.as_slice-table-items.ensures in
     let inside = c.loop-table-test.true in
@@ -33,7 +34,8 @@ loop-table-preserved c =
     let t : CostTable = c.table-item.result in
     let q = counts (knowing own place known) in
     let test : c.counts.result ≡ q t =
-    c.counts.ensures ∙ ap₂ (λ (path : List ℕ) (scope : List ℕ). list_all (λ u. eqb u own.me || (has path u && is_some (value_in known u))) scope) c.as_slice-in-loop-table.ensures (c.as_slice.ensures ∙ ap (λ (u : CostTable). u.scope) c.table.view_is) in
+    c.counts.ensures ∙ ap (λ (scope : List ℕ). list_all (λ u. eqb u own.me || is_some (value_in known u)) scope) (c.as_slice.ensures ∙ ap (λ (u : CostTable). u.scope) c.table.view_is)
+    ∙ counts_known own place known c.requires.ground t.scope in
     let counted = c.loop-table.invariant.counted in
     let k = c.loop-table.table-index in
     let is = c.table-item.is ∙ ap (λ (ts : List CostTable). get_or ts k t) c.as_slice-table-items.ensures in
