@@ -21,7 +21,7 @@ use Rattle.adopt_agent.specs.Stage.{knowing}
 use Rattle.adopt_agent.specs.Sound.{IsGround}
 
 -- a variable that a lookup finds stands there
-found_there : (vs ss : List ℕ) (u s : ℕ) → value_in (zip vs ss) u ≡ Some s → has vs u ≡ true
+pub found_there : (vs ss : List ℕ) (u s : ℕ) → value_in (zip vs ss) u ≡ Some s → has vs u ≡ true
 found_there [] ss u s e = absurd (none-some s e)
 found_there (v ∷ vs) [] u s e = absurd (none-some s e)
 found_there (v ∷ vs) (t ∷ ss) u s e = elim (cases_Bool (eqb v u)) [

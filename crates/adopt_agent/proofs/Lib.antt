@@ -1,6 +1,7 @@
 pub mod PlaceLaws
 pub mod RangeLaws
 pub mod CountLaws
+pub mod KeptLaws
 pub mod LowestLaws
 pub mod BoundLaws
 pub mod StoreLaws

@@ -1,6 +1,7 @@
--- The cost of an own value, where all higher neighbours are known, and how a table's cells stand.
-use Rattle.std.specs.Prelude.{ℕ, Bool, List, [], ◌∷◌, Option, Some, None, ◌==◌, slice_index, if◌then◌else◌}
-use Rattle.dcop_base.specs.Table.{product}
+-- The cost of an own value, where all higher neighbours are known, how a table's cells stand, and contexts that are alike.
+use Rattle.std.specs.Prelude.{ℕ, Bool, true, false, not, ◌&&◌, ◌||◌, List, [], ◌∷◌, Option, Some, None, ◌==◌, slice_index, if◌then◌else◌}
+use Rattle.dcop_base.specs.Table.{has, product}
+use Rattle.adopt_context.specs.Context.{Context}
 
 -- the cost of an own value; none where not all higher neighbours are known
 abbrev pub cost_where : Bool → List ℕ → ℕ → Option ℕ
@@ -11,3 +12,10 @@ abbrev pub stride : List ℕ → List ℕ → ℕ → ℕ
 stride [] sizes v = 0
 stride (u ∷ us) [] v = 0
 stride (u ∷ us) (s ∷ ss) v = if u == v then product ss else stride us ss v
+
+-- whether two contexts name the same variables and differ at most in values of variables that are not among these
+abbrev pub is_alike : List ℕ → Context → Context → Bool
+is_alike vars [] [] = true
+is_alike vars [] (q ∷ qs) = false
+is_alike vars (p ∷ ps) [] = false
+is_alike vars (p ∷ ps) (q ∷ qs) = p.0 == q.0 && ((p.1 == q.1 || not (has vars p.0)) && is_alike vars ps qs)

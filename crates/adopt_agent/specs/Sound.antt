@@ -35,9 +35,10 @@ pub record AreBacked (own : Private) (place : Place) (known : Context) (bounds :
   pub rest : RestOn known bounds.rows
 
 -- an agent's knowledge, costs and bounds fit together, and its value and amounts are within their ranges
-pub record IsSound (own : Private) (place : Place) (error : ℕ) (known : Context) (costs : List ℕ) (knows_higher : Bool) (bounds : BoundsView) (value threshold last_received : ℕ) : Type 0 where
+pub record IsSound (own : Private) (place : Place) (higher_ones : List ℕ) (error : ℕ) (known : Context) (costs : List ℕ) (knows_higher : Bool) (bounds : BoundsView) (value threshold last_received : ℕ) : Type 0 where
   pub ground : IsGround own place known
   pub costed : AreCosts own place known costs
+  pub higher_is : higher_ones ≡ higher (knowing own place known)
   pub knows_higher_is : knows_higher ≡ names_all known (higher (knowing own place known))
   pub backed : AreBacked own place known bounds
   pub value_below : value < own.size

@@ -17,11 +17,11 @@ ghost use Rattle.adopt_agent.specs.Stage.{working};
 ghost use Rattle.adopt_agent.specs.Deed.{Gives};
 
 use crate::choose;
-use crate::costs::{are_known, are_same, copy_of, set_costs};
+use crate::costs::{are_same, copy_of, higher_of, renew, set_costs};
 use crate::stage::Stage;
 use adopt_bounds::Bounds;
 use adopt_context::AgentContext;
-use dcop_base::{NoMemory, Private, Table, Val};
+use dcop_base::{NoMemory, Private, Table, Val, VarList};
 use protocol_steps::{Batch, Letter, Machine, Outbox, Parcel, Standing};
 use pseudotree::Place;
 use std::alloc::Global;
@@ -29,14 +29,16 @@ use std::marker::Model;
 
 /// An ADOPT agent: its part in the search with bounds. Contracts see its view.
 ///
-/// Beside what the view holds it keeps what follows from it: the costs of the own values, and
-/// whether all higher neighbours are known.
+/// Beside what the view holds it keeps what follows from it: the higher neighbours, whether all of
+/// them are known, and the costs of the own values.
 #[derive(Debug, Drop)]
 pub struct AdoptAgent {
     pub(crate) alloc: Global,
     /// What it knows of the problem.
     pub(crate) own: Private,
     pub(crate) place: Place,
+    /// The higher neighbours: those that stand in its path.
+    pub(crate) higher: VarList,
     /// How much worse than the optimum the root may end.
     pub(crate) error: u64,
     pub(crate) stage: Stage,
@@ -65,7 +67,7 @@ impl Model for AdoptAgent {
     ghost view = { λ a. view_at a.own a.place a.error a.stage a.known a.value a.threshold a.last_received
         a.told_to_end a.bounds.rows };
 
-    ghost invariant = { λ a. IsSound a.own a.place a.error a.known a.costs.items a.knows_higher a.bounds
+    ghost invariant = { λ a. IsSound a.own a.place a.higher a.error a.known a.costs.items a.knows_higher a.bounds
         a.value a.threshold a.last_received };
 }
 
@@ -91,11 +93,13 @@ impl AdoptAgent {
         let known = AgentContext::new(alloc);
         let mut costs = vec![in alloc; 0; usize::from(own.size)]?;
         set_costs(costs.as_mut_slice(), &own, &place, &known);
-        let knows_higher = are_known(own.neighbours.as_slice(), place.path.as_slice(), &known);
+        let higher = higher_of(alloc, own.neighbours.as_slice(), place.path.as_slice())?;
+        let knows_higher = known.names_all(&higher);
         Ok(AdoptAgent {
             alloc,
             own,
             place,
+            higher,
             error,
             stage: Stage::Waiting,
             known,
@@ -166,9 +170,15 @@ impl AdoptAgent {
         requires { fits self.old known ≡ true }
         ensures { self.new ≡ at_context self.old known }
     {
-        set_costs(self.costs.as_mut_slice(), &self.own, &self.place, &known);
-        let path = self.place.path.as_slice();
-        self.knows_higher = are_known(self.own.neighbours.as_slice(), path, &known);
+        self.knows_higher = renew(
+            self.costs.as_mut_slice(),
+            self.knows_higher,
+            &self.own,
+            &self.place,
+            &self.higher,
+            &self.known,
+            &known,
+        );
         self.bounds.reset(&known);
         self.known = known;
     }
@@ -222,8 +232,10 @@ impl AdoptAgent {
     fn may_end(&self) -> bool
         ensures { result ≡ may_end self.now }
     {
+        if !self.told_to_end && !self.place.path.as_slice().is_empty() {
+            return false;
+        }
         choose::is_value(self.upper_bound(), self.threshold)
-            && (self.place.path.as_slice().is_empty() || self.told_to_end)
     }
 
     /// Ends where it may.

@@ -1,6 +1,6 @@
 //! What each own value costs by the agent's own tables.
 
-ghost use Rattle.std.specs.Prelude.{◌≡◌, ℕ, ◌<◌, ◌≤◌, ◌+◌, ◌*◌, true, ◌||◌, ◌==◌, length, map, min, is_some, slice_index, IfOk};
+ghost use Rattle.std.specs.Prelude.{◌≡◌, ℕ, ◌<◌, ◌≤◌, ◌+◌, ◌*◌, true, not, ◌&&◌, ◌||◌, ◌==◌, length, map, min, is_some, slice_index, IfOk};
 ghost use Rattle.std.specs.List.{All, filter, list_all};
 ghost use Rattle.dcop_base.specs.Limits.{amount_limit};
 ghost use Rattle.dcop_base.specs.Table.{AreWithin, cell_place, has, product};
@@ -8,7 +8,7 @@ ghost use Rattle.dcop_base.specs.Values.{cell_with, cost_with, with_own};
 ghost use Rattle.adopt_context.specs.Bounds.{cap};
 ghost use Rattle.adopt_context.specs.Context.{names_all, value_in};
 ghost use Rattle.protocol_steps.specs.Values.{valued};
-ghost use Rattle.adopt_agent.specs.Costs.{stride};
+ghost use Rattle.adopt_agent.specs.Costs.{is_alike, stride};
 ghost use Rattle.adopt_agent.specs.Sound.{AreCosts, IsGround};
 
 use adopt_context::AgentContext;
@@ -45,12 +45,41 @@ fn counts(scope: &[VarId], me: VarId, known: &AgentContext) -> bool
     scope.iter().all(|var| is_settled(*var, me, known))
 }
 
-/// Whether all neighbours that stand in the path are known.
-pub(crate) fn are_known(neighbours: &[VarId], path: &[VarId], known: &AgentContext) -> bool
-    ensures { result ≡ names_all known.now (filter (has path.now) neighbours.now) }
+/// The higher neighbours: those that stand in the path, in their order.
+pub(crate) fn higher_of(
+    alloc: Global,
+    neighbours: &[VarId],
+    path: &[VarId],
+) -> Result<VarList, NoMemory>
+    ensures { IfOk result (λ higher. higher ≡ filter (has path.now) neighbours.now) }
 {
+    let mut higher = Vec::new(alloc);
     for var in neighbours {
-        if stands_in(path, *var) && known.get(*var).is_none() {
+        if stands_in(path, *var) {
+            higher.push(*var)?;
+        }
+    }
+    Ok(VarList::from_vec(higher))
+}
+
+/// Whether two pairs name the same variable, with the same value or none of these variables.
+fn are_alike(pair: (VarId, Val), other: (VarId, Val), vars: &[VarId]) -> bool
+    ensures { result ≡ (pair.0 == other.0 && (pair.1 == other.1 || not (has vars.now pair.0))) }
+{
+    pair.0 == other.0 && (pair.1 == other.1 || !stands_in(vars, pair.0))
+}
+
+/// Whether two contexts name the same variables and differ at most in values of variables that are
+/// not among these.
+#[tactic(auto, using(crate::proofs::KeptLaws::alike_next))]
+fn is_alike(vars: &[VarId], pairs: &[(VarId, Val)], others: &[(VarId, Val)]) -> bool
+    ensures { result ≡ true → is_alike vars.now pairs.now others.now ≡ true }
+{
+    if pairs.len() != others.len() {
+        return false;
+    }
+    for (k, pair) in pairs.iter().enumerate() {
+        if !are_alike(*pair, others[k], vars) {
             return false;
         }
     }
@@ -143,4 +172,29 @@ pub(crate) fn set_costs(costs: &mut [u64], own: &Private, place: &Place, known: 
             add_table(costs, table, own.me, known);
         }
     }
+}
+
+/// Sets the costs anew for what is known now, and tells whether all higher neighbours are known.
+/// Where the values of these are as before, so is all.
+pub(crate) fn renew(
+    costs: &mut [u64],
+    knows_higher: bool,
+    own: &Private,
+    place: &Place,
+    higher: &VarList,
+    before: &AgentContext,
+    known: &AgentContext,
+) -> bool
+    requires ground { IsGround own.now place.now known.now }
+    requires costed { AreCosts own.now place.now before.now costs.old }
+    requires higher { higher.now ≡ filter (has place.now.path) own.now.neighbours }
+    requires knows { knows_higher ≡ names_all before.now higher.now }
+    ensures costed { AreCosts own.now place.now known.now costs.new }
+    ensures knows { result ≡ names_all known.now higher.now }
+{
+    if is_alike(higher.as_slice(), before.pairs(), known.pairs()) {
+        return knows_higher;
+    }
+    set_costs(costs, own, place, known);
+    known.names_all(higher)
 }

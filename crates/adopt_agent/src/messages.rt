@@ -14,6 +14,7 @@ ghost use Rattle.protocol_steps.specs.AdoptMessage.{adopt_message, takes_from_pa
 ghost use Rattle.adopt_agent.specs.Deed.{IsSameAgent};
 
 use crate::agent::AdoptAgent;
+use crate::costs::are_same;
 use crate::range::{fit, is_in_range, is_parent};
 use adopt_context::AgentContext;
 use dcop_base::{NoMemory, Val, VarId, position_of, stands_in};
@@ -62,13 +63,23 @@ impl AdoptAgent {
         Ok(())
     }
 
+    /// Whether a context fits the path. What is known does.
+    fn fits(&self, context: &AgentContext) -> bool
+        ensures { result ≡ fits self.now context.now }
+    {
+        if are_same(self.known.pairs(), context.pairs()) {
+            return true;
+        }
+        fit(&self.place, context.pairs())
+    }
+
     /// Whether THRESHOLD or TERMINATE with this context is taken.
     fn takes_from_parent(&self, from: VarId, context: &AgentContext) -> bool
         ensures { result ≡ takes_from_parent self.now from context.now }
     {
         !self.told_to_end
             && is_parent(self.place.path.as_slice(), from)
-            && fit(&self.place, context.pairs())
+            && self.fits(context)
     }
 
     /// Remembers a threshold, where THRESHOLD is taken; it counts where its context is compatible
@@ -156,7 +167,7 @@ impl AdoptAgent {
     fn takes_bounds(&self, d: Val, rest: &AgentContext) -> bool
         ensures { result ≡ (nat_lt d self.now.own.size && fits self.now rest.now) }
     {
-        d.0 < self.own.size && fit(&self.place, rest.pairs())
+        d.0 < self.own.size && self.fits(rest)
     }
 
     /// Learns from a COST and stores its bounds, where it comes from a child and its context gives

@@ -8,6 +8,7 @@ invariant_of-self c =
     record {
       ground = s.ground;
       costed = s.costed;
+      higher_is = s.higher_is;
       knows_higher_is = s.knows_higher_is;
       backed = backed_allot a.own a.place a.known a.bounds c.allot.new.self a.value c.to_allot-goal.result s.backed c.allot.ensures;
       value_below = s.value_below;

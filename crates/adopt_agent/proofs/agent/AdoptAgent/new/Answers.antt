@@ -1,4 +1,4 @@
-use Rattle.std.proofs.Common.{◌≡◌, ℕ, true, List, [], length, sym, ap₂, subst, ◌∙◌, refl, arith}
+use Rattle.std.proofs.Common.{◌≡◌, ℕ, true, List, [], length, sym, ap, ap₂, subst, ◌∙◌, refl, arith}
 use Rattle.std.specs.List.{filter}
 use Rattle.dcop_base.specs.Table.{has}
 use Rattle.adopt_context.specs.Context.{Context, names_all}
@@ -16,10 +16,12 @@ invariant_of-result c =
     let none : known ≡ [] = c.new-known.ensures in
     let new = c.set_costs.new.costs in
     let some = c.requires.known.size.0 in
+    let higher_is : c.in_ok-higher.higher ≡ filter (has place.path) own.neighbours = c.in_ok-higher.ensures ∙ ap₂ (λ (path : List ℕ) (near : List ℕ). filter (has path) near) c.as_slice-3.ensures c.as_slice-2.ensures in
     record {
       ground = record { own_fits = c.requires.known; placed = c.requires.placed; known_fits = subst (λ (x : Context). fits (knowing own place x) x ≡ true) (sym none) refl };
       costed = subst (λ (xs : List ℕ). AreCosts own place known xs) (sym (written_back c.in_ok-costs.costs.len new c.in_ok-costs.costs.items (sym (c.set_costs.auto.costs ∙ c.as_mut_slice.ensures.len)))) c.set_costs.ensures;
-      knows_higher_is = c.are_known-knows_higher.ensures ∙ ap₂ (λ (path : List ℕ) (near : List ℕ). names_all known (filter (has path) near)) c.as_slice-3.ensures c.as_slice-2.ensures;
+      higher_is = higher_is;
+      knows_higher_is = c.names_all-knows_higher.ensures ∙ ap (λ (near : List ℕ). names_all known near) higher_is;
       backed = backed_new own place known c.in_ok-bounds.bounds (length c.in_ok-copy_of.field-0) none (c.in_ok-bounds.ensures.children ∙ c.in_ok-copy_of.ensures ∙ c.as_slice.ensures) c.in_ok-bounds.ensures.rows;
       value_below = omega (arith, some);
       error_within = c.requires.error;

@@ -1,6 +1,4 @@
-use Rattle.std.proofs.Common.{◌≡◌, ℕ, true, List, sym, ap, ap₂, subst, ◌∙◌}
-use Rattle.std.specs.List.{filter}
-use Rattle.dcop_base.specs.Table.{has}
+use Rattle.std.proofs.Common.{◌≡◌, ℕ, true, List, sym, ap, subst, ◌∙◌}
 use Rattle.adopt_context.specs.Context.{names_all}
 use Rattle.adopt_bounds.specs.Rows.{BoundsView}
 use Rattle.protocol_steps.specs.Adopt.{AdoptView}
@@ -16,14 +14,15 @@ invariant_of-self c =
     let a = c.self.inside in
     let s = c.self.invariant in
     let known = c.args.known in
-    let new = c.set_costs.new.costs in
+    let new = c.renew-self-inside.new.costs in
     let size = s.costed.counted in
     let held = a.costs.ok in
-    let same = c.set_costs.ensures.counted in
+    let same = c.renew-self-inside.ensures.costed.counted in
     record {
       ground = record { own_fits = s.ground.own_fits; placed = s.ground.placed; known_fits = subst (λ (v : AdoptView). fits v known ≡ true) (sym c.self.view_is) c.requires };
-      costed = subst (λ (xs : List ℕ). AreCosts a.own a.place known xs) (sym (written_back a.costs.len new a.costs.items (held.0 ∙ size ∙ sym same))) c.set_costs.ensures;
-      knows_higher_is = c.are_known-self-inside.ensures ∙ ap₂ (λ (path : List ℕ) (near : List ℕ). names_all known (filter (has path) near)) c.as_slice-path.ensures c.as_slice.ensures;
+      costed = subst (λ (xs : List ℕ). AreCosts a.own a.place known xs) (sym (written_back a.costs.len new a.costs.items (held.0 ∙ size ∙ sym same))) c.renew-self-inside.ensures.costed;
+      higher_is = s.higher_is;
+      knows_higher_is = c.renew-self-inside.ensures.knows ∙ ap (λ (near : List ℕ). names_all known near) s.higher_is;
       backed = backed_reset a.own a.place a.known known a.bounds c.reset.new.self s.backed c.reset.ensures;
       value_below = s.value_below;
       error_within = s.error_within;

@@ -23,6 +23,7 @@ invariant_of-self-then-branch c =
     record {
       ground = s.ground;
       costed = s.costed;
+      higher_is = s.higher_is;
       knows_higher_is = s.knows_higher_is;
       backed = backed_merged a.own a.place a.known a.bounds c.store.new.self c.args.d c.args.child rest c.args.lower c.args.upper s.backed part merged;
       value_below = s.value_below;
