@@ -1,6 +1,6 @@
 //! What the head of a link does.
 
-ghost use Rattle.std.specs.Prelude.{◌≡◌, ◌+◌, ◌≤◌};
+ghost use Rattle.std.specs.Prelude.{◌≡◌, ◌+◌, ◌≤◌, [], length, true, false};
 ghost use Rattle.std.specs.Vec.{vec_len, vec_capacity};
 ghost use Rattle.fifo_links.specs.Slots.{ring_slots};
 ghost use Rattle.fifo_links.specs.Link.{taken_from, known_to, HasTaken, SameHead};
@@ -8,6 +8,17 @@ ghost use Rattle.fifo_links.specs.Link.{taken_from, known_to, HasTaken, SameHead
 use super::{LinkHead, SLOTS};
 
 impl<T: Send + Drop> LinkHead<T> {
+    /// Whether it finds nothing in the ring. Nothing is taken; what it finds it knows from then on. A
+    /// tail in another thread may send at any time. It takes no memory.
+    pub fn is_empty(&mut self) -> bool
+        ensures end { SameHead self.old self.new }
+        ensures taken { taken_from self.new ≡ taken_from self.old }
+        ensures known { length (known_to self.old) ≤ length (known_to self.new) }
+        ensures none { result ≡ true → known_to self.new ≡ [] }
+    {
+        self.ring.is_empty()
+    }
+
     /// Takes what it finds in the ring, oldest first, at most 64 items, and adds it to `into`.
     /// Answers how many it took. It takes at least what was known to be there, so it answers 0
     /// only where no item was known. It takes no memory: `into` has room for 64 more.
