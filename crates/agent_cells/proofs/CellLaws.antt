@@ -5,6 +5,7 @@ use Rattle.std.specs.List.{All, Contains, fold}
 use Rattle.std.specs.List.Sorted.{IsStrictlyIncreasing}
 use Rattle.std.proofs.lemmas.Bool.{true≢false, ne_eqb}
 use Rattle.std.proofs.lemmas.List.{append-nil}
+use Rattle.std.proofs.lemmas.List.Elements.{All-nil}
 use Rattle.std.proofs.Math.ListN.{drop_of_length-le}
 use Rattle.std.proofs.Math.Seq.{take-length}
 use Rattle.dcop_base.specs.Table.{has}
@@ -20,7 +21,7 @@ use Rattle.protocol_steps.proofs.StartedLaws.{start_starts, step_started}
 use Rattle.worker_runs.specs.Cells.{CellState, Lane, peers, lane, grown, known_from}
 use Rattle.protocol_steps.specs.Run.{ascends_from, has_nothing}
 use Rattle.protocol_steps.specs.Rounds.{link_share}
-use Rattle.worker_runs.specs.Visits.{IsFrom, IsTo, IsStarted, IsQuiet, IsVisit}
+use Rattle.worker_runs.specs.Visits.{IsFew, IsFrom, IsTo, IsStarted, IsQuiet, IsVisit}
 use Rattle.worker_runs.specs.Acts.{moment, IsLater}
 use Rattle.worker_runs.proofs.LaneLaws.{lane_grown, has_from_contains}
 use Rattle.worker_runs.proofs.VisitLaws.{quiet_later, event_later, later_then}
@@ -108,7 +109,7 @@ sound_on begun begun_on fault fault_on s t i b made me sent taken history =
 
 -- a visit that found nothing, and one that found something
 pub visited_none : (s t : CellState) (n : ℕ) (hs gs : List Head) (letters : List (ℕ × Message)) (takes : List Take) (greatest : ℕ) → IsStrictlyIncreasing (peers (lanes_taken hs))
-    → HasCollected hs gs letters takes greatest → n ≡ length letters → n ≡ 0 → s.taken ≡ lanes_taken hs → s.known ≡ known_of hs → t.taken ≡ lanes_taken gs
+    → HasCollected hs gs letters takes greatest → n ≡ length letters → n ≡ 0 → s.taken ≡ lanes_taken hs → ((j : ℕ) → known_from j s.known ≤ known_from j (known_of hs)) → t.taken ≡ lanes_taken gs
     → t.me ≡ s.me → t.view ≡ s.view → t.stamp ≡ s.stamp → t.journal ≡ s.journal → t.sent ≡ s.sent → IsVisit s n t
 visited_none s t n hs gs letters takes greatest up c count nothing old known new me view stamp journal sent =
     let g = are_gains hs gs letters takes greatest up c in
@@ -117,13 +118,25 @@ visited_none s t n hs gs letters takes greatest up c count nothing old known new
       counted = count ∙ g.counted;
       each = g.each;
       few = omega (arith, nothing);
-      served = λ j. subst (λ (ks : List (ℕ × ℕ)). known_from j ks ≤ length (gained_from j g.gains)) (sym known) (g.served j);
+      served = λ j. let a = known j in let b = g.served j in omega (arith, a, b);
       idle = λ _. record { me = me; viewed = view; stamped = stamp; noted = journal; sent = sent; taken = new ∙ g.idle (sym count ∙ nothing) ∙ sym old };
       event = λ (some : 0 < n). absurd (omega (arith, some, nothing));
     }
 
+-- a visit that knew of nothing and took nothing
+pub visited_idle : (s t : CellState) → ((j : ℕ) → known_from j s.known ≡ 0) → t.me ≡ s.me → t.view ≡ s.view → t.stamp ≡ s.stamp → t.journal ≡ s.journal → t.sent ≡ s.sent → t.taken ≡ s.taken → IsVisit s 0 t
+visited_idle s t none me view stamp journal sent taken = record {
+  gains = [];
+  counted = refl;
+  each = All-nil IsFew;
+  few = omega arith;
+  served = λ j. let a = none j in omega (arith, a);
+  idle = λ _. record { me = me; viewed = view; stamped = stamp; noted = journal; sent = sent; taken = taken };
+  event = λ (some : 0 < 0). absurd (omega (arith, some));
+}
+
 pub visited_some : (s m t : CellState) (n : ℕ) (hs gs : List Head) (letters : List (ℕ × Message)) (takes : List Take) (greatest : ℕ) → IsStrictlyIncreasing (peers (lanes_taken hs))
-    → HasCollected hs gs letters takes greatest → n ≡ length letters → 0 < n → s.taken ≡ lanes_taken hs → s.known ≡ known_of hs → t.taken ≡ lanes_taken gs
+    → HasCollected hs gs letters takes greatest → n ≡ length letters → 0 < n → s.taken ≡ lanes_taken hs → ((j : ℕ) → known_from j s.known ≤ known_from j (known_of hs)) → t.taken ≡ lanes_taken gs
     → t.me ≡ s.me → ended_of s.view ≡ false → (private_of s.view).neighbours ≡ peers s.taken
     → m.view ≡ s.view → m.stamp ≡ s.stamp → m.journal ≡ s.journal → m.sent ≡ s.sent → IsHandled m letters takes greatest t → IsVisit s n t
 visited_some s m t n hs gs letters takes greatest up c count positive old known new me live near view stamp journal sent h =
@@ -136,7 +149,7 @@ visited_some s m t n hs gs letters takes greatest up c count positive old known 
       counted = count ∙ g.counted;
       each = g.each;
       few = subst (λ (ls : List Lane). n ≤ link_share * length ls) (sym old) (let f = g.few in omega (arith, f, count));
-      served = λ j. subst (λ (ks : List (ℕ × ℕ)). known_from j ks ≤ length (gained_from j g.gains)) (sym known) (g.served j);
+      served = λ j. let a = known j in let b = g.served j in omega (arith, a, b);
       idle = λ (none : n ≡ 0). absurd (omega (arith, none, positive));
       event = λ _. record {
         live = live;

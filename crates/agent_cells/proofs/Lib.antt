@@ -1,6 +1,7 @@
 mod MachineLaws
 mod CollectLaws
 pub mod SameLaws
+mod LookLaws
 mod ResultLaws
 mod DeliverLaws
 mod FoundLaws

@@ -1,6 +1,6 @@
 -- What holds where a call succeeded.
-use Rattle.std.proofs.Common.{◌≡◌, sym, ap, ◌∙◌, true, false, Result, Ok, Err}
-use Rattle.std.specs.Prelude.{OnOk, IsErrAnd, is_ok, is_err}
+use Rattle.std.proofs.Common.{◌≡◌, sym, ap, ◌∙◌, subst, true, false, Result, Ok, Err, Option, Some, None}
+use Rattle.std.specs.Prelude.{OnOk, IsErrAnd, MatchOption, is_ok, is_err}
 
 pub on_ok3 : {T E : Type 0} (r : Result T E) {A B C D : Type 0} → OnOk r A → OnOk r B → OnOk r C → (A → B → C → D) → OnOk r D
 on_ok3 (Ok x) a b c f = f a b c
@@ -25,3 +25,10 @@ passed_on {T} {U} {E} (Err x) e f h is = let same : x ≡ f = cc in ap (λ (y : 
 pub ok_of : {T E : Type 0} (r : Result T E) {A : Type 0} → OnOk r A → false ≡ is_err r → A
 ok_of (Ok x) a e = a
 ok_of (Err x) a e = let no : false ≡ true = e in absurd (cc)
+
+-- what holds of an option that is known
+pub at_some : {X : Type 0} (A : Type 0) (B : X → Type 0) (o : Option X) (x : X) → MatchOption o A B → o ≡ Some x → B x
+at_some {X} A B o x h e = let there : MatchOption (Some x) A B = subst (λ (p : Option X). MatchOption p A B) e h in there
+
+pub at_none : {X : Type 0} (A : Type 0) (B : X → Type 0) (o : Option X) → MatchOption o A B → o ≡ None → A
+at_none {X} A B o h e = let there : MatchOption (let none : Option X = None in none) A B = subst (λ (p : Option X). MatchOption p A B) e h in there

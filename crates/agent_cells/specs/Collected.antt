@@ -7,7 +7,8 @@ use Rattle.protocol_steps.specs.Stamps.{Gain, letters_of}
 use Rattle.protocol_steps.specs.Deeds.{takes_of, greatest_of, greatest_from}
 use Rattle.fifo_links.specs.Slots.{ring_slots}
 use Rattle.fifo_links.specs.Link.{taken_from, known_to}
-use Rattle.agent_cells.specs.Links.{Head, IsSameHead}
+use Rattle.worker_runs.specs.Cells.{known_from}
+use Rattle.agent_cells.specs.Links.{Head, IsSameHead, AreSameHeads, lanes_taken, known_of}
 
 -- one head before and after all was taken that it found, with what this was: at least what it knew, and at most what a ring holds
 pub record Finding : Type 0 where
@@ -49,3 +50,20 @@ pub record HasCollected (before after : List Head) (letters : List (ℕ × Messa
   pub letters_are : letters ≡ letters_of (gains_in findings)
   pub takes_are : takes ≡ takes_of (gains_in findings)
   pub greatest_is : greatest ≡ greatest_of (gains_in findings)
+
+-- heads before and after a look: nothing was taken, and of each peer no fewer messages are known to wait
+pub record HaveLooked (before after : List Head) : Type 0 where
+  pub same : AreSameHeads before after
+  pub taken : lanes_taken after ≡ lanes_taken before
+  pub known : (j : ℕ) → known_from j (known_of before) ≤ known_from j (known_of after)
+
+-- a look found nothing on any head
+pub record HasFoundNothing (before after : List Head) : Type 0 where
+  pub look : HaveLooked before after
+  pub none : (j : ℕ) → known_from j (known_of before) ≡ 0
+
+-- heads before a look and after what it found was taken, and what this was
+pub record HasLookedAndCollected (before after : List Head) (letters : List (ℕ × Message)) (takes : List Take) (greatest : ℕ) : Type 0 where
+  pub looked : List Head
+  pub look : HaveLooked before looked
+  pub collected : HasCollected looked after letters takes greatest

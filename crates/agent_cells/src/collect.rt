@@ -1,12 +1,13 @@
 //! What a visit takes.
 
-ghost use Rattle.std.specs.Prelude.{◌≡◌, ◌≤◌, [], ◌∷◌, ◌++◌, map, length, ◌==◌, if◌then◌else◌, IfOk, OnOk};
+ghost use Rattle.std.specs.Prelude.{◌≡◌, ◌≤◌, ℕ, [], ◌∷◌, ◌++◌, map, length, true, ◌==◌, if◌then◌else◌, IfOk, OnOk, IfSome, MatchOption};
 ghost use Rattle.std.specs.Vec.{vec_len, vec_capacity};
 ghost use Rattle.dcop_base.specs.Limits.{amount_limit};
 ghost use Rattle.protocol_steps.specs.Deeds.{greatest_from};
 ghost use Rattle.fifo_links.specs.Slots.{ring_slots};
-ghost use Rattle.agent_cells.specs.Collected.{HasFound, HasCollected};
-ghost use Rattle.agent_cells.specs.Links.{IsSameHead, AreSameHeads};
+ghost use Rattle.worker_runs.specs.Cells.{known_from};
+ghost use Rattle.agent_cells.specs.Collected.{HasFound, HasCollected, HaveLooked, HasFoundNothing, HasLookedAndCollected};
+ghost use Rattle.agent_cells.specs.Links.{IsSameHead, AreSameHeads, known_of};
 
 use crate::sealed::Sealed;
 use dcop_base::{NoMemory, VarId};
@@ -80,9 +81,44 @@ fn take_one(
     taken.add(end.0, count, found)
 }
 
+/// Takes all that is found on each link; `None` where a look finds nothing on any, which takes no
+/// memory. `found` is room for what one link holds.
+pub(crate) fn collect_waiting(
+    alloc: Global,
+    heads: &mut [(VarId, LinkHead<Sealed>)],
+    found: &mut Vec<Sealed>,
+) -> Result<Option<Taken>, NoMemory>
+    requires room { ring_slots ≤ vec_capacity found.old }
+    ensures room { ring_slots ≤ vec_capacity found.new }
+    ensures same { AreSameHeads heads.old heads.new }
+    ensures found { IfOk result (λ o. MatchOption o (HasFoundNothing heads.old heads.new)
+        (λ t. HasLookedAndCollected heads.old heads.new t.letters.items t.takes.items t.greatest)) }
+    ensures bounded { IfOk result (λ o. IfSome o (λ t. t.greatest ≤ amount_limit)) }
+{
+    if finds_nothing(heads) {
+        return Ok(None);
+    }
+    let taken = collect(alloc, heads, found)?;
+    Ok(Some(taken))
+}
+
+/// Whether nothing is found on any link. It takes nothing, and looks no further than the first link
+/// on which something is found.
+fn finds_nothing(heads: &mut [(VarId, LinkHead<Sealed>)]) -> bool
+    ensures looked { HaveLooked heads.old heads.new }
+    ensures none { result ≡ true → (j : ℕ) → known_from j (known_of heads.new) ≡ 0 }
+{
+    for end in heads.iter_mut() {
+        if !end.1.is_empty() {
+            return false;
+        }
+    }
+    true
+}
+
 /// Takes all that is found on each link, link by link. `found` is room for what one link holds.
 #[tactic(auto, using(crate::proofs::CollectLaws::collecting_none, crate::proofs::CollectLaws::collecting_more, crate::proofs::CollectLaws::collecting_all, crate::proofs::SameLaws::same_heads, crate::proofs::SameLaws::heads_set))]
-pub(crate) fn collect(
+fn collect(
     alloc: Global,
     heads: &mut [(VarId, LinkHead<Sealed>)],
     found: &mut Vec<Sealed>,

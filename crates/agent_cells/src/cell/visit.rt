@@ -9,7 +9,7 @@ ghost use Rattle.agent_cells.specs.Failed.{HasReachedEnd};
 ghost use Rattle.agent_cells.specs.State.{state_of, begun_in, fault_in, IsCell, KeepsLinks};
 
 use super::Cell;
-use crate::collect::collect;
+use crate::collect::collect_waiting;
 use crate::fault::VisitFault;
 use dcop_edge::Gate;
 
@@ -17,7 +17,7 @@ impl Cell {
     /// Passes the gate, takes all that it finds on each link, at most 64 messages of each, lets the
     /// agent react once, and sends what it sends with the next stamp. Answers how many messages it
     /// took; it is 0 only where none was known to wait, and then nothing has changed but what it
-    /// knows of its links. It takes memory.
+    /// knows of its links. It takes memory where it finds something.
     ///
     /// [`VisitFault::StampEnd`] comes exactly where something was taken and the greatest of the
     /// cell's stamp and the taken ones is `CAP`; then the agent does not react and nothing is sent.
@@ -64,7 +64,10 @@ impl Cell {
         ensures ok { IfOk result (λ n. IsVisit (state_of (λ b. meaning b) self.old) n (state_of (λ b. meaning b) self.new)) }
         ensures end { result ≡ Err StampEnd → HasReachedEnd (state_of (λ b. meaning b) self.old) (state_of (λ b. meaning b) self.new) }
     {
-        let taken = collect(self.alloc, self.heads.as_mut_slice(), &mut self.room)?;
+        let heads = self.heads.as_mut_slice();
+        let Some(taken) = collect_waiting(self.alloc, heads, &mut self.room)? else {
+            return Ok(0);
+        };
         let count = taken.letters.len() as u64;
         if count > 0 {
             self.handle(taken)?;

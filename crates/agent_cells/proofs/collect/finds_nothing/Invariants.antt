@@ -1,0 +1,11 @@
+use Rattle.std.proofs.Common.{◌≡◌, ℕ, take}
+use Rattle.worker_runs.specs.Cells.{known_from}
+use Rattle.agent_cells.specs.Links.{known_of}
+use Rattle.agent_cells.specs.Collected.{HaveLooked}
+use Rattle.agent_cells.proofs.collect.finds_nothing.Given as goal
+
+abbrev pub invariant-loop-end : goal.invariant-loop-end
+invariant-loop-end l = record {
+  looked : HaveLooked l.initial.heads l.heads;
+  none : (j : ℕ) → known_from j (known_of (take l.end-index l.heads)) ≡ 0;
+}
