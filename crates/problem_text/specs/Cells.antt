@@ -1,4 +1,4 @@
--- What is told of cells before they are kept.
+-- What is told of cells, beside those that are kept.
 use Rattle.std.specs.Prelude.{ℕ, List, length}
 use Rattle.dcop_base.specs.Table.{greatest}
 use Rattle.problem_text.specs.declared.cell_words.Summary.{Summary}
