@@ -7,6 +7,7 @@ pub mod BoundLaws
 pub mod StoreLaws
 pub mod AgentLaws
 pub mod MessageLaws
+pub mod LearnLaws
 pub mod CostLaws
 mod StepRows
 mod TestLaws

@@ -4,7 +4,7 @@ ghost use Rattle.std.specs.Prelude.{◌≡◌, ◌<◌, ◌≤◌, ◌==◌, ◌
 ghost use Rattle.std.specs.List.{fold, position};
 ghost use Rattle.dcop_base.specs.Limits.{amount_limit};
 ghost use Rattle.dcop_base.specs.Table.{has};
-ghost use Rattle.adopt_context.specs.Context.{Context, or_zero, part_of, put, value_in};
+ghost use Rattle.adopt_context.specs.Context.{AscendsFrom, Context, or_zero, part_of, put, value_in};
 ghost use Rattle.protocol_steps.specs.declared.message.Message.TheVariants.{Value, Cost, Threshold, Terminate};
 ghost use Rattle.protocol_steps.specs.Ranges.{IsBound};
 ghost use Rattle.protocol_steps.specs.AdoptBounds.{at_context, restore};
@@ -37,6 +37,17 @@ fn learned(
         }
     }
     Ok(all)
+}
+
+/// Whether a context tells nothing new: all that it gives is known.
+fn is_known(known: &AgentContext, context: &AgentContext) -> bool
+    ensures part { result ≡ true → part_of context.now known.now ≡ true }
+    ensures ascend { AscendsFrom 0 known.now }
+{
+    if known.pairs().len() < context.pairs().len() {
+        return false;
+    }
+    context.part_of(known)
 }
 
 impl AdoptAgent {
@@ -122,6 +133,10 @@ impl AdoptAgent {
         ensures learned { OnOk result (self.new ≡ learn self.old rest.now) }
     {
         if self.told_to_end {
+            return Ok(());
+        }
+        if is_known(&self.known, rest) {
+            self.restore();
             return Ok(());
         }
         let known = learned(&self.known, self.own.neighbours.as_slice(), rest)?;
