@@ -2,6 +2,7 @@ mod MachineLaws
 mod CollectLaws
 pub mod SameLaws
 mod LookLaws
+mod PlaceLaws
 mod ResultLaws
 mod DeliverLaws
 mod FoundLaws

@@ -70,6 +70,13 @@ keys_of_heads : (hs : List Head) → map (λ h. h.0) hs ≡ peers (lanes_taken h
 keys_of_heads [] = refl
 keys_of_heads (h ∷ hs) = ap (λ (ns : List ℕ). h.0 ∷ ns) (keys_of_heads hs)
 
+-- ends ascend by their peers as their lanes do
+pub tails_ascend : (ts : List Tail) → IsStrictlyIncreasing (peers (lanes_sent ts)) → IsStrictlyIncreasing (map (λ t. t.0) ts)
+tails_ascend ts up = subst (λ (ns : List ℕ). IsStrictlyIncreasing ns) (sym (keys_of_tails ts)) up
+
+pub heads_ascend : (hs : List Head) → IsStrictlyIncreasing (peers (lanes_taken hs)) → IsStrictlyIncreasing (map (λ h. h.0) hs)
+heads_ascend hs up = subst (λ (ns : List ℕ). IsStrictlyIncreasing ns) (sym (keys_of_heads hs)) up
+
 -- the ends that are settled are those of one link
 pub tail_joins : (ts : List Tail) (to k : ℕ) (d : Tail) (head : LinkHead (ℕ × Message)) → TailJoins ts to head → Some k ≡ position (λ t. t.0 == to) ts → AreEnds (get_or ts k d).1 head
 tail_joins ts to k d head j is = let f = found (λ (t : Tail). t.0) ts to k d is in j.each k (get_or ts k d) f.0 f.1

@@ -8,17 +8,19 @@ ghost use Rattle.worker_runs.specs.Cells.{peers};
 ghost use Rattle.agent_cells.specs.Links.{lanes_sent, AreSameTails};
 ghost use Rattle.agent_cells.specs.Delivered.{HasDelivered};
 
+use crate::places::place_of;
 use crate::sealed::Sealed;
 use dcop_base::{NoMemory, VarId};
 use fifo_links::LinkTail;
 use protocol_steps::{Envelope, Outbox, Parcel};
 use std::alloc::Global;
 
-/// Where the link to this peer is.
+/// Where the link to this peer is, found by halving.
 pub(crate) fn tail_to(tails: &[(VarId, LinkTail<Sealed>)], to: VarId) -> Option<usize>
+    requires ascend { IsStrictlyIncreasing (peers (lanes_sent tails.now)) }
     ensures { result ≡ position (λ t. t.0 == to) tails.now }
 {
-    tails.iter().position(|tail| tail.0 == to)
+    place_of(tails, to)
 }
 
 /// Sends one parcel with this stamp to its receiver.

@@ -9,15 +9,17 @@ ghost use Rattle.agent_cells.specs.Links.{lanes_sent, lanes_taken};
 ghost use Rattle.agent_cells.specs.Settled.{TailJoins, HeadJoins, EndsJoin, SettlesTail, SettlesHead, TailIsSettled, HeadIsSettled, EndsAreSettled};
 
 use crate::deliver::tail_to;
+use crate::places::place_of;
 use crate::sealed::Sealed;
 use dcop_base::VarId;
 use fifo_links::{LinkHead, LinkTail, settle};
 
-/// Where the link from this peer is.
+/// Where the link from this peer is, found by halving.
 fn head_from(heads: &[(VarId, LinkHead<Sealed>)], from: VarId) -> Option<usize>
+    requires ascend { IsStrictlyIncreasing (peers (lanes_taken heads.now)) }
     ensures { result ≡ position (λ h. h.0 == from) heads.now }
 {
-    heads.iter().position(|head| head.0 == from)
+    place_of(heads, from)
 }
 
 /// Settles the link to this peer, whose head is at hand. Answers how many messages are in its ring;
