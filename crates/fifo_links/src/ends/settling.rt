@@ -18,7 +18,9 @@ pub fn settle<T: Send + Drop>(tail: &mut LinkTail<T>, head: &mut LinkHead<T>) ->
     ensures settled { IsSettled tail.new head.new }
     ensures count { result ≡ length (known_to head.new) }
 {
-    tail.ring.slots_beside(&mut head.ring);
-    tail.refill();
+    if !tail.backlog.is_empty() {
+        tail.ring.slots_beside(&mut head.ring);
+        tail.refill();
+    }
     head.ring.slots_beside(&mut tail.ring) as u32
 }
