@@ -1,5 +1,6 @@
 pub mod PlaceLaws
 pub mod RangeLaws
+pub mod SizeLaws
 pub mod CountLaws
 pub mod KeptLaws
 pub mod LowestLaws

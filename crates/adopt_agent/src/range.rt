@@ -1,21 +1,37 @@
 //! What an agent takes: messages from its parent, and contexts over its path.
 
-ghost use Rattle.std.specs.Prelude.{◌≡◌, length};
+ghost use Rattle.std.specs.Prelude.{◌≡◌, false, length};
 ghost use Rattle.std.specs.List.{list_all, zip};
+ghost use Rattle.dcop_base.specs.Table.{has_repeat};
 ghost use Rattle.adopt_context.specs.Context.{is_value, value_in};
 ghost use Rattle.protocol_steps.specs.Agent.{last_of};
 ghost use Rattle.protocol_steps.specs.AdoptRange.{is_within};
 
-use adopt_context::size_beside;
 use dcop_base::{Val, VarId};
 use pseudotree::Place;
 
+/// The size that stands beside a variable of a path; `None` exactly where it is none of these. It
+/// looks from the end, where the nearest ancestors stand: messages tell most of them.
+fn size_above(path: &[VarId], sizes: &[u16], var: VarId) -> Option<u16>
+    requires sized { length sizes.now ≡ length path.now }
+    requires apart { has_repeat path.now ≡ false }
+    ensures { result ≡ value_in (zip path.now sizes.now) var }
+{
+    for k in (0..path.len()).rev() {
+        if path[k] == var {
+            return Some(sizes[k]);
+        }
+    }
+    None
+}
+
 /// Whether a variable stands in the path and the value is below its size.
 pub(crate) fn is_in_range(place: &Place, var: VarId, value: Val) -> bool
-    requires { length place.now.path_sizes ≡ length place.now.path }
+    requires sized { length place.now.path_sizes ≡ length place.now.path }
+    requires apart { has_repeat place.now.path ≡ false }
     ensures { result ≡ is_within (value_in (zip place.now.path place.now.path_sizes) var) value }
 {
-    match size_beside(place.path.as_slice(), place.path_sizes.as_slice(), var) {
+    match size_above(place.path.as_slice(), place.path_sizes.as_slice(), var) {
         Some(size) => value.0 < size,
         None => false,
     }
@@ -23,7 +39,8 @@ pub(crate) fn is_in_range(place: &Place, var: VarId, value: Val) -> bool
 
 /// Whether these pairs name only variables of the path, with values below their sizes.
 pub(crate) fn fit(place: &Place, pairs: &[(VarId, Val)]) -> bool
-    requires { length place.now.path_sizes ≡ length place.now.path }
+    requires sized { length place.now.path_sizes ≡ length place.now.path }
+    requires apart { has_repeat place.now.path ≡ false }
     ensures { result ≡ list_all (λ p. is_within
         (value_in (zip place.now.path place.now.path_sizes) p.0) p.1) pairs.now }
 {
