@@ -12,7 +12,9 @@ ghost use Rattle.adopt_agent.specs.Costs.{is_alike, stride};
 ghost use Rattle.adopt_agent.specs.Sound.{AreCosts, IsGround};
 
 use adopt_context::AgentContext;
-use dcop_base::{CAP, NoMemory, Private, Table, Val, VarId, VarList, place_of, product_of, stands_in};
+use dcop_base::{
+    CAP, NoMemory, Private, Table, Val, VarId, VarList, place_of, product_of, stands_in,
+};
 use pseudotree::Place;
 use std::alloc::Global;
 

@@ -88,9 +88,7 @@ impl AdoptAgent {
     fn takes_from_parent(&self, from: VarId, context: &AgentContext) -> bool
         ensures { result ≡ takes_from_parent self.now from context.now }
     {
-        !self.told_to_end
-            && is_parent(self.place.path.as_slice(), from)
-            && self.fits(context)
+        !self.told_to_end && is_parent(self.place.path.as_slice(), from) && self.fits(context)
     }
 
     /// Remembers a threshold, where THRESHOLD is taken; it counts where its context is compatible
