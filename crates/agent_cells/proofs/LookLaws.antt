@@ -53,8 +53,8 @@ pub none_more : (ys : List Head) (k : ℕ) (after : Head) → ((j : ℕ) → kno
     → (j : ℕ) → known_from j (known_of (take (k + 1) (set ys k after))) ≡ 0
 none_more ys k after none inside empty j =
     let whole : known_from j (known_of (take (k + 1) (set ys k after))) ≡ known_from j (known_of (take k ys) ++ (after.0, length (known_to after.1)) ∷ [])
-        = ap (λ hs. known_from j (known_of hs)) (take_more_set ys k after inside)
-        ∙ ap (known_from j) (map-append (λ (h : Head). (h.0, length (known_to h.1))) (take k ys) (after ∷ [])) in
+    = ap (λ hs. known_from j (known_of hs)) (take_more_set ys k after inside)
+    ∙ ap (known_from j) (map-append (λ (h : Head). (h.0, length (known_to h.1))) (take k ys) (after ∷ [])) in
     let parts = sum_by-append (λ (n : ℕ × ℕ). if n.0 == j then n.1 else 0) (known_of (take k ys)) ((after.0, length (known_to after.1)) ∷ []) in
     let last = sum_by-cons (λ (n : ℕ × ℕ). if n.0 == j then n.1 else 0) (after.0, length (known_to after.1)) [] in
     let one : (if after.0 == j then length (known_to after.1) else 0) ≡ 0 = either-none (after.0 == j) (length (known_to after.1)) (ap length empty) in

@@ -23,7 +23,7 @@ module _ {A : Type 0} where
   keys_rise xs i k d up lt inside =
       let near : i < length xs = omega (arith, lt, inside) in
       let pair : get_or (map (λ (e : ℕ × A). e.0) xs) i d.0 < get_or (map (λ (e : ℕ × A). e.0) xs) k d.0
-          = AllPairs-from_increasing (map (λ (e : ℕ × A). e.0) xs) up i k d.0 lt (omega (arith, inside, length-map xs (λ (e : ℕ × A). e.0))) in
+      = AllPairs-from_increasing (map (λ (e : ℕ × A). e.0) xs) up i k d.0 lt (omega (arith, inside, length-map xs (λ (e : ℕ × A). e.0))) in
       let a = get_or-map (λ (e : ℕ × A). e.0) xs i d d.0 near in
       let b = get_or-map (λ (e : ℕ × A). e.0) xs k d d.0 inside in
       omega (arith, pair, a, b)
@@ -72,7 +72,7 @@ module _ {A : Type 0} where
   pub place_found : (xs : List (ℕ × A)) (peer k : ℕ) (e : ℕ × A) → ((i : ℕ) (d : ℕ × A) → i < k → (get_or xs i d).0 < peer) → k < length xs → (get_or xs k e).0 ≡ peer → Some k ≡ position (λ x. x.0 == peer) xs
   place_found xs peer k e below inside is =
       let first : position_or_len (λ (x : ℕ × A). x.0 == peer) xs ≡ k = position_or_len_is (λ (x : ℕ × A). x.0 == peer) xs k e (omega (arith, inside))
-          (λ i lt. let low = below i e lt in ne_eqb (get_or xs i e).0 peer (λ same. omega (arith, low, same))) (λ _. eq-eqb (get_or xs k e).0 peer is) in
+      (λ i lt. let low = below i e lt in ne_eqb (get_or xs i e).0 peer (λ same. omega (arith, low, same))) (λ _. eq-eqb (get_or xs k e).0 peer is) in
       sym (ap (λ n. cond (nat_lt n (length xs)) (Some n) None) first ∙ ap (λ (b : Bool). cond b (Some k) None) (lt-ltb k (length xs) inside))
 
   -- a peer that is not among them
@@ -81,7 +81,7 @@ module _ {A : Type 0} where
   no_place (y ∷ ys) peer none =
       let xs : List (ℕ × A) = y ∷ ys in
       let first : position_or_len (λ (x : ℕ × A). x.0 == peer) xs ≡ length xs = position_or_len_is (λ (x : ℕ × A). x.0 == peer) xs (length xs) y (omega arith)
-          (λ i lt. ne_eqb (get_or xs i y).0 peer (none i y lt)) (λ (lt : length xs < length xs). absurd (omega (arith, lt))) in
+      (λ i lt. ne_eqb (get_or xs i y).0 peer (none i y lt)) (λ (lt : length xs < length xs). absurd (omega (arith, lt))) in
       sym (ap (λ n. cond (nat_lt n (length xs)) (Some n) None) first ∙ ap (λ (b : Bool). cond b (Some (length xs)) None) (ne_ltb (length xs)))
     where
       ne_ltb : (n : ℕ) → nat_lt n n ≡ false
