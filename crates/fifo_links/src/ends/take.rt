@@ -1,6 +1,6 @@
 //! What the head of a link does.
 
-ghost use Rattle.std.specs.Prelude.{◌≡◌, ◌+◌, ◌≤◌, [], length, true, false};
+ghost use Rattle.std.specs.Prelude.{◌≡◌, ◌+◌, ◌<◌, ◌≤◌, [], length, true, false};
 ghost use Rattle.std.specs.Vec.{vec_len, vec_capacity};
 ghost use Rattle.fifo_links.specs.Slots.{ring_slots};
 ghost use Rattle.fifo_links.specs.Link.{taken_from, known_to, HasTaken, SameHead};
@@ -15,6 +15,7 @@ impl<T: Send + Drop> LinkHead<T> {
         ensures taken { taken_from self.new ≡ taken_from self.old }
         ensures known { length (known_to self.old) ≤ length (known_to self.new) }
         ensures none { result ≡ true → known_to self.new ≡ [] }
+        ensures some { result ≡ false → 0 < length (known_to self.new) }
     {
         self.ring.is_empty()
     }
