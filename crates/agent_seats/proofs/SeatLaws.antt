@@ -12,7 +12,7 @@ use Rattle.dcop_base.specs.Problem.{Dcop}
 use Rattle.dcop_base.specs.Whole.{IsProblem}
 use Rattle.dcop_base.specs.Graph.{neighbours, are_neighbours, share_table, are_joined}
 use Rattle.dcop_base.proofs.JointLaws.{are_neighbours-swap}
-use Rattle.dcop_base.specs.Knowledge.{private_of as known_by}
+use Rattle.dcop_base.specs.Knowledge.{private_of as known_by, acquaintance_of}
 use Rattle.protocol_steps.specs.Knowledge.{IsKnowledge, PrivatesAreKnowledge, AcquaintancesAreKnowledge}
 use Rattle.dcop_base.specs.declared.knowledge.Private.{Private}
 use Rattle.protocol_steps.specs.View.{View, private_of, started_of}
@@ -140,3 +140,40 @@ seats_more p start all rows seats new x own me ts hs pushed size known t h q eac
             heads_are = ap (λ (y : Seat). y.heads.items) (sym last.1) ∙ q.heads_are ∙ h ∙ ap (λ (k : ℕ). slice_index_or rows k []) at;
           }
     ]
+
+-- so it is by what they know that looks at no cost
+pub met_lists : (p : Dcop) (known : List Private) → known ≡ map (acquaintance_of p) (range_with_len 0 (length p.sizes)) → neighbours_in known ≡ all_neighbours p
+met_lists p known e = ap (λ (xs : List Private). neighbours_in xs) e ∙ read (range_with_len 0 (length p.sizes))
+  where
+    read : (xs : List ℕ) → neighbours_in (map (acquaintance_of p) xs) ≡ map (neighbours p) xs
+    read [] = refl
+    read (x ∷ xs) = ap (λ (ls : List (List ℕ)). neighbours p x ∷ ls) (read xs)
+
+pub met_beside : (p : Dcop) (known : List Private) → known ≡ map (acquaintance_of p) (range_with_len 0 (length p.sizes)) → AreBeside (neighbours_in known)
+met_beside p known e =
+    let n : ℕ = length p.sizes in
+    let lists : neighbours_in known ≡ all_neighbours p = met_lists p known e in
+    let size : length (neighbours_in known) ≡ n = ap (λ (ls : List (List ℕ)). length ls) lists ∙ length-map-range_with_len (neighbours p) 0 n in
+    record {
+      edge = are_neighbours p;
+      both = are_neighbours-swap p;
+      apart = not_itself p;
+      are = lists ∙ ap (λ (m : ℕ). map (near (are_neighbours p) m) (range_with_len 0 m)) (sym size);
+    }
+
+pub met_few : (p : Dcop) (known : List Private) → IsProblem p → known ≡ map (acquaintance_of p) (range_with_len 0 (length p.sizes)) → length known ≤ variable_limit
+met_few p known whole e =
+    let size : length known ≡ length p.sizes = ap (λ (xs : List Private). length xs) e ∙ length-map-range_with_len (acquaintance_of p) 0 (length p.sizes) in
+    let few : length p.sizes ≤ variable_limit = whole.few in
+    omega (arith, size, few)
+
+-- what the next agent knows
+pub own_is : (p : Dcop) (start : Start) (known : List Private) (n me : ℕ) (own : Private) → known ≡ map (knowledge_for p start) (range_with_len 0 (length p.sizes)) → (n < length known) × (own ≡ slice_index_or known n own) → n ≡ me
+    → (me < length p.sizes) × (own ≡ knowledge_for p start me)
+own_is p start known n me own e at same =
+    let size : length known ≡ length p.sizes = ap (λ (xs : List Private). length xs) e ∙ length-map-range_with_len (knowledge_for p start) 0 (length p.sizes) in
+    let below = at.0 in
+    let lt : n < length p.sizes = omega (arith, below, size) in (
+      omega (arith, lt, same),
+      at.1 ∙ ap (λ (xs : List Private). slice_index_or xs n own) e ∙ get_or-map-range_with_len (knowledge_for p start) 0 (length p.sizes) n n own lt (omega arith) ∙ ap (knowledge_for p start) same,
+    )

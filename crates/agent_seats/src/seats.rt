@@ -2,7 +2,7 @@
 
 ghost use Rattle.std.specs.Prelude.{◌≡◌, ◌<◌, [], length, map, IfOk, slice_index_or};
 ghost use Rattle.std.specs.List.{All, range_with_len};
-ghost use Rattle.dcop_base.specs.Knowledge.{private_of as known_by};
+ghost use Rattle.dcop_base.specs.Knowledge.{private_of as known_by, acquaintance_of};
 ghost use Rattle.dcop_base.specs.Whole.{IsProblem};
 ghost use Rattle.protocol_steps.specs.Placing.{IsPlaceFor};
 ghost use Rattle.protocol_steps.specs.TreeAgents.{place_at};
@@ -19,10 +19,11 @@ use crate::seat::Seat;
 use adopt_agent::AdoptAgent;
 use agent_cells::{HeadList, TailList};
 use agent_links::{Links, link_all};
-use dcop_base::{NoMemory, Private, Problem, VarId, acquaintance, private, problem_is_whole};
+use dcop_base::{NoMemory, Private, Problem, VarId, problem_is_whole};
 use delivery_core::Start;
 use dfs_agent::TokenAgent;
 use dpop_agent::DpopAgent;
+use problem_parts::{acquaintances, add_tables, privates};
 use protocol_steps::{acquaintance_is_knowledge, places_fit, private_is_knowledge};
 use pseudotree::{Place, Tree, place};
 use std::alloc::Global;
@@ -34,36 +35,16 @@ pub fn seats_of(alloc: Global, problem: &Problem, start: &Start) -> Result<Vec<S
     ensures { IfOk result (λ seats. AreSeats problem.now start.now seats.items) }
 {
     problem_is_whole(problem);
-    let known = known_in(alloc, problem)?;
+    let known = acquaintances(alloc, problem)?;
     let links = link_all(alloc, known.as_slice())?;
-    seat_all(alloc, problem, start, links)
+    seat_known(alloc, problem, start, known, links)
 }
 
 /// What each agent knows of a problem.
 pub fn known_in(alloc: Global, problem: &Problem) -> Result<Vec<Private>, NoMemory>
     ensures { IfOk result (λ known. known.items ≡ map (known_by problem.now) (range_with_len 0 (length problem.now.sizes))) }
 {
-    let mut known = Vec::new(alloc);
-    for me in 0..problem.sizes.as_slice().len() {
-        known.push(private(alloc, problem, VarId(me as u32))?)?;
-    }
-    Ok(known)
-}
-
-/// What the agent of a variable is made from. Token agents look at no cost, so they get no tables.
-fn known_for(
-    alloc: Global,
-    problem: &Problem,
-    start: &Start,
-    me: VarId,
-) -> Result<Private, NoMemory>
-    requires { me < length problem.now.sizes }
-    ensures { IfOk result (λ own. own ≡ knowledge_for problem.now start.now me) }
-{
-    match start {
-        Start::Token => acquaintance(alloc, problem, me),
-        Start::Dpop(_) | Start::Adopt(..) => private(alloc, problem, me),
-    }
+    privates(alloc, problem)
 }
 
 /// The agents of a start, each with the ends of its links, whatever links these are.
@@ -77,14 +58,79 @@ pub fn seat_all(
     requires ends { HaveEnds (all_neighbours problem.now) (rows_in links.tails.items) (rows_in links.heads.items) }
     ensures { IfOk result (λ seats. AreSeated problem.now start.now (rows_in links.tails.items) (rows_in links.heads.items) seats.items) }
 {
+    let known = acquaintances(alloc, problem)?;
+    seat_known(alloc, problem, start, known, links)
+}
+
+/// The agents of a start, made from what they know that looks at no cost, each with the ends of its
+/// links, whatever links these are.
+fn seat_known(
+    alloc: Global,
+    problem: &Problem,
+    start: &Start,
+    known: Vec<Private>,
+    links: Links,
+) -> Result<Vec<Seat>, NoMemory>
+    requires start { IsStartFor problem.now start.now }
+    requires known { known.items ≡ map (acquaintance_of problem.now) (range_with_len 0 (length problem.now.sizes)) }
+    requires ends { HaveEnds (all_neighbours problem.now) (rows_in links.tails.items) (rows_in links.heads.items) }
+    ensures { IfOk result (λ seats. AreSeated problem.now start.now (rows_in links.tails.items) (rows_in links.heads.items) seats.items) }
+{
+    let known = known_for(alloc, problem, start, known)?;
+    seat_each(alloc, problem, start, known, links)
+}
+
+/// What the agents of a start are made from. Token agents look at no cost, so they get no tables.
+fn known_for(
+    alloc: Global,
+    problem: &Problem,
+    start: &Start,
+    known: Vec<Private>,
+) -> Result<Vec<Private>, NoMemory>
+    requires { known.items ≡ map (acquaintance_of problem.now) (range_with_len 0 (length problem.now.sizes)) }
+    ensures { IfOk result (λ own. own.items ≡ map (knowledge_for problem.now start.now) (range_with_len 0 (length problem.now.sizes))) }
+{
+    match start {
+        Start::Token => Ok(known),
+        Start::Dpop(_) | Start::Adopt(..) => with_tables(alloc, problem, known),
+    }
+}
+
+/// The same agents with the tables that name their variables.
+fn with_tables(
+    alloc: Global,
+    problem: &Problem,
+    known: Vec<Private>,
+) -> Result<Vec<Private>, NoMemory>
+    requires { known.items ≡ map (acquaintance_of problem.now) (range_with_len 0 (length problem.now.sizes)) }
+    ensures { IfOk result (λ own. own.items ≡ map (known_by problem.now) (range_with_len 0 (length problem.now.sizes))) }
+{
+    let mut known = known;
+    add_tables(alloc, problem, known.as_mut_slice())?;
+    Ok(known)
+}
+
+/// The agents of a start, which know this, each with the ends of its links.
+fn seat_each(
+    alloc: Global,
+    problem: &Problem,
+    start: &Start,
+    known: Vec<Private>,
+    links: Links,
+) -> Result<Vec<Seat>, NoMemory>
+    requires start { IsStartFor problem.now start.now }
+    requires known { known.items ≡ map (knowledge_for problem.now start.now) (range_with_len 0 (length problem.now.sizes)) }
+    requires ends { HaveEnds (all_neighbours problem.now) (rows_in links.tails.items) (rows_in links.heads.items) }
+    ensures { IfOk result (λ seats. AreSeated problem.now start.now (rows_in links.tails.items) (rows_in links.heads.items) seats.items) }
+{
     problem_is_whole(problem);
     let Links {
         mut tails,
         mut heads,
     } = links;
-    let mut seats = Vec::new(alloc);
-    for me in 0..problem.sizes.as_slice().len() {
-        let own = known_for(alloc, problem, start, VarId(me as u32))?;
+    let mut seats = Vec::with_capacity(alloc, known.len())?;
+    for own in known {
+        let me = seats.len();
         let own_tails = take_row(alloc, &mut tails, me);
         let own_heads = take_row(alloc, &mut heads, me);
         seats.push(seat_for(alloc, problem, start, own, own_tails, own_heads)?)?;

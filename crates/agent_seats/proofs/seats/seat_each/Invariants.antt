@@ -3,15 +3,15 @@ use Rattle.agent_links.specs.Links.{rows_in}
 use Rattle.delivery_core.specs.Starts.{agent_of}
 use Rattle.agent_seats.specs.declared.seat.Seat.{Seat}
 use Rattle.agent_seats.specs.Seats.{IsSeat}
-use Rattle.agent_seats.proofs.seats.seat_all.Given as goal
+use Rattle.agent_seats.proofs.seats.seat_each.Given as goal
 
-abbrev pub invariant-loop-me : goal.invariant-loop-me
-invariant-loop-me l = record {
-  size : length l.seats.items ≡ l.me;
+abbrev pub invariant-loop-own : goal.invariant-loop-own
+invariant-loop-own l = record {
+  size : length l.seats.items ≡ length l.yielded;
   tails_size : length l.tails.items ≡ length l.initial.tails.items;
   heads_size : length l.heads.items ≡ length l.initial.heads.items;
-  tails_rest : (k : ℕ) (d : _) → l.me ≤ k → slice_index_or l.tails.items k d ≡ slice_index_or l.initial.tails.items k d;
-  heads_rest : (k : ℕ) (d : _) → l.me ≤ k → slice_index_or l.heads.items k d ≡ slice_index_or l.initial.heads.items k d;
+  tails_rest : (k : ℕ) (d : _) → length l.seats.items ≤ k → slice_index_or l.tails.items k d ≡ slice_index_or l.initial.tails.items k d;
+  heads_rest : (k : ℕ) (d : _) → length l.seats.items ≤ k → slice_index_or l.heads.items k d ≡ slice_index_or l.initial.heads.items k d;
   each : (i : ℕ) (s : Seat) → slice_get l.seats.items i ≡ Some s
       → IsSeat (agent_of l.problem l.start i) i (slice_index_or (rows_in l.initial.tails.items) i []) (slice_index_or (rows_in l.initial.heads.items) i []) s;
 }
