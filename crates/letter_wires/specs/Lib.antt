@@ -1,3 +1,4 @@
 pub mod Faults
 pub mod Carried
 pub mod Honest
+pub mod Busy

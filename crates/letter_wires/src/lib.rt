@@ -6,6 +6,7 @@
 //! and only bytes that are no frames of letters are refused here.
 #![tactic(auto)]
 
+mod busy;
 mod carry;
 mod fault;
 mod pass;

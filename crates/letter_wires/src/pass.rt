@@ -5,12 +5,14 @@ ghost use Rattle.std.specs.List.{All};
 ghost use Rattle.worker_runs.specs.Cells.{EachAre};
 ghost use Rattle.node_letters.specs.Passings.{SamePassing, HasReceived, AreAcross, LeadApart, HaveCome, NothingCame, AllCame, letters_of, frames_of};
 ghost use Rattle.node_letters.specs.Letters.{IsLetter};
+ghost use Rattle.letter_wires.specs.Busy.{IsBusyPart};
 ghost use Rattle.letter_wires.specs.Honest.{AreHonest};
 ghost use Rattle.letter_wires.specs.Faults.{HasPassCause, AreTwo, IsByteFault, IsNoDifference, IsNoFailure};
 
+use crate::busy::{busy_part, write_part};
 use crate::carry::carry;
 use crate::fault::PassFault;
-use node_letters::{LinkPassing, receive, write_letters};
+use node_letters::{LinkPassing, receive};
 use std::alloc::{AllocGlobal, Global};
 use std::net::Net;
 use std::random::RandomSource;
@@ -42,19 +44,22 @@ where
     ensures honest { AreHonest D.W.told D.W.is_joined wires.old.items → NothingCame passings.old
         → OnOk result (AreHonest D.W.told D.W.is_joined wires.new.items × AllCame passings.new) × IfErr result IsNoDifference }
 {
+    let busy = busy_part(passings);
     for first in 0..nodes {
-        pass_from(rt, alloc, dialer, wires, passings, nodes, first)?;
+        pass_from(rt, alloc, dialer, wires, passings, busy, nodes, first)?;
     }
     Ok(())
 }
 
-/// [`pass_all`], for the pairs of a node and a later one.
+/// [`pass_all`], for the pairs of a node and a later one. Of the links only this part has something to
+/// send.
 fn pass_from<R, D>(
     rt: &R,
     alloc: Global,
     dialer: &mut D,
     wires: &mut Vec<(D::W, D::W)>,
     passings: &mut [LinkPassing],
+    busy: (usize, usize),
     nodes: u32,
     first: u32,
 ) -> Result<(), PassFault>
@@ -62,6 +67,7 @@ where
     R: Threads + Wait + Clock + RandomSource + Net + AllocGlobal + Sync,
     D: Dialer,
     requires inside { first < nodes }
+    requires busy { IsBusyPart passings.old busy.0 busy.1 }
     requires across { AreAcross nodes passings.old }
     requires wires { 1 < nodes → 0 < length wires.old.items }
     ensures same { EachAre SamePassing passings.old passings.new }
@@ -73,7 +79,7 @@ where
         → OnOk result (AreHonest D.W.told D.W.is_joined wires.new.items × HaveCome (first + 1) (first + 2) passings.new) × IfErr result IsNoDifference }
 {
     for second in first + 1..nodes {
-        pass_pair(rt, alloc, dialer, wires, passings, first, second)?;
+        pass_pair(rt, alloc, dialer, wires, passings, busy, first, second)?;
     }
     Ok(())
 }
@@ -85,6 +91,7 @@ fn pass_pair<R, D>(
     dialer: &mut D,
     wires: &mut Vec<(D::W, D::W)>,
     passings: &mut [LinkPassing],
+    busy: (usize, usize),
     first: u32,
     second: u32,
 ) -> Result<(), PassFault>
@@ -92,6 +99,7 @@ where
     R: Threads + Wait + Clock + RandomSource + Net + AllocGlobal + Sync,
     D: Dialer,
     requires order { first < second }
+    requires busy { IsBusyPart passings.old busy.0 busy.1 }
     requires across { (nodes : ℕ) × AreAcross nodes passings.old }
     requires wires { 0 < length wires.old.items }
     ensures same { EachAre SamePassing passings.old passings.new }
@@ -102,8 +110,8 @@ where
     ensures honest { AreHonest D.W.told D.W.is_joined wires.old.items → HaveCome first second passings.old
         → OnOk result (AreHonest D.W.told D.W.is_joined wires.new.items × HaveCome first (second + 1) passings.new) × IfErr result IsNoDifference }
 {
-    let there = write_letters(alloc, passings, first, second)?;
-    let back = write_letters(alloc, passings, second, first)?;
+    let there = write_part(alloc, passings, busy, first, second)?;
+    let back = write_part(alloc, passings, busy, second, first)?;
     let ends = wires.remove(0);
     let came = carry(rt, alloc, dialer, ends, there, back)?;
     take_in(alloc, passings, first, second, came.at_second.as_slice())?;

@@ -4,6 +4,7 @@ use Rattle.node_letters.specs.Passings.{HaveCome}
 use Rattle.node_letters.proofs.LetterLaws.{all_same, all_same_then}
 use Rattle.node_letters.proofs.ReceiveLaws.{still_across}
 use Rattle.node_letters.proofs.ComeLaws.{none_come, all_come}
+use Rattle.letter_wires.proofs.BusyLaws.{still_busy}
 use Rattle.letter_wires.proofs.PassLaws.{err_on, nothing_on, fault_still, cause_on}
 use Rattle.letter_wires.proofs.pass.pass_all.Goals as goal
 
@@ -16,6 +17,9 @@ loop-first-init g c = record {
   wires_honest = λ h none. h;
   come = λ h none. none_come c.args.passings.now none;
 }
+
+pub pass_from-requires-clause-busy : goal.pass_from-requires-clause-busy
+pass_from-requires-clause-busy g c κs within = still_busy c.args.passings.now c.loop-first.passings c.busy_part-busy.result.0 c.busy_part-busy.result.1 c.loop-first.invariant.same c.busy_part-busy.ensures
 
 pub pass_from-requires-clause-across : goal.pass_from-requires-clause-across
 pass_from-requires-clause-across g c κs within = still_across c.args.nodes c.args.passings.now c.loop-first.passings c.loop-first.invariant.same c.requires.across

@@ -3,6 +3,7 @@ use Rattle.letter_wires.specs.Faults.{IsByteFault, IsNoDifference}
 use Rattle.node_letters.proofs.LetterLaws.{all_same, all_same_then}
 use Rattle.node_letters.proofs.ReceiveLaws.{still_across}
 use Rattle.node_letters.proofs.ComeLaws.{next_row}
+use Rattle.letter_wires.proofs.BusyLaws.{still_busy}
 use Rattle.letter_wires.proofs.PassLaws.{err_on, nothing_on, fault_still, two_in_order, cause_on}
 use Rattle.letter_wires.proofs.pass.pass_from.Goals as goal
 
@@ -16,6 +17,9 @@ loop-second-init g c = record {
   wires_honest = λ h come. h;
   come = λ h come. come;
 }
+
+pub pass_pair-requires-clause-busy : goal.pass_pair-requires-clause-busy
+pass_pair-requires-clause-busy g c κs within = still_busy c.args.passings.now c.loop-second.passings c.args.busy.0 c.args.busy.1 c.loop-second.invariant.same c.requires.busy
 
 pub pass_pair-requires-clause-across : goal.pass_pair-requires-clause-across
 pass_pair-requires-clause-across g c κs within = (c.args.nodes, still_across c.args.nodes c.args.passings.now c.loop-second.passings c.loop-second.invariant.same c.requires.across)
