@@ -1,9 +1,7 @@
 //! Draining the links between nodes.
 
-ghost use Rattle.std.specs.Prelude.{◌≡◌, ◌+◌, ◌≤◌, [], length, OnOk};
+ghost use Rattle.std.specs.Prelude.{◌≡◌, ◌+◌, ◌≤◌, length, OnOk};
 ghost use Rattle.std.specs.List.{Contains};
-ghost use Rattle.std.specs.Vec.{vec_capacity};
-ghost use Rattle.fifo_links.specs.Slots.{ring_slots};
 ghost use Rattle.fifo_links.specs.Link.{taken_from, known_to, SameHead};
 ghost use Rattle.worker_runs.specs.Cells.{peers, lane};
 ghost use Rattle.agent_cells.specs.Settled.{TailJoins};
@@ -34,29 +32,26 @@ pub(crate) fn drain_link(
     ensures drained { OnOk result (HasDrained inner.old drained.old.items inner.new drained.new.items) }
     ensures all { OnOk result (taken_from inner.new ≡ lane to (state_of (λ b. meaning (b.vtable, b.value)) cell.new).sent) }
 {
-    let mut found = Vec::with_capacity(alloc, SLOTS)?;
     while cell.settle_tail(to, inner) > 0 {
-        take_found(inner, &mut found, drained)?;
+        take_found(alloc, inner, drained)?;
     }
     Ok(())
 }
 
-/// Takes what is found in the ring of a link, and adds it to a list. `found` is room for it.
+/// Takes what is found in the ring of a link, and adds it to a list. It takes memory for all that the
+/// ring has room for.
 fn take_found(
+    alloc: Global,
     inner: &mut LinkHead<Sealed>,
-    found: &mut Vec<Sealed>,
     drained: &mut Vec<Envelope>,
 ) -> Result<(), NoMemory>
-    requires empty { found.old.items ≡ [] }
-    requires room { ring_slots ≤ vec_capacity found.old }
     ensures end { SameHead inner.old inner.new }
     ensures drained { OnOk result (HasDrained inner.old drained.old.items inner.new drained.new.items) }
     ensures known { OnOk result (length (taken_from inner.old) + length (known_to inner.old) ≤ length (taken_from inner.new)) }
-    ensures empty { OnOk result (found.new.items ≡ []) }
-    ensures room { ring_slots ≤ vec_capacity found.new }
 {
-    inner.take_all(found);
-    for sealed in found.drain(..) {
+    let mut found = Vec::with_capacity(alloc, SLOTS)?;
+    inner.take_all(&mut found);
+    for sealed in found {
         drained.push(sealed.open())?;
     }
     Ok(())
