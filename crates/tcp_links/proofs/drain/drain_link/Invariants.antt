@@ -1,4 +1,4 @@
-use Rattle.std.proofs.Common.{◌≡◌, ◌-◌, length}
+use Rattle.std.proofs.Common.{◌-◌, length}
 use Rattle.fifo_links.specs.Link.{taken_from, SameHead}
 use Rattle.worker_runs.specs.Cells.{lane}
 use Rattle.agent_cells.specs.Settled.{TailJoins}
