@@ -5,6 +5,7 @@ mod LookLaws
 mod PlaceLaws
 mod ResultLaws
 mod DeliverLaws
+mod MarkLaws
 mod FoundLaws
 pub mod CellLaws
 mod SettleLaws

@@ -2,6 +2,7 @@ pub mod Receivers
 pub mod Links
 pub mod Collected
 pub mod Delivered
+pub mod Marked
 pub mod State
 pub mod Handled
 pub mod Failed

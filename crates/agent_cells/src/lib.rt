@@ -16,6 +16,7 @@ mod deliver;
 mod fault;
 mod law;
 mod machine;
+mod marks;
 mod places;
 mod sealed;
 mod settling;

@@ -1,5 +1,5 @@
 -- How playing cells breaks off where stamps end.
-use Rattle.std.proofs.Common.{◌≡◌, ◌≢◌, ℕ, zero, suc, ◌+◌, ◌*◌, ◌<◌, ◌≤◌, Result, Ok, Err, Some, None, List, [], ◌∷◌, ◌++◌, map, length, set, get_or, slice_get, refl, sym, ap, subst, ◌∙◌, inl, inr, arith, length-set, length-append}
+use Rattle.std.proofs.Common.{◌≡◌, ◌≢◌, ℕ, zero, suc, ◌+◌, ◌*◌, ◌<◌, ◌≤◌, Bool, Result, Ok, Err, Some, None, List, [], ◌∷◌, ◌++◌, map, length, set, get_or, slice_get, refl, sym, ap, subst, ◌∙◌, inl, inr, arith, length-set, length-append}
 use Rattle.std.specs.Prelude.{IfOk, IfErr, IsErrAnd}
 use Rattle.std.proofs.Math.Nat.{mul-le-mul_right}
 use Rattle.std.proofs.lemmas.Bool.{cases_eq, cases_Bool, cases_lt}
@@ -22,7 +22,7 @@ use Rattle.agent_cells.specs.State.{state_of, fault_in}
 use Rattle.agent_cells.specs.Failed.{HasReachedEnd}
 use Rattle.agent_workers.specs.Joined.{states_of, EachIs, EachBecomes}
 use Rattle.agent_workers.specs.Settled.{StaysQuiet}
-use Rattle.agent_workers.specs.Turns.{visit_limit, sprint_limit, IsReady, StaysReady, HasTurned, SomeFailed, AreTurning, AreSprinting, HavePlayed}
+use Rattle.agent_workers.specs.Turns.{visit_limit, sprint_limit, IsReady, StaysReady, HasTurned, MayHaveTurned, SomeFailed, AreTurning, AreSprinting, HavePlayed}
 use Rattle.agent_workers.specs.Parts.{both_of, ByParts}
 use Rattle.agent_workers.specs.Broken.{HasGoneOn, StandsOrEnds, AreBrokenOff}
 use Rattle.agent_workers.proofs.ListLaws.{each_are, one_at}
@@ -69,35 +69,47 @@ module _ {X : Type 0} {F : X → Type 0} (M : DynBox X Global F → View) where
   visit_gone zero s t v = record { deeds = []; later = quiet_later s t (v.idle refl) }
   visit_gone (suc n) s t v = record { deeds = _; later = event_later s t v.gains (v.event (omega arith)) }
 
-  turn_gone : (n : ℕ) (a b : Cell X F) → HasTurned M n a b → HasGoneOn (state_of M a) (state_of M b)
-  turn_gone n a b t = elim (cases_Bool (ended_of (state_of M a).view)) [
+  visited_gone : (n : ℕ) (a b : Cell X F) → HasTurned M n a b → HasGoneOn (state_of M a) (state_of M b)
+  visited_gone n a b t = elim (cases_Bool (ended_of (state_of M a).view)) [
     | inl ended ↦ subst (λ (c : Cell X F). HasGoneOn (state_of M a) (state_of M c)) (sym (t.rests ended).0) (gone_none (state_of M a))
     | inr live ↦ visit_gone n (state_of M a) (state_of M b) (t.visit live).0
   ]
 
-  turn_fine : (n : ℕ) (a b : Cell X F) → HasTurned M n a b → IsFine a → IsFine b
-  turn_fine n a b t fine = elim (cases_Bool (ended_of (state_of M a).view)) [
+  visited_fine : (n : ℕ) (a b : Cell X F) → HasTurned M n a b → IsFine a → IsFine b
+  visited_fine n a b t fine = elim (cases_Bool (ended_of (state_of M a).view)) [
     | inl ended ↦ subst IsFine (sym (t.rests ended).0) fine
     | inr live ↦ (t.visit live).1
   ]
 
-  turned_at : (k n : ℕ) (a b : List (Cell X F)) → AreTurning M k n a b → (i : ℕ) (x y : Cell X F) → slice_get a i ≡ Some x → slice_get b i ≡ Some y → HasGoneOn (state_of M x) (state_of M y) × (IsFine x → IsFine y)
-  turned_at k n a b t i x y e f = elim (cases_lt i k) [
-    | inl lt ↦ let h = t.turned i x y e f lt in (turn_gone h.0 x y h.1, turn_fine h.0 x y h.1)
+  turn_gone : (all : Bool) (n : ℕ) (a b : Cell X F) → MayHaveTurned M all n a b → HasGoneOn (state_of M a) (state_of M b)
+  turn_gone all n a b t = elim t [
+    | inl turn ↦ visited_gone n a b turn
+    | inr passed ↦ subst (λ (c : Cell X F). HasGoneOn (state_of M a) (state_of M c)) (sym passed.1) (gone_none (state_of M a))
+  ]
+
+  turn_fine : (all : Bool) (n : ℕ) (a b : Cell X F) → MayHaveTurned M all n a b → IsFine a → IsFine b
+  turn_fine all n a b t fine = elim t [
+    | inl turn ↦ visited_fine n a b turn fine
+    | inr passed ↦ subst IsFine (sym passed.1) fine
+  ]
+
+  turned_at : (all : Bool) (k n : ℕ) (a b : List (Cell X F)) → AreTurning M all k n a b → (i : ℕ) (x y : Cell X F) → slice_get a i ≡ Some x → slice_get b i ≡ Some y → HasGoneOn (state_of M x) (state_of M y) × (IsFine x → IsFine y)
+  turned_at all k n a b t i x y e f = elim (cases_lt i k) [
+    | inl lt ↦ let h = t.turned i x y e f lt in (turn_gone all h.0 x y h.1, turn_fine all h.0 x y h.1)
     | inr le ↦
         let same : y ≡ x = t.rest i x y e f le in
         (subst (λ (c : Cell X F). HasGoneOn (state_of M x) (state_of M c)) (sym same) (gone_none (state_of M x)), λ fine. subst IsFine (sym same) fine)
   ]
 
   -- a turn in which the visit of cell k found that stamps end
-  pub turn_broken : (k n : ℕ) (before now : List (Cell X F)) (d y : Cell X F) → AreTurning M k n before now → k < length now
+  pub turn_broken : (all : Bool) (k n : ℕ) (before now : List (Cell X F)) (d y : Cell X F) → AreTurning M all k n before now → k < length now
       → (fault_in (get_or now k d) ≡ None → HasReachedEnd (state_of M (get_or now k d)) (state_of M y)) → EachIs IsFine before → AreBrokenOff M HasGoneOn visit_limit (states_of M before) (set now k y)
-  turn_broken k n before now d y t lt end fine =
+  turn_broken all k n before now d y t lt end fine =
       let size : length now ≡ length before = t.ready.size in
-      let fine_at : (i : ℕ) (b : Cell X F) → slice_get now i ≡ Some b → IsFine b = λ i b is. let a = stood M (StaysReady M) before now t.ready i b is in (turned_at k n before now t i a.0 b a.1 is).1 (fine.each i a.0 a.1) in
+      let fine_at : (i : ℕ) (b : Cell X F) → slice_get now i ≡ Some b → IsFine b = λ i b is. let a = stood M (StaysReady M) before now t.ready i b is in (turned_at all k n before now t i a.0 b a.1 is).1 (fine.each i a.0 a.1) in
       record {
         stood = states_of M now;
-        gone = each_are HasGoneOn (state_of M) (state_of M) before now size (λ i a b e f. (turned_at k n before now t i a b e f).0);
+        gone = each_are HasGoneOn (state_of M) (state_of M) before now size (λ i a b e f. (turned_at all k n before now t i a b e f).0);
         most =
             let counted = t.counted in
             let most = t.most in

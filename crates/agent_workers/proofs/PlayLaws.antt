@@ -1,5 +1,5 @@
 -- Turns, sprints and parts.
-use Rattle.std.proofs.Common.{◌≡◌, ◌≢◌, ℕ, zero, suc, ◌+◌, ◌*◌, ◌<◌, ◌≤◌, ◌⊎◌, Result, Ok, Err, Some, List, [], ◌∷◌, ◌++◌, length, set, get_or, slice_get, refl, sym, ap, subst, ◌∙◌, inl, inr, arith, length-set, length-append}
+use Rattle.std.proofs.Common.{◌≡◌, ◌≢◌, ℕ, zero, suc, ◌+◌, ◌*◌, ◌<◌, ◌≤◌, ◌⊎◌, Bool, true, false, Result, Ok, Err, Some, List, [], ◌∷◌, ◌++◌, length, set, get_or, slice_get, refl, sym, ap, subst, ◌∙◌, inl, inr, arith, length-set, length-append}
 use Rattle.std.specs.Prelude.{IfOk, IfErr, IsErrAnd}
 use Rattle.std.specs.List.{sum_by}
 use Rattle.std.proofs.Math.Nat.{suc-mul, mul-le-mul_right}
@@ -21,7 +21,7 @@ use Rattle.agent_cells.specs.State.{state_of, fault_in}
 use Rattle.agent_workers.specs.Joined.{states_of, EachIs, EachBecomes}
 use Rattle.agent_cells.specs.declared.fault.VisitFault.TheVariants.{NoMemory, StampEnd}
 use Rattle.agent_workers.specs.Parts.{both_of}
-use Rattle.agent_workers.specs.Turns.{visit_limit, IsReady, StaysReady, HasTurned, HasSprinted, SomeFailed, AreTurning, AreSprinting, HavePlayed}
+use Rattle.agent_workers.specs.Turns.{visit_limit, IsReady, StaysReady, HasTurned, MayHaveTurned, HasSprinted, SomeFailed, AreTurning, AreSprinting, HavePlayed}
 use Rattle.agent_workers.proofs.ListLaws.{one_at}
 use Rattle.agent_workers.proofs.CellLaws.{keeps_none, keeps_then}
 use Rattle.agent_workers.proofs.JoinLaws.{stood}
@@ -94,8 +94,8 @@ module _ {X : Type 0} {F : X → Type 0} (M : DynBox X Global F → View) where
       ∙ sym (sum_by-cons (λ (x : Cell X F). taken_by (state_of M x).journal) c cells)
 
   -- a turn takes what it tells
-  turn_takes : (n : ℕ) (a b : Cell X F) → HasTurned M n a b → taken_by (state_of M b).journal ≡ taken_by (state_of M a).journal + n
-  turn_takes n a b t = elim (cases_Bool (ended_of (state_of M a).view)) [
+  visit_takes : (n : ℕ) (a b : Cell X F) → HasTurned M n a b → taken_by (state_of M b).journal ≡ taken_by (state_of M a).journal + n
+  visit_takes n a b t = elim (cases_Bool (ended_of (state_of M a).view)) [
     | inl ended ↦
         let rests = t.rests ended in
         let same : taken_by (state_of M b).journal ≡ taken_by (state_of M a).journal = ap (λ (c : Cell X F). taken_by (state_of M c).journal) rests.0 in
@@ -103,14 +103,28 @@ module _ {X : Type 0} {F : X → Type 0} (M : DynBox X Global F → View) where
     | inr live ↦ totals_add.visit (state_of M a) (state_of M b) n (t.visit live).0
   ]
 
-  turn_few : (n : ℕ) (a b : Cell X F) → IsReady M a → HasTurned M n a b → n ≤ visit_limit
-  turn_few n a b r t = elim (cases_Bool (ended_of (state_of M a).view)) [
+  turn_takes : (all : Bool) (n : ℕ) (a b : Cell X F) → MayHaveTurned M all n a b → taken_by (state_of M b).journal ≡ taken_by (state_of M a).journal + n
+  turn_takes all n a b t = elim t [
+    | inl turn ↦ visit_takes n a b turn
+    | inr passed ↦
+        let same : taken_by (state_of M b).journal ≡ taken_by (state_of M a).journal = ap (λ (c : Cell X F). taken_by (state_of M c).journal) passed.1 in
+        let none = passed.2 in omega (arith, same, none)
+  ]
+
+  visit_few : (n : ℕ) (a b : Cell X F) → IsReady M a → HasTurned M n a b → n ≤ visit_limit
+  visit_few n a b r t = elim (cases_Bool (ended_of (state_of M a).view)) [
     | inl ended ↦ let none = (t.rests ended).1 in omega (arith, none)
     | inr live ↦ let few = (t.visit live).0.few in let peers = r.few in omega (arith, few, peers)
   ]
 
-  pub turn_none : (cells : List (Cell X F)) → EachIs (IsReady M) cells → AreTurning M 0 0 cells cells
-  turn_none cells r = record {
+  turn_few : (all : Bool) (n : ℕ) (a b : Cell X F) → IsReady M a → MayHaveTurned M all n a b → n ≤ visit_limit
+  turn_few all n a b r t = elim t [
+    | inl turn ↦ visit_few n a b r turn
+    | inr passed ↦ let none = passed.2 in omega (arith, none)
+  ]
+
+  pub turn_none : (all : Bool) (cells : List (Cell X F)) → EachIs (IsReady M) cells → AreTurning M all 0 0 cells cells
+  turn_none all cells r = record {
     ready = each_ready cells r;
     turned = λ i a b e f lt. absurd (omega (arith, lt));
     rest = λ i a b e f le. one_at cells i b a f e;
@@ -134,9 +148,9 @@ module _ {X : Type 0} {F : X → Type 0} (M : DynBox X Global F → View) where
     ];
   }
 
-  pub turn_more : (k n m : ℕ) (before now : List (Cell X F)) (d y : Cell X F) → AreTurning M k n before now → k < length now → StaysReady M (get_or now k d) y → HasTurned M m (get_or now k d) y
-      → AreTurning M (k + 1) (n + m) before (set now k y)
-  turn_more k n m before now d y t lt s turned =
+  pub turn_more : (all : Bool) (k n m : ℕ) (before now : List (Cell X F)) (d y : Cell X F) → AreTurning M all k n before now → k < length now → StaysReady M (get_or now k d) y → MayHaveTurned M all m (get_or now k d) y
+      → AreTurning M all (k + 1) (n + m) before (set now k y)
+  turn_more all k n m before now d y t lt s turned =
       let x : Cell X F = get_or now k d in
       let size : length now ≡ length before = t.ready.size in
       record {
@@ -146,7 +160,7 @@ module _ {X : Type 0} {F : X → Type 0} (M : DynBox X Global F → View) where
               let at : slice_get now i ≡ Some x = ap (slice_get now) here.0 ∙ slice_get-get_or now k d lt in
               let place = here.0 in
               let is_a : x ≡ a = t.rest i a x e at (omega (arith, place)) in
-              (m, subst (λ (c : Cell X F). HasTurned M m c b) is_a (subst (λ (c : Cell X F). HasTurned M m x c) (sym here.1) turned))
+              (m, subst (λ (c : Cell X F). MayHaveTurned M all m c b) is_a (subst (λ (c : Cell X F). MayHaveTurned M all m x c) (sym here.1) turned))
           | inr out ↦ let ne = out.0 in t.turned i a b e out.1 (omega (arith, in_i, ne))
         ];
         rest = λ i a b e f le. elim (set_back now k y i b lt f) [
@@ -157,10 +171,10 @@ module _ {X : Type 0} {F : X → Type 0} (M : DynBox X Global F → View) where
             let old = total_is now in
             let new = total_is (set now k y) in
             let write = sum_by-set (λ (c : Cell X F). taken_by (state_of M c).journal) now k y d lt in
-            let takes : taken_by (state_of M y).journal ≡ taken_by (state_of M x).journal + m = turn_takes m x y turned in
+            let takes : taken_by (state_of M y).journal ≡ taken_by (state_of M x).journal + m = turn_takes all m x y turned in
             let was = t.counted in
             omega (arith, old, new, write, takes, was);
-        most = most_more n m k visit_limit t.most (turn_few m x y (ready_at before now k d t.ready lt) turned);
+        most = most_more n m k visit_limit t.most (turn_few all m x y (ready_at before now k d t.ready lt) turned);
       }
 
   pub failed_set : (f : VisitFault) (cells : List (Cell X F)) (k : ℕ) (y : Cell X F) → k < length cells → fault_in y ≡ Some f → SomeFailed f (set cells k y)
@@ -180,23 +194,35 @@ module _ {X : Type 0} {F : X → Type 0} (M : DynBox X Global F → View) where
   }
 
   -- a first turn, and one more
-  turn_first : (m : ℕ) (b c : Cell X F) → HasTurned M m b c → HasSprinted M 1 b c
-  turn_first m b c t = elim (cases_Bool (ended_of (state_of M b).view)) [
+  visit_first : (m : ℕ) (b c : Cell X F) → HasTurned M m b c → HasSprinted M 1 b c
+  visit_first m b c t = elim (cases_Bool (ended_of (state_of M b).view)) [
     | inl ended ↦ subst (λ (x : Cell X F). HasSprinted M 1 b x) (sym (t.rests ended).0) (record { sprint = sprints_are_visits.rests 1 (state_of M b) ended; fault = λ none. none })
     | inr live ↦ let v = t.visit live in record { sprint = sprints_are_visits.first (state_of M b) (state_of M c) m live v.0; fault = λ _. v.1 }
   ]
 
-  turn_next : (k m : ℕ) (a b c : Cell X F) → HasSprinted M k a b → HasTurned M m b c → HasSprinted M (k + 1) a c
-  turn_next k m a b c s t = elim (cases_Bool (ended_of (state_of M b).view)) [
+  turn_first : (all : Bool) (m : ℕ) (b c : Cell X F) → all ≡ true → MayHaveTurned M all m b c → HasSprinted M 1 b c
+  turn_first all m b c whole t = elim t [
+    | inl turn ↦ visit_first m b c turn
+    | inr passed ↦ let no : true ≡ false = sym whole ∙ passed.0 in absurd (cc)
+  ]
+
+  visit_next : (k m : ℕ) (a b c : Cell X F) → HasSprinted M k a b → HasTurned M m b c → HasSprinted M (k + 1) a c
+  visit_next k m a b c s t = elim (cases_Bool (ended_of (state_of M b).view)) [
     | inl ended ↦ subst (λ (x : Cell X F). HasSprinted M (k + 1) a x) (sym (t.rests ended).0) (record { sprint = sprints_are_visits.fewer k (k + 1) (state_of M a) (state_of M b) (omega arith) s.sprint; fault = s.fault })
     | inr live ↦ let v = t.visit live in record { sprint = sprints_are_visits.next k m (state_of M a) (state_of M b) (state_of M c) s.sprint v.0; fault = λ _. v.1 }
   ]
 
-  turns_all : (m : ℕ) (b c : List (Cell X F)) → AreTurning M (length b) m b c → (i : ℕ) (y z : Cell X F) → slice_get b i ≡ Some y → slice_get c i ≡ Some z → (n : ℕ) × HasTurned M n y z
-  turns_all m b c t i y z e f = t.turned i y z e f (slice_get_within b i y e)
+  turn_next : (all : Bool) (k m : ℕ) (a b c : Cell X F) → HasSprinted M k a b → MayHaveTurned M all m b c → HasSprinted M (k + 1) a c
+  turn_next all k m a b c s t = elim t [
+    | inl turn ↦ visit_next k m a b c s turn
+    | inr passed ↦ subst (λ (x : Cell X F). HasSprinted M (k + 1) a x) (sym passed.1) (record { sprint = sprints_are_visits.fewer k (k + 1) (state_of M a) (state_of M b) (omega arith) s.sprint; fault = s.fault })
+  ]
 
-  pub sprint_more : (k n m : ℕ) (a b c : List (Cell X F)) → AreSprinting M k n a b → AreTurning M (length b) m b c → AreSprinting M (k + 1) (n + m) a c
-  sprint_more k n m a b c s t =
+  turns_all : (all : Bool) (m : ℕ) (b c : List (Cell X F)) → AreTurning M all (length b) m b c → (i : ℕ) (y z : Cell X F) → slice_get b i ≡ Some y → slice_get c i ≡ Some z → (n : ℕ) × MayHaveTurned M all n y z
+  turns_all all m b c t i y z e f = t.turned i y z e f (slice_get_within b i y e)
+
+  pub sprint_more : (all : Bool) (k n m : ℕ) (a b c : List (Cell X F)) → (k ≡ 0 → all ≡ true) → AreSprinting M k n a b → AreTurning M all (length b) m b c → AreSprinting M (k + 1) (n + m) a c
+  sprint_more all k n m a b c first s t =
       let size : length b ≡ length a = s.ready.size in
       record {
         ready = each_ready_then a b c s.ready t.ready;
@@ -205,12 +231,12 @@ module _ {X : Type 0} {F : X → Type 0} (M : DynBox X Global F → View) where
           size = t.ready.size ∙ s.ready.size;
           each = λ i x z e f.
               let y = stood M (StaysReady M) b c t.ready i z f in
-              let turn = turns_all m b c t i y.0 z y.1 f in
+              let turn = turns_all all m b c t i y.0 z y.1 f in
               elim (cases_eq k 0) [
                 | inl none ↦
                     let same : y.0 ≡ x = one_at b i y.0 x y.1 (ap (λ cs. slice_get cs i) (s.none none) ∙ e) in
-                    subst (λ (w : Cell X F). HasSprinted M (k + 1) w z) same (subst (λ (j : ℕ). HasSprinted M (j + 1) y.0 z) (sym none) (turn_first turn.0 y.0 z turn.1))
-                | inr some ↦ turn_next k turn.0 x y.0 z ((s.some (omega (arith, some))).each i x y.0 e y.1) turn.1
+                    subst (λ (w : Cell X F). HasSprinted M (k + 1) w z) same (subst (λ (j : ℕ). HasSprinted M (j + 1) y.0 z) (sym none) (turn_first all turn.0 y.0 z (first none) turn.1))
+                | inr some ↦ turn_next all k turn.0 x y.0 z ((s.some (omega (arith, some))).each i x y.0 e y.1) turn.1
               ];
         };
         counted = let was = s.counted in let now = t.counted in omega (arith, was, now);

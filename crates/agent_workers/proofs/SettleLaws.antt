@@ -1,6 +1,7 @@
 -- Settling links one by one.
-use Rattle.std.proofs.Common.{◌≡◌, ◌≢◌, ℕ, suc, ◌+◌, ◌<◌, ◌≤◌, true, false, List, [], length, slice_get, slice_index_or, Some, refl, sym, ap, subst, ◌∙◌, inl, inr, arith}
+use Rattle.std.proofs.Common.{◌≡◌, ◌≢◌, ℕ, suc, ◌+◌, ◌*◌, ◌<◌, ◌≤◌, true, false, List, [], length, slice_get, slice_index_or, Some, refl, sym, ap, subst, ◌∙◌, inl, inr, arith}
 use Rattle.std.specs.List.{Contains}
+use Rattle.std.proofs.Math.Nat.{div-eq_of_lt}
 use Rattle.std.proofs.lemmas.Bool.{cases_eq, cases_Bool, true≢false}
 use Rattle.std.proofs.lemmas.List.{append-nil}
 use Rattle.std.proofs.lemmas.Option.{slice_get_within, get_or_from_slice_get, slice_get-get_or, same_Some}
@@ -22,6 +23,13 @@ use Rattle.agent_workers.specs.Settled.{CanSettle, StaysQuiet, HasSettled, HasSe
 use Rattle.agent_workers.proofs.ListLaws.{element_at, four, map_back, each_are, one_at}
 use Rattle.agent_workers.proofs.CellLaws.{settled_still, stays_none}
 use Rattle.agent_workers.proofs.JoinLaws.{stood, each_stays, each_stays_then, quiet_same, joined_still}
+
+-- all agents are in the only node
+pub one_home : (nodes n i j : ℕ) → nodes ≡ 1 → i < n → j < n → home nodes n i ≡ home nodes n j
+one_home nodes n i j one in_i in_j =
+    let first : i * nodes < n = let same : i * nodes ≡ i = ap (λ (k : ℕ). i * k) one ∙ (let whole : i * 1 ≡ i = omega arith in whole) in omega (arith, same, in_i) in
+    let second : j * nodes < n = let same : j * nodes ≡ j = ap (λ (k : ℕ). j * k) one ∙ (let whole : j * 1 ≡ j = omega arith in whole) in omega (arith, same, in_j) in
+    div-eq_of_lt {n = i * nodes} {m = n} first ∙ sym (div-eq_of_lt {n = j * nodes} {m = n} second)
 
 -- a link that is not there is settled
 settled_apart : (i j : ℕ) (to from : CellState) → has (peers to.taken) j ≡ false → has (peers from.sent) i ≡ false → IsSettled i j to from

@@ -1,5 +1,5 @@
 -- Turns, and sprints of turns.
-use Rattle.std.specs.Prelude.{◌≡◌, ℕ, ◌+◌, ◌*◌, ◌<◌, ◌≤◌, true, false, List, length, Some, None, slice_get}
+use Rattle.std.specs.Prelude.{◌≡◌, ◌⊎◌, ℕ, ◌+◌, ◌*◌, ◌<◌, ◌≤◌, Bool, true, false, List, length, Some, None, slice_get}
 use Rattle.std.specs.declared.dyn_box.DynBox.{DynBox}
 use Rattle.std.specs.declared.alloc.Global.{Global}
 use Rattle.dcop_base.specs.Limits.{variable_limit}
@@ -36,6 +36,10 @@ module _ {X : Type 0} {F : X → Type 0} where
     pub rests : ended_of (state_of meaning before).view ≡ true → (after ≡ before) × (count ≡ 0)
     pub visit : ended_of (state_of meaning before).view ≡ false → IsVisit (state_of meaning before) count (state_of meaning after) × (fault_in after ≡ None)
 
+  -- the same, or, where not all cells have to be visited, the cell stands where it stood and took nothing
+  abbrev pub MayHaveTurned : (DynBox X Global F → View) → Bool → ℕ → Cell X F → Cell X F → Type 0
+  MayHaveTurned meaning all count before after = HasTurned meaning count before after ⊎ ((all ≡ false) × (after ≡ before) × (count ≡ 0))
+
   -- a cell was visited some times, at most so many
   pub record HasSprinted (meaning : DynBox X Global F → View) (visits : ℕ) (before after : Cell X F) : Type 0 where
     pub sprint : IsSprint visits (state_of meaning before) (state_of meaning after)
@@ -48,10 +52,10 @@ module _ {X : Type 0} {F : X → Type 0} where
     pub at : slice_get cells place ≡ Some cell
     pub is : fault_in cell ≡ Some fault
 
-  -- each of the first cells had its turn, so many of them, and they took so many messages; any other cell stands where it stood
-  pub record AreTurning (meaning : DynBox X Global F → View) (done count : ℕ) (before after : List (Cell X F)) : Type 0 where
+  -- each of the first cells had its turn, so many of them, or was passed over where not all have to be visited, and they took so many messages; any other cell stands where it stood
+  pub record AreTurning (meaning : DynBox X Global F → View) (all : Bool) (done count : ℕ) (before after : List (Cell X F)) : Type 0 where
     pub ready : EachBecomes (StaysReady meaning) before after
-    pub turned : (i : ℕ) (a b : Cell X F) → slice_get before i ≡ Some a → slice_get after i ≡ Some b → i < done → (n : ℕ) × HasTurned meaning n a b
+    pub turned : (i : ℕ) (a b : Cell X F) → slice_get before i ≡ Some a → slice_get after i ≡ Some b → i < done → (n : ℕ) × MayHaveTurned meaning all n a b
     pub rest : (i : ℕ) (a b : Cell X F) → slice_get before i ≡ Some a → slice_get after i ≡ Some b → done ≤ i → b ≡ a
     pub counted : total (states_of meaning after) ≡ total (states_of meaning before) + count
     pub most : count ≤ done * visit_limit

@@ -13,6 +13,7 @@ mod play;
 mod rounds;
 mod runs;
 mod settle;
+mod watch;
 
 pub use protocol_steps::RunEnd;
 pub use rounds::{CellsList, play_round, round};

@@ -1,15 +1,16 @@
 //! Playing cells: turns, sprints of turns, and parts beside each other.
 
-ghost use Rattle.std.specs.Prelude.{◌≡◌, ◌≤◌, ◌<◌, length, IfOk, IfErr, None, Some};
+ghost use Rattle.std.specs.Prelude.{◌≡◌, ◌≤◌, ◌<◌, length, true, IfOk, IfErr, None, Some};
 ghost use Rattle.dcop_base.specs.Limits.{variable_limit};
 ghost use Rattle.agent_cells.specs.declared.fault.VisitFault.TheVariants.{StampEnd as stamp_end};
 ghost use Rattle.agent_cells.specs.Failed.{HasReachedEnd};
 ghost use Rattle.agent_cells.specs.State.{state_of, fault_in};
 ghost use Rattle.agent_workers.specs.Joined.{states_of, EachIs, EachBecomes};
-ghost use Rattle.agent_workers.specs.Turns.{visit_limit, sprint_limit, IsReady, StaysReady, HasTurned, SomeFailed, AreTurning, HavePlayed};
+ghost use Rattle.agent_workers.specs.Turns.{visit_limit, sprint_limit, IsReady, StaysReady, HasTurned, MayHaveTurned, SomeFailed, AreTurning, HavePlayed};
 ghost use Rattle.agent_workers.specs.Broken.{HasGoneOn, AreBrokenOff};
 
 use crate::parts::play_parts;
+use crate::watch::Watch;
 use agent_cells::{Cell, VisitFault};
 use dcop_edge::Gate;
 use std::thread::Threads;
@@ -35,6 +36,7 @@ pub(crate) fn play_cells<R: Threads + Sync, G: Gate>(
     ensures end { IfErr result (λ f. f ≡ stamp_end → EachIs (λ c. fault_in c ≡ None) cells.old
         → AreBrokenOff (λ b. meaning (b.vtable, b.value)) HasGoneOn sprint_limit (states_of (λ b. meaning (b.vtable, b.value)) cells.old) cells.new) }
 {
+    let alone = cells.len() <= size;
     let play = |part: &mut [Cell]| -> Result<u64, VisitFault>
         requires { EachIs (λ c. IsReady (λ b. meaning (b.vtable, b.value)) c) part.now × (length part.now ≤ variable_limit) }
         ensures ready { EachBecomes (λ a b. StaysReady (λ b. meaning (b.vtable, b.value)) a b) part.entry.now part.exit.now }
@@ -42,13 +44,23 @@ pub(crate) fn play_cells<R: Threads + Sync, G: Gate>(
         ensures err { IfErr result (λ f. SomeFailed f part.exit.now) }
         ensures end { IfErr result (λ f. f ≡ stamp_end → EachIs (λ c. fault_in c ≡ None) part.entry.now
             → AreBrokenOff (λ b. meaning (b.vtable, b.value)) HasGoneOn sprint_limit (states_of (λ b. meaning (b.vtable, b.value)) part.entry.now) part.exit.now) }
-    { play_part(gate, part) };
+    { play_part(gate, alone, part) };
     play_parts(rt, &play, size, busy, cells)
 }
 
 /// Plays a part: turn after turn, at most 32, until one takes nothing. Answers how many messages
 /// were taken.
-pub(crate) fn play_part<G: Gate>(gate: &G, cells: &mut [Cell]) -> Result<u64, VisitFault>
+///
+/// Where the part is `alone`, all cells are in it, and nothing comes to a link during a round but
+/// what a visit of one of them sends. Each cell is visited in the first turn, which takes all that it
+/// finds, since a visit takes as much of a link as its ring holds. So from then on something can wait
+/// only for a cell to which a visit after its own last one sent something, and a later turn visits
+/// only these; the others pass the gate, as in a visit that finds nothing.
+pub(crate) fn play_part<G: Gate>(
+    gate: &G,
+    alone: bool,
+    cells: &mut [Cell],
+) -> Result<u64, VisitFault>
     requires ready { EachIs (λ c. IsReady (λ b. meaning (b.vtable, b.value)) c) cells.old }
     requires few { length cells.old ≤ variable_limit }
     ensures ready { EachBecomes (λ a b. StaysReady (λ b. meaning (b.vtable, b.value)) a b) cells.old cells.new }
@@ -57,9 +69,11 @@ pub(crate) fn play_part<G: Gate>(gate: &G, cells: &mut [Cell]) -> Result<u64, Vi
     ensures end { IfErr result (λ f. f ≡ stamp_end → EachIs (λ c. fault_in c ≡ None) cells.old
         → AreBrokenOff (λ b. meaning (b.vtable, b.value)) HasGoneOn sprint_limit (states_of (λ b. meaning (b.vtable, b.value)) cells.old) cells.new) }
 {
+    let mut watch = Watch::new();
     let mut taken = 0;
-    for _ in 0..MOST_TURNS {
-        let more = take_turn(gate, cells)?;
+    for turn in 0..MOST_TURNS {
+        let all = visits_all(turn, alone);
+        let more = take_turn(gate, all, &mut watch, cells)?;
         taken += more;
         if more == 0 {
             return Ok(taken);
@@ -68,25 +82,69 @@ pub(crate) fn play_part<G: Gate>(gate: &G, cells: &mut [Cell]) -> Result<u64, Vi
     Ok(taken)
 }
 
-/// Visits each cell that has not ended once, in order. Answers how many messages were taken.
-fn take_turn<G: Gate>(gate: &G, cells: &mut [Cell]) -> Result<u64, VisitFault>
+/// Whether all cells that have not ended are to be visited in this turn: they are in the first one, and
+/// in each where the part is not `alone`, since something may come for any of them at any time.
+fn visits_all(turn: usize, alone: bool) -> bool
+    ensures { turn ≡ 0 → result ≡ true }
+{
+    turn == 0 || !alone
+}
+
+/// Visits each cell that has not ended once, in order; where not `all` are to be visited, only those
+/// for which something waits, and the others pass the gate. Answers how many messages were taken.
+fn take_turn<G: Gate>(
+    gate: &G,
+    all: bool,
+    watch: &mut Watch,
+    cells: &mut [Cell],
+) -> Result<u64, VisitFault>
     requires ready { EachIs (λ c. IsReady (λ b. meaning (b.vtable, b.value)) c) cells.old }
     requires few { length cells.old ≤ variable_limit }
     ensures ready { EachBecomes (λ a b. StaysReady (λ b. meaning (b.vtable, b.value)) a b) cells.old cells.new }
-    ensures ok { IfOk result (λ n. AreTurning (λ b. meaning (b.vtable, b.value)) (length cells.old) n cells.old cells.new) }
+    ensures ok { IfOk result (λ n. AreTurning (λ b. meaning (b.vtable, b.value)) all (length cells.old) n cells.old cells.new) }
     ensures err { IfErr result (λ f. SomeFailed f cells.new) }
     ensures end { IfErr result (λ f. f ≡ stamp_end → EachIs (λ c. fault_in c ≡ None) cells.old
         → AreBrokenOff (λ b. meaning (b.vtable, b.value)) HasGoneOn visit_limit (states_of (λ b. meaning (b.vtable, b.value)) cells.old) cells.new) }
 {
     let mut taken = 0;
-    for cell in cells.iter_mut() {
-        taken += visit_once(gate, cell)?;
+    for (place, cell) in cells.iter_mut().enumerate() {
+        taken += turn_once(gate, all, place, watch, cell)?;
     }
     Ok(taken)
 }
 
-/// Visits a cell, if it has not ended. Answers how many messages were taken.
-fn visit_once<G: Gate>(gate: &G, cell: &mut Cell) -> Result<u64, VisitFault>
+/// The turn of the cell at this place: a visit, if it has not ended and is to be visited. Answers how
+/// many messages were taken.
+fn turn_once<G: Gate>(
+    gate: &G,
+    all: bool,
+    place: usize,
+    watch: &mut Watch,
+    cell: &mut Cell,
+) -> Result<u64, VisitFault>
+    requires ready { IsReady (λ b. meaning (b.vtable, b.value)) cell.old }
+    ensures ready { StaysReady (λ b. meaning (b.vtable, b.value)) cell.old cell.new }
+    ensures ok { IfOk result (λ n. MayHaveTurned (λ b. meaning (b.vtable, b.value)) all n cell.old cell.new) }
+    ensures err { IfErr result (λ f. fault_in cell.new ≡ Some f) }
+    ensures end { IfErr result (λ f. f ≡ stamp_end → fault_in cell.old ≡ None
+        → HasReachedEnd (state_of (λ b. meaning (b.vtable, b.value)) cell.old) (state_of (λ b. meaning (b.vtable, b.value)) cell.new)) }
+{
+    if all || watch.waits(place) {
+        return visit_once(gate, place, watch, cell);
+    }
+    if !watch.has_ended(place) {
+        gate.pass(cell.agent());
+    }
+    Ok(0)
+}
+
+/// Visits the cell at this place, if it has not ended. Answers how many messages were taken.
+fn visit_once<G: Gate>(
+    gate: &G,
+    place: usize,
+    watch: &mut Watch,
+    cell: &mut Cell,
+) -> Result<u64, VisitFault>
     requires ready { IsReady (λ b. meaning (b.vtable, b.value)) cell.old }
     ensures ready { StaysReady (λ b. meaning (b.vtable, b.value)) cell.old cell.new }
     ensures ok { IfOk result (λ n. HasTurned (λ b. meaning (b.vtable, b.value)) n cell.old cell.new) }
@@ -94,8 +152,14 @@ fn visit_once<G: Gate>(gate: &G, cell: &mut Cell) -> Result<u64, VisitFault>
     ensures end { IfErr result (λ f. f ≡ stamp_end → fault_in cell.old ≡ None
         → HasReachedEnd (state_of (λ b. meaning (b.vtable, b.value)) cell.old) (state_of (λ b. meaning (b.vtable, b.value)) cell.new)) }
 {
+    watch.look(place);
     if cell.ended() {
+        watch.end(place);
         return Ok(0);
     }
-    cell.visit(gate)
+    let taken = cell.visit_marking(gate, watch.marks())?;
+    if cell.ended() {
+        watch.end(place);
+    }
+    Ok(taken)
 }

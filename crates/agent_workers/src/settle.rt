@@ -1,6 +1,6 @@
 //! Settling every link inside a node.
 
-ghost use Rattle.std.specs.Prelude.{◌≡◌, ◌≢◌, ◌<◌, ◌≤◌, ℕ, length, Some, slice_get, slice_index_or};
+ghost use Rattle.std.specs.Prelude.{◌≡◌, ◌≢◌, ◌<◌, ◌≤◌, ℕ, true, false, length, Some, slice_get, slice_index_or};
 ghost use Rattle.dcop_base.specs.Limits.{variable_limit};
 ghost use Rattle.worker_runs.specs.Cells.{peers};
 ghost use Rattle.worker_runs.specs.NodeRounds.{home as home_of};
@@ -53,11 +53,23 @@ fn settle_place(cells: &mut [Cell], to: usize, place: usize, nodes: u32) -> bool
     ensures settled { HasSettledPlace (λ b. meaning (b.vtable, b.value)) (home_of nodes (length cells.old)) to place cells.old cells.new }
 {
     let from = cells[to].neighbour(place).0 as usize;
-    let agents = cells.len();
-    if home(to, nodes, agents) != home(from, nodes, agents) {
+    if !share_node(to, from, nodes, cells.len()) {
         return true;
     }
     settle_at(cells, to, from) > 0
+}
+
+/// Whether two agents are in one node, of so many nodes and agents.
+fn share_node(one: usize, other: usize, nodes: u32, agents: usize) -> bool
+    requires inside { (one < agents) × (other < agents) }
+    requires few { agents ≤ variable_limit }
+    ensures together { result ≡ true → home_of nodes agents one ≡ home_of nodes agents other }
+    ensures apart { result ≡ false → home_of nodes agents one ≢ home_of nodes agents other }
+{
+    if nodes == 1 {
+        return true;
+    }
+    home(one, nodes, agents) == home(other, nodes, agents)
 }
 
 /// The node of an agent, of so many nodes and agents.

@@ -9,6 +9,7 @@ ghost use Rattle.worker_runs.specs.Cells.{peers};
 ghost use Rattle.agent_cells.specs.declared.fault.VisitFault.TheVariants.{StampEnd};
 ghost use Rattle.agent_cells.specs.Links.{lanes_sent, AreSameTails};
 ghost use Rattle.agent_cells.specs.Handled.{IsHandled, IsAtEnd};
+ghost use Rattle.agent_cells.specs.Marked.{StayMarked, LeavesUnmarked};
 ghost use Rattle.agent_cells.specs.State.{state_of};
 
 use super::Cell;
@@ -16,6 +17,7 @@ use crate::collect::Taken;
 use crate::deliver::deliver;
 use crate::fault::VisitFault;
 use crate::machine::react_once;
+use crate::marks::mark_receivers;
 use dcop_base::{CAP, NoMemory};
 use protocol_steps::{Batch, Entry, Journal, TakeList};
 use std::alloc::Global;
@@ -32,8 +34,8 @@ fn note(alloc: Global, journal: &mut Journal, entry: Entry) -> Result<(), NoMemo
 }
 
 impl Cell {
-    /// One activation of the machine on what was taken.
-    pub(super) fn handle(&mut self, taken: Taken) -> Result<(), VisitFault>
+    /// One activation of the machine on what was taken; it marks to whom the machine sends something.
+    pub(super) fn handle(&mut self, taken: Taken, marks: &mut [bool]) -> Result<(), VisitFault>
         requires ready { MayReact (meaning self.old.machine) }
         requires batch { IsBatch (meaning self.old.machine) taken.letters.items }
         requires ascend { IsStrictlyIncreasing (peers (lanes_sent self.old.tails.items)) }
@@ -48,6 +50,8 @@ impl Cell {
             taken.letters.items taken.takes.items taken.greatest (state_of (λ b. meaning b) self.new)) }
         ensures end { result ≡ Err StampEnd → IsAtEnd (state_of (λ b. meaning b) self.old)
             taken.greatest (state_of (λ b. meaning b) self.new) }
+        ensures stay { StayMarked marks.old marks.new }
+        ensures marked { OnOk result (LeavesUnmarked marks.new (lanes_sent self.old.tails.items) (lanes_sent self.new.tails.items)) }
     {
         let last = self.stamp.max(taken.greatest);
         if last == CAP {
@@ -55,6 +59,7 @@ impl Cell {
         }
         let batch = Batch::from_vec(taken.letters);
         let out = react_once(self.alloc, &mut self.machine, &batch)?;
+        mark_receivers(marks, &out);
         self.stamp = last + 1;
         deliver(self.alloc, self.tails.as_mut_slice(), out, self.stamp)?;
         let entry = Entry {

@@ -5,11 +5,18 @@ ghost use Rattle.protocol_steps.specs.View.{ended_of, value_of, standing_of, tab
 ghost use Rattle.agent_cells.specs.State.{state_of};
 
 use super::Cell;
-use dcop_base::{Table, Val};
+use dcop_base::{Table, Val, VarId};
 use protocol_steps::{Journal, Standing};
 use pseudotree::Place;
 
 impl Cell {
+    /// The agent's number.
+    pub fn agent(&self) -> VarId
+        ensures { result ≡ (state_of (λ b. meaning b) self.now).me }
+    {
+        self.me
+    }
+
     /// Whether the agent has ended.
     pub fn ended(&self) -> bool
         ensures { result ≡ ended_of (state_of (λ b. meaning b) self.now).view }

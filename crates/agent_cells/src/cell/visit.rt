@@ -6,6 +6,7 @@ ghost use Rattle.protocol_steps.specs.View.{made_of, ended_of};
 ghost use Rattle.worker_runs.specs.Visits.{IsVisit};
 ghost use Rattle.agent_cells.specs.declared.fault.VisitFault.TheVariants.{StampEnd};
 ghost use Rattle.agent_cells.specs.Failed.{HasReachedEnd};
+ghost use Rattle.agent_cells.specs.Marked.{StayMarked, LeavesUnmarked};
 ghost use Rattle.agent_cells.specs.State.{state_of, begun_in, fault_in, IsCell, KeepsLinks};
 
 use super::Cell;
@@ -39,11 +40,41 @@ impl Cell {
         ensures end { result ≡ Err StampEnd → (fault_in self.old ≡ Some StampEnd)
             ⊎ HasReachedEnd (state_of (λ b. meaning b) self.old) (state_of (λ b. meaning b) self.new) }
     {
+        self.visit_marking(gate, &mut [])
+    }
+
+    /// [`Cell::visit`], which also marks each agent to which it sends something: the mark at place j
+    /// stands for agent j. What was marked stays marked, and agents for which there is no mark are
+    /// passed over.
+    pub fn visit_marking<G: Gate>(
+        &mut self,
+        gate: &G,
+        marks: &mut [bool],
+    ) -> Result<u64, VisitFault>
+        requires cell { IsCell (λ b. meaning b) self.old }
+        requires begun { begun_in self.old ≡ true }
+        requires live { ended_of (state_of (λ b. meaning b) self.old).view ≡ false }
+        ensures cell { IsCell (λ b. meaning b) self.new }
+        ensures begun { begun_in self.new ≡ true }
+        ensures links { KeepsLinks self.old self.new }
+        ensures me { (state_of (λ b. meaning b) self.new).me ≡ (state_of (λ b. meaning b) self.old).me }
+        ensures origin { made_of (state_of (λ b. meaning b) self.new).view ≡ made_of (state_of (λ b. meaning b) self.old).view }
+        ensures ok { IfOk result (λ n. IsVisit (state_of (λ b. meaning b) self.old) n (state_of (λ b. meaning b) self.new)) }
+        ensures fine { OnOk result (fault_in self.new ≡ None) }
+        ensures bounded { (state_of (λ b. meaning b) self.new).stamp ≤ amount_limit }
+        ensures err { IfErr result (λ f. fault_in self.new ≡ Some f) }
+        ensures again { IfSome (fault_in self.old) (λ f. (result ≡ Err f) × (self.new ≡ self.old)) }
+        ensures end { result ≡ Err StampEnd → (fault_in self.old ≡ Some StampEnd)
+            ⊎ HasReachedEnd (state_of (λ b. meaning b) self.old) (state_of (λ b. meaning b) self.new) }
+        ensures stay { StayMarked marks.old marks.new }
+        ensures marked { OnOk result (LeavesUnmarked marks.new
+            (state_of (λ b. meaning b) self.old).sent (state_of (λ b. meaning b) self.new).sent) }
+    {
         gate.pass(self.me);
         if let Some(fault) = self.fault {
             return Err(fault);
         }
-        let outcome = self.try_visit();
+        let outcome = self.try_visit(marks);
         if let Err(fault) = outcome {
             self.fault = Some(fault);
         }
@@ -51,7 +82,7 @@ impl Cell {
     }
 
     /// The visit of a cell that has not failed.
-    fn try_visit(&mut self) -> Result<u64, VisitFault>
+    fn try_visit(&mut self, marks: &mut [bool]) -> Result<u64, VisitFault>
         requires cell { IsCell (λ b. meaning b) self.old }
         requires begun { begun_in self.old ≡ true }
         requires fine { fault_in self.old ≡ None }
@@ -63,6 +94,9 @@ impl Cell {
         ensures origin { made_of (meaning self.new.machine) ≡ made_of (meaning self.old.machine) }
         ensures ok { IfOk result (λ n. IsVisit (state_of (λ b. meaning b) self.old) n (state_of (λ b. meaning b) self.new)) }
         ensures end { result ≡ Err StampEnd → HasReachedEnd (state_of (λ b. meaning b) self.old) (state_of (λ b. meaning b) self.new) }
+        ensures stay { StayMarked marks.old marks.new }
+        ensures marked { OnOk result (LeavesUnmarked marks.new
+            (state_of (λ b. meaning b) self.old).sent (state_of (λ b. meaning b) self.new).sent) }
     {
         let heads = self.heads.as_mut_slice();
         let Some(taken) = collect_waiting(self.alloc, heads, &mut self.room)? else {
@@ -70,7 +104,7 @@ impl Cell {
         };
         let count = taken.letters.len() as u64;
         if count > 0 {
-            self.handle(taken)?;
+            self.handle(taken, marks)?;
         }
         Ok(count)
     }

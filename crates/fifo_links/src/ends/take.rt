@@ -17,7 +17,7 @@ impl<T: Send + Drop> LinkHead<T> {
         ensures none { result ≡ true → known_to self.new ≡ [] }
         ensures some { result ≡ false → 0 < length (known_to self.new) }
     {
-        self.ring.is_empty()
+        self.ring.slots() == 0
     }
 
     /// Takes what it finds in the ring, oldest first, at most 64 items, and adds it to `into`.

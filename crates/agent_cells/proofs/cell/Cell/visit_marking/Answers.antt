@@ -1,6 +1,6 @@
 use Rattle.agent_cells.proofs.CellLaws.{sound_on, tails_peers, heads_peers, history_on, failed}
 use Rattle.std.proofs.Common.{◌∙◌}
-use Rattle.agent_cells.proofs.cell.Cell.visit.Goals as goal
+use Rattle.agent_cells.proofs.cell.Cell.visit_marking.Goals as goal
 
 pub returns-in-Err-clause-cell : goal.returns-in-Err-clause-cell
 returns-in-Err-clause-cell g c =
