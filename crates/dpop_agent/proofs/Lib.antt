@@ -2,6 +2,7 @@ pub mod JointLaws
 pub mod SizeLaws
 pub mod SumLaws
 pub mod OverLaws
+pub mod MarkLaws
 pub mod CellLaws
 pub mod ParcelLaws
 pub mod AgentLaws

@@ -1,7 +1,7 @@
 //! What comes from a child, and from and to the parent.
 
 ghost use Rattle.std.specs.Prelude.{◌≡◌, ◌<◌, ◌≤◌, [], ◌∷◌, ◌++◌, ◌&&◌, ◌==◌, length, map, nat_eq, nat_le, Option, IfOk, slice_get};
-ghost use Rattle.std.specs.List.{All, filter, list_all, zip};
+ghost use Rattle.std.specs.List.{filter, list_all, zip};
 ghost use Rattle.std.specs.Cmp.Lexicographic.{pointwise};
 ghost use Rattle.dcop_base.specs.Limits.{joined_limit};
 ghost use Rattle.dcop_base.specs.Table.{has, product};
@@ -9,6 +9,7 @@ ghost use Rattle.adopt_context.specs.Context.{value_in};
 ghost use Rattle.protocol_steps.specs.declared.message.Message.TheVariants.{Util};
 ghost use Rattle.protocol_steps.specs.Agent.{last_of};
 ghost use Rattle.protocol_steps.specs.Dpop.{joined_cells_with, kept_scopes, size_of};
+ghost use Rattle.protocol_steps.specs.Placing.{IsPathOf};
 ghost use Rattle.protocol_steps.specs.Ranges.{AreVariables, AreCells};
 ghost use Rattle.protocol_steps.specs.DpopStep.{is_below_size, is_open, takes_util};
 ghost use Rattle.dpop_agent.specs.Keeping.{keeping};
@@ -132,14 +133,13 @@ fn is_narrow(
     kept: &[Option<Table>],
     scope: &[VarId],
 ) -> Result<bool, NoMemory>
-    requires { length place.now.path_sizes ≡ length place.now.path }
+    requires { IsPathOf own.now.me place.now.path place.now.path_sizes }
     ensures { IfOk result (λ holds. holds
         ≡ nat_le (joined_cells_with (keeping own.now place.now kept.now)
         (scope.now ∷ kept_scopes (keeping own.now place.now kept.now))) joined_limit) }
 {
     let over = variables_with(alloc, own, place, kept, scope)?;
-    let sizes = sizes_of(alloc, own, place, over.as_slice())?;
-    Ok(cells_of(sizes.as_slice(), MAX_JOINED_CELLS).is_some())
+    Ok(cells_of(over.sizes.as_slice(), MAX_JOINED_CELLS).is_some())
 }
 
 /// Whether the child at this place may send a table of this scope with these cells.
@@ -152,7 +152,7 @@ fn takes(
     scope: &[VarId],
     cells: &[u64],
 ) -> Result<bool, NoMemory>
-    requires sized { length place.now.path_sizes ≡ length place.now.path }
+    requires path { IsPathOf own.now.me place.now.path place.now.path_sizes }
     requires few { length cells.now ≤ joined_limit }
     ensures { IfOk result (λ holds. holds
         ≡ takes_util (keeping own.now place.now kept.now) child scope.now cells.now) }

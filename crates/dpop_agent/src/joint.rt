@@ -10,7 +10,7 @@ ghost use Rattle.dpop_agent.specs.Joint.{HasGained, IsZeroOver, IsZeroWhereNarro
 ghost use Rattle.dpop_agent.specs.Sound.{IsKeeper};
 
 use crate::kept::are_all_there;
-use crate::separator::{sizes_of, variables_with};
+use crate::separator::{Over, variables_with};
 use dcop_base::{NoMemory, Private, SizeList, Table, VarId, VarList, stands_in};
 use pseudotree::Place;
 use std::alloc::Global;
@@ -57,21 +57,14 @@ fn add_kept(joined: &mut Joined, kept: &[Option<Table>])
 }
 
 /// A joined table of zeros over these variables; `None` exactly where it is too wide.
-pub(crate) fn zeros_over(
-    alloc: Global,
-    own: &Private,
-    place: &Place,
-    over: Vec<VarId>,
-) -> Result<Option<Joined>, NoMemory>
-    requires sized { length place.now.path_sizes ≡ length place.now.path }
-    requires distinct { has_repeat over.items ≡ false }
-    requires positive { All (λ s. 1 ≤ s)
-        (map (size_of (keeping own.now place.now [])) over.items) }
-    ensures { IfOk result (IsZeroOver over.items
-        (map (size_of (keeping own.now place.now [])) over.items)) }
+pub(crate) fn zeros_over(alloc: Global, over: Over) -> Result<Option<Joined>, NoMemory>
+    requires distinct { has_repeat over.vars.items ≡ false }
+    requires sized { length over.sizes.items ≡ length over.vars.items }
+    requires positive { All (λ s. 1 ≤ s) over.sizes.items }
+    ensures { IfOk result (IsZeroOver over.vars.items over.sizes.items) }
 {
-    let sizes = sizes_of(alloc, own, place, over.as_slice())?;
-    match Joined::new(alloc, VarList::from_vec(over), SizeList::from_vec(sizes)) {
+    let scope = VarList::from_vec(over.vars);
+    match Joined::new(alloc, scope, SizeList::from_vec(over.sizes)) {
         Ok(joined) => Ok(Some(joined)),
         Err(JoinFault::TooWide { .. }) => Ok(None),
         Err(JoinFault::NoMemory) => Err(NoMemory),
@@ -89,7 +82,7 @@ fn zeros(
     ensures { IfOk result (IsZeroWhereNarrow (keeping own.now place.now kept.now)) }
 {
     let over = variables_with(alloc, own, place, kept, &[])?;
-    zeros_over(alloc, own, place, over)
+    zeros_over(alloc, over)
 }
 
 /// The joined table of the agent's own tables and all its children's tables; `None` exactly where

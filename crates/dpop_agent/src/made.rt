@@ -89,7 +89,7 @@ fn joined_with(
     let children = place.children.as_slice();
     let named = named_by(alloc, children, kept)?;
     let over = variables_with(alloc, own, place, &[], named.as_slice())?;
-    let Some(mut joined) = zeros_over(alloc, own, place, over)? else {
+    let Some(mut joined) = zeros_over(alloc, over)? else {
         // The condition excludes a table that is too wide.
         return Err(NoMemory);
     };

@@ -12,8 +12,8 @@ returns c =
     let place = c.args.place.now in
     let kept = c.args.kept.now in
     let v : DpopView = keeping own place kept in
-    let over = c.as_slice.ensures.value ∙ c.in_ok-over.ensures in
-    let sizes = c.as_slice-2.ensures.value ∙ c.in_ok-sizes.ensures in
-    let count = cells_with own place kept (c.args.scope.now ∷ kept_scopes v) c.as_slice.result.now c.as_slice-2.result.now over sizes in
+    let vars = c.in_ok-over.over.vars.items in
+    let sizes = c.as_slice.ensures.value ∙ c.in_ok-over.ensures.sizes in
+    let count = cells_with own place kept (c.args.scope.now ∷ kept_scopes v) vars c.as_slice.result.now c.in_ok-over.ensures.vars sizes in
     c.is_some.ensures ∙ ap (λ (o : Option ℕ). is_some o) c.cells_of.ensures
-    ∙ within_limit joined_limit (product c.as_slice-2.result.now) ∙ ap (λ (n : ℕ). nat_le n joined_limit) count
+    ∙ within_limit joined_limit (product c.as_slice.result.now) ∙ ap (λ (n : ℕ). nat_le n joined_limit) count
