@@ -7,9 +7,10 @@ use Rattle.std.proofs.lemmas.Bool.{false≢true, cases_lt, eqb-true, eqb-false, 
 use Rattle.std.proofs.lemmas.Option.{none-some, same_Some, slice_get_within, slice_get_past, slice_get-map, slice_get-get_or}
 use Rattle.std.proofs.lemmas.List.{append-nil, length-set, length-map, map-set, map-append, take_all}
 use Rattle.std.proofs.lemmas.List.Elements.{All-weaker}
-use Rattle.std.proofs.lemmas.List.FromFn.{length-map-range_with_len, map-range_with_len_more}
+use Rattle.std.proofs.lemmas.List.FromFn.{length-map-range_with_len, get_or-map-range_with_len, map-range_with_len_more}
 use Rattle.dcop_base.specs.Problem.{Dcop}
 use Rattle.dcop_base.specs.Whole.{IsProblem}
+use Rattle.dcop_base.specs.declared.knowledge.Private.{Private}
 use Rattle.protocol_steps.specs.Knowledge.{IsKnowledge, PrivatesAreKnowledge, AcquaintancesAreKnowledge}
 use Rattle.protocol_steps.specs.declared.message.Message.{Message}
 use Rattle.protocol_steps.specs.declared.event.Take.{Take}
@@ -191,6 +192,24 @@ fresh_agent : (p : Dcop) (start : Start) (i : ℕ) → IsFresh p i (agent_of p s
 fresh_agent p Token i = record { near = refl; fresh = refl }
 fresh_agent p (Dpop tree) i = record { near = refl; fresh = refl }
 fresh_agent p (Adopt tree error) i = record { near = refl; fresh = refl }
+
+-- the number of an agent, by what it is made from
+pub own_me : (p : Dcop) (start : Start) (i : ℕ) (own : Private) → own ≡ knowledge_for p start i → own.me ≡ i
+own_me p Token i own e = ap (λ (o : Private). o.me) e
+own_me p (Dpop tree) i own e = ap (λ (o : Private). o.me) e
+own_me p (Adopt tree error) i own e = ap (λ (o : Private). o.me) e
+
+pub known_own : (p : Dcop) (start : Start) (i : ℕ) (own : Private) → own ≡ knowledge_for p start i → own ≡ knowledge_for p start own.me
+known_own p start i own e = e ∙ ap (knowledge_for p start) (sym (own_me p start i own e))
+
+-- what the next agent is made from
+pub own_is : (p : Dcop) (start : Start) (known : List Private) (n : ℕ) (own : Private) → known ≡ map (knowledge_for p start) (range_with_len 0 (length p.sizes)) → (n < length known) × (own ≡ get_or known n own)
+    → (n < length p.sizes) × (own ≡ knowledge_for p start n)
+own_is p start known n own e at =
+    let size : length known ≡ length p.sizes = ap (λ (xs : List Private). length xs) e ∙ length-map-range_with_len (knowledge_for p start) 0 (length p.sizes) in
+    let below = at.0 in
+    let lt : n < length p.sizes = omega (arith, below, size) in
+    (lt, at.1 ∙ ap (λ (xs : List Private). get_or xs n own) e ∙ get_or-map-range_with_len (knowledge_for p start) 0 (length p.sizes) n n own lt (omega arith))
 
 -- an agent knows the neighbours of what it is made from
 pub neighbours_kept : (p : Dcop) (start : Start) (i : ℕ) → (private_of (agent_of p start i)).neighbours ≡ (knowledge_for p start i).neighbours

@@ -1,6 +1,7 @@
 //! Which agents are run, and their start.
 
 ghost use Rattle.std.specs.Prelude.{◌≡◌, ℕ, ◌+◌, ◌<◌, ◌≤◌, List, length, map, IfOk, OnOk};
+ghost use Rattle.std.specs.List.{range_with_len};
 ghost use Rattle.dcop_base.specs.Limits.{variable_limit};
 ghost use Rattle.dcop_base.specs.Problem.{Dcop};
 ghost use Rattle.dcop_base.specs.Whole.{IsProblem};
@@ -15,7 +16,8 @@ use crate::agent::Agent;
 use crate::deliver::post;
 use crate::inbox::new_links;
 use crate::seat::Seat;
-use dcop_base::{MAX_VARIABLES, NoMemory, Private, Problem, VarId, acquaintance, private};
+use dcop_base::{MAX_VARIABLES, NoMemory, Private, Problem, VarId, problem_is_whole};
+use problem_parts::{acquaintances, privates};
 use protocol_steps::{acquaintance_is_knowledge, places_fit, private_is_knowledge};
 use pseudotree::{Place, Tree, place};
 use std::alloc::Global;
@@ -44,19 +46,13 @@ fn place_in(alloc: Global, problem: &Problem, tree: &Tree, me: VarId) -> Result<
     place(alloc, tree, problem, me)
 }
 
-/// What the agent of a variable is made from. Token agents look at no cost, so they get no tables.
-fn known_for(
-    alloc: Global,
-    problem: &Problem,
-    start: &Start,
-    me: VarId,
-) -> Result<Private, NoMemory>
-    requires { me < length problem.now.sizes }
-    ensures { IfOk result (λ own. own ≡ knowledge_for problem.now start.now me) }
+/// What the agents of a start are made from. Token agents look at no cost, so they get no tables.
+fn known_for(alloc: Global, problem: &Problem, start: &Start) -> Result<Vec<Private>, NoMemory>
+    ensures { IfOk result (λ known. known.items ≡ map (knowledge_for problem.now start.now) (range_with_len 0 (length problem.now.sizes))) }
 {
     match start {
-        Start::Token => acquaintance(alloc, problem, me),
-        Start::Dpop(_) | Start::Adopt(..) => private(alloc, problem, me),
+        Start::Token => acquaintances(alloc, problem),
+        Start::Dpop(_) | Start::Adopt(..) => privates(alloc, problem),
     }
 }
 
@@ -65,40 +61,44 @@ fn make_agent(
     alloc: Global,
     problem: &Problem,
     start: &Start,
-    me: VarId,
     own: Private,
 ) -> Result<Agent, NoMemory>
     requires whole { IsProblem problem.now }
     requires start { IsStartFor problem.now start.now }
-    requires inside { me < length problem.now.sizes }
-    requires known { own ≡ knowledge_for problem.now start.now me }
-    ensures { IfOk result (λ agent. agent ≡ agent_of problem.now start.now me) }
+    requires inside { own.me < length problem.now.sizes }
+    requires known { own ≡ knowledge_for problem.now start.now own.me }
+    ensures { IfOk result (λ agent. agent ≡ agent_of problem.now start.now own.me) }
 {
     private_is_knowledge();
     acquaintance_is_knowledge();
     match start {
         Start::Token => Agent::token(alloc, own),
         Start::Dpop(tree) => {
-            let place = place_in(alloc, problem, tree, me)?;
+            let place = place_in(alloc, problem, tree, own.me)?;
             Agent::dpop(alloc, own, place)
         }
         Start::Adopt(tree, error) => {
-            let place = place_in(alloc, problem, tree, me)?;
+            let place = place_in(alloc, problem, tree, own.me)?;
             Agent::adopt(alloc, own, place, *error)
         }
     }
 }
 
-/// The agent of a variable, with a link of each neighbour.
-fn make_seat(alloc: Global, problem: &Problem, start: &Start, me: VarId) -> Result<Seat, NoMemory>
+/// The agent of a variable, which knows this, with a link of each neighbour.
+fn make_seat(
+    alloc: Global,
+    problem: &Problem,
+    start: &Start,
+    own: Private,
+) -> Result<Seat, NoMemory>
     requires whole { IsProblem problem.now }
     requires start { IsStartFor problem.now start.now }
-    requires inside { me < length problem.now.sizes }
-    ensures { IfOk result (λ seat. seat ≡ new_seat (agent_of problem.now start.now me)) }
+    requires inside { own.me < length problem.now.sizes }
+    requires known { own ≡ knowledge_for problem.now start.now own.me }
+    ensures { IfOk result (λ seat. seat ≡ new_seat (agent_of problem.now start.now own.me)) }
 {
-    let own = known_for(alloc, problem, start, me)?;
     let links = new_links(alloc, own.neighbours.as_slice())?;
-    let agent = make_agent(alloc, problem, start, me, own)?;
+    let agent = make_agent(alloc, problem, start, own)?;
     Ok(Seat::new(agent, links))
 }
 
@@ -108,9 +108,11 @@ pub(crate) fn make(alloc: Global, problem: &Problem, start: &Start) -> Result<Ve
     ensures made { IfOk result (λ seats. seats.items ≡ map new_seat (agents_of problem.now start.now)) }
     ensures few { IfOk result (λ seats. length seats.items ≤ variable_limit) }
 {
-    let mut seats = Vec::new(alloc);
-    for me in 0..problem.sizes.as_slice().len() {
-        seats.push(make_seat(alloc, problem, start, VarId(me as u32))?)?;
+    problem_is_whole(problem);
+    let known = known_for(alloc, problem, start)?;
+    let mut seats = Vec::with_capacity(alloc, known.len())?;
+    for own in known {
+        seats.push(make_seat(alloc, problem, start, own)?)?;
     }
     Ok(seats)
 }

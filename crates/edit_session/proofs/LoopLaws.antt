@@ -1,13 +1,19 @@
 -- Loops of an answer: tables made anew from the leaves up, and values picked from the root down.
-use Rattle.std.proofs.Common.{◌≡◌, ℕ, zero, suc, ◌+◌, ◌<◌, ◌≤◌, Bool, true, false, cond, eqb, List, [], ◌∷◌, map, length, drop, get_or, replicate, set, Option, Some, refl, sym, ap, ap₂, subst, ◌∙◌, inl, inr, arith, All}
+use Rattle.std.proofs.Common.{◌≡◌, ℕ, zero, suc, ◌+◌, ◌<◌, ◌≤◌, Bool, true, false, cond, eqb, List, [], ◌∷◌, map, length, drop, get_or, replicate, set, Option, Some, Result, Ok, Err, IfOk, refl, sym, ap, ap₂, subst, ◌∙◌, inl, inr, arith, All}
 use Rattle.std.specs.List.{range_with_len, sum_by}
+use Rattle.std.specs.declared.vec.Vec.{Vec}
+use Rattle.std.specs.declared.alloc.Global.{Global}
 use Rattle.std.proofs.lemmas.Bool.{cases_eq, both_ways, or_cases, eqb-true, true≢false, false_from_ne_true}
 use Rattle.std.proofs.lemmas.List.{length-set, length-replicate, get_or-replicate, get_or-set_same, get_or-set_other, drop_all, drop_more}
+use Rattle.std.proofs.lemmas.List.FromFn.{length-map-range_with_len, get_or-map-range_with_len}
 use Rattle.std.proofs.lemmas.List.Sums.{sum_by-cons}
 use Rattle.std.proofs.lemmas.List.Elements.{All-head, All-tail}
 use Rattle.dcop_base.specs.Table.{has, AreWithin}
 use Rattle.dcop_base.specs.Problem.{Dcop, IsAssignment}
 use Rattle.dcop_base.specs.Whole.{IsProblem}
+use Rattle.dcop_base.specs.Knowledge.{private_of}
+use Rattle.dcop_base.specs.declared.knowledge.Private.{Private}
+use Rattle.dcop_base.specs.declared.memory.NoMemory.{NoMemory}
 use Rattle.pseudotree.specs.Tree.{parent_of, is_above}
 use Rattle.pseudotree.specs.Pseudotree.{IsPseudotree}
 use Rattle.pseudotree.specs.Preorder.{preorder_of}
@@ -28,6 +34,15 @@ use Rattle.problem_solved.specs.Goal.{problem_solved}
 use Rattle.edit_session.specs.State.{is_touched, touched_cells}
 use Rattle.edit_session.specs.Loops.{StayHeld, AreOthersHeld, cells_among}
 use Rattle.edit_session.proofs.OrderLaws.{children_behind, none_above_behind, sum_preorder}
+
+-- what the agent of a variable knows, where it is known
+pub own_known : (p : Dcop) (known : List Private) (k var : ℕ) (own : Private) → known ≡ map (private_of p) (range_with_len 0 (length known)) → k < length known → own ≡ get_or known k own → k ≡ var → own ≡ private_of p var
+own_known p known k var own e lt at same = at ∙ ap (λ (all : List Private). get_or all k own) e ∙ get_or-map-range_with_len (private_of p) 0 (length known) k var own lt (omega (arith, same))
+
+-- what all agents know is known of as many as are known
+pub known_all : (p : Dcop) (r : Result (Vec Private Global) NoMemory) → IfOk r (λ known. known.items ≡ map (private_of p) (range_with_len 0 (length p.sizes))) → IfOk r (λ known. known.items ≡ map (private_of p) (range_with_len 0 (length known.items)))
+known_all p (Ok known) e = e ∙ ap (λ (n : ℕ). map (private_of p) (range_with_len 0 n)) (sym (ap (λ (xs : List Private). length xs) e ∙ length-map-range_with_len (private_of p) 0 (length p.sizes)))
+known_all p (Err fault) e = tt
 
 -- where the tables of one more agent are kept
 pub one_stays : (p : Dcop) (paths : List (List ℕ)) (kept kept' : List (Option Made)) (i : ℕ) (made : Made) → KeepsHeld p paths kept i made → kept' ≡ set kept i (Some made) → StayHeld p paths kept kept'

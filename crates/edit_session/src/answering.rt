@@ -1,6 +1,6 @@
 //! The answer of a session.
 
-ghost use Rattle.std.specs.Prelude.{◌≡◌, ◌+◌, ◌≤◌, false, IfOk, OnOk, OnErr, count_by, length, replicate};
+ghost use Rattle.std.specs.Prelude.{◌≡◌, ◌+◌, ◌≤◌, false, IfOk, OnOk, OnErr, length, replicate};
 ghost use Rattle.dcop_base.specs.Problem.{IsAssignment, cost};
 ghost use Rattle.pseudotree.specs.DepthFirst.{dfs};
 ghost use Rattle.dpop_made.specs.Held.{AreAllHeld};
@@ -8,7 +8,7 @@ ghost use Rattle.problem_solved.specs.Goal.{problem_solved};
 ghost use Rattle.edit_session.specs.Loops.{IsGround, StayHeld, AreOthersHeld};
 ghost use Rattle.edit_session.specs.State.{IsAnswerNow, touched_cells};
 
-use crate::mark::unmark;
+use crate::mark::{count_of, unmark};
 use crate::pick::pick_all;
 use crate::remaking::remake_touched;
 use dcop_base::{NoMemory, Problem, Val, ValList, cost_of, problem_is_whole};
@@ -67,11 +67,4 @@ fn cost_in(file: &ProblemFile, values: &[Val]) -> u64
     ensures { result ≡ cost file.now.problem values.now }
 {
     cost_of(&file.problem, values)
-}
-
-/// How many agents are marked.
-fn count_of(touched: &[bool]) -> u64
-    ensures { result ≡ count_by (λ t. t) touched.now }
-{
-    touched.iter().filter(|mark| **mark).count() as u64
 }

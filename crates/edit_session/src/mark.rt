@@ -1,6 +1,6 @@
 //! The agents that an edit touches.
 
-ghost use Rattle.std.specs.Prelude.{◌≡◌, ℕ, ◌<◌, ◌||◌, Some, All, length, replicate, false};
+ghost use Rattle.std.specs.Prelude.{◌≡◌, ℕ, ◌<◌, ◌||◌, Some, All, count_by, length, replicate, false};
 ghost use Rattle.dcop_base.specs.Table.{has};
 ghost use Rattle.pseudotree.specs.Owner.{deeper, owner_of};
 ghost use Rattle.pseudotree.specs.Tree.{IsTree};
@@ -79,4 +79,11 @@ pub(crate) fn unmark(touched: &mut Vec<bool>)
     ensures { touched.new.items ≡ replicate (length touched.old.items) false }
 {
     touched.as_mut_slice().fill(false);
+}
+
+/// How many agents are marked.
+pub(crate) fn count_of(touched: &[bool]) -> u64
+    ensures { result ≡ count_by (λ t. t) touched.now }
+{
+    touched.iter().filter(|mark| **mark).count() as u64
 }

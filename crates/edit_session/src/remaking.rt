@@ -1,6 +1,8 @@
 //! Tables that are made anew.
 
-ghost use Rattle.std.specs.Prelude.{◌≡◌, ℕ, ◌+◌, ◌<◌, ◌≤◌, [], ◌∷◌, IfOk, OnOk, length};
+ghost use Rattle.std.specs.Prelude.{◌≡◌, ℕ, ◌+◌, ◌<◌, ◌≤◌, [], ◌∷◌, IfOk, OnOk, length, map};
+ghost use Rattle.std.specs.List.{range_with_len};
+ghost use Rattle.dcop_base.specs.Knowledge.{private_of};
 ghost use Rattle.pseudotree.specs.Preorder.{preorder_of};
 ghost use Rattle.pseudotree.specs.Width.{joined_cells};
 ghost use Rattle.dpop_agent.specs.Remade.{IsRemade};
@@ -8,25 +10,47 @@ ghost use Rattle.dpop_made.specs.Held.{agent_with, AreHeldFrom, AreAllHeld};
 ghost use Rattle.dpop_made.specs.Laws.{AreChildrenHeld};
 ghost use Rattle.edit_session.specs.Loops.{IsGround, StayHeld, AreOthersHeld, cells_among};
 
-use dcop_base::{NoMemory, Problem, VarId, private, problem_is_whole};
+use crate::mark::count_of;
+use dcop_base::{NoMemory, Private, Problem, VarId, private, problem_is_whole};
 use dpop_agent::{KeptList, Made, Steps, remake};
 use dpop_made::{children_may_be_joined, one_more_is_held};
+use problem_parts::privates;
 use pseudotree::{Tree, place};
 use std::alloc::Global;
 use std::sync::ledger::Ledger;
 
-/// The tables of one agent, from what was made for its children. The steps rise by the cells of its
-/// joined table.
+/// What so few agents know is made for each alone, which takes time for the problem's scopes. What
+/// all agents know takes one pass, but that copies all tables.
+const FEW: u64 = 64;
+
+/// What all agents know, in the variables' order, where more than a few are touched, else nothing.
+fn known_to_many(
+    alloc: Global,
+    problem: &Problem,
+    touched: &[bool],
+) -> Result<Vec<Private>, NoMemory>
+    ensures { IfOk result (λ known. known.items ≡ map (private_of problem.now) (range_with_len 0 (length known.items))) }
+{
+    if count_of(touched) <= FEW {
+        return Ok(Vec::new(alloc));
+    }
+    privates(alloc, problem)
+}
+
+/// The tables of one agent, from what it knows and what was made for its children. The steps rise
+/// by the cells of its joined table.
 fn made_at<L: Ledger>(
     alloc: Global,
     problem: &Problem,
     tree: &Tree,
     var: VarId,
+    own: &Private,
     kept: &KeptList,
     steps: &mut Steps<L>,
 ) -> Result<Made, NoMemory>
     requires ground { IsGround problem.now tree.now kept.now.items }
-    requires known { var < length problem.now.sizes }
+    requires inside { var < length problem.now.sizes }
+    requires known { own.now ≡ private_of problem.now var }
     requires children { AreChildrenHeld problem.now tree.now.paths kept.now.items var }
     ensures made { IfOk result (IsRemade (agent_with problem.now tree.now.paths kept.now.items var)) }
     ensures counted { OnOk result (steps.new
@@ -36,10 +60,37 @@ fn made_at<L: Ledger>(
 {
     children_may_be_joined();
     problem_is_whole(problem);
-    let own = private(alloc, problem, var)?;
     let seat = place(alloc, tree, problem, var)?;
-    let made = remake(alloc, &own, &seat, kept, steps)?;
+    let made = remake(alloc, own, &seat, kept, steps)?;
     Ok(made)
+}
+
+/// The tables of one agent, from what was made for its children. What it knows is made for it
+/// alone, where it is not known. The steps rise by the cells of its joined table.
+fn made_from<L: Ledger>(
+    alloc: Global,
+    problem: &Problem,
+    tree: &Tree,
+    var: VarId,
+    known: &[Private],
+    kept: &KeptList,
+    steps: &mut Steps<L>,
+) -> Result<Made, NoMemory>
+    requires ground { IsGround problem.now tree.now kept.now.items }
+    requires inside { var < length problem.now.sizes }
+    requires known { known.now ≡ map (private_of problem.now) (range_with_len 0 (length known.now)) }
+    requires children { AreChildrenHeld problem.now tree.now.paths kept.now.items var }
+    ensures made { IfOk result (IsRemade (agent_with problem.now tree.now.paths kept.now.items var)) }
+    ensures counted { OnOk result (steps.new
+        ≡ steps.old + joined_cells problem.now tree.now.paths var) }
+    ensures rises { steps.old ≤ steps.new }
+    ensures within { steps.new ≤ steps.old + joined_cells problem.now tree.now.paths var }
+{
+    if let Some(own) = known.get(var.0 as usize) {
+        return made_at(alloc, problem, tree, var, own, kept, steps);
+    }
+    let own = private(alloc, problem, var)?;
+    made_at(alloc, problem, tree, var, &own, kept, steps)
 }
 
 /// Makes the tables of an agent anew, where it is touched, and keeps them.
@@ -49,12 +100,14 @@ fn renew<L: Ledger>(
     tree: &Tree,
     touched: &[bool],
     var: VarId,
+    known: &[Private],
     kept: &mut KeptList,
     steps: &mut Steps<L>,
 ) -> Result<(), NoMemory>
     requires ground { IsGround problem.now tree.now kept.old.items }
     requires marked { length touched.now ≡ length problem.now.sizes }
-    requires known { var < length problem.now.sizes }
+    requires inside { var < length problem.now.sizes }
+    requires known { known.now ≡ map (private_of problem.now) (range_with_len 0 (length known.now)) }
     requires children { AreChildrenHeld problem.now tree.now.paths kept.old.items var }
     requires others { AreOthersHeld problem.now tree.now.paths touched.now kept.old.items }
     ensures held { OnOk result (AreHeldFrom problem.now tree.now.paths kept.new.items var) }
@@ -67,7 +120,7 @@ fn renew<L: Ledger>(
 {
     if touched[var.0 as usize] {
         one_more_is_held();
-        let made = made_at(alloc, problem, tree, var, kept, steps)?;
+        let made = made_from(alloc, problem, tree, var, known, kept, steps)?;
         kept[var.0 as usize] = Some(made);
     }
     Ok(())
@@ -95,9 +148,20 @@ pub(crate) fn remake_touched<L: Ledger>(
         + cells_among problem.now tree.now.paths touched.now (preorder_of tree.now.paths) }
 {
     problem_is_whole(problem);
+    let known = known_to_many(alloc, problem, touched)?;
+    let known = known.as_slice();
     let order = tree.preorder().as_slice();
     for index in (0..order.len()).rev() {
-        renew(alloc, problem, tree, touched, order[index], kept, steps)?;
+        renew(
+            alloc,
+            problem,
+            tree,
+            touched,
+            order[index],
+            known,
+            kept,
+            steps,
+        )?;
     }
     Ok(())
 }

@@ -6,12 +6,12 @@ use Rattle.delivery_core.proofs.start.make_agent.Goals as goal
 
 pub token-requires : goal.token-requires
 token-requires c =
-    subst (λ (own : Private). IsKnowledge own) (sym c.requires.known) (knowledge_fits c.private_is_knowledge.ensures c.acquaintance_is_knowledge.ensures c.args.problem.now c.args.start.now c.args.me c.requires.whole c.requires.inside)
+    subst (λ (own : Private). IsKnowledge own) (sym c.requires.known) (knowledge_fits c.private_is_knowledge.ensures c.acquaintance_is_knowledge.ensures c.args.problem.now c.args.start.now c.args.own.me c.requires.whole c.requires.inside)
 
 pub dpop-requires-clause-known : goal.dpop-requires-clause-known
 dpop-requires-clause-known c =
-    subst (λ (own : Private). IsKnowledge own) (sym c.requires.known) (knowledge_fits c.private_is_knowledge.ensures c.acquaintance_is_knowledge.ensures c.args.problem.now c.args.start.now c.args.me c.requires.whole c.requires.inside)
+    subst (λ (own : Private). IsKnowledge own) (sym c.requires.known) (knowledge_fits c.private_is_knowledge.ensures c.acquaintance_is_knowledge.ensures c.args.problem.now c.args.start.now c.args.own.me c.requires.whole c.requires.inside)
 
 pub adopt-requires-clause-known : goal.adopt-requires-clause-known
 adopt-requires-clause-known c =
-    subst (λ (own : Private). IsKnowledge own) (sym c.requires.known) (knowledge_fits c.private_is_knowledge.ensures c.acquaintance_is_knowledge.ensures c.args.problem.now c.args.start.now c.args.me c.requires.whole c.requires.inside)
+    subst (λ (own : Private). IsKnowledge own) (sym c.requires.known) (knowledge_fits c.private_is_knowledge.ensures c.acquaintance_is_knowledge.ensures c.args.problem.now c.args.start.now c.args.own.me c.requires.whole c.requires.inside)

@@ -8,9 +8,9 @@ use Rattle.delivery_core.proofs.start.make_seat.Goals as goal
 
 pub returns : goal.returns
 returns c =
-    let made : View = agent_of c.args.problem.now c.args.start.now c.args.me in
+    let made : View = agent_of c.args.problem.now c.args.start.now c.args.own.me in
     let near : c.as_slice.result.now ≡ (private_of made).neighbours =
-    c.as_slice.ensures ∙ ap (λ (own : Private). own.neighbours) c.in_ok-own.ensures ∙ sym (neighbours_kept c.args.problem.now c.args.start.now c.args.me) in
+    c.as_slice.ensures ∙ ap (λ (own : Private). own.neighbours) c.requires.known ∙ sym (neighbours_kept c.args.problem.now c.args.start.now c.args.own.me) in
     let links : c.in_ok-links.links.items ≡ map new_link (private_of made).neighbours = c.in_ok-links.ensures ∙ ap (map new_link) near in
     c.new.ensures
     ∙ ap (λ (v : View). let x : SeatView = record { view = v; inbox = c.in_ok-links.links.items } in x) c.in_ok-agent.ensures

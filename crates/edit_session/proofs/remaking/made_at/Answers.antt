@@ -14,8 +14,8 @@ remake-requires g c =
     let kept = c.args.kept.now.items in
     let whole = c.problem_is_whole.ensures in
     let ground = c.requires.ground in
-    let may = c.children_may_be_joined.ensures p paths kept c.args.var whole ground.tree_is.pseudotree ground.linked ground.narrow ground.counted c.requires.known c.requires.children in
-    subst (λ (own : Private). MayRemake own c.in_ok-seat.seat kept) (sym c.in_ok-own.ensures)
+    let may = c.children_may_be_joined.ensures p paths kept c.args.var whole ground.tree_is.pseudotree ground.linked ground.narrow ground.counted c.requires.inside c.requires.children in
+    subst (λ (own : Private). MayRemake own c.in_ok-seat.seat kept) (sym c.requires.known)
     (subst (λ (seat : Place). MayRemake (private_of p c.args.var) seat kept) (sym (place_is p paths c.args.var c.in_ok-seat.seat c.in_ok-seat.ensures)) may.may)
 
 pub returns-in_err-made-clause-within : goal.returns-in_err-made-clause-within
@@ -24,8 +24,8 @@ returns-in_err-made-clause-within g c =
     let paths = c.args.tree.now.paths in
     let kept = c.args.kept.now.items in
     let ground = c.requires.ground in
-    let may = c.children_may_be_joined.ensures p paths kept c.args.var c.problem_is_whole.ensures ground.tree_is.pseudotree ground.linked ground.narrow ground.counted c.requires.known c.requires.children in
-    let view = ap₂ (λ (own : Private) (seat : Place). joined_count (with_sent own seat kept)) c.in_ok-own.ensures (place_is p paths c.args.var c.in_ok-seat.seat c.in_ok-seat.ensures) in
+    let may = c.children_may_be_joined.ensures p paths kept c.args.var c.problem_is_whole.ensures ground.tree_is.pseudotree ground.linked ground.narrow ground.counted c.requires.inside c.requires.children in
+    let view = ap₂ (λ (own : Private) (seat : Place). joined_count (with_sent own seat kept)) c.requires.known (place_is p paths c.args.var c.in_ok-seat.seat c.in_ok-seat.ensures) in
     let cells = may.cells in
     let within = c.remake.ensures.within in
     omega (arith, view, cells, within)
@@ -36,7 +36,7 @@ returns-clause-made g c =
     let paths = c.args.tree.now.paths in
     let kept = c.args.kept.now.items in
     subst (λ (v : DpopView). IsRemade v c.in_ok-made.made)
-    (ap₂ (λ (own : Private) (seat : Place). with_sent own seat kept) c.in_ok-own.ensures (place_is p paths c.args.var c.in_ok-seat.seat c.in_ok-seat.ensures)) c.in_ok-made.ensures.made
+    (ap₂ (λ (own : Private) (seat : Place). with_sent own seat kept) c.requires.known (place_is p paths c.args.var c.in_ok-seat.seat c.in_ok-seat.ensures)) c.in_ok-made.ensures.made
 
 pub returns-clause-counted : goal.returns-clause-counted
 returns-clause-counted g c =
@@ -44,8 +44,8 @@ returns-clause-counted g c =
     let paths = c.args.tree.now.paths in
     let kept = c.args.kept.now.items in
     let ground = c.requires.ground in
-    let may = c.children_may_be_joined.ensures p paths kept c.args.var c.problem_is_whole.ensures ground.tree_is.pseudotree ground.linked ground.narrow ground.counted c.requires.known c.requires.children in
-    let view = ap₂ (λ (own : Private) (seat : Place). joined_count (with_sent own seat kept)) c.in_ok-own.ensures (place_is p paths c.args.var c.in_ok-seat.seat c.in_ok-seat.ensures) in
+    let may = c.children_may_be_joined.ensures p paths kept c.args.var c.problem_is_whole.ensures ground.tree_is.pseudotree ground.linked ground.narrow ground.counted c.requires.inside c.requires.children in
+    let view = ap₂ (λ (own : Private) (seat : Place). joined_count (with_sent own seat kept)) c.requires.known (place_is p paths c.args.var c.in_ok-seat.seat c.in_ok-seat.ensures) in
     let cells = may.cells in
     let counted = c.in_ok-made.ensures.counted in
     omega (arith, view, cells, counted)
@@ -56,8 +56,8 @@ returns-clause-within g c =
     let paths = c.args.tree.now.paths in
     let kept = c.args.kept.now.items in
     let ground = c.requires.ground in
-    let may = c.children_may_be_joined.ensures p paths kept c.args.var c.problem_is_whole.ensures ground.tree_is.pseudotree ground.linked ground.narrow ground.counted c.requires.known c.requires.children in
-    let view = ap₂ (λ (own : Private) (seat : Place). joined_count (with_sent own seat kept)) c.in_ok-own.ensures (place_is p paths c.args.var c.in_ok-seat.seat c.in_ok-seat.ensures) in
+    let may = c.children_may_be_joined.ensures p paths kept c.args.var c.problem_is_whole.ensures ground.tree_is.pseudotree ground.linked ground.narrow ground.counted c.requires.inside c.requires.children in
+    let view = ap₂ (λ (own : Private) (seat : Place). joined_count (with_sent own seat kept)) c.requires.known (place_is p paths c.args.var c.in_ok-seat.seat c.in_ok-seat.ensures) in
     let cells = may.cells in
     let within = c.remake.ensures.within in
     omega (arith, view, cells, within)

@@ -6,8 +6,8 @@ use Rattle.edit_session.specs.Loops.{cells_among}
 use Rattle.edit_session.proofs.LoopLaws.{HasRemade, both_stay, remade_children, remade_others, remade_more, remade_within, remade_all, order_known}
 use Rattle.edit_session.proofs.remaking.remake_touched.Goals as goal
 
-pub renew-requires-clause-known : goal.renew-requires-clause-known
-renew-requires-clause-known g c =
+pub renew-requires-clause-inside : goal.renew-requires-clause-inside
+renew-requires-clause-inside g c =
     let order = c.as_slice-order.result.now in
     let is_order = c.as_slice-order.ensures ∙ c.preorder.ensures in
     let k : ℕ = c.loop-index.index - 1 in

@@ -10,7 +10,7 @@ returns-in_ok-made-clause-held g c =
     let paths = c.args.tree.now.paths in
     let kept = c.args.kept.now.items in
     let ground = c.requires.ground in
-    let keeps = c.one_more_is_held.ensures p paths kept c.args.var c.in_ok-made.made ground.tree_is.pseudotree ground.counted c.requires.known c.requires.children c.in_ok-made.ensures.made in
+    let keeps = c.one_more_is_held.ensures p paths kept c.args.var c.in_ok-made.made ground.tree_is.pseudotree ground.counted c.requires.inside c.requires.children c.in_ok-made.ensures.made in
     subst (λ (ks : List (Option Made)). AreHeldFrom p paths ks c.args.var) (sym (ap (λ (j : ℕ). set kept j (Some c.in_ok-made.made)) c.var-then-touched-var.view_is)) keeps.here
 
 pub returns-in_ok-made-clause-stay : goal.returns-in_ok-made-clause-stay
@@ -19,5 +19,5 @@ returns-in_ok-made-clause-stay g c =
     let paths = c.args.tree.now.paths in
     let kept = c.args.kept.now.items in
     let ground = c.requires.ground in
-    let keeps = c.one_more_is_held.ensures p paths kept c.args.var c.in_ok-made.made ground.tree_is.pseudotree ground.counted c.requires.known c.requires.children c.in_ok-made.ensures.made in
+    let keeps = c.one_more_is_held.ensures p paths kept c.args.var c.in_ok-made.made ground.tree_is.pseudotree ground.counted c.requires.inside c.requires.children c.in_ok-made.ensures.made in
     one_stays p paths kept (set kept c.var-then-touched-var.inside.0 (Some c.in_ok-made.made)) c.args.var c.in_ok-made.made keeps (ap (λ (j : ℕ). set kept j (Some c.in_ok-made.made)) c.var-then-touched-var.view_is)
