@@ -9,7 +9,7 @@ use dcop_edge::{Failed, Source};
 use std::alloc::{AllocError, Global};
 
 /// The most bytes of one read.
-const BLOCK: usize = 4_096;
+const BLOCK: usize = 65_536;
 
 /// Why a source was not read to its end.
 #[derive(Clone, Copy, Debug, PartialEq, Eq)]

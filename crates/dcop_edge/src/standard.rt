@@ -11,7 +11,7 @@ use std::io::{Error, ErrorKind, Read, Write};
 const MAX_TRIES: u32 = 1_000_000;
 
 /// The most bytes of one read.
-const BLOCK: usize = 4_096;
+const BLOCK: usize = 65_536;
 
 /// A reader of std as a source: a file, a socket, standard input. Nothing is told of its bytes; a
 /// read that the reader refuses is a fault.
