@@ -20,7 +20,7 @@ use Rattle.kept_wires.specs.Keeping.{keeps}
 use Rattle.agent_cells.specs.declared.cell.Cell.{Cell}
 use Rattle.agent_cells.specs.Settled.{TailJoins, HeadJoins}
 use Rattle.agent_cells.specs.State.{state_of, tails_in, heads_in, IsCell}
-use Rattle.agent_workers.specs.Joined.{EachIs, EachBecomes}
+use Rattle.agent_workers.specs.Joined.{EachBecomes}
 use Rattle.agent_workers.specs.Settled.{StaysQuiet}
 use Rattle.agent_workers.proofs.ListLaws.{one_at}
 use Rattle.agent_workers.proofs.CellLaws.{stays_none}

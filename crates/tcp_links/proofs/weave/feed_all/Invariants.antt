@@ -1,4 +1,3 @@
-use Rattle.std.proofs.Common.{◌≡◌, length}
 use Rattle.agent_workers.specs.Joined.{EachBecomes}
 use Rattle.agent_workers.specs.Settled.{StaysQuiet}
 use Rattle.tcp_links.specs.Woven.{HaveFed, AreEmptied}
