@@ -16,6 +16,14 @@ pub record Passing : Type 0 where
   pub drained : List (ℕ × Message)
   pub arrived : List (ℕ × Message)
 
+-- the link with this drained
+abbrev pub holding : Passing → List (ℕ × Message) → Passing
+holding p drained = record { from = p.from; to = p.to; from_node = p.from_node; to_node = p.to_node; drained = drained; arrived = p.arrived }
+
+-- the link with nothing drained, and nothing that has arrived
+abbrev pub emptied : Passing → Passing
+emptied p = record { from = p.from; to = p.to; from_node = p.from_node; to_node = p.to_node; drained = []; arrived = [] }
+
 -- whether it leads from one node to another
 abbrev pub leads : ℕ → ℕ → Passing → Bool
 leads from_node to_node p = p.from_node == from_node && p.to_node == to_node

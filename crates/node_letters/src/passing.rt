@@ -1,7 +1,7 @@
 //! What one exchange passes on one link.
 
-ghost use Rattle.std.specs.Prelude.{◌≡◌, ◌∷◌, ◌++◌, [], OnOk, OnErr};
-ghost use Rattle.node_letters.specs.Passings.{leads, SamePassing};
+ghost use Rattle.std.specs.Prelude.{◌≡◌, ◌↔◌, ◌∷◌, ◌++◌, [], true, OnOk, OnErr};
+ghost use Rattle.node_letters.specs.Passings.{leads, SamePassing, holding, emptied};
 
 use dcop_base::{NoMemory, VarId};
 use protocol_steps::Envelope;
@@ -71,12 +71,26 @@ impl LinkPassing {
         self.drained.as_slice()
     }
 
+    /// Whether nothing was drained, and nothing has arrived.
+    pub fn is_idle(&self) -> bool
+        ensures { (result ≡ true) ↔ ((self.now.drained ≡ []) × (self.now.arrived ≡ [])) }
+    {
+        self.drained.is_empty() && self.arrived.is_empty()
+    }
+
     /// Whether it leads from one node to another.
     pub fn leads(&self, from_node: u32, to_node: u32) -> bool
         ensures { result ≡ leads from_node to_node self.now }
     {
         let (from, to) = (self.from_node, self.to_node);
         from == from_node && to == to_node
+    }
+
+    /// Gives it what was drained, in place of what it held.
+    pub fn hold(&mut self, drained: Vec<Envelope>)
+        ensures { self.new ≡ holding self.old drained.items }
+    {
+        self.drained = drained;
     }
 
     /// Adds an envelope that has arrived.
@@ -91,7 +105,8 @@ impl LinkPassing {
 
     /// Takes out what was drained and what arrived; nothing is left of either.
     pub fn take_lists(&mut self, alloc: Global) -> (Vec<Envelope>, Vec<Envelope>)
-        ensures { (result.0.items ≡ self.old.drained) × (result.1.items ≡ self.old.arrived) }
+        ensures lists { (result.0.items ≡ self.old.drained) × (result.1.items ≡ self.old.arrived) }
+        ensures left { self.new ≡ emptied self.old }
     {
         let drained = std::mem::replace(&mut self.drained, Vec::new(alloc));
         let arrived = std::mem::replace(&mut self.arrived, Vec::new(alloc));

@@ -99,7 +99,7 @@ so_far s ts to count h sent up peer settled =
       counted = settled.counted t.place t.tail t.at t.is;
     }
 
-no_items : (es : List (ℕ × Message)) → length es ≡ 0 → es ≡ []
+pub no_items : (es : List (ℕ × Message)) → length es ≡ 0 → es ≡ []
 no_items [] none = refl
 no_items (e ∷ es) none = absurd (omega (arith, none))
 

@@ -1,5 +1,5 @@
 -- An exchange between nodes: all links drained, passed on and fed.
-use Rattle.std.proofs.Common.{◌≡◌, ◌≢◌, ℕ, suc, ◌*◌, ◌<◌, ◌≤◌, List, [], ◌∷◌, ◌++◌, length, take, drop, Some, None, refl, sym, ap, subst, ◌∙◌, inl, inr, arith}
+use Rattle.std.proofs.Common.{◌≡◌, ◌≢◌, ℕ, suc, ◌*◌, ◌<◌, ◌≤◌, List, [], ◌∷◌, ◌++◌, length, map, take, drop, Some, None, refl, sym, ap, subst, ◌∙◌, inl, inr, arith}
 use Rattle.std.specs.List.{All, Contains, slice_get, flat_map}
 use Rattle.std.proofs.Math.Nat.{mul-lt-mul_of_pos_right, div-lt_iff_lt-mul}
 use Rattle.std.proofs.lemmas.Bool.{cases_Bool}
@@ -9,6 +9,7 @@ use Rattle.std.specs.declared.dyn_box.DynBox.{DynBox}
 use Rattle.std.specs.declared.alloc.Global.{Global}
 use Rattle.dcop_base.specs.Table.{has}
 use Rattle.protocol_steps.specs.declared.message.Message.{Message}
+use Rattle.protocol_steps.specs.declared.event.Entry.{Entry}
 use Rattle.protocol_steps.specs.View.{View}
 use Rattle.protocol_steps.proofs.PrivateLaws.{contains_from_has}
 use Rattle.fifo_links.specs.declared.ends.LinkTail.{LinkTail}
@@ -18,7 +19,7 @@ use Rattle.worker_runs.specs.Cells.{CellState, Lane, peers, lane, EachAre}
 use Rattle.worker_runs.specs.Visits.{IsQuiet}
 use Rattle.worker_runs.specs.NodeRounds.{home}
 use Rattle.worker_runs.proofs.LaneLaws.{lane_none}
-use Rattle.worker_runs.proofs.EachLaws.{there, each_on}
+use Rattle.worker_runs.proofs.EachLaws.{there, each_on, each_long}
 use Rattle.node_runs.specs.Wires.{Passage, Wire, IsSame, HasHeld, HaveHeld, AreApart, HasPassed}
 use Rattle.node_runs.specs.Exchanges.{IsExchange}
 use Rattle.node_runs.specs.Links.{IsLinkExchanged, LeadsNone, SayNothing}
@@ -32,7 +33,7 @@ use Rattle.agent_workers.specs.Joined.{states_of, EachIs, EachBecomes, IsJoined}
 use Rattle.agent_workers.specs.Settled.{StaysQuiet}
 use Rattle.agent_workers.proofs.ListLaws.{map_back, each_are, one_at}
 use Rattle.agent_workers.proofs.JoinLaws.{stood, quiet_same, joined_still, each_stays_then}
-use Rattle.node_letters.specs.Passings.{Passing, SamePassing, AreAcross, NothingCame, AllCame}
+use Rattle.node_letters.specs.Passings.{Passing, SamePassing, AreAcross, NothingCame, AllCame, emptied as emptied_of}
 use Rattle.letter_wires.specs.declared.fault.PassFault.{PassFault}
 use Rattle.letter_wires.specs.declared.fault.PassFault.TheVariants.{Failed, Bytes, NoMemory}
 use Rattle.letter_wires.specs.Faults.{IsByteBetween, IsByteFault, IsNoDifference as passes_no_difference}
@@ -43,7 +44,7 @@ use Rattle.tcp_links.specs.Drains.{HasDrained}
 use Rattle.tcp_links.specs.Feeds.{AllWaits}
 use Rattle.tcp_links.specs.Kept.{IsKept}
 use Rattle.tcp_links.specs.Faults.{node_fault, IsNoDifference}
-use Rattle.tcp_links.specs.Woven.{IsPassingOf, IsWoven, AreWoven, CanFeed, CanFeedAll, HasDrainedLink, HaveDrained, HasFedLink, HaveFed}
+use Rattle.tcp_links.specs.Woven.{IsPassingOf, IsIdle, AreIdle, AreEmptied, IsWoven, AreWoven, CanDrainAll, CanFeed, CanFeedAll, SentIsDrained, FedIsTaken, HaveCaughtUp, HasDrainedLink, HaveDrained, HasFedLink, HaveFed}
 use Rattle.tcp_links.specs.Over.{IsDrainedOf, HasExchanged, IsExchangeFault}
 use Rattle.tcp_links.proofs.OrderLaws.{ordered_passed}
 use Rattle.tcp_links.proofs.DrainLaws.{tail_still}
@@ -107,7 +108,33 @@ record PassesOn (node : ℕ → ℕ) (ws : List Wire) (k : ℕ) (p : Passing) : 
   leads : IsPassingOf node wire p
   fresh : p.arrived ≡ []
 
+-- a list that was written back is as long as before
+pub long_written : {A : Type 0} (n : ℕ) (xs ys zs : List A) → n ≡ length xs → length ys ≡ length zs → zs ≡ xs → n ≡ length (take n (ys ++ drop (length ys) xs))
+long_written n xs ys zs len size same = len ∙ ap length (sym same) ∙ sym size ∙ ap length (sym (written n xs ys zs len size same))
+
+-- what is so of links without anything passed is so of the same lists
+pub idle_slices : (node : ℕ → ℕ) (ws ks : List Wire) (ps qs : List Passing) → ks ≡ ws → qs ≡ ps → AreIdle node ws ps → AreIdle node ks qs
+idle_slices node ws ks ps qs k q h = subst (λ (us : List Wire). AreIdle node us qs) (sym k) (subst (λ (us : List Passing). AreIdle node ws us) (sym q) h)
+
+pub emptied_slices : (ws ks : List Wire) (ps qs rs : List Passing) → ks ≡ ws → qs ≡ ps → AreEmptied (length ks) qs rs → AreEmptied (length ws) ps rs
+emptied_slices ws ks ps qs rs k q h = subst (λ (us : List Wire). AreEmptied (length us) ps rs) k (subst (λ (us : List Passing). AreEmptied (length ks) us rs) q h)
+
 module _ {X : Type 0} {F : X → Type 0} (M : DynBox X Global F → View) where
+  -- woven links can be drained
+  pub can_drain : (nodes agents : ℕ) (ws : List Wire) (es : List InnerEnds) (cells : List (Cell X F)) → AreWoven M nodes agents ws es cells → EachIs (λ c. IsCell M c) cells → CanDrainAll M ws es cells
+  can_drain nodes agents ws es cells woven sound = record {
+    inside = λ k w e.
+        let sender = (all_at (IsBetween agents nodes) ws woven.between k w e).sender in
+        let size = woven.size in
+        omega (arith, sender, size);
+    each = λ k w e from at_w at_e f.
+        let receiver = (all_at (IsBetween agents nodes) ws woven.between k w at_w).receiver in
+        let size = woven.size in
+        let to = there cells w.receiver (omega (arith, receiver, size)) in
+        let on = woven.woven k w e from to.0 at_w at_e f to.1 in
+        record { cell = sound.each w.sender from f; joined = on.drains; peer = on.sends };
+  }
+
   module _ (nodes agents : ℕ) (ws : List Wire) (es ds : List InnerEnds) (cells mid : List (Cell X F)) (ps : List Passing)
       (woven : AreWoven M nodes agents ws es cells) (quiet : EachBecomes (StaysQuiet M) cells mid) (drained : HaveDrained M (home nodes agents) (length ws) cells ws es ds ps) where
     passes_on : (k : ℕ) (p : Passing) → slice_get ps k ≡ Some p → PassesOn (home nodes agents) ws k p
@@ -146,6 +173,7 @@ module _ {X : Type 0} {F : X → Type 0} (M : DynBox X Global F → View) where
       passing : Passing
       from : Cell X F
       to : Cell X F
+      old_is : slice_get es k ≡ Some old
       new_is : slice_get ds k ≡ Some new
       passing_is : slice_get ps k ≡ Some passing
       from_is : slice_get cells w.sender ≡ Some from
@@ -174,13 +202,26 @@ module _ {X : Type 0} {F : X → Type 0} (M : DynBox X Global F → View) where
           passing = passing.0;
           from = from.0;
           to = to.0;
+          old_is = old.1;
           new_is = new.1;
           passing_is = passing.1;
           from_is = from.1;
           to_is = to.1;
           was = woven.woven k w old.0 from.0 to.0 e old.1 from.1 to.1;
-          link = drained.drained k w from.0 old.0 new.0 passing.0 e from.1 old.1 new.1 passing.1;
+          link = drained.drained k w from.0 old.0 new.0 passing.0 inside e from.1 old.1 new.1 passing.1;
         }
+
+    -- where the receiver had taken all, it still has
+    pub still_taken : (seen : List ℕ) → FedIsTaken M seen ws es cells → FedIsTaken M seen ws ds mid
+    still_taken seen fed = record {
+      each = λ k w d to e f g noted none.
+          let on = drained_at k w e in
+          let old = stood M (StaysQuiet M) cells mid quiet w.receiver to g in
+          let ends : on.new ≡ d = one_at ds k on.new d on.new_is f in
+          ap (lane w.sender) old.2.quiet.taken
+          ∙ fed.each k w on.old old.0 e on.old_is old.1 (noted ∙ ap (λ (xs : List Entry). Some (length xs)) old.2.quiet.noted) (sym on.link.waits ∙ ap (λ (x : InnerEnds). x.waits) ends ∙ none)
+          ∙ ap sent_on (sym on.link.feed) ∙ ap (λ (x : InnerEnds). sent_on x.feed) ends;
+    }
 
     pub can_feed : EachIs (λ c. IsCell M c) cells → CanFeedAll M ws ds mid
     can_feed sound = record {
@@ -318,6 +359,54 @@ module _ {X : Type 0} {F : X → Type 0} (M : DynBox X Global F → View) where
             kept = l.kept;
           }
 
+      -- the exchange left nothing undrained, and it told right where nothing waits
+      pub caught_up : (seen : List ℕ) → seen ≡ map (λ c. length (state_of M c).journal) last → HaveCaughtUp M seen vs fs last
+      caught_up seen noted = record {
+        noted = noted;
+        sent = λ k v f from e at_f at_from.
+            let l = fed_at k v e in
+            let on = l.on in
+            let ends : l.ends ≡ f = one_at fs k l.ends f l.ends_is at_f in
+            let s : StaysQuiet M on.from from = all_quiet.each l.wire.sender on.from from on.from_is (ap (slice_get last) (sym l.sender) ∙ at_from) in
+            ap (λ (x : InnerEnds). taken_from x.drain) (sym ends) ∙ ap (λ (h : LinkHead (ℕ × Message)). taken_from h) l.link.drain ∙ on.link.all ∙ ap (lane l.wire.receiver) (sym s.quiet.sent)
+            ∙ ap (λ (n : ℕ). lane n (state_of M from).sent) (sym l.receiver);
+        fed = λ k v f to e at_f at_to none.
+            let l = fed_at k v e in
+            let ends : l.ends ≡ f = one_at fs k l.ends f l.ends_is at_f in
+            let taker : l.taker ≡ to = one_at last l.wire.receiver l.taker to l.taker_is (ap (slice_get last) (sym l.receiver) ∙ at_to) in
+            ap (λ (n : ℕ). lane n (state_of M to).taken) l.sender ∙ ap (λ (c : Cell X F). lane l.wire.sender (state_of M c).taken) (sym taker)
+            ∙ l.link.none (ap (λ (x : InnerEnds). x.waits) ends ∙ none) ∙ ap (λ (x : InnerEnds). sent_on x.feed) ends;
+      }
+
+      -- and its links hold nothing any more
+      pub idle_on : (rs : List Passing) → AreEmptied (length ws) qs rs → AreIdle (home nodes agents) vs rs
+      idle_on rs emptied = record {
+        size = emptied.size ∙ sym (each_long SamePassing ps qs same) ∙ drained.counted ∙ sym fed.wires;
+        each = λ k v r e f.
+            let l = fed_at k v e in
+            let lt = slice_get_within ws k l.wire l.wire_is in
+            let is = emptied.emptied k l.came r lt l.came_is f in
+            let came = each_on SamePassing ps qs same k l.on.passing l.on.passing_is in
+            let one : came.0 ≡ l.came = one_at qs k came.0 l.came came.1 l.came_is in
+            let led = (drained.passing k l.wire l.on.passing l.wire_is l.on.passing_is).0 in
+            let now : IsIdle (home nodes agents) l.wire (emptied_of came.0) = record {
+              link = record { from = came.2.from ∙ led.from; to = came.2.to ∙ led.to; from_node = came.2.from_node ∙ led.from_node; to_node = came.2.to_node ∙ led.to_node };
+              drained = refl;
+              arrived = refl;
+            } in
+            let on : IsIdle (home nodes agents) l.wire r = subst (λ (p : Passing). IsIdle (home nodes agents) l.wire p) (sym is) (subst (λ (p : Passing). IsIdle (home nodes agents) l.wire (emptied_of p)) one now) in
+            record {
+              link = record {
+                from = on.link.from ∙ sym l.sender;
+                to = on.link.to ∙ sym l.receiver;
+                from_node = on.link.from_node ∙ ap (home nodes agents) (sym l.sender);
+                to_node = on.link.to_node ∙ ap (home nodes agents) (sym l.receiver);
+              };
+              drained = on.drained;
+              arrived = on.arrived;
+            };
+      }
+
       pub woven_on : AreWoven M nodes agents vs fs last
       woven_on = record {
         size = all_quiet.size ∙ woven.size;
@@ -396,13 +485,17 @@ module _ {X : Type 0} {F : X → Type 0} (M : DynBox X Global F → View) where
           subst HasHeld (sym l.link.kept) (held_keeps l.wire l.came.drained l.came.arrived (all k l.came l.came_is) (all_at HasHeld ws held k l.wire l.wire_is)))
 
   -- a plan after an exchange
-  pub has_exchanged : {W : Type 0} (p q : NodePlan W) (cells last : List (Cell X F)) (vs : List Wire) (fs : List InnerEnds) → IsPlan p → q.agents ≡ p.agents → q.nodes ≡ p.nodes → length q.wires.items ≡ length p.wires.items
-      → q.kept.items ≡ vs → q.ends.items ≡ fs → AreWoven M p.nodes p.agents vs fs last → IsExchange (home p.nodes p.agents) p.kept.items vs (states_of M cells) (states_of M last) → HasExchanged M p cells q last
-  has_exchanged p q cells last vs fs plan agents nodes wires kept ends woven exchange =
+  pub has_exchanged : {W : Type 0} (p q : NodePlan W) (cells last : List (Cell X F)) (vs : List Wire) (fs : List InnerEnds) (rs : List Passing) → IsPlan p → q.agents ≡ p.agents → q.nodes ≡ p.nodes → length q.wires.items ≡ length p.wires.items
+      → q.kept.items ≡ vs → q.ends.items ≡ fs → q.passings.items ≡ rs → AreIdle (home p.nodes p.agents) vs rs → HaveCaughtUp M q.seen.items vs fs last
+      → AreWoven M p.nodes p.agents vs fs last → IsExchange (home p.nodes p.agents) p.kept.items vs (states_of M cells) (states_of M last) → HasExchanged M p cells q last
+  has_exchanged p q cells last vs fs rs plan agents nodes wires kept ends passings idle told woven exchange =
       let own : AreWoven M q.nodes q.agents vs fs last =
       subst (λ (n : ℕ). AreWoven M n q.agents vs fs last) (sym nodes) (subst (λ (n : ℕ). AreWoven M p.nodes n vs fs last) (sym agents) woven) in
       let over : AreWoven M q.nodes q.agents q.kept.items q.ends.items last =
       subst (λ (ws : List Wire). AreWoven M q.nodes q.agents ws q.ends.items last) (sym kept) (subst (λ (es : List InnerEnds). AreWoven M q.nodes q.agents vs es last) (sym ends) own) in
+      let caught : HaveCaughtUp M q.seen.items q.kept.items q.ends.items last =
+      subst (λ (ws : List Wire). HaveCaughtUp M q.seen.items ws q.ends.items last) (sym kept) (subst (λ (es : List InnerEnds). HaveCaughtUp M q.seen.items vs es last) (sym ends) told) in
+      let none : AreIdle (home q.nodes q.agents) vs rs = subst (λ (n : ℕ). AreIdle (home n q.agents) vs rs) (sym nodes) (subst (λ (n : ℕ). AreIdle (home p.nodes n) vs rs) (sym agents) idle) in
       record {
         over = record {
           plan = record {
@@ -417,19 +510,33 @@ module _ {X : Type 0} {F : X → Type 0} (M : DynBox X Global F → View) where
           nodes = nodes;
           agents = agents;
           woven = over;
+          ready = record {
+            idle = idle_slices (home q.nodes q.agents) vs q.kept.items rs q.passings.items kept passings none;
+            sent = record { each = λ k w e from at_w at_e f _. caught.sent k w e from at_w at_e f };
+            fed = record { each = λ k w e to at_w at_e f _ no. caught.fed k w e to at_w at_e f no };
+          };
         };
+        told = caught;
         exchange = subst (λ (ws : List Wire). IsExchange (home p.nodes p.agents) p.kept.items ws (states_of M cells) (states_of M last)) (sym kept) exchange;
       }
 
   -- the same of lists that are the same
-  pub woven_slices : (nodes agents : ℕ) (cells : List (Cell X F)) (ws ks : List Wire) (es fs : List InnerEnds) → ks ≡ ws → fs ≡ es → AreWoven M nodes agents ws es cells → AreWoven M nodes agents ks fs cells
-  woven_slices nodes agents cells ws ks es fs k f h =
-      subst (λ (us : List Wire). AreWoven M nodes agents us fs cells) (sym k) (subst (λ (us : List InnerEnds). AreWoven M nodes agents ws us cells) (sym f) h)
-
   pub drained_slices : (node : ℕ → ℕ) (cells : List (Cell X F)) (ws ks : List Wire) (es fs ds : List InnerEnds) (ps : List Passing) → ks ≡ ws → fs ≡ es → HaveDrained M node (length ks) cells ks fs ds ps
       → HaveDrained M node (length ws) cells ws es ds ps
   drained_slices node cells ws ks es fs ds ps k f h =
       subst (λ (us : List Wire). HaveDrained M node (length us) cells us es ds ps) k (subst (λ (us : List InnerEnds). HaveDrained M node (length ks) cells ks us ds ps) f h)
+
+  pub can_drain_slices : (cells : List (Cell X F)) (ws ks : List Wire) (es fs : List InnerEnds) → ks ≡ ws → fs ≡ es → CanDrainAll M ws es cells → CanDrainAll M ks fs cells
+  can_drain_slices cells ws ks es fs k f h =
+      subst (λ (us : List Wire). CanDrainAll M us fs cells) (sym k) (subst (λ (us : List InnerEnds). CanDrainAll M ws us cells) (sym f) h)
+
+  pub sent_slices : (cells : List (Cell X F)) (seen ss : List ℕ) (ws ks : List Wire) (es fs : List InnerEnds) → ss ≡ seen → ks ≡ ws → fs ≡ es → SentIsDrained M seen ws es cells → SentIsDrained M ss ks fs cells
+  sent_slices cells seen ss ws ks es fs s k f h =
+      subst (λ (ns : List ℕ). SentIsDrained M ns ks fs cells) (sym s) (subst (λ (us : List Wire). SentIsDrained M seen us fs cells) (sym k) (subst (λ (us : List InnerEnds). SentIsDrained M seen ws us cells) (sym f) h))
+
+  pub taken_slices : (cells : List (Cell X F)) (seen ss : List ℕ) (ws ks : List Wire) (es fs : List InnerEnds) → ss ≡ seen → ks ≡ ws → fs ≡ es → FedIsTaken M seen ws es cells → FedIsTaken M ss ks fs cells
+  taken_slices cells seen ss ws ks es fs s k f h =
+      subst (λ (ns : List ℕ). FedIsTaken M ns ks fs cells) (sym s) (subst (λ (us : List Wire). FedIsTaken M seen us fs cells) (sym k) (subst (λ (us : List InnerEnds). FedIsTaken M seen ws us cells) (sym f) h))
 
   pub can_feed_slices : (cells : List (Cell X F)) (ws ks : List Wire) (es fs : List InnerEnds) → ks ≡ ws → fs ≡ es → CanFeedAll M ws es cells → CanFeedAll M ks fs cells
   can_feed_slices cells ws ks es fs k f h =

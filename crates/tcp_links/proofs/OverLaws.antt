@@ -1,23 +1,28 @@
 -- Playing cells over a plan of nodes, round by round.
-use Rattle.std.proofs.Common.{◌≡◌, ℕ, ◌+◌, ◌*◌, ◌<◌, ◌≤◌, false, Result, Ok, Err, Option, Some, None, List, [], ◌∷◌, ◌++◌, length, refl, sym, ap, subst, ◌∙◌, inl, inr, arith}
+use Rattle.std.proofs.Common.{◌≡◌, ℕ, ◌+◌, ◌*◌, ◌<◌, ◌≤◌, false, Result, Ok, Err, Option, Some, None, List, [], ◌∷◌, ◌++◌, zero, suc, length, map, refl, sym, ap, subst, ◌∙◌, inl, inr, arith}
 use Rattle.std.specs.Prelude.{OnOk, IfErr, IsErrAnd}
-use Rattle.std.specs.List.{Contains}
+use Rattle.std.specs.List.{Contains, slice_get}
 use Rattle.std.specs.declared.dyn_box.DynBox.{DynBox}
 use Rattle.std.specs.declared.alloc.Global.{Global}
 use Rattle.std.proofs.Math.Nat.{mul-le-mul_right}
+use Rattle.std.proofs.lemmas.Option.{none-some, same_Some}
 use Rattle.std.proofs.lemmas.List.{length-map, length-append}
 use Rattle.std.proofs.lemmas.List.Elements.{All-nil}
 use Rattle.dcop_base.specs.Limits.{variable_limit, budget_limit}
 use Rattle.protocol_steps.specs.declared.run_end.RunEnd.{RunEnd}
 use Rattle.protocol_steps.specs.View.{View}
-use Rattle.worker_runs.specs.Cells.{CellState, peers, EachAre}
+use Rattle.protocol_steps.specs.Rounds.{most_events}
+use Rattle.protocol_steps.specs.Stamps.{Deed}
+use Rattle.worker_runs.specs.Acts.{IsLater, entry_of, journal_of}
+use Rattle.worker_runs.specs.Sprints.{IsSprint}
+use Rattle.worker_runs.specs.Cells.{CellState, peers, lane, EachAre}
 use Rattle.worker_runs.specs.Visits.{IsFrom, IsQuiet}
 use Rattle.worker_runs.specs.CellRounds.{total}
 use Rattle.worker_runs.specs.CellRuns.{all_ended}
 use Rattle.worker_runs.specs.NodeRounds.{home, IsPartRound}
 use Rattle.worker_runs.specs.StampCounts.{IsMoved}
 use Rattle.worker_runs.proofs.LaneLaws.{grown_none}
-use Rattle.worker_runs.proofs.EachLaws.{each_long}
+use Rattle.worker_runs.proofs.EachLaws.{each_long, each_on}
 use Rattle.worker_runs.proofs.VisitLaws.{totals_add}
 use Rattle.node_runs.specs.Wires.{Wire}
 use Rattle.node_runs.specs.Exchanges.{IsExchange}
@@ -32,6 +37,7 @@ use Rattle.agent_workers.specs.Settled.{StaysQuiet}
 use Rattle.agent_workers.specs.Turns.{sprint_limit, SomeFailed}
 use Rattle.agent_workers.specs.Broken.{StandsOrEnds, AreBrokenOff}
 use Rattle.agent_workers.specs.Run.{AreBusy, AreDue, EndIdle}
+use Rattle.agent_workers.proofs.ListLaws.{one_at}
 use Rattle.agent_workers.proofs.JoinLaws.{stood, sent_peers, taken_peers, quiet_same, joined_still}
 use Rattle.tcp_links.specs.declared.fault.Difference.TheVariants.{Message, Bytes}
 use Rattle.tcp_links.specs.declared.fault.NodeFault.{NodeFault}
@@ -39,12 +45,14 @@ use Rattle.tcp_links.specs.declared.fault.NodeFault.TheVariants.{Failed, Differs
 use Rattle.tcp_links.specs.declared.plan.InnerEnds.{InnerEnds}
 use Rattle.tcp_links.specs.declared.plan.NodePlan.{NodePlan}
 use Rattle.tcp_links.specs.Faults.{HasNodeCause}
-use Rattle.tcp_links.specs.Woven.{AreWoven}
-use Rattle.tcp_links.specs.Over.{IsDrainedOf, IsPlanOver, HasExchanged, HasPassedOther, IsExchangeFault, ArePlayedSo, IsIdleOver, ArePlayedOutOver, HasBrokenOver, HasRoundOver, HasBrokenRound, ArePlayedTo}
+use Rattle.tcp_links.specs.Woven.{AreIdle, SentIsDrained, FedIsTaken, HaveCaughtUp, AreWoven}
+use Rattle.tcp_links.specs.Over.{IsDrainedOf, AreReady, IsPlanOver, HasExchanged, HasPassedOther, IsExchangeFault, ArePlayedSo, IsIdleOver, ArePlayedOutOver, HasBrokenOver, HasRoundOver, HasBrokenRound, ArePlayedTo}
 use Rattle.letter_wires.specs.Faults.{IsByteBetween}
 use Rattle.tcp_links.specs.Ends.{AreThere, HasOtherByte, IsFaultOver}
 use Rattle.tcp_links.proofs.DrainLaws.{tail_still, head_none}
 use Rattle.tcp_links.proofs.FeedLaws.{heads_still}
+use Rattle.tcp_links.proofs.PlanLaws.{same_plan}
+use Rattle.tcp_links.proofs.ExchangeLaws.{idle_slices}
 
 -- a fault that is passed on
 pub err_on : {T : Type 0} (r : Result T NodeFault) (e : NodeFault) (P : NodeFault → Type 0) → IsErrAnd r (λ x. x ≡ e) → P e → IfErr r P
@@ -100,7 +108,59 @@ pub plainly_over : (node : ℕ → ℕ) (budget count : ℕ) (Such : List CellSt
     → ArePlayedSo node budget Such count begun started wires now → ArePlayedOver node budget begun started wires now
 plainly_over node budget count Such begun started wires now p = record { rounds = p.rounds; are = p.are }
 
+-- what stands at a place of a mapped list
+pub map_at : {A B : Type 0} (f : A → B) (xs : List A) (i : ℕ) (x : A) → slice_get xs i ≡ Some x → slice_get (map f xs) i ≡ Some (f x)
+map_at f [] i x e = absurd (none-some x e)
+map_at f (y ∷ xs) zero x e = ap (λ (z : _). Some (f z)) (same_Some y x e)
+map_at f (y ∷ xs) (suc i) x e = map_at f xs i x e
+
+-- a cell whose journal is as long as before has sent and taken nothing
+later_rests : (a : CellState) (ds : List Deed) (b : CellState) → IsLater a ds b → length b.journal ≡ length a.journal → (b.sent ≡ a.sent) × (b.taken ≡ a.taken)
+later_rests a [] b later same = (later.sent ∙ grown_none a.sent, later.taken ∙ grown_none a.taken)
+later_rests a (d ∷ ds) b later same =
+    let long : length b.journal ≡ length a.journal + length (journal_of (d ∷ ds)) = ap length later.noted ∙ length-append a.journal (journal_of (d ∷ ds)) in
+    let many : length (journal_of (d ∷ ds)) ≡ suc (length ds) = length-map (d ∷ ds) entry_of in
+    absurd (omega (arith, long, many, same))
+
 module _ {X : Type 0} {F : X → Type 0} (M : DynBox X Global F → View) where
+  -- where a round left a cell's journal as long as it was, the cell has sent and taken nothing in it
+  cell_rests : (node : ℕ → ℕ) (before after : List (Cell X F)) → IsPartRound node (states_of M before) (states_of M after) → (i : ℕ) (a b : Cell X F) → slice_get before i ≡ Some a → slice_get after i ≡ Some b
+      → length (state_of M b).journal ≡ length (state_of M a).journal → ((state_of M b).sent ≡ (state_of M a).sent) × ((state_of M b).taken ≡ (state_of M a).taken)
+  cell_rests node before after r i a b at_a at_b same =
+      let settled = each_on IsQuiet (states_of M before) r.middle r.settling.quiet i (state_of M a) (map_at (state_of M) before i a at_a) in
+      let played = each_on (IsSprint most_events) r.middle (states_of M after) r.sprints i settled.0 settled.1 in
+      let is : played.0 ≡ state_of M b = one_at (states_of M after) i played.0 (state_of M b) played.1 (map_at (state_of M) after i b at_b) in
+      let sprint : IsSprint most_events settled.0 (state_of M b) = subst (λ (s : CellState). IsSprint most_events settled.0 s) is played.2 in
+      let rests = later_rests settled.0 sprint.deeds (state_of M b) sprint.later (same ∙ sym (ap length settled.2.noted)) in
+      (rests.0 ∙ settled.2.sent, rests.1 ∙ settled.2.taken)
+
+  module _ (node : ℕ → ℕ) (seen : List ℕ) (ws : List Wire) (es : List InnerEnds) (before after : List (Cell X F)) (told : HaveCaughtUp M seen ws es before) (same : EachBecomes IsSameCell before after)
+      (round : IsPartRound node (states_of M before) (states_of M after)) where
+    -- a cell whose journal is as long as was noted has sent and taken nothing since
+    noted_rests : (i : ℕ) (b : Cell X F) → slice_get after i ≡ Some b → slice_get seen i ≡ Some (length (state_of M b).journal)
+        → (a : Cell X F) × (slice_get before i ≡ Some a) × ((state_of M b).sent ≡ (state_of M a).sent) × ((state_of M b).taken ≡ (state_of M a).taken)
+    noted_rests i b at noted =
+        let a = stood M IsSameCell before after same i b at in
+        let was : slice_get seen i ≡ Some (length (state_of M a.0).journal) = ap (λ (ns : List ℕ). slice_get ns i) told.noted ∙ map_at (λ (c : Cell X F). length (state_of M c).journal) before i a.0 a.1 in
+        let long : length (state_of M b).journal ≡ length (state_of M a.0).journal = same_Some (length (state_of M b).journal) (length (state_of M a.0).journal) (sym noted ∙ was) in
+        let rests = cell_rests node before after round i a.0 b a.1 at long in
+        (a.0, a.1, rests.0, rests.1)
+
+    -- so what was told behind the exchange is still right
+    sent_on_so : SentIsDrained M seen ws es after
+    sent_on_so = record {
+      each = λ k w e b at_w at_e at noted.
+          let a = noted_rests w.sender b at noted in
+          told.sent k w e a.0 at_w at_e a.1 ∙ ap (lane w.receiver) (sym a.2);
+    }
+
+    taken_on_so : FedIsTaken M seen ws es after
+    taken_on_so = record {
+      each = λ k w e b at_w at_e at noted none.
+          let a = noted_rests w.receiver b at noted in
+          ap (lane w.sender) a.3 ∙ told.fed k w e a.0 at_w at_e a.1 none;
+    }
+
   -- links stay woven with cells that keep theirs
   pub woven_still : (nodes agents : ℕ) (ws : List Wire) (es : List InnerEnds) (before after : List (Cell X F)) → AreWoven M nodes agents ws es before → EachBecomes IsSameCell before after
       → AreWoven M nodes agents ws es after
@@ -161,14 +221,58 @@ module _ {X : Type 0} {F : X → Type 0} (M : DynBox X Global F → View) where
       (subst (λ (n : ℕ). HasBrokenOver M node budget n begun started wires now) (sym is.0) b)
 
   module _ {W : Type 0} where
+    woven_as : (q r : NodePlan W) (cells : List (Cell X F)) → r.kept.items ≡ q.kept.items → r.ends.items ≡ q.ends.items → r.agents ≡ q.agents → r.nodes ≡ q.nodes → AreWoven M q.nodes q.agents q.kept.items q.ends.items cells
+        → AreWoven M r.nodes r.agents r.kept.items r.ends.items cells
+    woven_as q r cells kept ends agents nodes w =
+        subst (λ (n : ℕ). AreWoven M n r.agents r.kept.items r.ends.items cells) (sym nodes)
+        (subst (λ (n : ℕ). AreWoven M q.nodes n r.kept.items r.ends.items cells) (sym agents)
+        (subst (λ (ws : List Wire). AreWoven M q.nodes q.agents ws r.ends.items cells) (sym kept) (subst (λ (es : List InnerEnds). AreWoven M q.nodes q.agents q.kept.items es cells) (sym ends) w)))
+
+    idle_as : (q r : NodePlan W) → r.kept.items ≡ q.kept.items → r.passings.items ≡ q.passings.items → r.agents ≡ q.agents → r.nodes ≡ q.nodes → AreIdle (home q.nodes q.agents) q.kept.items q.passings.items
+        → AreIdle (home r.nodes r.agents) r.kept.items r.passings.items
+    idle_as q r kept passings agents nodes i =
+        subst (λ (n : ℕ). AreIdle (home n r.agents) r.kept.items r.passings.items) (sym nodes)
+        (subst (λ (n : ℕ). AreIdle (home q.nodes n) r.kept.items r.passings.items) (sym agents) (idle_slices (home q.nodes q.agents) q.kept.items r.kept.items q.passings.items r.passings.items kept passings i))
+
+    -- where nothing was noted, nothing is told
+    pub ready_unseen : (p : NodePlan W) (cells : List (Cell X F)) → AreIdle (home p.nodes p.agents) p.kept.items p.passings.items → p.seen.items ≡ [] → AreReady M (home p.nodes p.agents) p cells
+    ready_unseen p cells idle unseen = record {
+      idle = idle;
+      sent = record { each = λ k w e b at_w at_e at noted. absurd (none-some (length (state_of M b).journal) (ap (λ (ns : List ℕ). slice_get ns w.sender) (sym unseen) ∙ noted)) };
+      fed = record { each = λ k w e b at_w at_e at noted none. absurd (none-some (length (state_of M b).journal) (ap (λ (ns : List ℕ). slice_get ns w.receiver) (sym unseen) ∙ noted)) };
+    }
+
     pub over_self : (p q : NodePlan W) (cells : List (Cell X F)) → IsPlanOver M p q cells → IsPlanOver M q q cells
-    over_self p q cells o = record { plan = o.plan; nodes = refl; agents = refl; woven = o.woven }
+    over_self p q cells o = record { plan = o.plan; nodes = refl; agents = refl; woven = o.woven; ready = o.ready }
 
     pub over_then : (p q r : NodePlan W) (now next : List (Cell X F)) → IsPlanOver M p q now → IsPlanOver M q r next → IsPlanOver M p r next
-    over_then p q r now next o n = record { plan = n.plan; nodes = n.nodes ∙ o.nodes; agents = n.agents ∙ o.agents; woven = n.woven }
+    over_then p q r now next o n = record { plan = n.plan; nodes = n.nodes ∙ o.nodes; agents = n.agents ∙ o.agents; woven = n.woven; ready = n.ready }
 
-    pub over_still : (p q : NodePlan W) (before after : List (Cell X F)) → IsPlanOver M p q before → EachBecomes IsSameCell before after → IsPlanOver M p q after
-    over_still p q before after o s = record { plan = o.plan; nodes = o.nodes; agents = o.agents; woven = woven_still q.nodes q.agents q.kept.items q.ends.items before after o.woven s }
+    -- what was told of links behind an exchange is still right behind the round
+    pub over_played : (p q : NodePlan W) (cells before after : List (Cell X F)) → HasExchanged M p cells q before → EachBecomes IsSameCell before after → IsPartRound (home q.nodes (length before)) (states_of M before) (states_of M after)
+        → IsPlanOver M p q after
+    over_played p q cells before after x same round = record {
+      plan = x.over.plan;
+      nodes = x.over.nodes;
+      agents = x.over.agents;
+      woven = woven_still q.nodes q.agents q.kept.items q.ends.items before after x.over.woven same;
+      ready = record {
+        idle = x.over.ready.idle;
+        sent = sent_on_so (home q.nodes (length before)) q.seen.items q.kept.items q.ends.items before after x.told same round;
+        fed = taken_on_so (home q.nodes (length before)) q.seen.items q.kept.items q.ends.items before after x.told same round;
+      };
+    }
+
+    -- so it is where nothing more is told
+    pub over_forgot : (p q r : NodePlan W) (cells before after : List (Cell X F)) → HasExchanged M p cells q before → EachBecomes IsSameCell before after → r.agents ≡ q.agents → r.nodes ≡ q.nodes → r.wires.items ≡ q.wires.items → r.kept.items ≡ q.kept.items
+        → r.ends.items ≡ q.ends.items → r.passings.items ≡ q.passings.items → r.seen.items ≡ [] → IsPlanOver M p r after
+    over_forgot p q r cells before after x same agents nodes wires kept ends passings unseen = record {
+      plan = same_plan q r x.over.plan kept ends agents nodes wires;
+      nodes = nodes ∙ x.over.nodes;
+      agents = agents ∙ x.over.agents;
+      woven = woven_as q r after kept ends agents nodes (woven_still q.nodes q.agents q.kept.items q.ends.items before after x.over.woven same);
+      ready = ready_unseen r after (idle_as q r kept passings agents nodes x.over.ready.idle) unseen;
+    }
 
     -- cells joined by as many nodes
     pub joined_over : (p q : NodePlan W) (cells : List (Cell X F)) → q.nodes ≡ p.nodes → IsJoined M p.nodes cells → IsJoined M q.nodes cells
@@ -201,10 +305,10 @@ module _ {X : Type 0} {F : X → Type 0} (M : DynBox X Global F → View) where
           fine = fine;
         }
 
-    pub broken_made : (before after : NodePlan W) (cells ready now : List (Cell X F)) → HasExchanged M before cells after ready → AreBrokenOff M IsMoved sprint_limit (states_of M ready) now → SomeFailed StampEnd now
-        → HasBrokenRound M before cells after now
-    broken_made before after cells ready now x b failed =
-        record { ready = states_of M ready; exchange = x.exchange; stood = b.stood; moved = b.gone; most = b.most; came = b.came; failed = failed }
+    pub broken_made : (before after last : NodePlan W) (cells ready now : List (Cell X F)) → HasExchanged M before cells after ready → last.kept.items ≡ after.kept.items → AreBrokenOff M IsMoved sprint_limit (states_of M ready) now
+        → SomeFailed StampEnd now → HasBrokenRound M before cells last now
+    broken_made before after last cells ready now x kept b failed =
+        record { ready = states_of M ready; exchange = subst (λ (ws : List Wire). IsExchange (home before.nodes before.agents) before.kept.items ws (states_of M cells) (states_of M ready)) (sym kept) x.exchange; stood = b.stood; moved = b.gone; most = b.most; came = b.came; failed = failed }
 
     -- a byte that an exchange finds to differ, behind these rounds
     pub byte_over : (budget round : ℕ) (begun : List Wire) (started : List CellState) (p q : NodePlan W) (cells : List (Cell X F)) (behind from_node to_node place : ℕ) (sent taken : Option ℕ) → IsPlanOver M p q cells

@@ -1,9 +1,10 @@
 -- A run of nodes, by its start, its rounds and its end.
-use Rattle.std.proofs.Common.{◌≡◌, ℕ, zero, suc, ◌&&◌, Bool, Option, Some, None, List, [], ◌∷◌, map, length, get_or, slice_get, refl, sym, ap, ap₂, subst, ◌∙◌, inl, inr, arith}
+use Rattle.std.proofs.Common.{◌≡◌, ℕ, ◌&&◌, Bool, Result, Ok, Err, Option, Some, None, List, [], ◌∷◌, length, get_or, slice_get, refl, sym, ap, ap₂, subst, ◌∙◌, inl, inr, arith}
+use Rattle.std.specs.Prelude.{IfErr}
 use Rattle.std.specs.List.{All, Contains, flat_map}
 use Rattle.std.specs.declared.dyn_box.DynBox.{DynBox}
 use Rattle.std.specs.declared.alloc.Global.{Global}
-use Rattle.std.proofs.lemmas.Option.{none-some, same_Some, slice_get_within, slice_get-get_or, get_or_from_slice_get}
+use Rattle.std.proofs.lemmas.Option.{none-some, slice_get_within, slice_get-get_or, get_or_from_slice_get}
 use Rattle.std.proofs.lemmas.List.{length-map}
 use Rattle.std.proofs.lemmas.List.Elements.{All-nil}
 use Rattle.protocol_steps.specs.declared.message.Message.{Message as Sent}
@@ -19,7 +20,7 @@ use Rattle.worker_runs.proofs.EachLaws.{there, each_back}
 use Rattle.worker_runs.proofs.VisitLaws.{totals_add}
 use Rattle.node_runs.specs.Wires.{Passage, Wire, IsSame, HasHeld, HaveHeld}
 use Rattle.node_runs.specs.Exchanges.{IsExchange}
-use Rattle.node_runs.specs.NodeRounds.{IsNodeEnd}
+use Rattle.node_runs.specs.NodeRounds.{IsNodeEnd, ArePlayedOver}
 use Rattle.node_runs.specs.NodeRuns.{IsAsInOneNode}
 use Rattle.node_runs.proofs.RunLaws.{nodes_are_one, played_nodes_make_runs}
 use Rattle.node_runs.proofs.StampLaws.{node_stamps_are_few}
@@ -42,19 +43,24 @@ use Rattle.tcp_links.specs.declared.plan.NodePlan.{NodePlan}
 use Rattle.tcp_links.specs.Plans.{IsPlan, IsNewPlan}
 use Rattle.tcp_links.specs.Faults.{IsKeptDifference}
 use Rattle.tcp_links.specs.Linked.{AreLinkedOver}
-use Rattle.tcp_links.specs.Woven.{AreWoven}
+use Rattle.tcp_links.specs.declared.plan.InnerEnds.{InnerEnds}
+use Rattle.tcp_links.specs.Woven.{AreIdle, AreWoven}
 use Rattle.tcp_links.specs.Over.{IsPlanOver, HasExchanged, IsExchangeFault, ArePlayedOutOver, HasBrokenOver, ArePlayedTo}
-use Rattle.tcp_links.specs.Ends.{AreThere, IsFaultOver, HasHeldOver, HasDifference, DiffersOver}
-use Rattle.tcp_links.proofs.OverLaws.{over_still, byte_over}
+use Rattle.tcp_links.specs.Ends.{AreThere, IsDifference, IsFaultOver, HasHeldOver, HasDifference, DiffersOver}
+use Rattle.tcp_links.proofs.OverLaws.{map_at, woven_still, ready_unseen, byte_over}
 
 -- what stands at a place of a list that is so throughout
 all_at : {A : Type 0} (P : A → Type 0) (xs : List A) (i : ℕ) (x : A) → All P xs → slice_get xs i ≡ Some x → P x
 all_at P xs i x all is = subst P (get_or_from_slice_get xs i x x is) (all i x (slice_get_within xs i x is))
 
-map_at : {A B : Type 0} (f : A → B) (xs : List A) (i : ℕ) (x : A) → slice_get xs i ≡ Some x → slice_get (map f xs) i ≡ Some (f x)
-map_at f [] i x e = absurd (none-some x e)
-map_at f (y ∷ xs) zero x e = ap (λ (z : _). Some (f z)) (same_Some y x e)
-map_at f (y ∷ xs) (suc i) x e = map_at f xs i x e
+-- what follows of a fault
+pub on_err : {T : Type 0} (P Q : NodeFault → Type 0) (r : Result T NodeFault) → ((e : NodeFault) → P e → Q e) → IfErr r P → IfErr r Q
+on_err P Q (Ok x) f h = tt
+on_err P Q (Err e) f h = f e h
+
+-- a new plan of as many agents and nodes
+pub new_as : {W : Type 0} (agents as_many nodes as_few : ℕ) (p : NodePlan W) → as_many ≡ agents → as_few ≡ nodes → IsNewPlan as_many as_few p → IsNewPlan agents nodes p
+new_as agents as_many nodes as_few p same alike n = record { plan = n.plan; agents_are = n.agents_are ∙ same; nodes_are = n.nodes_are ∙ alike; no_link = n.no_link }
 
 -- what is told of the same links
 pub held_in : (vs ws : List Wire) → vs ≡ ws → HaveHeld vs → HaveHeld ws
@@ -202,10 +208,53 @@ module _ {X : Type 0} {F : X → Type 0} (M : DynBox X Global F → View) where
       every = l.every;
     }
 
+    node_as : (P : (ℕ → ℕ) → Type 0) (p q : NodePlan W) → q.agents ≡ p.agents → q.nodes ≡ p.nodes → P (home q.nodes q.agents) → P (home p.nodes p.agents)
+    node_as P p q agents nodes h = subst (λ (n : ℕ). P (home n p.agents)) nodes (subst (λ (n : ℕ). P (home q.nodes n)) agents h)
+
     -- cells that have started are woven with a plan over which they lead
-    pub over_start : (p : NodePlan W) (before after : List (Cell X F)) → IsPlan p → AreLinkedOver M p before → IsJoined M p.nodes before → EachBecomes (HasStarted M) before after → IsPlanOver M p p after
-    over_start p before after plan l j s =
-        over_still M p p before after (record { plan = plan; nodes = refl; agents = refl; woven = linked p before plan l j }) (same_started before after s)
+    pub over_start : (p : NodePlan W) (before after : List (Cell X F)) → IsPlan p → AreLinkedOver M p before → IsJoined M p.nodes before → EachBecomes (HasStarted M) before after → AreIdle (home p.nodes p.agents) p.kept.items p.passings.items
+        → p.seen.items ≡ [] → IsPlanOver M p p after
+    over_start p before after plan l j s idle unseen = record {
+      plan = plan;
+      nodes = refl;
+      agents = refl;
+      woven = woven_still M p.nodes p.agents p.kept.items p.ends.items before after (linked p before plan l j) (same_started before after s);
+      ready = ready_unseen M p after idle unseen;
+    }
+
+    -- cells that lead over a plan lead over one with the same links
+    pub linked_as : (p q : NodePlan W) (cells : List (Cell X F)) → q.agents ≡ p.agents → q.nodes ≡ p.nodes → q.kept.items ≡ p.kept.items → q.ends.items ≡ p.ends.items → AreLinkedOver M p cells → AreLinkedOver M q cells
+    linked_as p q cells agents nodes kept ends l = record {
+      size = l.size ∙ sym agents;
+      leads = λ k w e from to at_w at_e f t. l.leads k w e from to (ap (λ (ws : List Wire). slice_get ws k) (sym kept) ∙ at_w) (ap (λ (es : List InnerEnds). slice_get es k) (sym ends) ∙ at_e) f t;
+      peers_are = λ k w from at_w f. l.peers_are k w from (ap (λ (ws : List Wire). slice_get ws k) (sym kept) ∙ at_w) f;
+      every = λ i j from f has far.
+          let x = l.every i j from f has (λ near. far (ap (λ (n : ℕ). home n q.agents i) nodes ∙ ap (λ (n : ℕ). home p.nodes n i) agents ∙ near ∙ ap (λ (n : ℕ). home p.nodes n j) (sym agents) ∙ ap (λ (n : ℕ). home n q.agents j) (sym nodes))) in
+          (x.0, x.1, ap (λ (ws : List Wire). slice_get ws x.0) kept ∙ x.2, x.3, x.4);
+    }
+
+    -- what is told of a run over one plan is told over another with the same links
+    pub held_as : (budget : ℕ) (made : List View) (p q : NodePlan W) (last : List CellState) → q.agents ≡ p.agents → q.nodes ≡ p.nodes → q.kept.items ≡ p.kept.items → HasHeldOver budget made q last → HasHeldOver budget made p last
+    held_as budget made p q last agents nodes kept h = record {
+      started = h.started;
+      starts = h.starts;
+      wires = h.wires;
+      now = h.now;
+      played = subst (λ (ws : List Wire). ArePlayedOver (home p.nodes p.agents) budget ws h.started h.wires h.now) kept (node_as (λ node. ArePlayedOver node budget q.kept.items h.started h.wires h.now) p q agents nodes h.played);
+      passed = h.passed;
+      end = node_as (λ node. IsNodeEnd node h.wires h.passed h.now last) p q agents nodes h.end;
+      held = h.held;
+    }
+
+    pub differs_as : (budget : ℕ) (made : List View) (p q : NodePlan W) (last : List CellState) (e : NodeFault) → q.agents ≡ p.agents → q.nodes ≡ p.nodes → q.kept.items ≡ p.kept.items → DiffersOver budget made q last e → DiffersOver budget made p last e
+    differs_as budget made p q last Failed agents nodes kept h = tt
+    differs_as budget made p q last (Differs d) agents nodes kept h = record {
+      started = h.started;
+      starts = h.starts;
+      right = subst (λ (n : ℕ). IsDifference n (home p.nodes p.agents) budget p.kept.items h.started last d) nodes
+          (subst (λ (ws : List Wire). IsDifference q.nodes (home p.nodes p.agents) budget ws h.started last d) kept (node_as (λ node. IsDifference q.nodes node budget q.kept.items h.started last d) p q agents nodes h.right));
+    }
+    differs_as budget made p q last NoMemory agents nodes kept h = tt
 
     -- and their links, on which nothing has passed, have held
     pub held_start : (p : NodePlan W) (cells : List (Cell X F)) → IsPlan p → AreLinkedOver M p cells → HaveHeld p.kept.items

@@ -28,7 +28,7 @@ use Rattle.tcp_links.specs.declared.fault.Difference.{Difference}
 use Rattle.tcp_links.specs.declared.fault.NodeFault.{NodeFault}
 use Rattle.tcp_links.specs.declared.fault.NodeFault.TheVariants.{Failed, Differs, NoMemory}
 use Rattle.tcp_links.specs.Plans.{IsPlan}
-use Rattle.tcp_links.specs.Woven.{AreWoven, IsPassingOf}
+use Rattle.tcp_links.specs.Woven.{AreWoven, IsPassingOf, AreIdle, SentIsDrained, FedIsTaken, HaveCaughtUp}
 use Rattle.node_letters.specs.Passings.{Passing}
 use Rattle.tcp_links.specs.Faults.{IsByteFault}
 
@@ -38,17 +38,25 @@ pub record IsDrainedOf (node : ℕ → ℕ) (cells : List CellState) (w : Wire) 
   pub drained : (from : CellState) → slice_get cells w.sender ≡ Some from → flat_map (λ q. q.drained) w.passages ++ p.drained ≡ lane w.receiver from.sent
 
 module _ {X : Type 0} {F : X → Type 0} {W : Type 0} where
+  -- the passings of a plan hold nothing, and it tells right what was drained and taken of its links
+  pub record AreReady (meaning : DynBox X Global F → View) (node : ℕ → ℕ) (p : NodePlan W) (cells : List (Cell X F)) : Type 0 where
+    pub idle : AreIdle node p.kept.items p.passings.items
+    pub sent : SentIsDrained meaning p.seen.items p.kept.items p.ends.items cells
+    pub fed : FedIsTaken meaning p.seen.items p.kept.items p.ends.items cells
+
   -- a plan of as many nodes and agents, whose links are woven with the cells
   pub record IsPlanOver (meaning : DynBox X Global F → View) (p q : NodePlan W) (cells : List (Cell X F)) : Type 0 where
     pub plan : IsPlan q
     pub nodes : q.nodes ≡ p.nodes
     pub agents : q.agents ≡ p.agents
     pub woven : AreWoven meaning q.nodes q.agents q.kept.items q.ends.items cells
+    pub ready : AreReady meaning (home q.nodes q.agents) q cells
 
   -- an exchange over a plan
   pub record HasExchanged (meaning : DynBox X Global F → View) (before : NodePlan W) (cells : List (Cell X F)) (after : NodePlan W) (ready : List (Cell X F)) : Type 0 where
     pub over : IsPlanOver meaning before after ready
     pub exchange : IsExchange (home before.nodes before.agents) before.kept.items after.kept.items (states_of meaning cells) (states_of meaning ready)
+    pub told : HaveCaughtUp meaning after.seen.items after.kept.items after.ends.items ready
 
   -- an exchange found other bytes than those of what it passed
   pub record HasPassedOther (meaning : DynBox X Global F → View) (round : ℕ) (p : NodePlan W) (cells : List (Cell X F)) (d : Difference) : Type 0 where

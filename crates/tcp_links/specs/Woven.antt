@@ -1,5 +1,5 @@
 -- Cells whose links between nodes lead over a plan, in a run.
-use Rattle.std.specs.Prelude.{◌≡◌, ◌≢◌, ℕ, ◌<◌, ◌≤◌, List, [], ◌++◌, length, Some, slice_get}
+use Rattle.std.specs.Prelude.{◌≡◌, ◌≢◌, ℕ, ◌<◌, ◌≤◌, false, List, [], ◌++◌, map, length, Some, slice_get}
 use Rattle.std.specs.List.{All, Contains}
 use Rattle.std.specs.declared.dyn_box.DynBox.{DynBox}
 use Rattle.std.specs.declared.alloc.Global.{Global}
@@ -18,7 +18,7 @@ use Rattle.tcp_links.specs.Plans.{IsBetween}
 use Rattle.tcp_links.specs.Kept.{IsKept}
 use Rattle.tcp_links.specs.Drains.{HasDrained}
 use Rattle.tcp_links.specs.Feeds.{AllWaits}
-use Rattle.node_letters.specs.Passings.{Passing}
+use Rattle.node_letters.specs.Passings.{Passing, emptied as emptied_of}
 
 -- a link as an exchange passes it on: its agents and their nodes
 pub record IsPassingOf (node : ℕ → ℕ) (w : Wire) (p : Passing) : Type 0 where
@@ -26,6 +26,23 @@ pub record IsPassingOf (node : ℕ → ℕ) (w : Wire) (p : Passing) : Type 0 wh
   pub to : p.to ≡ w.receiver
   pub from_node : p.from_node ≡ node w.sender
   pub to_node : p.to_node ≡ node w.receiver
+
+-- a link of which nothing was drained, and on which nothing has arrived
+pub record IsIdle (node : ℕ → ℕ) (w : Wire) (p : Passing) : Type 0 where
+  pub link : IsPassingOf node w p
+  pub drained : p.drained ≡ []
+  pub arrived : p.arrived ≡ []
+
+-- so it is with each of these links
+pub record AreIdle (node : ℕ → ℕ) (ws : List Wire) (ps : List Passing) : Type 0 where
+  pub size : length ps ≡ length ws
+  pub each : (k : ℕ) (w : Wire) (p : Passing) → slice_get ws k ≡ Some w → slice_get ps k ≡ Some p → IsIdle node w p
+
+-- the first links hold nothing more, so many of them, and the others stand as they stood
+pub record AreEmptied (count : ℕ) (before after : List Passing) : Type 0 where
+  pub size : length after ≡ length before
+  pub rest : (k : ℕ) → count ≤ k → slice_get after k ≡ slice_get before k
+  pub emptied : (k : ℕ) (p q : Passing) → k < count → slice_get before k ≡ Some p → slice_get after k ≡ Some q → q ≡ emptied_of p
 
 module _ {X : Type 0} {F : X → Type 0} where
   -- the inner ends of a link belong to the two cells between which it leads, of which each is a peer of the other, and its passages tell all that went through them
@@ -52,6 +69,11 @@ module _ {X : Type 0} {F : X → Type 0} where
     pub joined : TailJoins (tails_in from) w.receiver ends.drain
     pub peer : Contains (peers (state_of meaning from).sent) w.receiver
 
+  -- so can the cells of all these links
+  pub record CanDrainAll (meaning : DynBox X Global F → View) (ws : List Wire) (es : List InnerEnds) (cells : List (Cell X F)) : Type 0 where
+    pub inside : (k : ℕ) (w : Wire) → slice_get ws k ≡ Some w → w.sender < length cells
+    pub each : (k : ℕ) (w : Wire) (e : InnerEnds) (from : Cell X F) → slice_get ws k ≡ Some w → slice_get es k ≡ Some e → slice_get cells w.sender ≡ Some from → CanDrain meaning from w e
+
   -- a cell can be fed on a link
   pub record CanFeed (meaning : DynBox X Global F → View) (to : Cell X F) (w : Wire) (ends : InnerEnds) : Type 0 where
     pub cell : IsCell meaning to
@@ -64,6 +86,22 @@ module _ {X : Type 0} {F : X → Type 0} where
     pub inside : (k : ℕ) (w : Wire) → slice_get ws k ≡ Some w → w.receiver < length cells
     pub each : (k : ℕ) (w : Wire) (e : InnerEnds) (to : Cell X F) → slice_get ws k ≡ Some w → slice_get es k ≡ Some e → slice_get cells w.receiver ≡ Some to → CanFeed meaning to w e
 
+  -- where the sender's journal is as long as was noted, all that it has sent on a link was drained of it
+  pub record SentIsDrained (meaning : DynBox X Global F → View) (seen : List ℕ) (ws : List Wire) (es : List InnerEnds) (cells : List (Cell X F)) : Type 0 where
+    pub each : (k : ℕ) (w : Wire) (e : InnerEnds) (from : Cell X F) → slice_get ws k ≡ Some w → slice_get es k ≡ Some e → slice_get cells w.sender ≡ Some from
+        → slice_get seen w.sender ≡ Some (length (state_of meaning from).journal) → taken_from e.drain ≡ lane w.receiver (state_of meaning from).sent
+
+  -- where the receiver's journal is as long as was noted, and nothing waited, the receiver has taken all that was fed to it
+  pub record FedIsTaken (meaning : DynBox X Global F → View) (seen : List ℕ) (ws : List Wire) (es : List InnerEnds) (cells : List (Cell X F)) : Type 0 where
+    pub each : (k : ℕ) (w : Wire) (e : InnerEnds) (to : Cell X F) → slice_get ws k ≡ Some w → slice_get es k ≡ Some e → slice_get cells w.receiver ≡ Some to
+        → slice_get seen w.receiver ≡ Some (length (state_of meaning to).journal) → e.waits ≡ false → lane w.sender (state_of meaning to).taken ≡ sent_on e.feed
+
+  -- the journals were noted behind an exchange, which drained all that was sent; and where nothing waited then, the receiver had taken all that was fed to it
+  pub record HaveCaughtUp (meaning : DynBox X Global F → View) (seen : List ℕ) (ws : List Wire) (es : List InnerEnds) (cells : List (Cell X F)) : Type 0 where
+    pub noted : seen ≡ map (λ c. length (state_of meaning c).journal) cells
+    pub sent : (k : ℕ) (w : Wire) (e : InnerEnds) (from : Cell X F) → slice_get ws k ≡ Some w → slice_get es k ≡ Some e → slice_get cells w.sender ≡ Some from → taken_from e.drain ≡ lane w.receiver (state_of meaning from).sent
+    pub fed : (k : ℕ) (w : Wire) (e : InnerEnds) (to : Cell X F) → slice_get ws k ≡ Some w → slice_get es k ≡ Some e → slice_get cells w.receiver ≡ Some to → e.waits ≡ false → lane w.sender (state_of meaning to).taken ≡ sent_on e.feed
+
   -- of other links than that to agent i from agent j no cell knows more or less
   pub record KnowsElse (meaning : DynBox X Global F → View) (i j : ℕ) (before after : List (Cell X F)) : Type 0 where
     pub other : (k l : ℕ) (a b : Cell X F) → slice_get before k ≡ Some a → slice_get after k ≡ Some b → (k ≡ i → l ≡ j → ⊥) → known_from l (state_of meaning b).known ≡ known_from l (state_of meaning a).known
@@ -74,14 +112,16 @@ module _ {X : Type 0} {F : X → Type 0} where
     pub more : HasDrained before.drain [] after.drain drained
     pub all : taken_from after.drain ≡ lane w.receiver (state_of meaning from).sent
     pub feed : after.feed ≡ before.feed
+    pub waits : after.waits ≡ before.waits
 
   -- of the first links, so many, all was drained, and the others stand as they stood
   pub record HaveDrained (meaning : DynBox X Global F → View) (node : ℕ → ℕ) (count : ℕ) (cells : List (Cell X F)) (ws : List Wire) (before after : List InnerEnds) (ps : List Passing) : Type 0 where
     pub size : length after ≡ length before
-    pub counted : length ps ≡ count
+    pub counted : length ps ≡ length ws
     pub rest : (k : ℕ) (a b : InnerEnds) → count ≤ k → slice_get before k ≡ Some a → slice_get after k ≡ Some b → b ≡ a
     pub passing : (k : ℕ) (w : Wire) (p : Passing) → slice_get ws k ≡ Some w → slice_get ps k ≡ Some p → IsPassingOf node w p × (p.arrived ≡ [])
-    pub drained : (k : ℕ) (w : Wire) (from : Cell X F) (a b : InnerEnds) (p : Passing) → slice_get ws k ≡ Some w → slice_get cells w.sender ≡ Some from → slice_get before k ≡ Some a → slice_get after k ≡ Some b → slice_get ps k ≡ Some p
+    pub idle : (k : ℕ) (p : Passing) → count ≤ k → slice_get ps k ≡ Some p → p.drained ≡ []
+    pub drained : (k : ℕ) (w : Wire) (from : Cell X F) (a b : InnerEnds) (p : Passing) → k < count → slice_get ws k ≡ Some w → slice_get cells w.sender ≡ Some from → slice_get before k ≡ Some a → slice_get after k ≡ Some b → slice_get ps k ≡ Some p
         → HasDrainedLink meaning from w a b p.drained
 
   -- what arrived on a link was fed to it, all of it waits for the receiver's cell, and it is kept with what was drained
@@ -89,6 +129,7 @@ module _ {X : Type 0} {F : X → Type 0} where
     pub end : SameTail before.feed after.feed
     pub fed : sent_on after.feed ≡ sent_on before.feed ++ p.arrived
     pub waits : AllWaits (state_of meaning to) w.sender after.feed
+    pub none : after.waits ≡ false → lane w.sender (state_of meaning to).taken ≡ sent_on after.feed
     pub drain : after.drain ≡ before.drain
     pub kept : v ≡ keeps w p.drained p.arrived
 

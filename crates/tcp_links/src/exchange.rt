@@ -8,10 +8,12 @@ ghost use Rattle.agent_workers.specs.Settled.{StaysQuiet};
 ghost use Rattle.tcp_links.specs.Plans.{IsPlan, IsHonest};
 ghost use Rattle.tcp_links.specs.Faults.{HasNodeCause, IsNoDifference};
 ghost use Rattle.tcp_links.specs.Woven.{AreWoven};
-ghost use Rattle.tcp_links.specs.Over.{HasExchanged, IsExchangeFault};
+ghost use Rattle.worker_runs.specs.NodeRounds.{home};
+ghost use Rattle.tcp_links.specs.Over.{AreReady, HasExchanged, IsExchangeFault};
 
 use crate::fault::{NodeFault, node_fault};
 use crate::plan::NodePlan;
+use crate::seen::note_all;
 use crate::weave::{drain_all, feed_all};
 use agent_cells::Cell;
 use letter_wires::pass_all;
@@ -25,7 +27,8 @@ use wire_edge::Dialer;
 
 /// Drains each link between nodes, sends what they held over the wires, and feeds what arrived to
 /// the receivers, in the exchange behind so many rounds. Links on which nothing was sent rest, and so
-/// do wires between whose nodes there is nothing to send.
+/// do wires between whose nodes there is nothing to send. What the links pass is taken out again, and
+/// it is noted how long the cells' journals are.
 pub(crate) fn exchange<R, D>(
     rt: &R,
     alloc: Global,
@@ -40,6 +43,7 @@ where
     requires plan { IsPlan plan.old }
     requires woven { AreWoven (λ b. meaning (b.vtable, b.value)) plan.old.nodes plan.old.agents plan.old.kept.items plan.old.ends.items cells.old }
     requires joined { IsJoined (λ b. meaning (b.vtable, b.value)) plan.old.nodes cells.old }
+    requires ready { AreReady (λ b. meaning (b.vtable, b.value)) (home plan.old.nodes plan.old.agents) plan.old cells.old }
     requires sound { EachIs (λ c. IsCell (λ b. meaning (b.vtable, b.value)) c) cells.old }
     ensures quiet { EachBecomes (λ a b. StaysQuiet (λ b. meaning (b.vtable, b.value)) a b) cells.old cells.new }
     ensures exchanged { OnOk result (HasExchanged (λ b. meaning (b.vtable, b.value)) plan.old cells.old plan.new cells.new) }
@@ -49,21 +53,21 @@ where
     ensures honest { IsHonest D.W.told D.W.is_joined plan.old
         → OnOk result (IsHonest D.W.told D.W.is_joined plan.new × (HaveHeld plan.old.kept.items → HaveHeld plan.new.kept.items)) × IfErr result IsNoDifference }
 {
-    let (nodes, agents) = (plan.nodes, plan.agents);
-    let mut passings = drain_all(
+    let nodes = plan.nodes;
+    drain_all(
         alloc,
         cells,
+        plan.seen.as_slice(),
         plan.kept.as_slice(),
         plan.ends.as_mut_slice(),
-        nodes,
-        agents,
+        plan.passings.as_mut_slice(),
     )?;
     if let Err(fault) = pass_all(
         rt,
         alloc,
         dialer,
         &mut plan.wires,
-        passings.as_mut_slice(),
+        plan.passings.as_mut_slice(),
         nodes,
     ) {
         return Err(node_fault(round, fault));
@@ -71,9 +75,11 @@ where
     feed_all(
         alloc,
         cells,
+        plan.seen.as_slice(),
         plan.kept.as_mut_slice(),
         plan.ends.as_mut_slice(),
-        passings.as_mut_slice(),
+        plan.passings.as_mut_slice(),
     )?;
+    note_all(cells, &mut plan.seen)?;
     Ok(())
 }

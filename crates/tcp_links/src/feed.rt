@@ -1,9 +1,9 @@
 //! Feeding what arrived from another node to the cell that takes it.
 
-ghost use Rattle.std.specs.Prelude.{◌≡◌, ◌≢◌, ℕ, ◌++◌, IfOk, OnOk};
+ghost use Rattle.std.specs.Prelude.{◌≡◌, ◌≢◌, ℕ, ◌++◌, false, IfOk, OnOk};
 ghost use Rattle.std.specs.List.{Contains};
 ghost use Rattle.fifo_links.specs.Link.{sent_on, SameTail};
-ghost use Rattle.worker_runs.specs.Cells.{peers, known_from};
+ghost use Rattle.worker_runs.specs.Cells.{peers, lane, known_from};
 ghost use Rattle.agent_cells.specs.Settled.{HeadJoins};
 ghost use Rattle.agent_cells.specs.State.{state_of, heads_in, IsCell};
 ghost use Rattle.agent_workers.specs.Settled.{StaysQuiet};
@@ -16,14 +16,14 @@ use protocol_steps::Envelope;
 use std::alloc::Global;
 
 /// Sends what arrived of an agent of another node on the inner end of its link, in order, and settles
-/// the link. So the cell can take it, behind what arrived before.
+/// the link. So the cell can take it, behind what arrived before. Whether something waits for it then.
 pub(crate) fn feed_link(
     alloc: Global,
     cell: &mut Cell,
     from: VarId,
     inner: &mut LinkTail<Sealed>,
     arrived: &[Envelope],
-) -> Result<(), NoMemory>
+) -> Result<bool, NoMemory>
     requires cell { IsCell (λ b. meaning (b.vtable, b.value)) cell.old }
     requires joined { HeadJoins (heads_in cell.old) from inner.old }
     requires peer { Contains (peers (state_of (λ b. meaning (b.vtable, b.value)) cell.old).taken) from }
@@ -32,10 +32,10 @@ pub(crate) fn feed_link(
     ensures fed { OnOk result (sent_on inner.new ≡ sent_on inner.old ++ arrived.now) }
     ensures others { (j : ℕ) → j ≢ from → known_from j (state_of (λ b. meaning (b.vtable, b.value)) cell.new).known ≡ known_from j (state_of (λ b. meaning (b.vtable, b.value)) cell.old).known }
     ensures waits { OnOk result (AllWaits (state_of (λ b. meaning (b.vtable, b.value)) cell.new) from inner.new) }
+    ensures none { IfOk result (λ waits. waits ≡ false → lane from (state_of (λ b. meaning (b.vtable, b.value)) cell.new).taken ≡ sent_on inner.new) }
 {
     send_all(alloc, inner, arrived)?;
-    cell.settle_head(from, inner);
-    Ok(())
+    Ok(cell.settle_head(from, inner) > 0)
 }
 
 /// Sends copies of these envelopes, in order.

@@ -11,9 +11,11 @@ mod drain;
 mod exchange;
 mod fault;
 mod feed;
+mod idle;
 mod over;
 mod plan;
 mod run;
+mod seen;
 mod weave;
 
 pub use fault::{Difference, NodeFault};

@@ -129,7 +129,10 @@ where
     exchange(rt, alloc, dialer, cells, plan, round)?;
     match play_round(rt, cells, plan.nodes, sharing, gate) {
         Ok(taken) => Ok(Some(taken)),
-        Err(VisitFault::StampEnd) => Ok(None),
+        Err(VisitFault::StampEnd) => {
+            plan.seen.clear();
+            Ok(None)
+        }
         Err(VisitFault::NoMemory) => Err(NodeFault::NoMemory),
     }
 }

@@ -13,6 +13,7 @@ use agent_cells::Sealed;
 use dcop_base::{NoMemory, VarId};
 use fifo_links::{LinkHead, LinkTail, link};
 use kept_wires::KeptLink;
+use node_letters::LinkPassing;
 use std::alloc::{AllocGlobal, Global};
 use std::net::Net;
 use std::random::RandomSource;
@@ -27,6 +28,8 @@ use wire_edge::{DialFault, Dialer, Wire};
 pub struct InnerEnds {
     pub(crate) drain: LinkHead<Sealed>,
     pub(crate) feed: LinkTail<Sealed>,
+    /// Whether something waited for the receiver's cell when the link was last fed.
+    pub(crate) waits: bool,
 }
 
 /// The wires between each two nodes, and the inner ends of the links between agents of different
@@ -38,6 +41,11 @@ pub struct NodePlan<W: Wire> {
     pub(crate) wires: Vec<(W, W)>,
     pub(crate) kept: Vec<KeptLink>,
     pub(crate) ends: Vec<InnerEnds>,
+    /// What an exchange passes on each link, in a run. Between exchanges they hold nothing.
+    pub(crate) passings: Vec<LinkPassing>,
+    /// How many entries each cell's journal had at the end of the last exchange; empty where there
+    /// was none, or where cells have failed since.
+    pub(crate) seen: Vec<usize>,
 }
 
 impl<W: Wire> NodePlan<W> {
@@ -75,6 +83,8 @@ impl<W: Wire> NodePlan<W> {
             wires,
             kept: Vec::new(alloc),
             ends: Vec::new(alloc),
+            passings: Vec::new(alloc),
+            seen: Vec::new(alloc),
         })
     }
 
@@ -117,7 +127,11 @@ impl<W: Wire> NodePlan<W> {
             &mut self.ends,
             place,
             KeptLink::new(alloc, from, to),
-            InnerEnds { drain, feed },
+            InnerEnds {
+                drain,
+                feed,
+                waits: true,
+            },
         )?;
         Ok((tail, head))
     }

@@ -1,23 +1,27 @@
 //! A run of cells in nodes.
 
-ghost use Rattle.std.specs.Prelude.{◌≡◌, ◌<◌, ◌≤◌, length, false, IfOk, OnOk, IfErr, MatchOption};
+ghost use Rattle.std.specs.Prelude.{◌≡◌, ◌<◌, ◌≤◌, [], length, false, IfOk, OnOk, IfErr, MatchOption};
 ghost use Rattle.dcop_base.specs.Limits.{variable_limit, budget_limit};
 ghost use Rattle.worker_runs.specs.CellRuns.{MakesARun};
 ghost use Rattle.node_runs.specs.Wires.{HaveHeld};
 ghost use Rattle.agent_cells.specs.State.{begun_in, IsCell};
 ghost use Rattle.agent_workers.specs.Joined.{states_of, EachIs, IsJoined};
 ghost use Rattle.agent_workers.specs.Run.{views_of, AreDulyPlayed, RestsAtStill};
-ghost use Rattle.tcp_links.specs.Plans.{node_limit, pair_count, IsPlan, IsHonest, IsNewPlan};
+ghost use Rattle.tcp_links.specs.Plans.{node_limit, pair_count, IsPlan, IsHonest, IsNewPlan, IsSamePlan};
+ghost use Rattle.worker_runs.specs.NodeRounds.{home};
+ghost use Rattle.tcp_links.specs.Woven.{AreIdle};
 ghost use Rattle.tcp_links.specs.Linked.{AreLinkedOver};
 ghost use Rattle.tcp_links.specs.Ends.{HasHeldOver, DiffersOver};
 ghost use Rattle.tcp_links.specs.Faults.{HasNodeCause, IsNoDifference, IsKeptDifference};
 
 use crate::exchange::exchange;
 use crate::fault::{Difference, NodeFault};
+use crate::idle::idle_passings;
 use crate::over::play_over;
 use crate::plan::NodePlan;
 use agent_cells::Cell;
 use agent_workers::{CellsList, begin_all, settle_all};
+use dcop_base::NoMemory;
 use dcop_edge::Gate;
 use kept_wires::{KeptLink, take_difference};
 use protocol_steps::RunEnd;
@@ -73,6 +77,7 @@ where
     ensures dialer { D.is_honest dialer.old → D.is_honest dialer.new }
     ensures honest { IsHonest D.W.told D.W.is_joined plan.old → OnOk result (IsHonest D.W.told D.W.is_joined plan.new) × IfErr result IsNoDifference }
 {
+    prepare(alloc, plan)?;
     run_over(
         rt,
         alloc,
@@ -85,7 +90,20 @@ where
     )
 }
 
-/// [`run_nodes`], on a slice.
+/// Makes a plan ready for a run, in which nothing was seen of the cells yet.
+fn prepare<W: Wire>(alloc: Global, plan: &mut NodePlan<W>) -> Result<(), NoMemory>
+    requires { IsPlan plan.old }
+    ensures same { IsSamePlan plan.old plan.new }
+    ensures idle { OnOk result (AreIdle (home plan.new.nodes plan.new.agents) plan.new.kept.items plan.new.passings.items) }
+    ensures unseen { OnOk result (plan.new.seen.items ≡ []) }
+{
+    let (nodes, agents) = (plan.nodes, plan.agents);
+    plan.passings = idle_passings(alloc, plan.kept.as_slice(), nodes, agents)?;
+    plan.seen.clear();
+    Ok(())
+}
+
+/// [`run_nodes`], on a slice, over a plan that is ready.
 fn run_over<R, D, G>(
     rt: &R,
     alloc: Global,
@@ -107,6 +125,8 @@ where
     requires linked { AreLinkedOver (λ b. meaning (b.vtable, b.value)) plan.old cells.old }
     requires sound { EachIs (λ c. IsCell (λ b. meaning (b.vtable, b.value)) c) cells.old }
     requires fresh { EachIs (λ c. begun_in c ≡ false) cells.old }
+    requires idle { AreIdle (home plan.old.nodes plan.old.agents) plan.old.kept.items plan.old.passings.items }
+    requires unseen { plan.old.seen.items ≡ [] }
     ensures size { length cells.new ≡ length cells.old }
     ensures run { IfOk result (λ end. MakesARun budget (views_of (λ b. meaning (b.vtable, b.value)) cells.old)
         (states_of (λ b. meaning (b.vtable, b.value)) cells.new) end) }
@@ -154,4 +174,6 @@ fn clear_links<W: Wire>(plan: &mut NodePlan<W>)
 {
     plan.kept.clear();
     plan.ends.clear();
+    plan.passings.clear();
+    plan.seen.clear();
 }

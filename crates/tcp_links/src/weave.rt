@@ -1,105 +1,110 @@
 //! Draining all links between nodes, and feeding what arrived on them.
 
-ghost use Rattle.std.specs.Prelude.{◌≡◌, ◌<◌, ◌≤◌, [], length, Some, slice_get, IfOk, OnOk};
-ghost use Rattle.dcop_base.specs.Limits.{variable_limit};
-ghost use Rattle.worker_runs.specs.NodeRounds.{home as home_of};
-ghost use Rattle.agent_cells.specs.State.{IsCell};
-ghost use Rattle.agent_workers.specs.Joined.{EachIs, EachBecomes};
+ghost use Rattle.std.specs.Prelude.{◌≡◌, ◌<◌, ℕ, [], true, false, length, Some, slice_get, OnOk};
+ghost use Rattle.fifo_links.specs.Link.{sent_on, taken_from};
+ghost use Rattle.worker_runs.specs.Cells.{lane};
+ghost use Rattle.agent_cells.specs.State.{state_of};
+ghost use Rattle.agent_workers.specs.Joined.{EachBecomes};
 ghost use Rattle.agent_workers.specs.Settled.{StaysQuiet};
-ghost use Rattle.tcp_links.specs.Plans.{node_limit};
-ghost use Rattle.tcp_links.specs.Woven.{IsPassingOf, CanDrain, CanFeed, CanFeedAll, AreWoven, HasDrainedLink, HaveDrained, HasFedLink, HaveFed, KnowsElse};
+ghost use Rattle.node_letters.specs.Passings.{holding, emptied};
+ghost use Rattle.tcp_links.specs.Woven.{AreIdle, CanDrain, CanDrainAll, CanFeed, CanFeedAll, HasDrainedLink, HaveDrained, HasFedLink, HaveFed, AreEmptied, KnowsElse, SentIsDrained, FedIsTaken};
 
 use crate::drain::drain_link;
 use crate::feed::feed_link;
-use crate::plan::{InnerEnds, home};
+use crate::plan::InnerEnds;
+use crate::seen::{has_moved, slot};
 use agent_cells::Cell;
-use dcop_base::{NoMemory, VarId};
+use dcop_base::NoMemory;
 use kept_wires::KeptLink;
 use node_letters::LinkPassing;
-use protocol_steps::Envelope;
 use std::alloc::Global;
 
-/// Drains each link between nodes to its end.
+/// Drains each link between nodes to its end, and gives what was drained to the passings, which held
+/// nothing. It does not look at a link whose sender has done nothing since the last exchange.
 pub(crate) fn drain_all(
     alloc: Global,
     cells: &mut [Cell],
+    seen: &[usize],
     kept: &[KeptLink],
     ends: &mut [InnerEnds],
-    nodes: u32,
-    agents: u32,
-) -> Result<Vec<LinkPassing>, NoMemory>
-    requires few { (agents ≤ variable_limit) × (nodes ≤ node_limit) }
-    requires woven { AreWoven (λ b. meaning (b.vtable, b.value)) nodes agents kept.now ends.old cells.old }
-    requires sound { EachIs (λ c. IsCell (λ b. meaning (b.vtable, b.value)) c) cells.old }
+    passings: &mut [LinkPassing],
+) -> Result<(), NoMemory>
+    requires sizes { length ends.old ≡ length kept.now }
+    requires can { CanDrainAll (λ b. meaning (b.vtable, b.value)) kept.now ends.old cells.old }
+    requires still { SentIsDrained (λ b. meaning (b.vtable, b.value)) seen.now kept.now ends.old cells.old }
+    requires idle { (node : ℕ → ℕ) × AreIdle node kept.now passings.old }
     ensures quiet { EachBecomes (λ a b. StaysQuiet (λ b. meaning (b.vtable, b.value)) a b) cells.old cells.new }
-    ensures drained { IfOk result (λ ps. HaveDrained (λ b. meaning (b.vtable, b.value)) (home_of nodes agents) (length kept.now) cells.old kept.now ends.old ends.new ps.items) }
+    ensures drained { OnOk result ((node : ℕ → ℕ) → AreIdle node kept.now passings.old
+        → HaveDrained (λ b. meaning (b.vtable, b.value)) node (length kept.now) cells.old kept.now ends.old ends.new passings.new) }
 {
-    let mut passings = Vec::with_capacity(alloc, kept.len())?;
     for (place, link) in kept.iter().enumerate() {
-        let drained = drain_at(alloc, cells, link, &mut ends[place])?;
-        passings.push(passing_of(alloc, link, nodes, agents, drained))?;
+        drain_at(
+            alloc,
+            cells,
+            seen,
+            link,
+            &mut ends[place],
+            &mut passings[place],
+        )?;
     }
-    Ok(passings)
+    Ok(())
 }
 
-/// What an exchange passes on a link of which it has drained this.
-fn passing_of(
-    alloc: Global,
-    link: &KeptLink,
-    nodes: u32,
-    agents: u32,
-    drained: Vec<Envelope>,
-) -> LinkPassing
-    requires inside { (link.now.sender < agents) × (link.now.receiver < agents) }
-    requires few { (agents ≤ variable_limit) × (nodes ≤ node_limit) }
-    ensures passing { IsPassingOf (home_of nodes agents) link.now result }
-    ensures lists { (result.drained ≡ drained.items) × (result.arrived ≡ []) }
-{
-    let (from, to) = (link.from(), link.to());
-    let from_node = home(from, nodes, agents);
-    let to_node = home(to, nodes, agents);
-    LinkPassing::new(alloc, (from, to), (from_node, to_node), drained)
-}
-
-/// Drains a link of all that its sender's cell has sent.
+/// Drains a link of all that its sender's cell has sent, if that has done something since the last
+/// exchange; else nothing is left on it.
 fn drain_at(
     alloc: Global,
     cells: &mut [Cell],
+    seen: &[usize],
     link: &KeptLink,
     ends: &mut InnerEnds,
-) -> Result<Vec<Envelope>, NoMemory>
+    passing: &mut LinkPassing,
+) -> Result<(), NoMemory>
     requires inside { link.now.sender < length cells.old }
     requires can { (c : _) → slice_get cells.old link.now.sender ≡ Some c → CanDrain (λ b. meaning (b.vtable, b.value)) c link.now ends.old }
+    requires still { (c : _) → slice_get cells.old link.now.sender ≡ Some c → slice_get seen.now link.now.sender ≡ Some (length (state_of (λ b. meaning (b.vtable, b.value)) c).journal)
+        → taken_from ends.old.drain ≡ lane link.now.receiver (state_of (λ b. meaning (b.vtable, b.value)) c).sent }
+    requires idle { passing.old.drained ≡ [] }
     ensures quiet { EachBecomes (λ a b. StaysQuiet (λ b. meaning (b.vtable, b.value)) a b) cells.old cells.new }
-    ensures drained { IfOk result (λ es. (c : _) → slice_get cells.old link.now.sender ≡ Some c
-        → HasDrainedLink (λ b. meaning (b.vtable, b.value)) c link.now ends.old ends.new es.items) }
+    ensures drained { OnOk result ((c : _) → slice_get cells.old link.now.sender ≡ Some c
+        → HasDrainedLink (λ b. meaning (b.vtable, b.value)) c link.now ends.old ends.new passing.new.drained) }
+    ensures passing { passing.new ≡ holding passing.old passing.new.drained }
 {
-    let mut drained = Vec::new(alloc);
     let (from, to) = (link.from(), link.to());
+    if !has_moved(cells, seen, from) {
+        return Ok(());
+    }
+    let mut drained = Vec::new(alloc);
     let at = slot(from);
     drain_link(alloc, &mut cells[at], to, &mut ends.drain, &mut drained)?;
-    Ok(drained)
+    passing.hold(drained);
+    Ok(())
 }
 
 /// Feeds what arrived on each link to the cell that takes it, and keeps what was drained and what
-/// arrived. It takes both out of the passings.
+/// arrived. It takes both out of the passings. It does not look at a link on which nothing passed and
+/// nothing waits, if the receiver has done nothing since the last exchange.
 pub(crate) fn feed_all(
     alloc: Global,
     cells: &mut [Cell],
+    seen: &[usize],
     kept: &mut [KeptLink],
     ends: &mut [InnerEnds],
     passings: &mut [LinkPassing],
 ) -> Result<(), NoMemory>
     requires sizes { (length ends.old ≡ length kept.old) × (length passings.old ≡ length kept.old) }
     requires can { CanFeedAll (λ b. meaning (b.vtable, b.value)) kept.old ends.old cells.old }
+    requires still { FedIsTaken (λ b. meaning (b.vtable, b.value)) seen.now kept.old ends.old cells.old }
     ensures quiet { EachBecomes (λ a b. StaysQuiet (λ b. meaning (b.vtable, b.value)) a b) cells.old cells.new }
-    ensures sizes { (length kept.new ≡ length kept.old) × (length ends.new ≡ length ends.old) }
+    ensures sizes { (length kept.new ≡ length kept.old) × (length ends.new ≡ length ends.old) × (length passings.new ≡ length passings.old) }
     ensures fed { OnOk result (HaveFed (λ b. meaning (b.vtable, b.value)) (length kept.old) cells.new kept.old kept.new ends.old ends.new passings.old) }
+    ensures left { OnOk result (AreEmptied (length kept.old) passings.old passings.new) }
 {
     for place in 0..kept.len() {
         feed_at(
             alloc,
             cells,
+            seen,
             &mut kept[place],
             &mut ends[place],
             &mut passings[place],
@@ -112,21 +117,28 @@ pub(crate) fn feed_all(
 fn feed_at(
     alloc: Global,
     cells: &mut [Cell],
+    seen: &[usize],
     link: &mut KeptLink,
     ends: &mut InnerEnds,
     passing: &mut LinkPassing,
 ) -> Result<(), NoMemory>
     requires inside { link.old.receiver < length cells.old }
     requires can { (c : _) → slice_get cells.old link.old.receiver ≡ Some c → CanFeed (λ b. meaning (b.vtable, b.value)) c link.old ends.old }
+    requires still { (c : _) → slice_get cells.old link.old.receiver ≡ Some c → slice_get seen.now link.old.receiver ≡ Some (length (state_of (λ b. meaning (b.vtable, b.value)) c).journal)
+        → ends.old.waits ≡ false → lane link.old.sender (state_of (λ b. meaning (b.vtable, b.value)) c).taken ≡ sent_on ends.old.feed }
     ensures quiet { EachBecomes (λ a b. StaysQuiet (λ b. meaning (b.vtable, b.value)) a b) cells.old cells.new }
     ensures known { KnowsElse (λ b. meaning (b.vtable, b.value)) link.old.receiver link.old.sender cells.old cells.new }
     ensures fed { OnOk result ((c : _) → slice_get cells.new link.old.receiver ≡ Some c
         → HasFedLink (λ b. meaning (b.vtable, b.value)) c link.old link.new ends.old ends.new passing.old) }
+    ensures left { OnOk result (passing.new ≡ emptied passing.old) }
 {
+    if rests(cells, seen, link, ends, passing) {
+        return Ok(());
+    }
     let (drained, arrived) = passing.take_lists(alloc);
     let (from, to) = (link.from(), link.to());
     let at = slot(to);
-    feed_link(
+    ends.waits = feed_link(
         alloc,
         &mut cells[at],
         from,
@@ -136,9 +148,25 @@ fn feed_at(
     link.keep(drained, arrived)
 }
 
-/// The place of an agent's cell.
-fn slot(agent: VarId) -> usize
-    ensures { result ≡ agent }
+/// Whether nothing passed on a link in this exchange, and nothing waits on it.
+fn rests(
+    cells: &[Cell],
+    seen: &[usize],
+    link: &KeptLink,
+    ends: &InnerEnds,
+    passing: &LinkPassing,
+) -> bool
+    requires inside { link.now.receiver < length cells.now }
+    ensures idle { result ≡ true → (passing.now.drained ≡ []) × (passing.now.arrived ≡ []) }
+    ensures waits { result ≡ true → ends.now.waits ≡ false }
+    ensures seen { result ≡ true → (c : _) → slice_get cells.now link.now.receiver ≡ Some c
+        → slice_get seen.now link.now.receiver ≡ Some (length (state_of (λ b. meaning (b.vtable, b.value)) c).journal) }
 {
-    agent.0 as usize
+    if ends.waits {
+        return false;
+    }
+    if !passing.is_idle() {
+        return false;
+    }
+    !has_moved(cells, seen, link.to())
 }

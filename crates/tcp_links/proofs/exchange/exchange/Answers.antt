@@ -1,4 +1,4 @@
-use Rattle.std.proofs.Common.{◌∙◌, refl, sym, subst}
+use Rattle.std.proofs.Common.{◌∙◌, refl, sym, ap, length, subst}
 use Rattle.worker_runs.specs.Cells.{EachAre}
 use Rattle.worker_runs.specs.NodeRounds.{home}
 use Rattle.worker_runs.proofs.EachLaws.{each_long}
@@ -9,39 +9,83 @@ use Rattle.node_letters.specs.Passings.{SamePassing, AreAcross, NothingCame}
 use Rattle.letter_wires.specs.Faults.{IsByteFault}
 use Rattle.tcp_links.specs.Faults.{IsNoDifference}
 use Rattle.tcp_links.specs.Over.{IsExchangeFault}
-use Rattle.tcp_links.proofs.ExchangeLaws.{twice_written, no_difference, nothing_came, are_across, can_feed, fault_on, woven_on, exchange_on, held_on, has_exchanged, woven_slices, drained_slices, can_feed_slices, fed_slices}
+use Rattle.tcp_links.proofs.ExchangeLaws.{twice_written, long_written, no_difference, nothing_came, are_across, can_drain, can_feed, still_taken, fault_on, woven_on, idle_on, caught_up, exchange_on, held_on, has_exchanged, idle_slices, emptied_slices, can_drain_slices, sent_slices, taken_slices, drained_slices, can_feed_slices, fed_slices}
 use Rattle.tcp_links.proofs.exchange.exchange.Goals as goal
 
-pub drain_all-requires-clause-woven : goal.drain_all-requires-clause-woven
-drain_all-requires-clause-woven g c =
-    woven_slices (λ b. (goal.Machine-dyn g (b.vtable, b.value)).meaning b.value) c.args.plan.now.nodes c.args.plan.now.agents c.args.cells.now c.args.plan.now.kept.items c.as_slice.result.now c.args.plan.now.ends.items c.as_mut_slice.result.now c.as_slice.ensures.value c.as_mut_slice.ensures.value c.requires.woven
+pub drain_all-requires-clause-can : goal.drain_all-requires-clause-can
+drain_all-requires-clause-can g c =
+    can_drain_slices (λ b. (goal.Machine-dyn g (b.vtable, b.value)).meaning b.value) c.args.cells.now c.args.plan.now.kept.items c.as_slice-2.result.now c.args.plan.now.ends.items c.as_mut_slice.result.now c.as_slice-2.ensures.value c.as_mut_slice.ensures.value (can_drain (λ b. (goal.Machine-dyn g (b.vtable, b.value)).meaning b.value) c.args.plan.now.nodes c.args.plan.now.agents c.args.plan.now.kept.items c.args.plan.now.ends.items c.args.cells.now c.requires.woven c.requires.sound)
+
+pub drain_all-requires-clause-still : goal.drain_all-requires-clause-still
+drain_all-requires-clause-still g c =
+    sent_slices (λ b. (goal.Machine-dyn g (b.vtable, b.value)).meaning b.value) c.args.cells.now c.args.plan.now.seen.items c.as_slice.result.now c.args.plan.now.kept.items c.as_slice-2.result.now c.args.plan.now.ends.items c.as_mut_slice.result.now c.as_slice.ensures.value c.as_slice-2.ensures.value c.as_mut_slice.ensures.value c.requires.ready.sent
+
+pub drain_all-requires-clause-idle : goal.drain_all-requires-clause-idle
+drain_all-requires-clause-idle g c =
+    ((home c.args.plan.now.nodes c.args.plan.now.agents), idle_slices (home c.args.plan.now.nodes c.args.plan.now.agents) c.args.plan.now.kept.items c.as_slice-2.result.now c.args.plan.now.passings.items c.as_mut_slice-2.result.now c.as_slice-2.ensures.value c.as_mut_slice-2.ensures.value c.requires.ready.idle)
 
 pub pass_all-requires-clause-across : goal.pass_all-requires-clause-across
 pass_all-requires-clause-across g c κs within =
-    let drained = drained_slices (λ b. (goal.Machine-dyn g (b.vtable, b.value)).meaning b.value) (home c.args.plan.now.nodes c.args.plan.now.agents) c.args.cells.now c.args.plan.now.kept.items c.as_slice.result.now c.args.plan.now.ends.items c.as_mut_slice.result.now c.drain_all.new.ends c.in_ok-passings.passings.items c.as_slice.ensures.value c.as_mut_slice.ensures.value c.in_ok-passings.ensures.drained in
-    subst (AreAcross c.args.plan.now.nodes) (sym c.as_mut_slice-2.ensures.value) (are_across (λ b. (goal.Machine-dyn g (b.vtable, b.value)).meaning b.value) c.args.plan.now.nodes c.args.plan.now.agents c.args.plan.now.kept.items c.args.plan.now.ends.items c.drain_all.new.ends c.args.cells.now c.drain_all.new.cells c.in_ok-passings.passings.items c.requires.woven c.drain_all.ensures.quiet drained c.requires.plan.nodes.0)
+    let idle = idle_slices (home c.args.plan.now.nodes c.args.plan.now.agents) c.args.plan.now.kept.items c.as_slice-2.result.now c.args.plan.now.passings.items c.as_mut_slice-2.result.now c.as_slice-2.ensures.value c.as_mut_slice-2.ensures.value c.requires.ready.idle in
+    let drained = drained_slices (λ b. (goal.Machine-dyn g (b.vtable, b.value)).meaning b.value) (home c.args.plan.now.nodes c.args.plan.now.agents) c.args.cells.now c.args.plan.now.kept.items c.as_slice-2.result.now c.args.plan.now.ends.items c.as_mut_slice.result.now c.drain_all.new.ends c.drain_all.new.passings c.as_slice-2.ensures.value c.as_mut_slice.ensures.value (c.in_ok-drain_all.ensures.drained (home c.args.plan.now.nodes c.args.plan.now.agents) idle) in
+    let long = drained.counted ∙ sym c.requires.ready.idle.size ∙ ap length (sym c.as_mut_slice-2.ensures.value) in
+    let here = c.as_mut_slice-3.ensures.value ∙ written _ c.args.plan.now.passings.items c.drain_all.new.passings c.as_mut_slice-2.result.now c.args.plan.now.passings.ok.0 long c.as_mut_slice-2.ensures.value in
+    subst (AreAcross c.args.plan.now.nodes) (sym here) (are_across (λ b. (goal.Machine-dyn g (b.vtable, b.value)).meaning b.value) c.args.plan.now.nodes c.args.plan.now.agents c.args.plan.now.kept.items c.args.plan.now.ends.items c.drain_all.new.ends c.args.cells.now c.drain_all.new.cells c.drain_all.new.passings c.requires.woven c.drain_all.ensures.quiet drained c.requires.plan.nodes.0)
 
 pub returns-in-Err-clause-differs : goal.returns-in-Err-clause-differs
 returns-in-Err-clause-differs g c =
-    let drained = drained_slices (λ b. (goal.Machine-dyn g (b.vtable, b.value)).meaning b.value) (home c.args.plan.now.nodes c.args.plan.now.agents) c.args.cells.now c.args.plan.now.kept.items c.as_slice.result.now c.args.plan.now.ends.items c.as_mut_slice.result.now c.drain_all.new.ends c.in_ok-passings.passings.items c.as_slice.ensures.value c.as_mut_slice.ensures.value c.in_ok-passings.ensures.drained in
+    let idle = idle_slices (home c.args.plan.now.nodes c.args.plan.now.agents) c.args.plan.now.kept.items c.as_slice-2.result.now c.args.plan.now.passings.items c.as_mut_slice-2.result.now c.as_slice-2.ensures.value c.as_mut_slice-2.ensures.value c.requires.ready.idle in
+    let drained = drained_slices (λ b. (goal.Machine-dyn g (b.vtable, b.value)).meaning b.value) (home c.args.plan.now.nodes c.args.plan.now.agents) c.args.cells.now c.args.plan.now.kept.items c.as_slice-2.result.now c.args.plan.now.ends.items c.as_mut_slice.result.now c.drain_all.new.ends c.drain_all.new.passings c.as_slice-2.ensures.value c.as_mut_slice.ensures.value (c.in_ok-drain_all.ensures.drained (home c.args.plan.now.nodes c.args.plan.now.agents) idle) in
+    let long = drained.counted ∙ sym c.requires.ready.idle.size ∙ ap length (sym c.as_mut_slice-2.ensures.value) in
+    let here = c.as_mut_slice-3.ensures.value ∙ written _ c.args.plan.now.passings.items c.drain_all.new.passings c.as_mut_slice-2.result.now c.args.plan.now.passings.ok.0 long c.as_mut_slice-2.ensures.value in
     subst (IsExchangeFault (λ b. (goal.Machine-dyn g (b.vtable, b.value)).meaning b.value) c.args.round c.args.plan.now c.args.cells.now) (sym c.node_fault.ensures)
-    (fault_on (λ b. (goal.Machine-dyn g (b.vtable, b.value)).meaning b.value) c.args.plan.now.nodes c.args.plan.now.agents c.args.plan.now.kept.items c.args.plan.now.ends.items c.drain_all.new.ends c.args.cells.now c.drain_all.new.cells c.in_ok-passings.passings.items c.requires.woven c.drain_all.ensures.quiet drained c.args.round c.args.plan.now c.in-Err.fault refl refl refl (subst (λ ps. IsByteFault c.args.plan.now.nodes ps c.in-Err.fault) c.as_mut_slice-2.ensures.value c.in-Err.ensures.differs))
+    (fault_on (λ b. (goal.Machine-dyn g (b.vtable, b.value)).meaning b.value) c.args.plan.now.nodes c.args.plan.now.agents c.args.plan.now.kept.items c.args.plan.now.ends.items c.drain_all.new.ends c.args.cells.now c.drain_all.new.cells c.drain_all.new.passings c.requires.woven c.drain_all.ensures.quiet drained c.args.round c.args.plan.now c.in-Err.fault refl refl refl (subst (λ ps. IsByteFault c.args.plan.now.nodes ps c.in-Err.fault) here c.in-Err.ensures.differs))
 
 pub returns-in-Err-clause-honest : goal.returns-in-Err-clause-honest
 returns-in-Err-clause-honest g c =
     λ honest.
-    let drained = drained_slices (λ b. (goal.Machine-dyn g (b.vtable, b.value)).meaning b.value) (home c.args.plan.now.nodes c.args.plan.now.agents) c.args.cells.now c.args.plan.now.kept.items c.as_slice.result.now c.args.plan.now.ends.items c.as_mut_slice.result.now c.drain_all.new.ends c.in_ok-passings.passings.items c.as_slice.ensures.value c.as_mut_slice.ensures.value c.in_ok-passings.ensures.drained in
-    let none = subst NothingCame (sym c.as_mut_slice-2.ensures.value) (nothing_came (λ b. (goal.Machine-dyn g (b.vtable, b.value)).meaning b.value) c.args.plan.now.nodes c.args.plan.now.agents c.args.plan.now.kept.items c.args.plan.now.ends.items c.drain_all.new.ends c.args.cells.now c.drain_all.new.cells c.in_ok-passings.passings.items c.requires.woven c.drain_all.ensures.quiet drained) in
+    let idle = idle_slices (home c.args.plan.now.nodes c.args.plan.now.agents) c.args.plan.now.kept.items c.as_slice-2.result.now c.args.plan.now.passings.items c.as_mut_slice-2.result.now c.as_slice-2.ensures.value c.as_mut_slice-2.ensures.value c.requires.ready.idle in
+    let drained = drained_slices (λ b. (goal.Machine-dyn g (b.vtable, b.value)).meaning b.value) (home c.args.plan.now.nodes c.args.plan.now.agents) c.args.cells.now c.args.plan.now.kept.items c.as_slice-2.result.now c.args.plan.now.ends.items c.as_mut_slice.result.now c.drain_all.new.ends c.drain_all.new.passings c.as_slice-2.ensures.value c.as_mut_slice.ensures.value (c.in_ok-drain_all.ensures.drained (home c.args.plan.now.nodes c.args.plan.now.agents) idle) in
+    let long = drained.counted ∙ sym c.requires.ready.idle.size ∙ ap length (sym c.as_mut_slice-2.ensures.value) in
+    let here = c.as_mut_slice-3.ensures.value ∙ written _ c.args.plan.now.passings.items c.drain_all.new.passings c.as_mut_slice-2.result.now c.args.plan.now.passings.ok.0 long c.as_mut_slice-2.ensures.value in
+    let none = subst NothingCame (sym here) (nothing_came (λ b. (goal.Machine-dyn g (b.vtable, b.value)).meaning b.value) c.args.plan.now.nodes c.args.plan.now.agents c.args.plan.now.kept.items c.args.plan.now.ends.items c.drain_all.new.ends c.args.cells.now c.drain_all.new.cells c.drain_all.new.passings c.requires.woven c.drain_all.ensures.quiet drained) in
     (tt, subst IsNoDifference (sym c.node_fault.ensures) (no_difference c.args.round c.in-Err.fault (c.in-Err.ensures.honest honest none).1))
+
+pub feed_all-requires-clause-sizes : goal.feed_all-requires-clause-sizes
+feed_all-requires-clause-sizes g c =
+    let idle = idle_slices (home c.args.plan.now.nodes c.args.plan.now.agents) c.args.plan.now.kept.items c.as_slice-2.result.now c.args.plan.now.passings.items c.as_mut_slice-2.result.now c.as_slice-2.ensures.value c.as_mut_slice-2.ensures.value c.requires.ready.idle in
+    let drained = drained_slices (λ b. (goal.Machine-dyn g (b.vtable, b.value)).meaning b.value) (home c.args.plan.now.nodes c.args.plan.now.agents) c.args.cells.now c.args.plan.now.kept.items c.as_slice-2.result.now c.args.plan.now.ends.items c.as_mut_slice.result.now c.drain_all.new.ends c.drain_all.new.passings c.as_slice-2.ensures.value c.as_mut_slice.ensures.value (c.in_ok-drain_all.ensures.drained (home c.args.plan.now.nodes c.args.plan.now.agents) idle) in
+    let long = drained.counted ∙ sym c.requires.ready.idle.size ∙ ap length (sym c.as_mut_slice-2.ensures.value) in
+    let here = c.as_mut_slice-3.ensures.value ∙ written _ c.args.plan.now.passings.items c.drain_all.new.passings c.as_mut_slice-2.result.now c.args.plan.now.passings.ok.0 long c.as_mut_slice-2.ensures.value in
+    let one = long_written _ c.args.plan.now.passings.items c.drain_all.new.passings c.as_mut_slice-2.result.now c.args.plan.now.passings.ok.0 long c.as_mut_slice-2.ensures.value in
+    let longer = sym (each_long SamePassing c.as_mut_slice-3.result.now c.pass_all.new.passings c.pass_all.ensures.same) in
+    let passed = c.as_mut_slice-6.ensures.value ∙ written _ _ c.pass_all.new.passings c.as_mut_slice-3.result.now one longer c.as_mut_slice-3.ensures.value in
+    let ends = written _ c.args.plan.now.ends.items c.drain_all.new.ends c.as_mut_slice.result.now c.args.plan.now.ends.ok.0 (drained.size ∙ ap length (sym c.as_mut_slice.ensures.value)) c.as_mut_slice.ensures.value in (
+      ap length (c.as_mut_slice-5.ensures.value ∙ ends) ∙ drained.size ∙ c.requires.plan.ends ∙ sym (ap length c.as_mut_slice-4.ensures.value),
+      ap length passed ∙ longer ∙ ap length here ∙ drained.counted ∙ sym (ap length c.as_mut_slice-4.ensures.value),
+    )
 
 pub feed_all-requires-clause-can : goal.feed_all-requires-clause-can
 feed_all-requires-clause-can g c =
-    let drained = drained_slices (λ b. (goal.Machine-dyn g (b.vtable, b.value)).meaning b.value) (home c.args.plan.now.nodes c.args.plan.now.agents) c.args.cells.now c.args.plan.now.kept.items c.as_slice.result.now c.args.plan.now.ends.items c.as_mut_slice.result.now c.drain_all.new.ends c.in_ok-passings.passings.items c.as_slice.ensures.value c.as_mut_slice.ensures.value c.in_ok-passings.ensures.drained in
-    let ends = written _ c.args.plan.now.ends.items c.drain_all.new.ends c.as_mut_slice.result.now c.args.plan.now.ends.ok.0 c.in_ok-passings.ensures.drained.size c.as_mut_slice.ensures.value in
-    can_feed_slices (λ b. (goal.Machine-dyn g (b.vtable, b.value)).meaning b.value) c.drain_all.new.cells c.args.plan.now.kept.items c.as_mut_slice-3.result.now c.drain_all.new.ends c.as_mut_slice-4.result.now c.as_mut_slice-3.ensures.value (c.as_mut_slice-4.ensures.value ∙ ends) (can_feed (λ b. (goal.Machine-dyn g (b.vtable, b.value)).meaning b.value) c.args.plan.now.nodes c.args.plan.now.agents c.args.plan.now.kept.items c.args.plan.now.ends.items c.drain_all.new.ends c.args.cells.now c.drain_all.new.cells c.in_ok-passings.passings.items c.requires.woven c.drain_all.ensures.quiet drained c.requires.sound)
+    let idle = idle_slices (home c.args.plan.now.nodes c.args.plan.now.agents) c.args.plan.now.kept.items c.as_slice-2.result.now c.args.plan.now.passings.items c.as_mut_slice-2.result.now c.as_slice-2.ensures.value c.as_mut_slice-2.ensures.value c.requires.ready.idle in
+    let drained = drained_slices (λ b. (goal.Machine-dyn g (b.vtable, b.value)).meaning b.value) (home c.args.plan.now.nodes c.args.plan.now.agents) c.args.cells.now c.args.plan.now.kept.items c.as_slice-2.result.now c.args.plan.now.ends.items c.as_mut_slice.result.now c.drain_all.new.ends c.drain_all.new.passings c.as_slice-2.ensures.value c.as_mut_slice.ensures.value (c.in_ok-drain_all.ensures.drained (home c.args.plan.now.nodes c.args.plan.now.agents) idle) in
+    let ends = written _ c.args.plan.now.ends.items c.drain_all.new.ends c.as_mut_slice.result.now c.args.plan.now.ends.ok.0 (drained.size ∙ ap length (sym c.as_mut_slice.ensures.value)) c.as_mut_slice.ensures.value in
+    can_feed_slices (λ b. (goal.Machine-dyn g (b.vtable, b.value)).meaning b.value) c.drain_all.new.cells c.args.plan.now.kept.items c.as_mut_slice-4.result.now c.drain_all.new.ends c.as_mut_slice-5.result.now c.as_mut_slice-4.ensures.value (c.as_mut_slice-5.ensures.value ∙ ends) (can_feed (λ b. (goal.Machine-dyn g (b.vtable, b.value)).meaning b.value) c.args.plan.now.nodes c.args.plan.now.agents c.args.plan.now.kept.items c.args.plan.now.ends.items c.drain_all.new.ends c.args.cells.now c.drain_all.new.cells c.drain_all.new.passings c.requires.woven c.drain_all.ensures.quiet drained c.requires.sound)
+
+pub feed_all-requires-clause-still : goal.feed_all-requires-clause-still
+feed_all-requires-clause-still g c =
+    let idle = idle_slices (home c.args.plan.now.nodes c.args.plan.now.agents) c.args.plan.now.kept.items c.as_slice-2.result.now c.args.plan.now.passings.items c.as_mut_slice-2.result.now c.as_slice-2.ensures.value c.as_mut_slice-2.ensures.value c.requires.ready.idle in
+    let drained = drained_slices (λ b. (goal.Machine-dyn g (b.vtable, b.value)).meaning b.value) (home c.args.plan.now.nodes c.args.plan.now.agents) c.args.cells.now c.args.plan.now.kept.items c.as_slice-2.result.now c.args.plan.now.ends.items c.as_mut_slice.result.now c.drain_all.new.ends c.drain_all.new.passings c.as_slice-2.ensures.value c.as_mut_slice.ensures.value (c.in_ok-drain_all.ensures.drained (home c.args.plan.now.nodes c.args.plan.now.agents) idle) in
+    let ends = written _ c.args.plan.now.ends.items c.drain_all.new.ends c.as_mut_slice.result.now c.args.plan.now.ends.ok.0 (drained.size ∙ ap length (sym c.as_mut_slice.ensures.value)) c.as_mut_slice.ensures.value in
+    taken_slices (λ b. (goal.Machine-dyn g (b.vtable, b.value)).meaning b.value) c.drain_all.new.cells c.args.plan.now.seen.items c.as_slice-3.result.now c.args.plan.now.kept.items c.as_mut_slice-4.result.now c.drain_all.new.ends c.as_mut_slice-5.result.now c.as_slice-3.ensures.value c.as_mut_slice-4.ensures.value (c.as_mut_slice-5.ensures.value ∙ ends)
+    (still_taken (λ b. (goal.Machine-dyn g (b.vtable, b.value)).meaning b.value) c.args.plan.now.nodes c.args.plan.now.agents c.args.plan.now.kept.items c.args.plan.now.ends.items c.drain_all.new.ends c.args.cells.now c.drain_all.new.cells c.drain_all.new.passings c.requires.woven c.drain_all.ensures.quiet drained c.args.plan.now.seen.items c.requires.ready.fed)
 
 pub returns-in_err-feed_all-clause-quiet : goal.returns-in_err-feed_all-clause-quiet
 returns-in_err-feed_all-clause-quiet g c =
+    each_stays_then (λ b. (goal.Machine-dyn g (b.vtable, b.value)).meaning b.value) c.args.cells.now c.drain_all.new.cells c.feed_all.new.cells c.drain_all.ensures.quiet c.feed_all.ensures.quiet
+
+pub returns-in_err-note_all-clause-quiet : goal.returns-in_err-note_all-clause-quiet
+returns-in_err-note_all-clause-quiet g c =
     each_stays_then (λ b. (goal.Machine-dyn g (b.vtable, b.value)).meaning b.value) c.args.cells.now c.drain_all.new.cells c.feed_all.new.cells c.drain_all.ensures.quiet c.feed_all.ensures.quiet
 
 pub returns-clause-quiet : goal.returns-clause-quiet
@@ -50,25 +94,39 @@ returns-clause-quiet g c =
 
 pub returns-clause-exchanged : goal.returns-clause-exchanged
 returns-clause-exchanged g c =
-    let drained = drained_slices (λ b. (goal.Machine-dyn g (b.vtable, b.value)).meaning b.value) (home c.args.plan.now.nodes c.args.plan.now.agents) c.args.cells.now c.args.plan.now.kept.items c.as_slice.result.now c.args.plan.now.ends.items c.as_mut_slice.result.now c.drain_all.new.ends c.in_ok-passings.passings.items c.as_slice.ensures.value c.as_mut_slice.ensures.value c.in_ok-passings.ensures.drained in
-    let same : EachAre SamePassing c.in_ok-passings.passings.items c.pass_all.new.passings = subst (λ ps. EachAre SamePassing ps c.pass_all.new.passings) c.as_mut_slice-2.ensures.value c.pass_all.ensures.same in
-    let ends = written _ c.args.plan.now.ends.items c.drain_all.new.ends c.as_mut_slice.result.now c.args.plan.now.ends.ok.0 c.in_ok-passings.ensures.drained.size c.as_mut_slice.ensures.value in
-    let passed = written _ c.in_ok-passings.passings.items c.pass_all.new.passings c.as_mut_slice-2.result.now c.in_ok-passings.passings.ok.0 (sym (each_long SamePassing c.as_mut_slice-2.result.now c.pass_all.new.passings c.pass_all.ensures.same)) c.as_mut_slice-2.ensures.value in
-    let fed = fed_slices (λ b. (goal.Machine-dyn g (b.vtable, b.value)).meaning b.value) c.feed_all.new.cells c.args.plan.now.kept.items c.as_mut_slice-3.result.now c.feed_all.new.kept c.drain_all.new.ends c.as_mut_slice-4.result.now c.feed_all.new.ends c.pass_all.new.passings c.as_mut_slice-5.result.now c.as_mut_slice-3.ensures.value (c.as_mut_slice-4.ensures.value ∙ ends) (c.as_mut_slice-5.ensures.value ∙ passed) c.in_ok-feed_all.ensures.fed in
-    let kept = written _ c.args.plan.now.kept.items c.feed_all.new.kept c.as_mut_slice-3.result.now c.args.plan.now.kept.ok.0 c.feed_all.ensures.sizes.0 c.as_mut_slice-3.ensures.value in
-    has_exchanged (λ b. (goal.Machine-dyn g (b.vtable, b.value)).meaning b.value) c.args.plan.now _ c.args.cells.now c.feed_all.new.cells c.feed_all.new.kept c.feed_all.new.ends c.requires.plan refl refl c.in_default.ensures.wires kept
-    (twice_written _ c.args.plan.now.ends.items c.drain_all.new.ends c.as_mut_slice.result.now c.feed_all.new.ends c.as_mut_slice-4.result.now c.args.plan.now.ends.ok.0 c.in_ok-passings.ensures.drained.size c.as_mut_slice.ensures.value c.feed_all.ensures.sizes.1 c.as_mut_slice-4.ensures.value)
-    (woven_on (λ b. (goal.Machine-dyn g (b.vtable, b.value)).meaning b.value) c.args.plan.now.nodes c.args.plan.now.agents c.args.plan.now.kept.items c.args.plan.now.ends.items c.drain_all.new.ends c.args.cells.now c.drain_all.new.cells c.in_ok-passings.passings.items c.requires.woven c.drain_all.ensures.quiet drained c.pass_all.new.passings c.feed_all.new.kept c.feed_all.new.ends c.feed_all.new.cells same c.feed_all.ensures.quiet fed) (exchange_on (λ b. (goal.Machine-dyn g (b.vtable, b.value)).meaning b.value) c.args.plan.now.nodes c.args.plan.now.agents c.args.plan.now.kept.items c.args.plan.now.ends.items c.drain_all.new.ends c.args.cells.now c.drain_all.new.cells c.in_ok-passings.passings.items c.requires.woven c.drain_all.ensures.quiet drained c.pass_all.new.passings c.feed_all.new.kept c.feed_all.new.ends c.feed_all.new.cells same c.feed_all.ensures.quiet fed c.requires.joined)
+    let idle = idle_slices (home c.args.plan.now.nodes c.args.plan.now.agents) c.args.plan.now.kept.items c.as_slice-2.result.now c.args.plan.now.passings.items c.as_mut_slice-2.result.now c.as_slice-2.ensures.value c.as_mut_slice-2.ensures.value c.requires.ready.idle in
+    let drained = drained_slices (λ b. (goal.Machine-dyn g (b.vtable, b.value)).meaning b.value) (home c.args.plan.now.nodes c.args.plan.now.agents) c.args.cells.now c.args.plan.now.kept.items c.as_slice-2.result.now c.args.plan.now.ends.items c.as_mut_slice.result.now c.drain_all.new.ends c.drain_all.new.passings c.as_slice-2.ensures.value c.as_mut_slice.ensures.value (c.in_ok-drain_all.ensures.drained (home c.args.plan.now.nodes c.args.plan.now.agents) idle) in
+    let long = drained.counted ∙ sym c.requires.ready.idle.size ∙ ap length (sym c.as_mut_slice-2.ensures.value) in
+    let here = c.as_mut_slice-3.ensures.value ∙ written _ c.args.plan.now.passings.items c.drain_all.new.passings c.as_mut_slice-2.result.now c.args.plan.now.passings.ok.0 long c.as_mut_slice-2.ensures.value in
+    let one = long_written _ c.args.plan.now.passings.items c.drain_all.new.passings c.as_mut_slice-2.result.now c.args.plan.now.passings.ok.0 long c.as_mut_slice-2.ensures.value in
+    let longer = sym (each_long SamePassing c.as_mut_slice-3.result.now c.pass_all.new.passings c.pass_all.ensures.same) in
+    let passed = c.as_mut_slice-6.ensures.value ∙ written _ _ c.pass_all.new.passings c.as_mut_slice-3.result.now one longer c.as_mut_slice-3.ensures.value in
+    let ends = written _ c.args.plan.now.ends.items c.drain_all.new.ends c.as_mut_slice.result.now c.args.plan.now.ends.ok.0 (drained.size ∙ ap length (sym c.as_mut_slice.ensures.value)) c.as_mut_slice.ensures.value in
+    let same : EachAre SamePassing c.drain_all.new.passings c.pass_all.new.passings = subst (λ ps. EachAre SamePassing ps c.pass_all.new.passings) here c.pass_all.ensures.same in
+    let fed = fed_slices (λ b. (goal.Machine-dyn g (b.vtable, b.value)).meaning b.value) c.feed_all.new.cells c.args.plan.now.kept.items c.as_mut_slice-4.result.now c.feed_all.new.kept c.drain_all.new.ends c.as_mut_slice-5.result.now c.feed_all.new.ends c.pass_all.new.passings c.as_mut_slice-6.result.now c.as_mut_slice-4.ensures.value (c.as_mut_slice-5.ensures.value ∙ ends) passed c.in_ok-feed_all.ensures.fed in
+    let kept = written _ c.args.plan.now.kept.items c.feed_all.new.kept c.as_mut_slice-4.result.now c.args.plan.now.kept.ok.0 c.feed_all.ensures.sizes.0 c.as_mut_slice-4.ensures.value in
+    let two = long_written _ _ c.pass_all.new.passings c.as_mut_slice-3.result.now one longer c.as_mut_slice-3.ensures.value in
+    let left = written _ _ c.feed_all.new.passings c.as_mut_slice-6.result.now two c.feed_all.ensures.sizes.2 c.as_mut_slice-6.ensures.value in
+    has_exchanged (λ b. (goal.Machine-dyn g (b.vtable, b.value)).meaning b.value) c.args.plan.now _ c.args.cells.now c.feed_all.new.cells c.feed_all.new.kept c.feed_all.new.ends c.feed_all.new.passings c.requires.plan refl refl c.in_default.ensures.wires kept
+    (twice_written _ c.args.plan.now.ends.items c.drain_all.new.ends c.as_mut_slice.result.now c.feed_all.new.ends c.as_mut_slice-5.result.now c.args.plan.now.ends.ok.0 (drained.size ∙ ap length (sym c.as_mut_slice.ensures.value)) c.as_mut_slice.ensures.value c.feed_all.ensures.sizes.1 c.as_mut_slice-5.ensures.value)
+    left (idle_on (λ b. (goal.Machine-dyn g (b.vtable, b.value)).meaning b.value) c.args.plan.now.nodes c.args.plan.now.agents c.args.plan.now.kept.items c.args.plan.now.ends.items c.drain_all.new.ends c.args.cells.now c.drain_all.new.cells c.drain_all.new.passings c.requires.woven c.drain_all.ensures.quiet drained c.pass_all.new.passings c.feed_all.new.kept c.feed_all.new.ends c.feed_all.new.cells same c.feed_all.ensures.quiet fed c.feed_all.new.passings (emptied_slices c.args.plan.now.kept.items c.as_mut_slice-4.result.now c.pass_all.new.passings c.as_mut_slice-6.result.now c.feed_all.new.passings c.as_mut_slice-4.ensures.value passed c.in_ok-feed_all.ensures.left))
+    (caught_up (λ b. (goal.Machine-dyn g (b.vtable, b.value)).meaning b.value) c.args.plan.now.nodes c.args.plan.now.agents c.args.plan.now.kept.items c.args.plan.now.ends.items c.drain_all.new.ends c.args.cells.now c.drain_all.new.cells c.drain_all.new.passings c.requires.woven c.drain_all.ensures.quiet drained c.pass_all.new.passings c.feed_all.new.kept c.feed_all.new.ends c.feed_all.new.cells same c.feed_all.ensures.quiet fed _ c.in_ok-note_all.ensures)
+    (woven_on (λ b. (goal.Machine-dyn g (b.vtable, b.value)).meaning b.value) c.args.plan.now.nodes c.args.plan.now.agents c.args.plan.now.kept.items c.args.plan.now.ends.items c.drain_all.new.ends c.args.cells.now c.drain_all.new.cells c.drain_all.new.passings c.requires.woven c.drain_all.ensures.quiet drained c.pass_all.new.passings c.feed_all.new.kept c.feed_all.new.ends c.feed_all.new.cells same c.feed_all.ensures.quiet fed) (exchange_on (λ b. (goal.Machine-dyn g (b.vtable, b.value)).meaning b.value) c.args.plan.now.nodes c.args.plan.now.agents c.args.plan.now.kept.items c.args.plan.now.ends.items c.drain_all.new.ends c.args.cells.now c.drain_all.new.cells c.drain_all.new.passings c.requires.woven c.drain_all.ensures.quiet drained c.pass_all.new.passings c.feed_all.new.kept c.feed_all.new.ends c.feed_all.new.cells same c.feed_all.ensures.quiet fed c.requires.joined)
 
 pub returns-clause-honest : goal.returns-clause-honest
 returns-clause-honest g c =
     λ honest.
-    let drained = drained_slices (λ b. (goal.Machine-dyn g (b.vtable, b.value)).meaning b.value) (home c.args.plan.now.nodes c.args.plan.now.agents) c.args.cells.now c.args.plan.now.kept.items c.as_slice.result.now c.args.plan.now.ends.items c.as_mut_slice.result.now c.drain_all.new.ends c.in_ok-passings.passings.items c.as_slice.ensures.value c.as_mut_slice.ensures.value c.in_ok-passings.ensures.drained in
-    let same : EachAre SamePassing c.in_ok-passings.passings.items c.pass_all.new.passings = subst (λ ps. EachAre SamePassing ps c.pass_all.new.passings) c.as_mut_slice-2.ensures.value c.pass_all.ensures.same in
-    let ends = written _ c.args.plan.now.ends.items c.drain_all.new.ends c.as_mut_slice.result.now c.args.plan.now.ends.ok.0 c.in_ok-passings.ensures.drained.size c.as_mut_slice.ensures.value in
-    let passed = written _ c.in_ok-passings.passings.items c.pass_all.new.passings c.as_mut_slice-2.result.now c.in_ok-passings.passings.ok.0 (sym (each_long SamePassing c.as_mut_slice-2.result.now c.pass_all.new.passings c.pass_all.ensures.same)) c.as_mut_slice-2.ensures.value in
-    let fed = fed_slices (λ b. (goal.Machine-dyn g (b.vtable, b.value)).meaning b.value) c.feed_all.new.cells c.args.plan.now.kept.items c.as_mut_slice-3.result.now c.feed_all.new.kept c.drain_all.new.ends c.as_mut_slice-4.result.now c.feed_all.new.ends c.pass_all.new.passings c.as_mut_slice-5.result.now c.as_mut_slice-3.ensures.value (c.as_mut_slice-4.ensures.value ∙ ends) (c.as_mut_slice-5.ensures.value ∙ passed) c.in_ok-feed_all.ensures.fed in
-    let kept = written _ c.args.plan.now.kept.items c.feed_all.new.kept c.as_mut_slice-3.result.now c.args.plan.now.kept.ok.0 c.feed_all.ensures.sizes.0 c.as_mut_slice-3.ensures.value in
-    let none = subst NothingCame (sym c.as_mut_slice-2.ensures.value) (nothing_came (λ b. (goal.Machine-dyn g (b.vtable, b.value)).meaning b.value) c.args.plan.now.nodes c.args.plan.now.agents c.args.plan.now.kept.items c.args.plan.now.ends.items c.drain_all.new.ends c.args.cells.now c.drain_all.new.cells c.in_ok-passings.passings.items c.requires.woven c.drain_all.ensures.quiet drained) in
+    let idle = idle_slices (home c.args.plan.now.nodes c.args.plan.now.agents) c.args.plan.now.kept.items c.as_slice-2.result.now c.args.plan.now.passings.items c.as_mut_slice-2.result.now c.as_slice-2.ensures.value c.as_mut_slice-2.ensures.value c.requires.ready.idle in
+    let drained = drained_slices (λ b. (goal.Machine-dyn g (b.vtable, b.value)).meaning b.value) (home c.args.plan.now.nodes c.args.plan.now.agents) c.args.cells.now c.args.plan.now.kept.items c.as_slice-2.result.now c.args.plan.now.ends.items c.as_mut_slice.result.now c.drain_all.new.ends c.drain_all.new.passings c.as_slice-2.ensures.value c.as_mut_slice.ensures.value (c.in_ok-drain_all.ensures.drained (home c.args.plan.now.nodes c.args.plan.now.agents) idle) in
+    let long = drained.counted ∙ sym c.requires.ready.idle.size ∙ ap length (sym c.as_mut_slice-2.ensures.value) in
+    let here = c.as_mut_slice-3.ensures.value ∙ written _ c.args.plan.now.passings.items c.drain_all.new.passings c.as_mut_slice-2.result.now c.args.plan.now.passings.ok.0 long c.as_mut_slice-2.ensures.value in
+    let one = long_written _ c.args.plan.now.passings.items c.drain_all.new.passings c.as_mut_slice-2.result.now c.args.plan.now.passings.ok.0 long c.as_mut_slice-2.ensures.value in
+    let longer = sym (each_long SamePassing c.as_mut_slice-3.result.now c.pass_all.new.passings c.pass_all.ensures.same) in
+    let passed = c.as_mut_slice-6.ensures.value ∙ written _ _ c.pass_all.new.passings c.as_mut_slice-3.result.now one longer c.as_mut_slice-3.ensures.value in
+    let ends = written _ c.args.plan.now.ends.items c.drain_all.new.ends c.as_mut_slice.result.now c.args.plan.now.ends.ok.0 (drained.size ∙ ap length (sym c.as_mut_slice.ensures.value)) c.as_mut_slice.ensures.value in
+    let same : EachAre SamePassing c.drain_all.new.passings c.pass_all.new.passings = subst (λ ps. EachAre SamePassing ps c.pass_all.new.passings) here c.pass_all.ensures.same in
+    let fed = fed_slices (λ b. (goal.Machine-dyn g (b.vtable, b.value)).meaning b.value) c.feed_all.new.cells c.args.plan.now.kept.items c.as_mut_slice-4.result.now c.feed_all.new.kept c.drain_all.new.ends c.as_mut_slice-5.result.now c.feed_all.new.ends c.pass_all.new.passings c.as_mut_slice-6.result.now c.as_mut_slice-4.ensures.value (c.as_mut_slice-5.ensures.value ∙ ends) passed c.in_ok-feed_all.ensures.fed in
+    let kept = written _ c.args.plan.now.kept.items c.feed_all.new.kept c.as_mut_slice-4.result.now c.args.plan.now.kept.ok.0 c.feed_all.ensures.sizes.0 c.as_mut_slice-4.ensures.value in
+    let none = subst NothingCame (sym here) (nothing_came (λ b. (goal.Machine-dyn g (b.vtable, b.value)).meaning b.value) c.args.plan.now.nodes c.args.plan.now.agents c.args.plan.now.kept.items c.args.plan.now.ends.items c.drain_all.new.ends c.args.cells.now c.drain_all.new.cells c.drain_all.new.passings c.requires.woven c.drain_all.ensures.quiet drained) in
     let came = c.in_default.ensures.honest honest none in
-    ((came.0.0, λ held. subst HaveHeld (sym kept) (held_on (λ b. (goal.Machine-dyn g (b.vtable, b.value)).meaning b.value) c.args.plan.now.nodes c.args.plan.now.agents c.args.plan.now.kept.items c.args.plan.now.ends.items c.drain_all.new.ends c.args.cells.now c.drain_all.new.cells c.in_ok-passings.passings.items c.requires.woven c.drain_all.ensures.quiet drained c.pass_all.new.passings c.feed_all.new.kept c.feed_all.new.ends c.feed_all.new.cells same c.feed_all.ensures.quiet fed came.0.1 held)), tt)
+    ((came.0.0, λ held. subst HaveHeld (sym kept) (held_on (λ b. (goal.Machine-dyn g (b.vtable, b.value)).meaning b.value) c.args.plan.now.nodes c.args.plan.now.agents c.args.plan.now.kept.items c.args.plan.now.ends.items c.drain_all.new.ends c.args.cells.now c.drain_all.new.cells c.drain_all.new.passings c.requires.woven c.drain_all.ensures.quiet drained c.pass_all.new.passings c.feed_all.new.kept c.feed_all.new.ends c.feed_all.new.cells same c.feed_all.ensures.quiet fed came.0.1 held)), tt)

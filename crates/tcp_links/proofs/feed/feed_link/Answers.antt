@@ -1,6 +1,8 @@
+use Rattle.std.proofs.Common.{◌≡◌, arith}
+use Rattle.std.proofs.lemmas.Bool.Decides.{nat_tests}
 use Rattle.agent_cells.specs.State.{heads_in}
 use Rattle.agent_workers.proofs.CellLaws.{known_others}
-use Rattle.tcp_links.proofs.FeedLaws.{cell_waits}
+use Rattle.tcp_links.proofs.FeedLaws.{cell_waits, cell_takes}
 use Rattle.tcp_links.proofs.feed.feed_link.Goals as goal
 
 pub returns-clause-others : goal.returns-clause-others
@@ -10,3 +12,9 @@ pub returns-clause-waits : goal.returns-clause-waits
 returns-clause-waits g c =
     let e = c.settle_head.ensures in
     cell_waits (λ b. (goal.Machine-dyn g (b.vtable, b.value)).meaning b.value) c.args.cell.now c.settle_head.new.self c.args.from c.settle_head.result c.settle_head.new.tail e.cell e.quiet c.requires.peer e.settled
+
+pub returns-clause-none : goal.returns-clause-none
+returns-clause-none g c = λ none.
+    let e = c.settle_head.ensures in
+    let zero_is : c.settle_head.result ≡ 0 = grind (arith, nat_tests, none) in
+    cell_takes (λ b. (goal.Machine-dyn g (b.vtable, b.value)).meaning b.value) c.args.cell.now c.settle_head.new.self c.args.from c.settle_head.result c.settle_head.new.tail e.cell e.quiet c.requires.peer e.settled zero_is

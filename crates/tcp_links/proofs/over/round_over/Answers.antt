@@ -4,7 +4,7 @@ use Rattle.agent_workers.proofs.RoundLaws.{sound_from, begun_still}
 use Rattle.agent_workers.proofs.RunLaws.{fine_still}
 use Rattle.tcp_links.specs.Faults.{IsNoDifference}
 use Rattle.tcp_links.specs.Over.{IsExchangeFault}
-use Rattle.tcp_links.proofs.OverLaws.{err_on, nothing_on, cause_on, joined_quiet, joined_over, joined_back, fine_quiet, over_still, round_made, broken_made}
+use Rattle.tcp_links.proofs.OverLaws.{err_on, nothing_on, cause_on, joined_quiet, joined_over, joined_back, fine_quiet, over_played, over_forgot, round_made, broken_made}
 use Rattle.tcp_links.proofs.over.round_over.Goals as goal
 
 pub exchange-requires-clause-plan : goal.exchange-requires-clause-plan
@@ -12,6 +12,9 @@ exchange-requires-clause-plan g c κs within = c.requires.over.plan
 
 pub exchange-requires-clause-woven : goal.exchange-requires-clause-woven
 exchange-requires-clause-woven g c κs within = c.requires.over.woven
+
+pub exchange-requires-clause-ready : goal.exchange-requires-clause-ready
+exchange-requires-clause-ready g c κs within = c.requires.over.ready
 
 pub exchange-requires-clause-sound : goal.exchange-requires-clause-sound
 exchange-requires-clause-sound g c κs within = sound_from (λ b. (goal.Machine-dyn g (b.vtable, b.value)).meaning b.value) c.args.cells.now c.requires.begun
@@ -41,7 +44,7 @@ pub returns-in-Ok-clause-joined : goal.returns-in-Ok-clause-joined
 returns-in-Ok-clause-joined g c = joined_back (λ b. (goal.Machine-dyn g (b.vtable, b.value)).meaning b.value) c.args.plan.now c.exchange.new.plan c.play_round.new.cells c.in_ok-exchange.ensures.exchanged.over.nodes c.play_round.ensures.joined
 
 pub returns-in-Ok-clause-over : goal.returns-in-Ok-clause-over
-returns-in-Ok-clause-over g c = over_still (λ b. (goal.Machine-dyn g (b.vtable, b.value)).meaning b.value) c.args.plan.now c.exchange.new.plan c.exchange.new.cells c.play_round.new.cells c.in_ok-exchange.ensures.exchanged.over c.play_round.ensures.same
+returns-in-Ok-clause-over g c = over_played (λ b. (goal.Machine-dyn g (b.vtable, b.value)).meaning b.value) c.args.plan.now c.exchange.new.plan c.args.cells.now c.exchange.new.cells c.play_round.new.cells c.in_ok-exchange.ensures.exchanged c.play_round.ensures.same c.in-Ok.ensures.round
 
 pub returns-in-Ok-clause-honest : goal.returns-in-Ok-clause-honest
 returns-in-Ok-clause-honest g c = λ h. ((c.in_ok-exchange.ensures.honest h).0, tt)
@@ -50,7 +53,7 @@ pub returns-in-Err-StampEnd-clause-joined : goal.returns-in-Err-StampEnd-clause-
 returns-in-Err-StampEnd-clause-joined g c = joined_back (λ b. (goal.Machine-dyn g (b.vtable, b.value)).meaning b.value) c.args.plan.now c.exchange.new.plan c.play_round.new.cells c.in_ok-exchange.ensures.exchanged.over.nodes c.play_round.ensures.joined
 
 pub returns-in-Err-StampEnd-clause-over : goal.returns-in-Err-StampEnd-clause-over
-returns-in-Err-StampEnd-clause-over g c = over_still (λ b. (goal.Machine-dyn g (b.vtable, b.value)).meaning b.value) c.args.plan.now c.exchange.new.plan c.exchange.new.cells c.play_round.new.cells c.in_ok-exchange.ensures.exchanged.over c.play_round.ensures.same
+returns-in-Err-StampEnd-clause-over g c = over_forgot (λ b. (goal.Machine-dyn g (b.vtable, b.value)).meaning b.value) c.args.plan.now c.exchange.new.plan _ c.args.cells.now c.exchange.new.cells c.play_round.new.cells c.in_ok-exchange.ensures.exchanged c.play_round.ensures.same refl refl refl refl refl refl c.clear.ensures.items
 
 pub returns-in-Err-StampEnd-clause-honest : goal.returns-in-Err-StampEnd-clause-honest
 returns-in-Err-StampEnd-clause-honest g c = λ h. ((c.in_ok-exchange.ensures.honest h).0, tt)
@@ -65,7 +68,7 @@ pub returns-in-Ok-clause-round : goal.returns-in-Ok-clause-round
 returns-in-Ok-clause-round g c = round_made (λ b. (goal.Machine-dyn g (b.vtable, b.value)).meaning b.value) c.args.plan.now c.exchange.new.plan c.args.cells.now c.exchange.new.cells c.play_round.new.cells c.in-Ok.taken c.in_ok-exchange.ensures.exchanged c.exchange.ensures.quiet c.in-Ok.ensures.round c.in-Ok.ensures.counted c.in-Ok.ensures.most (fine_still (λ b. (goal.Machine-dyn g (b.vtable, b.value)).meaning b.value) c.exchange.new.cells c.play_round.new.cells c.in-Ok.ensures.fine (fine_quiet (λ b. (goal.Machine-dyn g (b.vtable, b.value)).meaning b.value) c.args.cells.now c.exchange.new.cells c.exchange.ensures.quiet c.requires.fine))
 
 pub returns-in-Err-StampEnd-clause-round : goal.returns-in-Err-StampEnd-clause-round
-returns-in-Err-StampEnd-clause-round g c = broken_made (λ b. (goal.Machine-dyn g (b.vtable, b.value)).meaning b.value) c.args.plan.now c.exchange.new.plan c.args.cells.now c.exchange.new.cells c.play_round.new.cells c.in_ok-exchange.ensures.exchanged (c.in-Err-StampEnd.ensures.end c.in-Err-StampEnd.field-0-is (fine_quiet (λ b. (goal.Machine-dyn g (b.vtable, b.value)).meaning b.value) c.args.cells.now c.exchange.new.cells c.exchange.ensures.quiet c.requires.fine)) (subst (λ f. SomeFailed f c.play_round.new.cells) c.in-Err-StampEnd.field-0-is c.in-Err-StampEnd.ensures.err)
+returns-in-Err-StampEnd-clause-round g c = broken_made (λ b. (goal.Machine-dyn g (b.vtable, b.value)).meaning b.value) c.args.plan.now c.exchange.new.plan _ c.args.cells.now c.exchange.new.cells c.play_round.new.cells c.in_ok-exchange.ensures.exchanged refl (c.in-Err-StampEnd.ensures.end c.in-Err-StampEnd.field-0-is (fine_quiet (λ b. (goal.Machine-dyn g (b.vtable, b.value)).meaning b.value) c.args.cells.now c.exchange.new.cells c.exchange.ensures.quiet c.requires.fine)) (subst (λ f. SomeFailed f c.play_round.new.cells) c.in-Err-StampEnd.field-0-is c.in-Err-StampEnd.ensures.err)
 
 pub returns-in_err-exchange-clause-size : goal.returns-in_err-exchange-clause-size
 returns-in_err-exchange-clause-size g c = c.exchange.ensures.quiet.size

@@ -8,13 +8,20 @@ use Rattle.agent_workers.specs.Run.{views_of, AreDulyPlayed, RestsAtStill}
 use Rattle.agent_workers.proofs.ListLaws.{carry}
 use Rattle.tcp_links.specs.Linked.{AreLinkedOver}
 use Rattle.tcp_links.specs.Ends.{HasHeldOver, DiffersOver}
+use Rattle.tcp_links.proofs.PlanLaws.{same_plan}
+use Rattle.tcp_links.proofs.WeaveLaws.{on_ok}
+use Rattle.tcp_links.proofs.RunLaws.{on_err, new_as, linked_as, held_as, differs_as}
+use Rattle.letter_wires.specs.Honest.{AreHonest}
 use Rattle.tcp_links.proofs.run.run_nodes.Goals as goal
 
+pub run_over-requires-clause-plan : goal.run_over-requires-clause-plan
+run_over-requires-clause-plan g c κs within = same_plan c.args.plan.now c.prepare.new.plan c.requires.plan c.prepare.ensures.same.kept c.prepare.ensures.same.ends c.prepare.ensures.same.agents c.prepare.ensures.same.nodes c.prepare.ensures.same.wires
+
 pub run_over-requires-clause-joined : goal.run_over-requires-clause-joined
-run_over-requires-clause-joined g c κs within = subst (IsJoined (λ b. (goal.Machine-dyn g (b.vtable, b.value)).meaning b.value) c.args.plan.now.nodes) (sym c.as_mut_slice.ensures.value) c.requires.joined
+run_over-requires-clause-joined g c κs within = subst (λ n. IsJoined (λ b. (goal.Machine-dyn g (b.vtable, b.value)).meaning b.value) n c.as_mut_slice.result.now) (sym c.prepare.ensures.same.nodes) (subst (IsJoined (λ b. (goal.Machine-dyn g (b.vtable, b.value)).meaning b.value) c.args.plan.now.nodes) (sym c.as_mut_slice.ensures.value) c.requires.joined)
 
 pub run_over-requires-clause-linked : goal.run_over-requires-clause-linked
-run_over-requires-clause-linked g c κs within = subst (AreLinkedOver (λ b. (goal.Machine-dyn g (b.vtable, b.value)).meaning b.value) c.args.plan.now) (sym c.as_mut_slice.ensures.value) c.requires.linked
+run_over-requires-clause-linked g c κs within = linked_as (λ b. (goal.Machine-dyn g (b.vtable, b.value)).meaning b.value) c.args.plan.now c.prepare.new.plan c.as_mut_slice.result.now c.prepare.ensures.same.agents c.prepare.ensures.same.nodes c.prepare.ensures.same.kept c.prepare.ensures.same.ends (subst (AreLinkedOver (λ b. (goal.Machine-dyn g (b.vtable, b.value)).meaning b.value) c.args.plan.now) (sym c.as_mut_slice.ensures.value) c.requires.linked)
 
 pub run_over-requires-clause-sound : goal.run_over-requires-clause-sound
 run_over-requires-clause-sound g c κs within = subst (EachIs (λ x. IsCell (λ b. (goal.Machine-dyn g (b.vtable, b.value)).meaning b.value) x)) (sym c.as_mut_slice.ensures.value) c.requires.sound
@@ -32,7 +39,13 @@ pub returns-clause-still : goal.returns-clause-still
 returns-clause-still g c = carry (λ old new. IfOk c.run_over.result (λ end. RestsAtStill c.args.budget (views_of (λ b. (goal.Machine-dyn g (b.vtable, b.value)).meaning b.value) old) (states_of (λ b. (goal.Machine-dyn g (b.vtable, b.value)).meaning b.value) new) end)) _ _ _ _ c.as_mut_slice.ensures.value (written _ c.args.cells.now.items c.run_over.new.cells c.as_mut_slice.result.now c.args.cells.now.ok.0 c.run_over.ensures.size c.as_mut_slice.ensures.value) c.run_over.ensures.still
 
 pub returns-clause-held : goal.returns-clause-held
-returns-clause-held g c = carry (λ old new. OnOk c.run_over.result (HasHeldOver c.args.budget (views_of (λ b. (goal.Machine-dyn g (b.vtable, b.value)).meaning b.value) old) c.args.plan.now (states_of (λ b. (goal.Machine-dyn g (b.vtable, b.value)).meaning b.value) new))) _ _ _ _ c.as_mut_slice.ensures.value (written _ c.args.cells.now.items c.run_over.new.cells c.as_mut_slice.result.now c.args.cells.now.ok.0 c.run_over.ensures.size c.as_mut_slice.ensures.value) c.run_over.ensures.held
+returns-clause-held g c = carry (λ old new. OnOk c.run_over.result (HasHeldOver c.args.budget (views_of (λ b. (goal.Machine-dyn g (b.vtable, b.value)).meaning b.value) old) c.args.plan.now (states_of (λ b. (goal.Machine-dyn g (b.vtable, b.value)).meaning b.value) new))) _ _ _ _ c.as_mut_slice.ensures.value (written _ c.args.cells.now.items c.run_over.new.cells c.as_mut_slice.result.now c.args.cells.now.ok.0 c.run_over.ensures.size c.as_mut_slice.ensures.value) (on_ok c.run_over.result c.run_over.ensures.held (held_as (λ b. (goal.Machine-dyn g (b.vtable, b.value)).meaning b.value) c.args.budget (views_of (λ b. (goal.Machine-dyn g (b.vtable, b.value)).meaning b.value) c.as_mut_slice.result.now) c.args.plan.now c.prepare.new.plan (states_of (λ b. (goal.Machine-dyn g (b.vtable, b.value)).meaning b.value) c.run_over.new.cells) c.prepare.ensures.same.agents c.prepare.ensures.same.nodes c.prepare.ensures.same.kept))
 
 pub returns-clause-differs : goal.returns-clause-differs
-returns-clause-differs g c = carry (λ old new. IfErr c.run_over.result (DiffersOver c.args.budget (views_of (λ b. (goal.Machine-dyn g (b.vtable, b.value)).meaning b.value) old) c.args.plan.now (states_of (λ b. (goal.Machine-dyn g (b.vtable, b.value)).meaning b.value) new))) _ _ _ _ c.as_mut_slice.ensures.value (written _ c.args.cells.now.items c.run_over.new.cells c.as_mut_slice.result.now c.args.cells.now.ok.0 c.run_over.ensures.size c.as_mut_slice.ensures.value) c.run_over.ensures.differs
+returns-clause-differs g c = carry (λ old new. IfErr c.run_over.result (DiffersOver c.args.budget (views_of (λ b. (goal.Machine-dyn g (b.vtable, b.value)).meaning b.value) old) c.args.plan.now (states_of (λ b. (goal.Machine-dyn g (b.vtable, b.value)).meaning b.value) new))) _ _ _ _ c.as_mut_slice.ensures.value (written _ c.args.cells.now.items c.run_over.new.cells c.as_mut_slice.result.now c.args.cells.now.ok.0 c.run_over.ensures.size c.as_mut_slice.ensures.value) (on_err _ _ c.run_over.result (λ e. differs_as (λ b. (goal.Machine-dyn g (b.vtable, b.value)).meaning b.value) c.args.budget (views_of (λ b. (goal.Machine-dyn g (b.vtable, b.value)).meaning b.value) c.as_mut_slice.result.now) c.args.plan.now c.prepare.new.plan (states_of (λ b. (goal.Machine-dyn g (b.vtable, b.value)).meaning b.value) c.run_over.new.cells) e c.prepare.ensures.same.agents c.prepare.ensures.same.nodes c.prepare.ensures.same.kept) c.run_over.ensures.differs)
+
+pub returns-clause-plan : goal.returns-clause-plan
+returns-clause-plan g c = on_ok c.run_over.result c.run_over.ensures.plan (new_as c.args.plan.now.agents c.prepare.new.plan.agents c.args.plan.now.nodes c.prepare.new.plan.nodes c.run_over.new.plan c.prepare.ensures.same.agents c.prepare.ensures.same.nodes)
+
+pub returns-clause-honest : goal.returns-clause-honest
+returns-clause-honest g c = λ h. c.run_over.ensures.honest (subst (λ ws. AreHonest g.D.W.Wire.told g.D.W.Wire.is_joined ws) (sym c.prepare.ensures.same.wires) h)

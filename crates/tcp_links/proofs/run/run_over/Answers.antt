@@ -13,7 +13,7 @@ use Rattle.tcp_links.proofs.RunLaws.{held_in, differs_in, never_differ, starts_o
 use Rattle.tcp_links.proofs.run.run_over.Goals as goal
 
 pub play_over-requires-clause-over : goal.play_over-requires-clause-over
-play_over-requires-clause-over g c κs within = over_start (λ b. (goal.Machine-dyn g (b.vtable, b.value)).meaning b.value) c.args.plan.now c.args.cells.now c.begin_all.new.cells c.requires.plan c.requires.linked c.requires.joined c.in_ok-begin_all.ensures.started
+play_over-requires-clause-over g c κs within = over_start (λ b. (goal.Machine-dyn g (b.vtable, b.value)).meaning b.value) c.args.plan.now c.args.cells.now c.begin_all.new.cells c.requires.plan c.requires.linked c.requires.joined c.in_ok-begin_all.ensures.started c.requires.idle c.requires.unseen
 
 pub play_over-requires-clause-joined : goal.play_over-requires-clause-joined
 play_over-requires-clause-joined g c κs within = joined_start (λ b. (goal.Machine-dyn g (b.vtable, b.value)).meaning b.value) c.args.plan.now.nodes c.args.cells.now c.begin_all.new.cells c.requires.joined c.in_ok-begin_all.ensures.started
@@ -32,6 +32,9 @@ exchange-requires-clause-plan g c κs within = c.in_ok-play.ensures.over.plan
 
 pub exchange-requires-clause-woven : goal.exchange-requires-clause-woven
 exchange-requires-clause-woven g c κs within = c.in_ok-play.ensures.over.woven
+
+pub exchange-requires-clause-ready : goal.exchange-requires-clause-ready
+exchange-requires-clause-ready g c κs within = c.in_ok-play.ensures.over.ready
 
 pub exchange-requires-clause-joined : goal.exchange-requires-clause-joined
 exchange-requires-clause-joined g c κs within = joined_over (λ b. (goal.Machine-dyn g (b.vtable, b.value)).meaning b.value) c.args.plan.now c.play_over.new.plan c.play_over.new.cells c.in_ok-play.ensures.over.nodes c.play_over.ensures.joined

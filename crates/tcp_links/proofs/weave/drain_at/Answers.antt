@@ -1,4 +1,5 @@
-use Rattle.std.proofs.Common.{◌∙◌, subst, refl}
+use Rattle.std.proofs.Common.{◌∙◌, ap, subst, refl}
+use Rattle.node_letters.specs.Passings.{Passing}
 use Rattle.tcp_links.specs.Drains.{HasDrained}
 use Rattle.tcp_links.proofs.WeaveLaws.{one_quiet, drain_can, drained_link, inside_list}
 use Rattle.tcp_links.proofs.weave.drain_at.Goals as goal
@@ -25,5 +26,5 @@ returns-clause-quiet g c =
 
 pub returns-clause-drained : goal.returns-clause-drained
 returns-clause-drained g c = λ x at.
-    drained_link (λ b. (goal.Machine-dyn g (b.vtable, b.value)).meaning b.value) c.args.cells.now c.slot-at.result c.to-to.result c.index-cells-at.result x c.drain_link.new.cell c.args.link.now c.args.ends.now _ c.drain_link.new.drained.items (c.slot-at.ensures ∙ c.from-from.ensures) c.to-to.ensures c.requires.inside at
-    c.drain_link.ensures.quiet c.drain_link.ensures.end (subst (λ es. HasDrained c.args.ends.now.drain es c.drain_link.new.inner c.drain_link.new.drained.items) c.new-drained.ensures.items c.in_ok-drain_link.ensures.drained) c.in_ok-drain_link.ensures.all refl
+    drained_link (λ b. (goal.Machine-dyn g (b.vtable, b.value)).meaning b.value) c.args.cells.now c.slot-at.result c.to-to.result c.index-cells-at.result x c.drain_link.new.cell c.args.link.now c.args.ends.now _ c.drain_link.new.drained.items _ (ap (λ (p : Passing). p.drained) c.hold.ensures) (c.slot-at.ensures ∙ c.from-from.ensures) c.to-to.ensures
+    c.requires.inside at c.drain_link.ensures.quiet c.drain_link.ensures.end (subst (λ es. HasDrained c.args.ends.now.drain es c.drain_link.new.inner c.drain_link.new.drained.items) c.new-drained.ensures.items c.in_ok-drain_link.ensures.drained) c.in_ok-drain_link.ensures.all refl refl

@@ -1,8 +1,8 @@
-use Rattle.std.proofs.Common.{◌≡◌, ℕ, ◌∙◌, get_or, length, sym, subst, length-set, arith}
+use Rattle.std.proofs.Common.{◌≡◌, ℕ, ◌∙◌, get_or, length, sym, subst, arith}
 use Rattle.std.proofs.lemmas.Option.{slice_get-get_or}
 use Rattle.agent_workers.proofs.JoinLaws.{each_stays_then}
-use Rattle.tcp_links.specs.Woven.{HaveFed}
-use Rattle.tcp_links.proofs.WeaveLaws.{feed_inside, feed_next, feed_turn, set_past}
+use Rattle.tcp_links.specs.Woven.{HaveFed, AreEmptied}
+use Rattle.tcp_links.proofs.WeaveLaws.{feed_inside, feed_next, feed_turn, taken_next, emptied_turn}
 use Rattle.tcp_links.proofs.weave.feed_all.Goals as goal
 
 pub feed_at-requires-clause-inside : goal.feed_at-requires-clause-inside
@@ -25,6 +25,18 @@ feed_at-requires-clause-can g c =
     feed_next (λ b. (goal.Machine-dyn g (b.vtable, b.value)).meaning b.value) c.loop-place.place c.args.cells.now c.loop-place.cells c.args.kept.now c.loop-place.kept c.args.ends.now c.loop-place.ends c.args.passings.now (get_or c.loop-place.kept c.loop-place.place c.index-kept-place.result) (get_or c.loop-place.ends c.loop-place.place c.index-ends-place.result)
     c.requires.can i.quiet i.fed at_w at_d
 
+pub feed_at-requires-clause-still : goal.feed_at-requires-clause-still
+feed_at-requires-clause-still g c =
+    let test = c.loop-place-test.true in
+    let i = c.loop-place.invariant in
+    let wires = i.fed.wires in
+    let at_w = slice_get-get_or c.loop-place.kept c.loop-place.place c.index-kept-place.result (omega (arith, test, wires)) in
+    let size = i.fed.size in
+    let long = c.requires.sizes.0 in
+    let at_d = slice_get-get_or c.loop-place.ends c.loop-place.place c.index-ends-place.result (omega (arith, test, size, long)) in
+    taken_next (λ b. (goal.Machine-dyn g (b.vtable, b.value)).meaning b.value) c.loop-place.place c.args.cells.now c.loop-place.cells c.args.kept.now c.loop-place.kept c.args.ends.now c.loop-place.ends c.args.passings.now (get_or c.loop-place.kept c.loop-place.place c.index-kept-place.result) (get_or c.loop-place.ends c.loop-place.place c.index-ends-place.result)
+    c.args.seen.now c.requires.still i.quiet i.fed at_w at_d
+
 pub returns-in_err-feed_at-clause-quiet : goal.returns-in_err-feed_at-clause-quiet
 returns-in_err-feed_at-clause-quiet g c =
     each_stays_then (λ b. (goal.Machine-dyn g (b.vtable, b.value)).meaning b.value) c.args.cells.now c.loop-place.cells c.feed_at.new.cells c.loop-place.invariant.quiet c.feed_at.ensures.quiet
@@ -38,16 +50,16 @@ loop-place-preserved g c =
     let size = i.fed.size in
     let long = c.requires.sizes.0 in
     let at_d = slice_get-get_or c.loop-place.ends c.loop-place.place c.index-ends-place.result (omega (arith, test, size, long)) in
-    let left = i.left c.loop-place.place (omega arith) in
-    let more = i.size in
+    let left = i.left.rest c.loop-place.place (omega arith) in
+    let more = i.left.size in
     let many = c.requires.sizes.1 in
-    let at_p = sym left ∙ slice_get-get_or c.loop-place.passings c.loop-place.place c.index-passings-place.result (omega (arith, test, more, many)) in
+    let at_q = slice_get-get_or c.loop-place.passings c.loop-place.place c.index-passings-place.result (omega (arith, test, more, many)) in
+    let at_p = sym left ∙ at_q in
     record {
       quiet = each_stays_then (λ b. (goal.Machine-dyn g (b.vtable, b.value)).meaning b.value) c.args.cells.now c.loop-place.cells c.feed_at.new.cells i.quiet c.feed_at.ensures.quiet;
       fed = feed_turn (λ b. (goal.Machine-dyn g (b.vtable, b.value)).meaning b.value) c.loop-place.place c.loop-place.cells c.feed_at.new.cells c.args.kept.now c.loop-place.kept c.args.ends.now c.loop-place.ends c.args.passings.now
           (get_or c.loop-place.kept c.loop-place.place c.index-kept-place.result) c.feed_at.new.link (get_or c.loop-place.ends c.loop-place.place c.index-ends-place.result) c.feed_at.new.ends (get_or c.loop-place.passings c.loop-place.place c.index-passings-place.result) i.fed c.requires.can.apart c.feed_at.ensures.quiet c.feed_at.ensures.known at_w at_d at_p c.in_ok-feed_at.ensures.fed;
-      left = set_past c.loop-place.passings c.args.passings.now c.loop-place.place c.feed_at.new.passing i.left;
-      size = length-set c.loop-place.passings c.loop-place.place c.feed_at.new.passing ∙ i.size;
+      left = emptied_turn c.loop-place.place c.args.passings.now c.loop-place.passings (get_or c.loop-place.passings c.loop-place.place c.index-passings-place.result) c.feed_at.new.passing i.left at_q c.in_ok-feed_at.ensures.left;
     }
 
 pub returns-clause-fed : goal.returns-clause-fed
@@ -56,3 +68,10 @@ returns-clause-fed g c =
     let end = c.loop-place.auto.place-end in
     let all : c.loop-place.place ≡ length c.args.kept.now = omega (arith, test, end) in
     subst (λ (n : ℕ). HaveFed (λ b. (goal.Machine-dyn g (b.vtable, b.value)).meaning b.value) n c.loop-place.cells c.args.kept.now c.loop-place.kept c.args.ends.now c.loop-place.ends c.args.passings.now) all c.loop-place.invariant.fed
+
+pub returns-clause-left : goal.returns-clause-left
+returns-clause-left g c =
+    let test = c.loop-place-test.false in
+    let end = c.loop-place.auto.place-end in
+    let all : c.loop-place.place ≡ length c.args.kept.now = omega (arith, test, end) in
+    subst (λ (n : ℕ). AreEmptied n c.args.passings.now c.loop-place.passings) all c.loop-place.invariant.left

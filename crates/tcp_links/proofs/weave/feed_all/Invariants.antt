@@ -1,13 +1,11 @@
-use Rattle.std.proofs.Common.{◌≡◌, ℕ, ◌≤◌, length, slice_get}
 use Rattle.agent_workers.specs.Joined.{EachBecomes}
 use Rattle.agent_workers.specs.Settled.{StaysQuiet}
-use Rattle.tcp_links.specs.Woven.{HaveFed}
+use Rattle.tcp_links.specs.Woven.{HaveFed, AreEmptied}
 use Rattle.tcp_links.proofs.weave.feed_all.Given as goal
 
 abbrev pub invariant-loop-place : goal.invariant-loop-place
 invariant-loop-place g l = record {
   quiet : EachBecomes (StaysQuiet (λ b. (goal.Machine-dyn g (b.vtable, b.value)).meaning b.value)) l.initial.cells l.cells;
   fed : HaveFed (λ b. (goal.Machine-dyn g (b.vtable, b.value)).meaning b.value) l.place l.cells l.initial.kept l.kept l.initial.ends l.ends l.initial.passings;
-  left : (k : ℕ) → l.place ≤ k → slice_get l.passings k ≡ slice_get l.initial.passings k;
-  size : length l.passings ≡ length l.initial.passings;
+  left : AreEmptied l.place l.initial.passings l.passings;
 }

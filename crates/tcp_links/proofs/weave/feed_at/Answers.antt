@@ -15,12 +15,12 @@ pub feed_link-requires-clause-peer : goal.feed_link-requires-clause-peer
 feed_link-requires-clause-peer g c =
     (feed_can (λ b. (goal.Machine-dyn g (b.vtable, b.value)).meaning b.value) c.args.cells.now c.slot-at.result c.from-from.result c.index-cells-at.result c.args.link.now c.args.ends.now (c.slot-at.ensures ∙ c.to-to.ensures) c.from-from.ensures c.requires.inside c.index-cells-at.is c.requires.can).2
 
-pub returns-in_err-feed_link-clause-quiet : goal.returns-in_err-feed_link-clause-quiet
-returns-in_err-feed_link-clause-quiet g c =
+pub returns-in_err-ends-clause-quiet : goal.returns-in_err-ends-clause-quiet
+returns-in_err-ends-clause-quiet g c =
     one_quiet (λ b. (goal.Machine-dyn g (b.vtable, b.value)).meaning b.value) c.args.cells.now c.slot-at.result c.feed_link.new.cell c.index-cells-at.result (inside_list c.args.cells.now c.slot-at.result c.args.link.now.receiver (c.slot-at.ensures ∙ c.to-to.ensures) c.requires.inside) c.feed_link.ensures.quiet
 
-pub returns-in_err-feed_link-clause-known : goal.returns-in_err-feed_link-clause-known
-returns-in_err-feed_link-clause-known g c =
+pub returns-in_err-ends-clause-known : goal.returns-in_err-ends-clause-known
+returns-in_err-ends-clause-known g c =
     one_knows_so (λ b. (goal.Machine-dyn g (b.vtable, b.value)).meaning b.value) c.args.cells.now c.slot-at.result c.from-from.result c.args.link.now.receiver c.args.link.now.sender c.feed_link.new.cell c.index-cells-at.result (c.slot-at.ensures ∙ c.to-to.ensures) c.from-from.ensures c.requires.inside c.feed_link.ensures.others
 
 pub returns-clause-quiet : goal.returns-clause-quiet
@@ -35,4 +35,4 @@ pub returns-clause-fed : goal.returns-clause-fed
 returns-clause-fed g c =
     on_ok c.keep.result c.keep.ensures.kept (λ kept x at.
     fed_link (λ b. (goal.Machine-dyn g (b.vtable, b.value)).meaning b.value) c.args.cells.now c.slot-at.result c.from-from.result x c.feed_link.new.cell c.args.link.now c.keep.new.self c.args.ends.now _ c.args.passing.now c.as_slice.result.now (c.slot-at.ensures ∙ c.to-to.ensures) c.from-from.ensures c.requires.inside at
-    c.feed_link.ensures.end (c.as_slice.ensures.value ∙ c.take_lists-drained.ensures.1) c.in_ok-feed_link.ensures.fed c.in_ok-feed_link.ensures.waits refl (kept ∙ ap₂ (keeps c.args.link.now) c.take_lists-drained.ensures.0 c.take_lists-drained.ensures.1))
+    c.feed_link.ensures.end (c.as_slice.ensures.value ∙ c.take_lists-drained.ensures.lists.1) c.in_ok-ends.ensures.fed c.in_ok-ends.ensures.waits c.in_ok-ends.ensures.none refl (kept ∙ ap₂ (keeps c.args.link.now) c.take_lists-drained.ensures.lists.0 c.take_lists-drained.ensures.lists.1))

@@ -1,0 +1,7 @@
+use Rattle.std.proofs.Common.{take}
+use Rattle.worker_runs.specs.NodeRounds.{home}
+use Rattle.tcp_links.specs.Woven.{AreIdle}
+use Rattle.tcp_links.proofs.idle.idle_passings.Given as goal
+
+abbrev pub invariant-loop-link : goal.invariant-loop-link
+invariant-loop-link l = AreIdle (home l.nodes l.agents) (take l.link-index l.kept) l.passings.items
