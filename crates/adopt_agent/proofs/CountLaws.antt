@@ -1,5 +1,5 @@
 -- What the tables that count cost: each has a cell at the own value and the known values, and the costs add up.
-use Rattle.std.proofs.Common.{◌≡◌, ℕ, ◌+◌, ◌<◌, Bool, true, false, cond, ◌&&◌, ◌||◌, eqb, List, [], ◌∷◌, ◌++◌, map, length, take, get_or, min, Option, Some, None, is_some, refl, sym, ap, ap₂, subst, ◌∙◌, inl, inr, arith}
+use Rattle.std.proofs.Common.{◌≡◌, ℕ, ◌+◌, ◌<◌, ◌≤◌, Bool, true, false, cond, ◌&&◌, ◌||◌, eqb, List, [], ◌∷◌, ◌++◌, map, length, take, get_or, min, Option, Some, None, is_some, refl, sym, ap, ap₂, subst, ◌∙◌, inl, inr, arith}
 use Rattle.std.specs.List.{AllZip, filter, list_all, zip}
 use Rattle.std.proofs.lemmas.Bool.{cases_Bool, cond-true, cond-false, eqb-true, eq-eqb, and_parts, or_left, or_right, ltb-true, false≢true}
 use Rattle.std.proofs.lemmas.Option.{none-some, same_Some}
@@ -104,28 +104,33 @@ module _ (own : Private) (place : Place) (known : Context) (ground : IsGround ow
   counts_known [] = refl
   counts_known (u ∷ us) = ap₂ (λ (b : Bool) (c : Bool). b && c) (settled_known u) (counts_known us)
 
-cap_more : (a b c : ℕ) → a ≡ min b amount_limit → min (a + c) amount_limit ≡ min (b + c) amount_limit
+-- what is added to a capped sum, as if it were added before the cap
+pub cap_more : (a b c : ℕ) → a ≡ min b amount_limit → min (a + c) amount_limit ≡ min (b + c) amount_limit
 cap_more a b c e = omega (arith, e)
 
--- the cost of the tables so far at an own value
-abbrev pub cost_so_far : (q : CostTable → Bool) → List CostTable → ℕ → (ℕ → ℕ) → ℕ
-cost_so_far q ts k value = cap (cost_with (filter q (take k ts)) value)
+-- the cost at an own value, with that of the tables so far
+abbrev pub cost_so_far : ℕ → (q : CostTable → Bool) → List CostTable → ℕ → (ℕ → ℕ) → ℕ
+cost_so_far base q ts k value = cap (base + cost_with (filter q (take k ts)) value)
+
+-- before the first table
+pub cost_none : (base : ℕ) (q : CostTable → Bool) (ts : List CostTable) (value : ℕ → ℕ) → base ≤ amount_limit → base ≡ cost_so_far base q ts 0 value
+cost_none base q ts value le = omega (arith, le)
 
 -- one more table that counts
-pub cost_more : (q : CostTable → Bool) (ts : List CostTable) (k : ℕ) (t : CostTable) (value : ℕ → ℕ) (old new : ℕ) → k < length ts → t ≡ get_or ts k t → q t ≡ true → old ≡ cost_so_far q ts k value → new ≡ cap (old + cell_with t value) → new ≡ cost_so_far q ts (k + 1) value
-cost_more q ts k t value old new lt e passes so step =
+pub cost_more : (base : ℕ) (q : CostTable → Bool) (ts : List CostTable) (k : ℕ) (t : CostTable) (value : ℕ → ℕ) (old new : ℕ) → k < length ts → t ≡ get_or ts k t → q t ≡ true → old ≡ cost_so_far base q ts k value → new ≡ cap (old + cell_with t value) → new ≡ cost_so_far base q ts (k + 1) value
+cost_more base q ts k t value old new lt e passes so step =
     let more : filter q (take (k + 1) ts) ≡ filter q (take k ts) ++ (t ∷ []) =
     filter_more q ts k t lt ∙ ap (λ (u : CostTable). filter q (take k ts) ++ cond (q u) (u ∷ []) []) (sym e) ∙ ap (λ (b : Bool). filter q (take k ts) ++ cond b (t ∷ []) []) passes in
-    let sum : cost_with (filter q (take (k + 1) ts)) value ≡ cost_with (filter q (take k ts)) value + cell_with t value =
-    ap (λ (us : List CostTable). cost_with us value) more ∙ sum_by-append (λ u. cell_with u value) (filter q (take k ts)) (t ∷ []) ∙ one (cost_with (filter q (take k ts)) value) (cell_with t value) in
-    step ∙ cap_more old (cost_with (filter q (take k ts)) value) (cell_with t value) so ∙ ap cap (sym sum)
+    let sum : base + cost_with (filter q (take (k + 1) ts)) value ≡ base + cost_with (filter q (take k ts)) value + cell_with t value =
+    ap (λ (us : List CostTable). base + cost_with us value) more ∙ ap (λ (n : ℕ). base + n) (sum_by-append (λ u. cell_with u value) (filter q (take k ts)) (t ∷ [])) ∙ one base (cost_with (filter q (take k ts)) value) (cell_with t value) in
+    step ∙ cap_more old (base + cost_with (filter q (take k ts)) value) (cell_with t value) so ∙ ap cap (sym sum)
   where
-    one : (a b : ℕ) → a + (0 + b) ≡ a + b
-    one a b = omega arith
+    one : (a b c : ℕ) → a + (b + (0 + c)) ≡ a + b + c
+    one a b c = omega arith
 
 -- one more table that does not count
-pub cost_same : (q : CostTable → Bool) (ts : List CostTable) (k : ℕ) (t : CostTable) (value : ℕ → ℕ) (old : ℕ) → k < length ts → t ≡ get_or ts k t → q t ≡ false → old ≡ cost_so_far q ts k value → old ≡ cost_so_far q ts (k + 1) value
-cost_same q ts k t value old lt e fails so =
+pub cost_same : (base : ℕ) (q : CostTable → Bool) (ts : List CostTable) (k : ℕ) (t : CostTable) (value : ℕ → ℕ) (old : ℕ) → k < length ts → t ≡ get_or ts k t → q t ≡ false → old ≡ cost_so_far base q ts k value → old ≡ cost_so_far base q ts (k + 1) value
+cost_same base q ts k t value old lt e fails so =
     let more : filter q (take (k + 1) ts) ≡ filter q (take k ts) ++ [] =
     filter_more q ts k t lt ∙ ap (λ (u : CostTable). filter q (take k ts) ++ cond (q u) (u ∷ []) []) (sym e) ∙ ap (λ (b : Bool). filter q (take k ts) ++ cond b (t ∷ []) []) fails in
-    so ∙ ap (λ (us : List CostTable). cap (cost_with us value)) (sym (append-nil (filter q (take k ts)))) ∙ ap (λ (us : List CostTable). cap (cost_with us value)) (sym more)
+    so ∙ ap (λ (us : List CostTable). cap (base + cost_with us value)) (sym (append-nil (filter q (take k ts)))) ∙ ap (λ (us : List CostTable). cap (base + cost_with us value)) (sym more)

@@ -71,7 +71,7 @@ has_filtered f (v ∷ vs) u among passes = elim (cases_Bool (eqb v u)) [
 ]
 
 -- sums of the tables that pass, at values where these have the same cells
-filtered_same : (q r : CostTable → Bool) (f g : ℕ → ℕ) (ts : List CostTable) → All (λ t. (q t ≡ r t) × (q t ≡ true → cell_with t f ≡ cell_with t g)) ts → cost_with (filter q ts) f ≡ cost_with (filter r ts) g
+pub filtered_same : (q r : CostTable → Bool) (f g : ℕ → ℕ) (ts : List CostTable) → All (λ t. (q t ≡ r t) × (q t ≡ true → cell_with t f ≡ cell_with t g)) ts → cost_with (filter q ts) f ≡ cost_with (filter r ts) g
 filtered_same q r f g [] h = refl
 filtered_same q r f g (t ∷ ts) h =
     let here = All-head (λ t. (q t ≡ r t) × (q t ≡ true → cell_with t f ≡ cell_with t g)) t ts h in

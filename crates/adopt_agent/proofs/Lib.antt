@@ -3,6 +3,7 @@ pub mod RangeLaws
 pub mod SizeLaws
 pub mod CountLaws
 pub mod KeptLaws
+pub mod GrowLaws
 pub mod LowestLaws
 pub mod BoundLaws
 pub mod StoreLaws

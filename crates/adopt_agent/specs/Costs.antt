@@ -1,7 +1,7 @@
--- The cost of an own value, where all higher neighbours are known, how a table's cells stand, and contexts that are alike.
-use Rattle.std.specs.Prelude.{ℕ, Bool, true, false, not, ◌&&◌, ◌||◌, List, [], ◌∷◌, Option, Some, None, ◌==◌, slice_index, if◌then◌else◌}
+-- The cost of an own value, where all higher neighbours are known, how a table's cells stand, and contexts that are alike or grow.
+use Rattle.std.specs.Prelude.{◌≡◌, ℕ, Bool, true, false, not, ◌&&◌, ◌||◌, List, [], ◌∷◌, Option, Some, None, ◌==◌, slice_index, if◌then◌else◌}
 use Rattle.dcop_base.specs.Table.{has, product}
-use Rattle.adopt_context.specs.Context.{Context}
+use Rattle.adopt_context.specs.Context.{Context, value_in}
 
 -- the cost of an own value; none where not all higher neighbours are known
 abbrev pub cost_where : Bool → List ℕ → ℕ → Option ℕ
@@ -12,6 +12,11 @@ abbrev pub stride : List ℕ → List ℕ → ℕ → ℕ
 stride [] sizes v = 0
 stride (u ∷ us) [] v = 0
 stride (u ∷ us) (s ∷ ss) v = if u == v then product ss else stride us ss v
+
+-- a context, and one that names one more variable and gives all others what the first gives them
+pub record IsGrown (before known : Context) (u : ℕ) : Type 0 where
+  pub unnamed : value_in before u ≡ None
+  pub others : (w : ℕ) → (w == u) ≡ false → value_in known w ≡ value_in before w
 
 -- whether two contexts name the same variables and differ at most in values of variables that are not among these
 abbrev pub is_alike : List ℕ → Context → Context → Bool

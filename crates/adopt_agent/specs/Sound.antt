@@ -1,16 +1,20 @@
 -- What holds of every ADOPT agent.
-use Rattle.std.specs.Prelude.{◌≡◌, ℕ, ◌<◌, ◌≤◌, Bool, true, List, length, slice_index}
+use Rattle.std.specs.Prelude.{◌≡◌, ℕ, ◌+◌, ◌<◌, ◌≤◌, Bool, true, ◌&&◌, List, length, slice_index}
+use Rattle.std.specs.List.{filter}
 use Rattle.dcop_base.specs.declared.knowledge.Private.{Private}
 use Rattle.dcop_base.specs.Limits.{amount_limit}
+use Rattle.dcop_base.specs.Table.{has}
+use Rattle.dcop_base.specs.Values.{cost_with, with_own}
 use Rattle.pseudotree.specs.declared.agent.Place.{Place}
 use Rattle.adopt_context.specs.Context.{Context, names_all, part_of}
-use Rattle.adopt_context.specs.Bounds.{Entry, entry_at}
+use Rattle.adopt_context.specs.Bounds.{Entry, cap, entry_at}
 use Rattle.adopt_bounds.specs.Rows.{BoundsView}
 use Rattle.protocol_steps.specs.Knowledge.{IsKnowledge}
 use Rattle.protocol_steps.specs.Placing.{IsPlaceFor}
 use Rattle.protocol_steps.specs.Adopt.{higher}
-use Rattle.protocol_steps.specs.AdoptBounds.{delta}
+use Rattle.protocol_steps.specs.AdoptBounds.{counts, delta}
 use Rattle.protocol_steps.specs.AdoptRange.{fits}
+use Rattle.protocol_steps.specs.Values.{valued}
 use Rattle.adopt_agent.specs.Stage.{knowing}
 
 -- what an agent is made from, and a context over its path
@@ -23,6 +27,11 @@ pub record IsGround (own : Private) (place : Place) (known : Context) : Type 0 w
 pub record AreCosts (own : Private) (place : Place) (known : Context) (costs : List ℕ) : Type 0 where
   pub counted : length costs ≡ own.size
   pub each : (d : ℕ) → d < own.size → slice_index costs d ≡ delta (knowing own place known) d
+
+-- costs, with those of the tables added that count and name a variable
+pub record AreAdded (own : Private) (place : Place) (known : Context) (var : ℕ) (before after : List ℕ) : Type 0 where
+  pub counted : length after ≡ own.size
+  pub each : (d : ℕ) → d < own.size → slice_index after d ≡ cap (slice_index before d + cost_with (filter (λ t. has t.scope var && counts (knowing own place known) t) own.tables) (with_own own.me d (valued known)))
 
 -- each entry rests on a part of what is known
 abbrev pub RestOn : Context → List (List Entry) → Type 0

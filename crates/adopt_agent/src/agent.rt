@@ -3,25 +3,25 @@
 ghost use Rattle.std.specs.Prelude.{◌≡◌, ℕ, ◌<◌, ◌≤◌, true, [], ◌↔◌, IfOk, IsErr, OnOk, OnErr, MatchOption, Some, None};
 ghost use Rattle.std.specs.List.{All, Contains};
 ghost use Rattle.dcop_base.specs.Limits.{amount_limit};
-ghost use Rattle.adopt_context.specs.Context.{Context};
+ghost use Rattle.adopt_context.specs.Context.{Context, put, value_in};
 ghost use Rattle.protocol_steps.specs.Agent.{not_started};
 ghost use Rattle.protocol_steps.specs.Knowledge.{IsKnowledge};
 ghost use Rattle.protocol_steps.specs.Placing.{IsPlaceFor};
 ghost use Rattle.protocol_steps.specs.Ranges.{IsBound};
 ghost use Rattle.protocol_steps.specs.Adopt.{new_adopt};
 ghost use Rattle.protocol_steps.specs.AdoptBounds.{at_context, best_lower, best_upper, lower_bound, lower_of, restore, upper_bound};
-ghost use Rattle.protocol_steps.specs.AdoptRange.{fits};
+ghost use Rattle.protocol_steps.specs.AdoptRange.{fits, in_range};
 ghost use Rattle.protocol_steps.specs.AdoptStep.{adopt_start, adopt_step, allotted, back_track, choose, closed, may_end, settle, to_allot};
 ghost use Rattle.protocol_steps.specs.View.{AdoptKind, made_of};
 ghost use Rattle.adopt_agent.specs.Stage.{working};
-ghost use Rattle.adopt_agent.specs.Deed.{Gives};
+ghost use Rattle.adopt_agent.specs.Deed.{Gives, IsSameAgent};
 
 use crate::choose;
-use crate::costs::{are_same, copy_of, higher_of, renew, set_costs};
+use crate::costs::{add_known, are_same, copy_of, higher_of, renew, set_costs};
 use crate::stage::Stage;
 use adopt_bounds::Bounds;
 use adopt_context::AgentContext;
-use dcop_base::{NoMemory, Private, Table, Val, VarList};
+use dcop_base::{NoMemory, Private, Table, Val, VarId, VarList};
 use protocol_steps::{Batch, Letter, Machine, Outbox, Parcel, Standing};
 use pseudotree::Place;
 use std::alloc::Global;
@@ -181,6 +181,28 @@ impl AdoptAgent {
         );
         self.bounds.reset(&known);
         self.known = known;
+    }
+
+    /// Knows from now on the value of a variable that was not known, and restores. What an entry
+    /// rests on stays known, so none is forgotten.
+    pub(crate) fn know_more(&mut self, var: VarId, value: Val) -> Result<(), NoMemory>
+        requires unnamed { value_in self.old.known var ≡ None }
+        requires range { in_range self.old var value ≡ true }
+        ensures same { IsSameAgent self.old self.new }
+        ensures known { OnOk result
+            (self.new ≡ restore (at_context self.old (put self.old.known var value))) }
+    {
+        self.known.set(var, value)?;
+        add_known(
+            self.costs.as_mut_slice(),
+            &self.own,
+            &self.place,
+            &self.known,
+            var,
+        );
+        self.knows_higher = self.known.names_all(&self.higher);
+        self.restore();
+        Ok(())
     }
 
     /// Knows these values from now on, and restores. Where they were known before, nothing is

@@ -1,15 +1,15 @@
 //! What each own value costs by the agent's own tables.
 
-ghost use Rattle.std.specs.Prelude.{◌≡◌, ℕ, ◌<◌, ◌≤◌, ◌+◌, ◌*◌, true, not, ◌&&◌, ◌||◌, ◌==◌, length, map, min, is_some, slice_index, IfOk};
+ghost use Rattle.std.specs.Prelude.{◌≡◌, ℕ, ◌<◌, ◌≤◌, ◌+◌, ◌*◌, true, not, ◌&&◌, ◌||◌, ◌==◌, false, length, map, min, is_some, slice_index, IfOk};
 ghost use Rattle.std.specs.List.{All, filter, list_all};
 ghost use Rattle.dcop_base.specs.Limits.{amount_limit};
 ghost use Rattle.dcop_base.specs.Table.{AreWithin, cell_place, has, product};
 ghost use Rattle.dcop_base.specs.Values.{cell_with, cost_with, with_own};
 ghost use Rattle.adopt_context.specs.Bounds.{cap};
-ghost use Rattle.adopt_context.specs.Context.{names_all, value_in};
+ghost use Rattle.adopt_context.specs.Context.{Context, names_all, value_in};
 ghost use Rattle.protocol_steps.specs.Values.{valued};
-ghost use Rattle.adopt_agent.specs.Costs.{is_alike, stride};
-ghost use Rattle.adopt_agent.specs.Sound.{AreCosts, IsGround};
+ghost use Rattle.adopt_agent.specs.Costs.{IsGrown, is_alike, stride};
+ghost use Rattle.adopt_agent.specs.Sound.{AreAdded, AreCosts, IsGround};
 
 use adopt_context::AgentContext;
 use dcop_base::{
@@ -162,18 +162,56 @@ fn add_table(costs: &mut [u64], table: &Table, me: VarId, known: &AgentContext)
     add_cells(costs, cells, first, stride);
 }
 
-/// The cost of each own value by the tables that count.
+/// Whether a table counts and names this variable.
+fn counts_with(scope: &[VarId], var: VarId, me: VarId, known: &AgentContext) -> bool
+    ensures { result ≡ (has scope.now var
+        && list_all (λ u. u == me || is_some (value_in known.now u)) scope.now) }
+{
+    stands_in(scope, var) && counts(scope, me, known)
+}
+
+/// Adds to the costs of the own values, capped, the cells of the tables that count and name this
+/// variable.
+fn add_tables(costs: &mut [u64], own: &Private, place: &Place, known: &AgentContext, var: VarId)
+    requires ground { IsGround own.now place.now known.now }
+    requires counted { length costs.old ≡ own.now.size }
+    requires within { All (λ c. c ≤ amount_limit) costs.old }
+    ensures { AreAdded own.now place.now known.now var costs.old costs.new }
+{
+    for table in own.tables.as_slice() {
+        if counts_with(table.scope.as_slice(), var, own.me, known) {
+            add_table(costs, table, own.me, known);
+        }
+    }
+}
+
+/// The cost of each own value by the tables that count. All name the agent.
 pub(crate) fn set_costs(costs: &mut [u64], own: &Private, place: &Place, known: &AgentContext)
     requires ground { IsGround own.now place.now known.now }
     requires counted { length costs.old ≡ own.now.size }
     ensures { AreCosts own.now place.now known.now costs.new }
 {
     costs.fill(0);
-    for table in own.tables.as_slice() {
-        if counts(table.scope.as_slice(), own.me, known) {
-            add_table(costs, table, own.me, known);
-        }
-    }
+    add_tables(costs, own, place, known, own.me);
+}
+
+/// Adds to the costs those of the tables that count only since this variable is known: they name
+/// it. The others count as before, with the same cells.
+pub(crate) fn add_known(
+    costs: &mut [u64],
+    own: &Private,
+    place: &Place,
+    known: &AgentContext,
+    var: VarId,
+)
+    requires ground { IsGround own.now place.now known.now }
+    requires other { (var == own.now.me) ≡ false }
+    requires counted { length costs.old ≡ own.now.size }
+    requires within { All (λ c. c ≤ amount_limit) costs.old }
+    ensures { (before : Context) → IsGrown before known.now var
+        → AreCosts own.now place.now before costs.old → AreCosts own.now place.now known.now costs.new }
+{
+    add_tables(costs, own, place, known, var);
 }
 
 /// Sets the costs anew for what is known now, and tells whether all higher neighbours are known.

@@ -39,6 +39,19 @@ fn learned(
     Ok(all)
 }
 
+/// Whether a context gives a variable this value already.
+fn gives(known: &AgentContext, var: VarId, value: Val) -> bool
+    ensures { result ≡ true → put known.now var value ≡ known.now }
+{
+    if known.pairs().is_empty() {
+        return false;
+    }
+    match known.get(var) {
+        Some(other) => other == value,
+        None => false,
+    }
+}
+
 /// Whether a context tells nothing new: all that it gives is known.
 fn is_known(known: &AgentContext, context: &AgentContext) -> bool
     ensures part { result ≡ true → part_of context.now known.now ≡ true }
@@ -67,6 +80,13 @@ impl AdoptAgent {
     {
         if !self.takes_value(from, value) {
             return Ok(());
+        }
+        if gives(&self.known, from, value) {
+            self.restore();
+            return Ok(());
+        }
+        if self.known.get(from).is_none() {
+            return self.know_more(from, value);
         }
         let mut known = self.known.copy()?;
         known.set(from, value)?;
