@@ -8,8 +8,7 @@
 # exchanged, doubled, left out or taken from elsewhere, and numbers put to their limits and one above. The inputs are
 # problems with up to six variables, drawn from SEED, those of examples/ and of the worked cases, their reports with
 # tables, with logs and with cuts, one of them of two turns, WCSP texts and edit lines.
-# Each time the program must end within a second of processor time, for each node where words ask for several, but for a
-# run of ADOPT of 100,000 messages or more,
+# Each time the program must end within a second of processor time, but for a run of ADOPT of 100,000 messages or more,
 # with an exit status that stands in docs/FORMATS.md and comes without a fault of the machine, with nothing on standard
 # error, and with output that ends in a line and begins as its status asks. Where it accepts an altered problem, the cost
 # must be that of the printed values, added up by another reader in Python, and by plain, dpop, or adopt that is solved

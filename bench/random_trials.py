@@ -254,17 +254,9 @@ class Trials:
             return "its output ends in no line"
         if not answer.out.startswith(STARTS[answer.status]):
             return f"its output does not begin as status {answer.status} asks"
-        if answer.seconds > MOST_SECONDS * nodes_in(words) and (answer.number("deliveries") or 0) < MANY:
+        if answer.seconds > MOST_SECONDS and (answer.number("deliveries") or 0) < MANY:
             return f"it took {answer.seconds:.2f} s"
         return None
-
-
-def nodes_in(words):
-    """In how many nodes the words ask agents to be, where they are right."""
-    for name, value in zip(words, words[1:]):
-        if name == b"--nodes" and value.isdigit():
-            return max(1, min(8, int(value)))
-    return 1
 
 
 def is_text(word):
