@@ -138,7 +138,9 @@ fn turn_once<G: Gate>(
     Ok(0)
 }
 
-/// Visits the cell at this place, if it has not ended. Answers how many messages were taken.
+/// Visits the cell at this place, if it has not ended. Answers how many messages were taken. It is kept
+/// out of the loop over cells, which is short where most are passed over.
+#[inline(never)]
 fn visit_once<G: Gate>(
     gate: &G,
     place: usize,
