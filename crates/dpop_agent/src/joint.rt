@@ -1,9 +1,9 @@
 //! Joined tables.
 
-ghost use Rattle.std.specs.Prelude.{◌≡◌, ◌==◌, ◌||◌, ◌≤◌, [], true, false, length, map, IfOk};
+ghost use Rattle.std.specs.Prelude.{◌≡◌, ◌==◌, ◌||◌, ◌≤◌, [], true, false, length, IfOk};
 ghost use Rattle.std.specs.List.{All, list_all, filter, flat_map};
 ghost use Rattle.dcop_base.specs.Table.{has, has_repeat};
-ghost use Rattle.protocol_steps.specs.Dpop.{size_of, there};
+ghost use Rattle.protocol_steps.specs.Dpop.{there};
 ghost use Rattle.util_join.specs.Join.{LiesIn};
 ghost use Rattle.dpop_agent.specs.Keeping.{keeping};
 ghost use Rattle.dpop_agent.specs.Joint.{HasGained, IsZeroOver, IsZeroWhereNarrow, IsJointWhereMay};
