@@ -1,7 +1,7 @@
 -- What one more variable that is known brings: the tables that name it are added to the costs, and entries rest on as much as before.
-use Rattle.std.proofs.Common.{◌≡◌, ℕ, ◌+◌, ◌<◌, ◌≤◌, zero, suc, Bool, true, false, cond, ◌&&◌, ◌||◌, eqb, List, [], ◌∷◌, map, length, get_or, min, replicate, Option, Some, None, is_some, refl, sym, ap, ap₂, subst, ◌∙◌, inl, inr, arith}
+use Rattle.std.proofs.Common.{◌≡◌, ℕ, ◌+◌, ◌<◌, ◌≤◌, zero, suc, Bool, true, false, cond, ◌&&◌, ◌||◌, eqb, List, [], ◌∷◌, length, get_or, min, replicate, Option, Some, None, is_some, refl, sym, ap, ap₂, subst, ◌∙◌, inl, inr, arith}
 use Rattle.std.specs.List.{All, filter, list_all, zip}
-use Rattle.std.proofs.lemmas.Bool.{cases_Bool, cond-true, cond-false, eqb-true, eq-eqb, and_parts, or_parts, false≢true}
+use Rattle.std.proofs.lemmas.Bool.{cases_Bool, cond-true, cond-false, eqb-true, eq-eqb, and_parts, false≢true}
 use Rattle.std.proofs.lemmas.Option.{none-some}
 use Rattle.std.proofs.lemmas.List.{get_or_default}
 use Rattle.std.proofs.lemmas.List.Sums.{sum_by-append}
@@ -10,7 +10,7 @@ use Rattle.dcop_base.specs.Values.{cell_with, cost_with, with_own}
 use Rattle.dcop_base.specs.Limits.{amount_limit}
 use Rattle.dcop_base.specs.declared.knowledge.Private.{Private}
 use Rattle.pseudotree.specs.declared.agent.Place.{Place}
-use Rattle.adopt_context.specs.Context.{Context, value_in, or_zero, is_value, names_all, part_of, put}
+use Rattle.adopt_context.specs.Context.{Context, value_in, is_value, names_all, part_of, put}
 use Rattle.adopt_context.specs.Bounds.{Entry, cap}
 use Rattle.adopt_context.proofs.KnownLaws.{put_all, put_else, value_is}
 use Rattle.adopt_bounds.specs.Rows.{BoundsView}
@@ -28,6 +28,7 @@ use Rattle.adopt_agent.specs.Sound.{AreAdded, AreCosts, IsGround, IsSound, RestO
 use Rattle.adopt_agent.proofs.BoundLaws.{reset_same}
 use Rattle.adopt_agent.proofs.CountLaws.{cap_more, found_there}
 use Rattle.adopt_agent.proofs.KeptLaws.{filtered_same}
+use Rattle.adopt_agent.proofs.DifferLaws.{all_settled, values_same}
 
 -- a variable that was not named gets a value
 pub put_grows : (c : Context) (v a : ℕ) → value_in c v ≡ None → IsGrown c (put c v a) v
@@ -64,7 +65,7 @@ costs_within own place known costs costed = λ k none (inside : k < length costs
     below_cap : (c x : ℕ) → c ≡ min x amount_limit → c ≤ amount_limit
     below_cap c x e = omega (arith, e)
 
-nothing_at : (n d : ℕ) → get_or (replicate n 0) d 0 ≡ (let none : ℕ = 0 in none)
+pub nothing_at : (n d : ℕ) → get_or (replicate n 0) d 0 ≡ (let none : ℕ = 0 in none)
 nothing_at zero d = refl
 nothing_at (suc n) zero = refl
 nothing_at (suc n) (suc d) = nothing_at n d
@@ -90,7 +91,7 @@ costs_whole own place known knowledge n none costs zeros added = record {
     named t one = subst (λ (u : ℕ). has t.scope u ≡ true) one.named.2 (has_at t.scope one.named.0 own.me one.named.1)
 
 -- the cost of one more table
-one_table : (q : CostTable → Bool) (f : ℕ → ℕ) (t : CostTable) (ts : List CostTable) → cost_with (filter q (t ∷ ts)) f ≡ cond (q t) (cell_with t f) 0 + cost_with (filter q ts) f
+pub one_table : (q : CostTable → Bool) (f : ℕ → ℕ) (t : CostTable) (ts : List CostTable) → cost_with (filter q (t ∷ ts)) f ≡ cond (q t) (cell_with t f) 0 + cost_with (filter q ts) f
 one_table q f t ts = elim (cases_Bool (q t)) [
   | inl passes ↦
       ap (λ (us : List CostTable). cost_with us f) (cond-true (q t) (t ∷ filter q ts) (filter q ts) passes)
@@ -141,19 +142,6 @@ module _ (own : Private) (place : Place) (before known : Context) (v : ℕ) (gro
       and_false true = refl
       and_false false = refl
 
-  -- a table that does not name it counts as before, at the same values
-  all_settled : (us : List ℕ) → has us v ≡ false → list_all (is_settled known) us ≡ list_all (is_settled before) us
-  all_settled [] h = refl
-  all_settled (u ∷ us) h =
-      let both = or_parts (eqb u v) (has us v) h in
-      ap₂ (λ (o : Option ℕ) (b : Bool). (eqb u own.me || (has place.path u && is_some o)) && b) (grown.others u both.0) (all_settled us both.1)
-
-  values_same : (d : ℕ) (us : List ℕ) → has us v ≡ false → map (with_own own.me d (valued before)) us ≡ map (with_own own.me d (valued known)) us
-  values_same d [] h = refl
-  values_same d (u ∷ us) h =
-      let both = or_parts (eqb u v) (has us v) h in
-      ap₂ (λ (o : Option ℕ) (xs : List ℕ). cond (eqb u own.me) d (or_zero o) ∷ xs) (sym (grown.others u both.0)) (values_same d us both.1)
-
   -- the cost of the tables that count, and of those of them that name the new variable
   cost_grows : (d : ℕ) (ts : List CostTable) → cost_with (filter (counts (knowing own place known)) ts) (with_own own.me d (valued known)) ≡ cost_with (filter (counts (knowing own place before)) ts) (with_own own.me d (valued before)) + cost_with (filter (λ t. has t.scope v && counts (knowing own place known) t) ts) (with_own own.me d (valued known))
   cost_grows d [] = refl
@@ -163,8 +151,8 @@ module _ (own : Private) (place : Place) (before known : Context) (v : ℕ) (gro
       let q : CostTable → Bool = counts (knowing own place before) in
       let s : CostTable → Bool = counts (knowing own place known) in
       let r : CostTable → Bool = λ u. has u.scope v && s u in
-      let one = split_one (has t.scope v) (q t) (s t) (cell_with t f) (cell_with t g) (named_unsettled t.scope) (all_settled t.scope)
-      (λ none _. ap (λ (xs : List ℕ). get_or t.cells (cell_place t.sizes xs) 0) (values_same d t.scope none)) in
+      let one = split_one (has t.scope v) (q t) (s t) (cell_with t f) (cell_with t g) (named_unsettled t.scope) (all_settled own place before known v grown.others t.scope)
+      (λ none _. ap (λ (xs : List ℕ). get_or t.cells (cell_place t.sizes xs) 0) (values_same own place before known v grown.others d t.scope none)) in
       one_table s g t ts
       ∙ summed (cond (s t) (cell_with t g) 0) (cond (q t) (cell_with t f) 0) (cond (r t) (cell_with t g) 0) (cost_with (filter s ts) g) (cost_with (filter q ts) f) (cost_with (filter r ts) g) one (cost_grows d ts)
       ∙ ap₂ (λ (m : ℕ) (n : ℕ). m + n) (sym (one_table q f t ts)) (sym (one_table r g t ts))

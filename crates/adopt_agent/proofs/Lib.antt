@@ -3,7 +3,9 @@ pub mod RangeLaws
 pub mod SizeLaws
 pub mod CountLaws
 pub mod KeptLaws
+pub mod DifferLaws
 pub mod GrowLaws
+pub mod ExchangeLaws
 pub mod LowestLaws
 pub mod BoundLaws
 pub mod StoreLaws

@@ -13,10 +13,14 @@ stride [] sizes v = 0
 stride (u ∷ us) [] v = 0
 stride (u ∷ us) (s ∷ ss) v = if u == v then product ss else stride us ss v
 
+-- contexts that differ in the value of one variable at most
+abbrev pub Differ : Context → Context → ℕ → Type 0
+Differ before known u = (w : ℕ) → (w == u) ≡ false → value_in known w ≡ value_in before w
+
 -- a context, and one that names one more variable and gives all others what the first gives them
 pub record IsGrown (before known : Context) (u : ℕ) : Type 0 where
   pub unnamed : value_in before u ≡ None
-  pub others : (w : ℕ) → (w == u) ≡ false → value_in known w ≡ value_in before w
+  pub others : Differ before known u
 
 -- whether two contexts name the same variables and differ at most in values of variables that are not among these
 abbrev pub is_alike : List ℕ → Context → Context → Bool

@@ -1,6 +1,6 @@
 //! The ADOPT agent.
 
-ghost use Rattle.std.specs.Prelude.{◌≡◌, ℕ, ◌<◌, ◌≤◌, true, [], ◌↔◌, IfOk, IsErr, OnOk, OnErr, MatchOption, Some, None};
+ghost use Rattle.std.specs.Prelude.{◌≡◌, ℕ, ◌<◌, ◌≤◌, true, [], ◌↔◌, IfOk, IsErr, OnOk, OnErr, MatchOption, Some, None, is_some};
 ghost use Rattle.std.specs.List.{All, Contains};
 ghost use Rattle.dcop_base.specs.Limits.{amount_limit};
 ghost use Rattle.adopt_context.specs.Context.{Context, put, value_in};
@@ -18,6 +18,7 @@ ghost use Rattle.adopt_agent.specs.Deed.{Gives, IsSameAgent};
 
 use crate::choose;
 use crate::costs::{add_known, are_same, copy_of, higher_of, renew, set_costs};
+use crate::exchange::exchange;
 use crate::stage::Stage;
 use adopt_bounds::Bounds;
 use adopt_context::AgentContext;
@@ -201,6 +202,32 @@ impl AdoptAgent {
             var,
         );
         self.knows_higher = self.known.names_all(&self.higher);
+        self.restore();
+        Ok(())
+    }
+
+    /// Knows from now on another value of a variable that was known, and restores.
+    pub(crate) fn know_other(&mut self, var: VarId, value: Val) -> Result<(), NoMemory>
+        requires named { is_some (value_in self.old.known var) ≡ true }
+        requires range { in_range self.old var value ≡ true }
+        ensures same { IsSameAgent self.old self.new }
+        ensures known { OnOk result
+            (self.new ≡ restore (at_context self.old (put self.old.known var value))) }
+    {
+        let mut known = self.known.copy()?;
+        known.set(var, value)?;
+        let mut shares = vec![in self.alloc; 0; usize::from(self.own.size)]?;
+        exchange(
+            self.costs.as_mut_slice(),
+            shares.as_mut_slice(),
+            &self.own,
+            &self.place,
+            &self.known,
+            &known,
+            var,
+        );
+        self.bounds.reset(&known);
+        self.known = known;
         self.restore();
         Ok(())
     }

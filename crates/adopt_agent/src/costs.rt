@@ -172,7 +172,13 @@ fn counts_with(scope: &[VarId], var: VarId, me: VarId, known: &AgentContext) -> 
 
 /// Adds to the costs of the own values, capped, the cells of the tables that count and name this
 /// variable.
-fn add_tables(costs: &mut [u64], own: &Private, place: &Place, known: &AgentContext, var: VarId)
+pub(crate) fn add_tables(
+    costs: &mut [u64],
+    own: &Private,
+    place: &Place,
+    known: &AgentContext,
+    var: VarId,
+)
     requires ground { IsGround own.now place.now known.now }
     requires counted { length costs.old ≡ own.now.size }
     requires within { All (λ c. c ≤ amount_limit) costs.old }

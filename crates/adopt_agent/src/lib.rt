@@ -10,6 +10,7 @@
 mod agent;
 mod choose;
 mod costs;
+mod exchange;
 mod messages;
 mod range;
 mod send;

@@ -88,10 +88,7 @@ impl AdoptAgent {
         if self.known.get(from).is_none() {
             return self.know_more(from, value);
         }
-        let mut known = self.known.copy()?;
-        known.set(from, value)?;
-        self.move_to(known);
-        Ok(())
+        self.know_other(from, value)
     }
 
     /// Whether a context fits the path. What is known does.
