@@ -60,3 +60,27 @@ turn_limit = 65536
 -- the greatest budget of deliveries
 abbrev pub budget_limit : ℕ
 budget_limit = 10000000
+
+-- the most workers of a run
+abbrev pub worker_limit : ℕ
+worker_limit = 64
+
+-- the most nodes of a run
+abbrev pub node_limit : ℕ
+node_limit = 8
+
+-- the greatest number that a stream of random numbers begins with
+abbrev pub seed_limit : ℕ
+seed_limit = 9999999999999999999
+
+-- the most values of a variable of a problem that is made from a number
+abbrev pub made_size_limit : ℕ
+made_size_limit = 16
+
+-- the most tables that a variable of such a problem has with earlier ones
+abbrev pub made_degree_limit : ℕ
+made_degree_limit = 8
+
+-- the greatest cost that a cell of such a problem may have
+abbrev pub made_cost_limit : ℕ
+made_cost_limit = 1000000

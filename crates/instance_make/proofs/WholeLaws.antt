@@ -12,10 +12,9 @@ use Rattle.std.proofs.lemmas.Bool.{or_from, ne_eqb, eq-eqb, le-ltb, not_from_tru
 use Rattle.dcop_base.specs.Table.{CostTable, IsTable, product, has_repeat, table_fault, greatest}
 use Rattle.dcop_base.specs.Faults.{cell_count, greatest_sum}
 use Rattle.dcop_base.specs.Whole.{IsTableOf}
-use Rattle.dcop_base.specs.Limits.{amount_limit, cost_limit, scope_limit}
+use Rattle.dcop_base.specs.Limits.{amount_limit, cost_limit, scope_limit, made_size_limit, made_degree_limit, made_cost_limit}
 use Rattle.dcop_base.proofs.TableLaws.{AreParts}
 use Rattle.dcop_base.proofs.FaultLaws.{greatest-le}
-use Rattle.instance_make.specs.Limits.{made_size_limit, made_degree_limit, made_cost_limit}
 use Rattle.instance_make.specs.Stream.{state_after, word_at}
 use Rattle.instance_make.specs.Generator.{cell_of, drawn_cells, drawn_table, drawn_tables, draws_of, draws_behind, table_words}
 

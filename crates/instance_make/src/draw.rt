@@ -1,7 +1,8 @@
 //! Tables drawn from a stream of words.
 
 ghost use Rattle.std.specs.Prelude.{◌≡◌, ◌-◌, ◌%◌, ◌≤◌, IfOk, OnOk};
-ghost use Rattle.instance_make.specs.Limits.{CanMake, made_size_limit, made_cost_limit};
+ghost use Rattle.dcop_base.specs.Limits.{made_size_limit, made_cost_limit};
+ghost use Rattle.instance_make.specs.Limits.{CanMake};
 ghost use Rattle.instance_make.specs.Stream.{state_after, word_at};
 ghost use Rattle.instance_make.specs.Generator.{drawn_cells, drawn_table, drawn_tables, draws_behind, table_words};
 

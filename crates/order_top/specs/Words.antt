@@ -1,5 +1,6 @@
 -- The words of `dcop_order`: what they ask, or their first fault.
 use Rattle.std.specs.Prelude.{ℕ, ◌+◌, nat_lt, List, [], ◌∷◌, Option, Some, None, Result, Ok, Err, codes, bytes_eq, is_some, unwrap_or, if◌then◌else◌}
+use Rattle.dcop_base.specs.Limits.{seed_limit}
 use Rattle.dcop_base.specs.NumberWord.{number_of}
 use Rattle.solve_words.specs.declared.fault.WordFault.{WordFault}
 use Rattle.solve_words.specs.declared.fault.WordFault.TheVariants.{Bad}
@@ -16,10 +17,14 @@ order_option_named word =
     else (if bytes_eq word (codes "--seed") then Some Seed
     else None)
 
+-- the most orders that are tried
+abbrev pub tries_limit : ℕ
+tries_limit = 1000000
+
 -- the greatest number that an option takes; the least is 0
 abbrev pub most_of : OrderOption → ℕ
-most_of Tries = 1000000
-most_of Seed = 9999999999999999999
+most_of Tries = tries_limit
+most_of Seed = seed_limit
 
 -- the number that was given for an option
 abbrev pub number_given : OrderOption → Given → Option ℕ

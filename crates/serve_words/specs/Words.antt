@@ -1,8 +1,17 @@
 -- The words of the server's program.
 use Rattle.std.specs.Prelude.{ℕ, ◌+◌, ◌≤◌, ◌||◌, List, [], ◌∷◌, length, Option, Some, None, Result, Ok, Err, nat_lt, if◌then◌else◌}
 use Rattle.dcop_base.specs.NumberWord.{number_of}
+use Rattle.reply_cache.specs.Limits.{entry_limit}
+use Rattle.solve_serve.specs.Peers.{peer_limit, server_limit}
 use Rattle.serve_words.specs.declared.words.ServeWords.{ServeWords}
 use Rattle.serve_words.specs.declared.words.Refused.{Refused}
+
+-- the ports at which a server may listen: those that are no system's own
+abbrev pub least_port : ℕ
+least_port = 1024
+
+abbrev pub most_port : ℕ
+most_port = 65535
 
 -- words are refused at this place, from 1, by this kind
 abbrev pub refused : ℕ → ℕ → Refused
@@ -28,12 +37,12 @@ wrong_count count = if nat_lt count 4 then refused (count + 1) 4 else refused 5 
 -- what four words ask for, each in its range: the port, the clients, the entries and the workers; or the first refusal
 abbrev pub words_read : List (List ℕ) → Result ServeWords Refused
 words_read (port ∷ clients ∷ entries ∷ workers ∷ []) =
-    all_four (number_within 1 1024 65535 (number_of port)) (number_within 2 1 64 (number_of clients)) (number_within 3 1 1024 (number_of entries)) (number_within 4 1 16 (number_of workers))
+    all_four (number_within 1 least_port most_port (number_of port)) (number_within 2 1 peer_limit (number_of clients)) (number_within 3 1 entry_limit (number_of entries)) (number_within 4 1 server_limit (number_of workers))
 words_read words = Err (wrong_count (length words))
 
 -- what was asked for is in its range
 pub record IsInRange (asked : ServeWords) : Type 0 where
-  pub port : (1024 ≤ asked.port) × (asked.port ≤ 65535)
-  pub clients : (1 ≤ asked.clients) × (asked.clients ≤ 64)
-  pub entries : (1 ≤ asked.entries) × (asked.entries ≤ 1024)
-  pub workers : (1 ≤ asked.workers) × (asked.workers ≤ 16)
+  pub port : (least_port ≤ asked.port) × (asked.port ≤ most_port)
+  pub clients : (1 ≤ asked.clients) × (asked.clients ≤ peer_limit)
+  pub entries : (1 ≤ asked.entries) × (asked.entries ≤ entry_limit)
+  pub workers : (1 ≤ asked.workers) × (asked.workers ≤ server_limit)

@@ -2,7 +2,9 @@
 
 ghost use Rattle.std.specs.Prelude.{◌≡◌, ◌≤◌, map, string_bytes, IfOk};
 ghost use Rattle.dcop_base.specs.NumberWord.{number_of};
-ghost use Rattle.serve_words.specs.Words.{refused, number_within, all_four, wrong_count, words_read, IsInRange};
+ghost use Rattle.reply_cache.specs.Limits.{entry_limit};
+ghost use Rattle.solve_serve.specs.Peers.{peer_limit, server_limit};
+ghost use Rattle.serve_words.specs.Words.{least_port, most_port, refused, number_within, all_four, wrong_count, words_read, IsInRange};
 
 use dcop_base::number_of_word;
 
@@ -52,7 +54,7 @@ pub fn read_words(words: &[String]) -> Result<ServeWords, Refused>
 /// What four words ask for.
 fn read_four(port: &str, clients: &str, entries: &str, workers: &str) -> Result<ServeWords, Refused>
     ensures range { IfOk result IsInRange }
-    ensures asked { result ≡ all_four (number_within 1 1024 65535 (number_of port.now)) (number_within 2 1 64 (number_of clients.now)) (number_within 3 1 1024 (number_of entries.now)) (number_within 4 1 16 (number_of workers.now)) }
+    ensures asked { result ≡ all_four (number_within 1 least_port most_port (number_of port.now)) (number_within 2 1 peer_limit (number_of clients.now)) (number_within 3 1 entry_limit (number_of entries.now)) (number_within 4 1 server_limit (number_of workers.now)) }
 {
     let port = number_within(1, port, 1_024, 65_535)?;
     let clients = number_within(2, clients, 1, 64)?;

@@ -1,7 +1,7 @@
 //! What agents are run by.
 
 ghost use Rattle.std.specs.Prelude.{◌<◌, ◌≤◌};
-ghost use Rattle.tcp_links.specs.Plans.{node_limit};
+ghost use Rattle.dcop_base.specs.Limits.{node_limit};
 
 /// What agents are run by.
 #[derive(Drop)]

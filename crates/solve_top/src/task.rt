@@ -1,7 +1,7 @@
 //! The commands that are served.
 
 ghost use Rattle.std.specs.Prelude.{◌≡◌, ◌<◌, ◌≤◌, IfSome};
-ghost use Rattle.tcp_links.specs.Plans.{node_limit};
+ghost use Rattle.dcop_base.specs.Limits.{node_limit};
 ghost use Rattle.solve_top.specs.Nodes.{nodes_of};
 ghost use Rattle.solve_words.specs.Ranges.{IsInRange};
 ghost use Rattle.solve_top.specs.Served.{task_of, IsTaskInRange};

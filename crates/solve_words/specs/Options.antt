@@ -1,6 +1,7 @@
 -- The table of options: their words, and the numbers that they take.
 use Rattle.std.specs.Prelude.{ℕ, ◌≤◌, List, [], ◌∷◌, Option, bytes_eq, codes, find}
-use Rattle.dcop_base.specs.Limits.{amount_limit, budget_limit, variable_limit, joined_limit}
+use Rattle.dcop_base.specs.Limits.{amount_limit, budget_limit, variable_limit, joined_limit, worker_limit, node_limit, seed_limit}
+use Rattle.dcop_base.specs.Limits.{made_size_limit, made_degree_limit, made_cost_limit}
 use Rattle.solve_words.specs.declared.options.WordOption.{WordOption}
 use Rattle.solve_words.specs.declared.options.WordOption.TheVariants.{Method, Certificate, Format, After, Number}
 use Rattle.solve_words.specs.declared.options.Numbers.{Numbers}
@@ -41,15 +42,15 @@ most_events = 1000000000
 
 -- what an option's number may be, and what it is where the option is not given
 abbrev pub numbers_of : Quantity → Numbers
-numbers_of Workers = record { least = 1; most = 64; default = 1 }
+numbers_of Workers = record { least = 1; most = worker_limit; default = 1 }
 numbers_of Error = record { least = 0; most = amount_limit; default = 0 }
 numbers_of Budget = record { least = 0; most = budget_limit; default = 1000000 }
-numbers_of Nodes = record { least = 1; most = 8; default = 1 }
-numbers_of Seed = record { least = 0; most = 9999999999999999999; default = 0 }
+numbers_of Nodes = record { least = 1; most = node_limit; default = 1 }
+numbers_of Seed = record { least = 0; most = seed_limit; default = 0 }
 numbers_of Vars = record { least = 1; most = variable_limit; default = 20 }
-numbers_of Size = record { least = 1; most = 16; default = 4 }
-numbers_of Degree = record { least = 1; most = 8; default = 2 }
-numbers_of Top = record { least = 0; most = 1000000; default = 100 }
+numbers_of Size = record { least = 1; most = made_size_limit; default = 4 }
+numbers_of Degree = record { least = 1; most = made_degree_limit; default = 2 }
+numbers_of Top = record { least = 0; most = made_cost_limit; default = 100 }
 numbers_of Cells = record { least = 1024; most = joined_limit; default = joined_limit }
 
 -- a number that an option takes

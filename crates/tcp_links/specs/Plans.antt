@@ -1,7 +1,7 @@
 -- A plan of nodes: its wires and its links.
 use Rattle.std.specs.Prelude.{◌≡◌, ◌≢◌, ℕ, ◌-◌, ◌*◌, ◌/◌, ◌<◌, ◌≤◌, List, [], length, Some, slice_get}
 use Rattle.std.specs.List.{All, insert}
-use Rattle.dcop_base.specs.Limits.{variable_limit}
+use Rattle.dcop_base.specs.Limits.{variable_limit, node_limit}
 use Rattle.protocol_steps.specs.declared.message.Message.{Message}
 use Rattle.worker_runs.specs.NodeRounds.{home}
 use Rattle.node_runs.specs.Wires.{Wire, AreApart}
@@ -13,10 +13,6 @@ use Rattle.wire_edge.specs.Wire.{Told}
 use Rattle.letter_wires.specs.Honest.{AreHonest}
 use Rattle.tcp_links.specs.declared.plan.InnerEnds.{InnerEnds}
 use Rattle.tcp_links.specs.declared.plan.NodePlan.{NodePlan}
-
--- the most nodes
-abbrev pub node_limit : ℕ
-node_limit = 8
 
 -- how many pairs there are of so many nodes
 abbrev pub pair_count : ℕ → ℕ

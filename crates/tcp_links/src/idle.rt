@@ -2,9 +2,9 @@
 
 ghost use Rattle.std.specs.Prelude.{◌≡◌, ◌<◌, ◌≤◌, IfOk};
 ghost use Rattle.std.specs.List.{All};
-ghost use Rattle.dcop_base.specs.Limits.{variable_limit};
+ghost use Rattle.dcop_base.specs.Limits.{variable_limit, node_limit};
 ghost use Rattle.worker_runs.specs.NodeRounds.{home as home_of};
-ghost use Rattle.tcp_links.specs.Plans.{node_limit, IsBetween};
+ghost use Rattle.tcp_links.specs.Plans.{IsBetween};
 ghost use Rattle.tcp_links.specs.Woven.{IsIdle, AreIdle};
 
 use crate::plan::home;

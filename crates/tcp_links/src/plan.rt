@@ -2,12 +2,12 @@
 
 ghost use Rattle.std.specs.Prelude.{◌≡◌, ◌≢◌, ◌↔◌, ℕ, ◌<◌, ◌≤◌, true, [], length, Some, slice_get, IfOk, OnOk, OnErr};
 ghost use Rattle.std.specs.List.{insert};
-ghost use Rattle.dcop_base.specs.Limits.{variable_limit};
+ghost use Rattle.dcop_base.specs.Limits.{variable_limit, node_limit};
 ghost use Rattle.worker_runs.specs.NodeRounds.{home};
 ghost use Rattle.kept_wires.specs.Differences.{ComesBefore};
 ghost use Rattle.fifo_links.specs.Link.{AreEnds, sent_on, taken_from};
 ghost use Rattle.wire_edge.specs.Dialer.{HasDialCause};
-ghost use Rattle.tcp_links.specs.Plans.{node_limit, pair_count, AreOrdered, IsPlan, IsHonest, HasNoLink, IsNewPlan, IsNewLink, IsSamePlan, fresh_link, BelongsAt};
+ghost use Rattle.tcp_links.specs.Plans.{pair_count, AreOrdered, IsPlan, IsHonest, HasNoLink, IsNewPlan, IsNewLink, IsSamePlan, fresh_link, BelongsAt};
 
 use agent_cells::Sealed;
 use dcop_base::{NoMemory, VarId};

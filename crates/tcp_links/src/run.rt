@@ -1,13 +1,13 @@
 //! A run of cells in nodes.
 
 ghost use Rattle.std.specs.Prelude.{◌≡◌, ◌<◌, ◌≤◌, [], length, false, IfOk, OnOk, IfErr, MatchOption};
-ghost use Rattle.dcop_base.specs.Limits.{variable_limit, budget_limit};
+ghost use Rattle.dcop_base.specs.Limits.{variable_limit, budget_limit, node_limit};
 ghost use Rattle.worker_runs.specs.CellRuns.{MakesARun};
 ghost use Rattle.node_runs.specs.Wires.{HaveHeld};
 ghost use Rattle.agent_cells.specs.State.{begun_in, IsCell};
 ghost use Rattle.agent_workers.specs.Joined.{states_of, EachIs, IsJoined};
 ghost use Rattle.agent_workers.specs.Run.{views_of, AreDulyPlayed, RestsAtStill};
-ghost use Rattle.tcp_links.specs.Plans.{node_limit, pair_count, IsPlan, IsHonest, IsNewPlan, IsSamePlan};
+ghost use Rattle.tcp_links.specs.Plans.{pair_count, IsPlan, IsHonest, IsNewPlan, IsSamePlan};
 ghost use Rattle.worker_runs.specs.NodeRounds.{home};
 ghost use Rattle.tcp_links.specs.Woven.{AreIdle};
 ghost use Rattle.tcp_links.specs.Linked.{AreLinkedOver};
