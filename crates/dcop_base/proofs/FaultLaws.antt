@@ -1,11 +1,12 @@
 -- Laws of faults: what holds where a test or a chain of tests found none.
-use Rattle.std.proofs.Common.{◌≡◌, ℕ, ◌+◌, ◌<◌, ◌≤◌, Bool, true, false, not, ◌||◌, cond, eqb, ltb, leb, List, [], ◌∷◌, Option, Some, None, length, get_or, take, drop, map, max, refl, sym, ap, ◌∙◌, nat_eq, arith}
+use Rattle.std.proofs.Common.{◌≡◌, ℕ, ◌+◌, ◌<◌, ◌≤◌, Bool, true, false, not, ◌||◌, cond, eqb, ltb, leb, List, [], ◌∷◌, Option, Some, None, length, get_or, take, drop, map, max, refl, sym, ap, ◌∙◌, nat_eq, le_refl, le_trans, arith}
+use Rattle.std.proofs.Math.Nat.{le-max_left, le-max_right}
 use Rattle.std.specs.List.{All, fold, list_any, position, position_or_len}
 use Rattle.std.specs.Cmp.Lexicographic.{pointwise}
 use Rattle.std.proofs.lemmas.List.Sums.{fails_before_first, position_or_len_is, sum_by_more}
 use Rattle.std.proofs.lemmas.List.{drop_more, take_more, length_push}
 use Rattle.std.proofs.lemmas.List.Folds.{list_any_none}
-use Rattle.std.proofs.lemmas.List.Elements.{All-head, All-tail}
+use Rattle.std.proofs.lemmas.List.Elements.{All-head, All-tail, All-cons}
 use Rattle.std.proofs.lemmas.Bool.{ltb-false, le-ltb, lt-leb, ne_eqb, or_from, not_from_true, leb-false, not-false, eqb-false, eqb-true, eq-eqb, and_parts, or_parts}
 use Rattle.dcop_base.specs.Table.{CostTable, has_repeat, greatest}
 use Rattle.dcop_base.specs.Faults.{cell_count, greatest_sum, cells_fault, first_fault, next_fault, tables_fault}
@@ -47,6 +48,19 @@ greatest-le m cells all = fold-max-le m 0 cells (omega arith) all
 -- the greatest of cells of which none was found above a limit is within it
 pub greatest-le-none : (m : ℕ) (cells : List ℕ) → position (λ c. ltb m c) cells ≡ None → greatest cells ≤ m
 greatest-le-none m cells e = greatest-le m cells (λ k d h. ltb-false m (get_or cells k d) (position-none (λ c. ltb m c) cells e k d h))
+
+-- the greatest of cells is no less than each of them
+fold-max-from : (a : ℕ) (xs : List ℕ) → a ≤ fold max a xs
+fold-max-from a [] = le_refl a
+fold-max-from a (x ∷ xs) = le_trans (le-max_left a x) (fold-max-from (max a x) xs)
+
+le-fold-max : (a : ℕ) (xs : List ℕ) → All (λ x. x ≤ fold max a xs) xs
+le-fold-max a [] = λ k d h. absurd (omega arith)
+le-fold-max a (x ∷ xs) = All-cons (λ y. y ≤ fold max a (x ∷ xs)) x xs (le_trans (le-max_right a x) (fold-max-from (max a x) xs)) (le-fold-max (max a x) xs)
+
+-- no cell is found above a limit that the greatest does not exceed
+pub none-above : (m : ℕ) (cells : List ℕ) → greatest cells ≤ m → position (λ c. ltb m c) cells ≡ None
+none-above m cells h = position-all (λ c. ltb m c) cells (λ k d lt. le-ltb m (get_or cells k d) (le_trans (le-fold-max 0 cells k d lt) h))
 
 -- lists are equal exactly where they are so element by element
 pub pointwise-true : (xs ys : List ℕ) → pointwise nat_eq xs ys ≡ true → xs ≡ ys

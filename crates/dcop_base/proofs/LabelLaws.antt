@@ -1,5 +1,5 @@
 -- Labels of variables: one label for the variables of a scope, and for those of more and more tables.
-use Rattle.std.proofs.Common.{◌≡◌, ℕ, ◌+◌, ◌<◌, ◌≤◌, Bool, true, false, cond, ◌&&◌, ◌||◌, ◌⊎◌, List, [], ◌∷◌, ◌++◌, map, length, get_or, take, refl, sym, ◌∙◌, ap, subst, inl, inr, slice_index, ◌==◌, le_trans, le_of_eq, le_refl, nat_lt, nat_cmp, is_lt, Less, Equal, Greater, ltb-true, ltb-false, arith}
+use Rattle.std.proofs.Common.{◌≡◌, ℕ, ◌+◌, ◌<◌, ◌≤◌, Bool, true, false, cond, ◌&&◌, ◌||◌, ◌⊎◌, List, [], ◌∷◌, ◌++◌, map, length, get_or, take, drop, zero, suc, refl, sym, ◌∙◌, ap, subst, inl, inr, slice_index, ◌==◌, le_trans, le_of_eq, le_refl, nat_lt, nat_cmp, is_lt, Less, Equal, Greater, ltb-true, ltb-false, arith}
 use Rattle.std.specs.List.{range_with_len}
 use Rattle.std.proofs.Math.ListN.{get_or-map}
 use Rattle.std.proofs.lemmas.Bool.{or_cases, or_left, or_right, and_parts, and_from, eqb-true, eq-eqb, ne_eqb, cond-true, cond-false, cases_eq, cases_lt}
@@ -35,6 +35,21 @@ label_of_relabelled from to old v lt =
     let zero_kept : relabelled from to 0 ≡ 0 = cond-false (0 == from) to 0 (ne_eqb 0 from (λ e. omega arith)) in
     let moved : get_or (map (relabelled from to) old) v (relabelled from to 0) ≡ relabelled from to (get_or old v 0) = get_or-map (relabelled from to) old v 0 in
     subst (λ (d : ℕ). get_or (map (relabelled from to) old) v d ≡ relabelled from to (get_or old v 0)) zero_kept moved
+
+-- where no variable below a place has the label, it is enough to change those from the place on
+changed_from : (f : ℕ → ℕ) (k : ℕ) (xs : List ℕ) → ((v : ℕ) → v < k → f (slice_index xs v) ≡ slice_index xs v) → take k xs ++ map f (drop k xs) ≡ map f xs
+changed_from f zero xs kept = refl
+changed_from f (suc k) [] kept = refl
+changed_from f (suc k) (x ∷ xs) kept =
+    let tail = changed_from f k xs (λ v lt. kept (suc v) (omega arith)) in
+    let head : f x ≡ x = kept 0 (omega arith) in
+    ap (λ ys. x ∷ ys) tail ∙ ap (λ y. y ∷ map f xs) (sym head)
+
+pub relabelled_from : (from to : ℕ) (labels : List ℕ) → ((v : ℕ) → slice_index labels v ≤ v) → take from labels ++ map (relabelled from to) (drop from labels) ≡ map (relabelled from to) labels
+relabelled_from from to labels low = changed_from (relabelled from to) from labels (λ v lt. elim (relabelled-cases from to (slice_index labels v)) [
+  | inl c ↦ absurd (omega (arith, c.0, low v))
+  | inr c ↦ c
+])
 
 -- the new label is connected with a variable, where it is connected with the old one
 pub AreConnected-relabelled : (edge : ℕ → ℕ → Bool) (from to label v : ℕ) → AreConnected edge to from → AreConnected edge label v → AreConnected edge (relabelled from to label) v

@@ -63,34 +63,37 @@ fn tables_fault_of(sizes: &[u16], tables: &[Table]) -> Option<ProblemFault>
         sum: 0,
     };
     for table in tables {
-        if let Some(fault) = next_fault_of(sizes, before, table) {
+        let cells = table.cells.as_slice();
+        let most = greatest_of(cells);
+        if let Some(fault) = next_fault_of(sizes, before, table, most) {
             return Some(fault);
         }
-        before = totals_with(before, table.cells.as_slice());
+        before = totals_with(before, cells, most);
     }
     None
 }
 
-/// The totals with one more table of these cells.
-fn totals_with(before: Totals, cells: &[u64]) -> Totals
+/// The totals with one more table of these cells, of which `most` is the greatest.
+fn totals_with(before: Totals, cells: &[u64], most: u64) -> Totals
     requires tables { before.tables < 2 ^ 63 }
     requires cells { before.cells + length cells.now ≤ cell_limit }
-    requires sum { before.sum + greatest cells.now ≤ amount_limit }
+    requires sum { before.sum + most ≤ amount_limit }
     ensures tables { result.tables ≡ before.tables + 1 }
     ensures cells { result.cells ≡ before.cells + length cells.now }
-    ensures sum { result.sum ≡ before.sum + greatest cells.now }
+    ensures sum { result.sum ≡ before.sum + most }
 {
     Totals {
         tables: before.tables + 1,
         cells: before.cells + cells.len() as u64,
-        sum: before.sum + greatest_of(cells),
+        sum: before.sum + most,
     }
 }
 
-/// What is wrong with a table behind those of the totals.
-fn next_fault_of(sizes: &[u16], before: Totals, table: &Table) -> Option<ProblemFault>
+/// What is wrong with a table behind those of the totals, where `most` is its greatest cell.
+fn next_fault_of(sizes: &[u16], before: Totals, table: &Table, most: u64) -> Option<ProblemFault>
     requires cells { before.cells ≤ cell_limit }
     requires sum { before.sum ≤ amount_limit }
+    requires most { most ≡ greatest table.now.cells }
     ensures { (earlier : List CostTable) → AreTotals earlier before →
         result ≡ next_fault sizes.now earlier table.now }
 {
@@ -115,7 +118,7 @@ fn next_fault_of(sizes: &[u16], before: Totals, table: &Table) -> Option<Problem
             table: before.tables,
         });
     }
-    cells_fault_of(before, table.cells.as_slice())
+    cells_fault_of(before, table.cells.as_slice(), most)
 }
 
 /// Whether a variable is not below `variables`.
@@ -141,15 +144,17 @@ fn are_sizes_of(own: &[u16], sizes: &[u16], scope: &[VarId]) -> bool
     true
 }
 
-/// What is wrong with the cells of a table behind those of the totals.
-fn cells_fault_of(before: Totals, cells: &[u64]) -> Option<ProblemFault>
+/// What is wrong with the cells of a table behind those of the totals, where `most` is the greatest
+/// of them.
+fn cells_fault_of(before: Totals, cells: &[u64], most: u64) -> Option<ProblemFault>
     requires cells { before.cells ≤ cell_limit }
     requires sum { before.sum ≤ amount_limit }
+    requires most { most ≡ greatest cells.now }
     ensures { (earlier : List CostTable) → AreTotals earlier before →
         result ≡ cells_fault earlier cells.now (position (λ c. nat_lt cost_limit c) cells.now) }
 {
     let table = before.tables;
-    if let Some(cell) = too_large(cells) {
+    if let Some(cell) = too_large(cells, most) {
         return Some(ProblemFault::CostTooLarge {
             table,
             cell: cell as u64,
@@ -158,14 +163,25 @@ fn cells_fault_of(before: Totals, cells: &[u64]) -> Option<ProblemFault>
     if before.cells + cells.len() as u64 > MAX_CELLS {
         return Some(ProblemFault::TooManyCells { table });
     }
-    if before.sum + greatest_of(cells) > CAP {
+    if before.sum + most > CAP {
         return Some(ProblemFault::SumTooLarge { table });
     }
     None
 }
 
+/// The place of the first cell above [`MAX_COST`], where `most` is the greatest of them.
+fn too_large(cells: &[u64], most: u64) -> Option<usize>
+    requires { most ≡ greatest cells.now }
+    ensures { result ≡ position (λ c. nat_lt cost_limit c) cells.now }
+{
+    if most <= MAX_COST {
+        return None;
+    }
+    first_above_limit(cells)
+}
+
 /// The place of the first cell above [`MAX_COST`].
-fn too_large(cells: &[u64]) -> Option<usize>
+fn first_above_limit(cells: &[u64]) -> Option<usize>
     ensures { result ≡ position (λ c. nat_lt cost_limit c) cells.now }
 {
     cells.iter().position(|cell| *cell > MAX_COST)

@@ -1,6 +1,6 @@
 //! Joints: what joins the components of the graph of tables.
 
-ghost use Rattle.std.specs.Prelude.{◌≡◌, ℕ, ◌-◌, ◌<◌, ◌≤◌, ◌∷◌, [], ◌==◌, false, map, length, IfOk, if◌then◌else◌};
+ghost use Rattle.std.specs.Prelude.{◌≡◌, ℕ, ◌-◌, ◌<◌, ◌≤◌, ◌∷◌, [], ◌==◌, false, map, length, IfOk, if◌then◌else◌, slice_index};
 ghost use Rattle.std.specs.List.{All, range_with_len};
 ghost use Rattle.dcop_base.specs.Limits.{variable_limit};
 ghost use Rattle.dcop_base.specs.Graph.{AreJoints};
@@ -63,7 +63,8 @@ fn join_tables(labels: &mut [VarId], tables: &[Table])
 
 /// Gives the variables of a scope one label.
 fn join_scope(labels: &mut [VarId], scope: &[VarId])
-    requires { All (λ v. v < length labels.old) scope.now }
+    requires within { All (λ v. v < length labels.old) scope.now }
+    requires low { (v : ℕ) → slice_index labels.old v ≤ v }
     ensures { IsJoined scope.now labels.old labels.new }
 {
     if let Some((first, others)) = scope.split_first() {
@@ -77,6 +78,7 @@ fn join_scope(labels: &mut [VarId], scope: &[VarId])
 fn join(labels: &mut [VarId], one: VarId, other: VarId)
     requires one { one < length labels.old }
     requires other { other < length labels.old }
+    requires low { (v : ℕ) → slice_index labels.old v ≤ v }
     ensures { IsJoined (one ∷ other ∷ []) labels.old labels.new }
 {
     let label = labels[one.0 as usize];
@@ -88,15 +90,30 @@ fn join(labels: &mut [VarId], one: VarId, other: VarId)
     }
 }
 
-/// Writes the one label in place of the other.
+/// Writes the one label in place of the other, which no variable below it has.
 fn relabel(labels: &mut [VarId], from: VarId, to: VarId)
+    requires within { from < length labels.old }
+    requires low { (v : ℕ) → slice_index labels.old v ≤ v }
+    ensures { labels.new ≡ map (λ label. if label == from then to else label) labels.old }
+{
+    let (_, others) = labels.split_at_mut(from.0 as usize);
+    replace(others, from, to);
+}
+
+/// Writes the one label in place of the other at each place.
+fn replace(labels: &mut [VarId], from: VarId, to: VarId)
     ensures { labels.new ≡ map (λ label. if label == from then to else label) labels.old }
 {
     for label in labels.iter_mut() {
-        if *label == from {
-            *label = to;
-        }
+        *label = replaced(*label, from, to);
     }
+}
+
+/// A label, or the one in place of the other.
+fn replaced(label: VarId, from: VarId, to: VarId) -> VarId
+    ensures { result ≡ if label == from then to else label }
+{
+    if label == from { to } else { label }
 }
 
 /// A joint from variable 0 to each other variable that is its own label, ascending.

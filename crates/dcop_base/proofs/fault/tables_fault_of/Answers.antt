@@ -15,9 +15,10 @@ loop-table-preserved c =
     let invariant = c.loop-table.invariant in
     let none : next_fault sizes (take k tables) t ≡ None = sym (c.in_default.ensures (take k tables) invariant.totals) in
     let next = next-none sizes (take k tables) t none in
-    let same = c.as_slice.ensures ∙ ap (λ (t : CostTable). t.cells) c.table.view_is in
+    let same = c.as_slice-cells.ensures ∙ ap (λ (t : CostTable). t.cells) c.table.view_is in
     let cells = c.totals_with-before.ensures.cells ∙ ap (λ (cells : List ℕ). before.cells + length cells) same in
-    let sum = c.totals_with-before.ensures.sum ∙ ap (λ (cells : List ℕ). before.sum + greatest cells) same in
+    let most : c.greatest_of-most.result ≡ greatest t.cells = c.greatest_of-most.ensures ∙ ap greatest same in
+    let sum = c.totals_with-before.ensures.sum ∙ ap (λ (n : ℕ). before.sum + n) most in
     record {
       totals = totals-more tables k t before c.totals_with-before.result c.loop-table-test.true c.table-item.is invariant.totals c.totals_with-before.ensures.tables cells sum;
       cells = omega (arith, next.cells, invariant.totals.cells, cells);

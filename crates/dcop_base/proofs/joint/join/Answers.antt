@@ -1,4 +1,4 @@
-use Rattle.std.proofs.Common.{◌≡◌, ℕ, ◌<◌, true, false, List, ◌∷◌, [], length, get_or, slice_index, map, is_lt, nat_cmp, sym, ◌∙◌, ap, subst, subst₂, le_antisymm}
+use Rattle.std.proofs.Common.{◌≡◌, ℕ, ◌<◌, ◌≤◌, true, false, List, ◌∷◌, [], length, get_or, slice_index, map, is_lt, nat_cmp, sym, ◌∙◌, ap, subst, subst₂, le_antisymm, arith}
 use Rattle.std.proofs.lemmas.List.{get_or_read}
 use Rattle.dcop_base.specs.Labels.{IsJoined}
 use Rattle.dcop_base.proofs.LabelLaws.{relabelled, IsJoined-first_high, IsJoined-second_high, IsJoined-pair_same, lt_from_is_lt, le_from_not_lt}
@@ -29,6 +29,14 @@ pair_same : (one other i j x y : ℕ) (old : List ℕ) → i ≡ one → j ≡ o
 pair_same one other i j x y old at_one at_other one_in other_in x_read y_read ge le =
     IsJoined-pair_same one other old
     (sym (read one i x old at_one one_in x_read) ∙ le_antisymm (le_from_not_lt y x le) (le_from_not_lt x y ge) ∙ read other j y old at_other other_in y_read)
+
+-- a label that was read names a variable
+named : (v i x : ℕ) (old : List ℕ) → i ≡ v → v < length old → x ≡ get_or old i x → ((u : ℕ) → slice_index old u ≤ u) → x < length old
+named v i x old at lt is low = omega (arith, read v i x old at lt is, low v)
+
+pub relabel-requires-clause-within : goal.relabel-requires-clause-within
+relabel-requires-clause-within c =
+    named c.args.other c.other.inside.0 c.index-labels-other.result c.args.labels.now c.other.view_is c.requires.other c.index-labels-other.is c.requires.low
 
 pub returns-then-lt : goal.returns-then-lt
 returns-then-lt c =

@@ -1,4 +1,4 @@
-use Rattle.std.proofs.Common.{◌≡◌, ℕ, ◌+◌, ◌<◌, List, ◌∷◌, [], length, get_or, take, All, sym, subst}
+use Rattle.std.proofs.Common.{◌≡◌, ℕ, ◌+◌, ◌<◌, List, ◌∷◌, [], length, get_or, take, All, sym, subst, le_trans}
 use Rattle.std.proofs.lemmas.List.Elements.{All-get_or, All-tail}
 use Rattle.dcop_base.specs.Labels.{IsJoined}
 use Rattle.dcop_base.proofs.LabelLaws.{IsJoined-more}
@@ -13,7 +13,10 @@ within scope others first k x n m e all lt is same =
 pub join-requires-clause-other : goal.join-requires-clause-other
 join-requires-clause-other c =
     within c.args.scope.now c.in-Some.others.now c.in-Some.first.now c.loop-other.other-index c.other-item.result (length c.args.labels.now) (length c.loop-other.labels)
-    c.in-Some.ensures.cases.0 c.requires c.loop-other-test.true c.other-item.is c.loop-other.invariant.count
+    c.in-Some.ensures.cases.0 c.requires.within c.loop-other-test.true c.other-item.is c.loop-other.invariant.count
+
+pub join-requires-clause-low : goal.join-requires-clause-low
+join-requires-clause-low c = λ v. le_trans (c.loop-other.invariant.lower v) (c.requires.low v)
 
 more : (first : ℕ) (others : List ℕ) (k x : ℕ) (old mid new : List ℕ) → k < length others → x ≡ get_or others k x → IsJoined (first ∷ take k others) old mid → IsJoined (first ∷ x ∷ []) mid new → IsJoined (first ∷ take (k + 1) others) old new
 more first others k x old mid new lt is done step =

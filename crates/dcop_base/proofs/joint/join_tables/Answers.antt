@@ -15,8 +15,8 @@ within tables k t scope n m all lt is scope_is same =
     subst (λ (y : ℕ). All (λ (v : ℕ). v < y) scope) (sym same)
     (subst (λ (xs : List ℕ). All (λ (v : ℕ). v < n) xs) (sym (scope_is ∙ ap (λ (w : CostTable). w.scope) is)) there)
 
-pub join_scope-requires : goal.join_scope-requires
-join_scope-requires c =
+pub join_scope-requires-clause-within : goal.join_scope-requires-clause-within
+join_scope-requires-clause-within c =
     within c.args.tables.now c.loop-table.table-index c.table-item.result c.as_slice.result.now (length c.args.labels.now) (length c.loop-table.labels)
     c.requires.within c.loop-table-test.true c.table-item.is (c.as_slice.ensures ∙ ap (λ (w : CostTable). w.scope) c.table.view_is) c.loop-table.auto.labels
 
