@@ -1,0 +1,80 @@
+#!/usr/bin/env python3
+"""How many seconds of a processor the merge gate takes for each crate.
+
+usage: bench/gate.py [WORDS..]
+
+Runs `rt ci` with these words at the top of the repository, on Linux, and looks each second and a half at the processes
+that prove, build or run something there, adding up what each has used. What `rt ci` kept from earlier runs it does not
+do again: from nothing are `rt ci --anew` and a machine that has kept nothing. What other runs of `rt` on the machine
+do meanwhile counts too, so there should be none.
+
+Prints a line for each crate, in the order of crates.txt, with three numbers: its proof with the building of its library
+or program, its tests, and its wrong bodies, with how many these are. A process that ends between two looks is counted
+up to the first of them.
+"""
+import collections
+import os
+import pathlib
+import subprocess
+import sys
+import time
+
+TOP = pathlib.Path(__file__).resolve().parent.parent
+TICKS = os.sysconf("SC_CLK_TCK")
+PAUSE = 1.5
+
+
+def looked_at(process):
+    """The key of a process that proves or builds a crate, the crate with what is done of it, and its seconds; or None."""
+    try:
+        words = (process / "cmdline").read_bytes().decode(errors="replace").split("\0")
+        fields = (process / "stat").read_text().rpartition(")")[2].split()
+    except OSError:
+        return None
+    if pathlib.Path(words[0]).name != "rattle" or "--crate-name" not in words:
+        return None
+    crate = words[words.index("--crate-name") + 1]
+    part = "wrong bodies" if words[1] == "check" else "tests" if "--test" in words else "proof"
+    seconds = (int(fields[11]) + int(fields[12])) / TICKS
+    return (process.name, fields[19]), (crate, part), seconds
+
+
+def sampled(gate):
+    """The seconds of each process that was seen while the gate ran, with what it did."""
+    seen = {}
+    while gate.poll() is None:
+        for process in pathlib.Path("/proc").iterdir():
+            found = looked_at(process) if process.name.isdigit() else None
+            if found:
+                key, what, seconds = found
+                seen[key] = (what, seconds)
+        time.sleep(PAUSE)
+    return seen.values()
+
+
+def crates():
+    """The crates, in the order of crates.txt."""
+    lines = (TOP / "crates.txt").read_text().splitlines()
+    return [line.partition(":")[0].split()[0] for line in lines if line.strip() and not line.startswith("#")]
+
+
+def main():
+    begin = time.time()
+    gate = subprocess.Popen(["rt", "ci", *sys.argv[1:]], cwd=TOP, stdout=sys.stderr)
+    sums = collections.Counter()
+    for what, seconds in sampled(gate):
+        sums[what] += seconds
+    print("| Crate | Proof | Tests | Wrong bodies |\n|---|---|---|---|")
+    for crate in crates():
+        edits = len(list((TOP / "crates" / crate / "must-fail").glob("*.edit")))
+        proof, tests, wrong = (sums[crate, part] for part in ("proof", "tests", "wrong bodies"))
+        told = f"{wrong:.0f} ({edits})" if edits else "–"
+        print(f"| {crate} | {proof:.0f} | {f'{tests:.0f}' if tests else '–'} | {told} |")
+    for part in ("proof", "tests", "wrong bodies"):
+        print(f"{part}: {sum(seconds for what, seconds in sums.items() if what[1] == part) / 60:.0f} minutes of a processor")
+    print(f"in all: {sum(sums.values()) / 60:.0f} minutes of a processor, {(time.time() - begin) / 60:.0f} of the clock")
+    return gate.returncode
+
+
+if __name__ == "__main__":
+    sys.exit(main())
