@@ -13,6 +13,7 @@ mod play;
 mod rounds;
 mod runs;
 mod settle;
+mod tail_places;
 mod watch;
 
 pub use protocol_steps::RunEnd;
