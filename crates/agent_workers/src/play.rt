@@ -2,6 +2,7 @@
 
 ghost use Rattle.std.specs.Prelude.{◌≡◌, ◌≤◌, ◌<◌, length, true, false, IfOk, IfErr, None, Some};
 ghost use Rattle.dcop_base.specs.Limits.{variable_limit};
+ghost use Rattle.protocol_steps.specs.Rounds.{most_events};
 ghost use Rattle.agent_cells.specs.declared.fault.VisitFault.TheVariants.{StampEnd as stamp_end};
 ghost use Rattle.agent_cells.specs.Failed.{HasReachedEnd};
 ghost use Rattle.agent_cells.specs.State.{state_of, fault_in};
@@ -17,6 +18,11 @@ use std::thread::Threads;
 
 /// How many turns a part of a round has at most.
 const MOST_TURNS: usize = 32;
+
+/// The most turns of the code are as many as those of the definitions.
+pub fn turns_agree()
+    ensures { MOST_TURNS ≡ most_events }
+{}
 
 /// Plays cells in parts of this size, beside each other; for those after the first `busy` parts
 /// nothing waits. Answers how many messages were taken.
