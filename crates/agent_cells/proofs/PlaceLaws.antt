@@ -75,6 +75,12 @@ module _ {A : Type 0} where
       (λ i lt. let low = below i e lt in ne_eqb (get_or xs i e).0 peer (λ same. omega (arith, low, same))) (λ _. eq-eqb (get_or xs k e).0 peer is) in
       sym (ap (λ n. cond (nat_lt n (length xs)) (Some n) None) first ∙ ap (λ (b : Bool). cond b (Some k) None) (lt-ltb k (length xs) inside))
 
+  -- the same, at a place that was looked at by itself
+  pub place_right : (xs : List (ℕ × A)) (peer k : ℕ) (e : ℕ × A) → Ascends xs → k < length xs → (get_or xs k e).0 ≡ peer → Some k ≡ position (λ x. x.0 == peer) xs
+  place_right xs peer k e up inside is =
+      let at : (d : ℕ × A) → (get_or xs k d).0 ≡ peer = λ d. subst (λ (x : ℕ × A). x.0 ≡ peer) (get_or_default xs k e d inside) is in
+      place_found xs peer k e (λ i d lt. let rise = keys_rise xs i k d up lt inside in let here = at d in omega (arith, rise, here)) inside is
+
   -- a peer that is not among them
   no_place : (xs : List (ℕ × A)) (peer : ℕ) → ((i : ℕ) (d : ℕ × A) → i < length xs → (get_or xs i d).0 ≡ peer → ⊥) → (let none : Option ℕ = None in none) ≡ position (λ x. x.0 == peer) xs
   no_place [] peer none = refl

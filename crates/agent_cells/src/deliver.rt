@@ -16,7 +16,7 @@ use protocol_steps::{Envelope, Outbox, Parcel};
 use std::alloc::Global;
 
 /// Where the link to this peer is, found by halving.
-pub(crate) fn tail_to(tails: &[(VarId, LinkTail<Sealed>)], to: VarId) -> Option<usize>
+fn tail_to(tails: &[(VarId, LinkTail<Sealed>)], to: VarId) -> Option<usize>
     requires ascend { IsStrictlyIncreasing (peers (lanes_sent tails.now)) }
     ensures { result ≡ position (λ t. t.0 == to) tails.now }
 {

@@ -23,6 +23,17 @@ pub(crate) fn place_of<T>(ends: &[(VarId, T)], peer: VarId) -> Option<usize>
     Some(place)
 }
 
+/// [`place_of`], which looks at this place first.
+pub(crate) fn place_near<T>(ends: &[(VarId, T)], peer: VarId, near: usize) -> Option<usize>
+    requires ascend { IsStrictlyIncreasing (map (λ e. e.0) ends.now) }
+    ensures { result ≡ position (λ e. e.0 == peer) ends.now }
+{
+    if near < ends.len() && ends[near].0 == peer {
+        return Some(near);
+    }
+    place_of(ends, peer)
+}
+
 /// How many ends stand before the first one whose peer is not below this one.
 #[tactic(auto, using(crate::proofs::PlaceLaws::halving_starts, crate::proofs::PlaceLaws::halving_up, crate::proofs::PlaceLaws::halving_down))]
 fn first_from<T>(ends: &[(VarId, T)], peer: VarId) -> usize

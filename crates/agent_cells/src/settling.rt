@@ -8,25 +8,33 @@ ghost use Rattle.worker_runs.specs.Cells.{peers};
 ghost use Rattle.agent_cells.specs.Links.{lanes_sent, lanes_taken};
 ghost use Rattle.agent_cells.specs.Settled.{TailJoins, HeadJoins, EndsJoin, SettlesTail, SettlesHead, TailIsSettled, HeadIsSettled, EndsAreSettled};
 
-use crate::deliver::tail_to;
-use crate::places::place_of;
+use crate::places::place_near;
 use crate::sealed::Sealed;
 use dcop_base::VarId;
 use fifo_links::{LinkHead, LinkTail, settle};
 
-/// Where the link from this peer is, found by halving.
-fn head_from(heads: &[(VarId, LinkHead<Sealed>)], from: VarId) -> Option<usize>
+/// Where the link from this peer is; it is looked for at a place first, and then by halving.
+fn head_from(heads: &[(VarId, LinkHead<Sealed>)], from: VarId, near: usize) -> Option<usize>
     requires ascend { IsStrictlyIncreasing (peers (lanes_taken heads.now)) }
     ensures { result ≡ position (λ h. h.0 == from) heads.now }
 {
-    place_of(heads, from)
+    place_near(heads, from, near)
 }
 
-/// Settles the link to this peer, whose head is at hand. Answers how many messages are in its ring;
-/// 0 where there is no such link.
+/// Where the link to this peer is, looked for in the same way.
+fn tail_to(tails: &[(VarId, LinkTail<Sealed>)], to: VarId, near: usize) -> Option<usize>
+    requires ascend { IsStrictlyIncreasing (peers (lanes_sent tails.now)) }
+    ensures { result ≡ position (λ t. t.0 == to) tails.now }
+{
+    place_near(tails, to, near)
+}
+
+/// Settles the link to this peer, whose head is at hand. The tail is looked for at a place first.
+/// Answers how many messages are in its ring; 0 where there is no such link.
 pub(crate) fn settle_tail_to(
     tails: &mut [(VarId, LinkTail<Sealed>)],
     to: VarId,
+    near: usize,
     head: &mut LinkHead<Sealed>,
 ) -> u32
     requires ascend { IsStrictlyIncreasing (peers (lanes_sent tails.old)) }
@@ -36,7 +44,7 @@ pub(crate) fn settle_tail_to(
     ensures taken { taken_from head.new ≡ taken_from head.old }
     ensures settled { TailIsSettled tails.new to head.new result }
 {
-    match tail_to(tails, to) {
+    match tail_to(tails, to, near) {
         Some(place) => settle(&mut tails[place].1, head),
         None => 0,
     }
@@ -56,19 +64,21 @@ pub(crate) fn settle_head_from(
     ensures sent { sent_on tail.new ≡ sent_on tail.old }
     ensures settled { HeadIsSettled heads.new from tail.new result }
 {
-    match head_from(heads, from) {
+    match head_from(heads, from, 0) {
         Some(place) => settle(tail, &mut heads[place].1),
         None => 0,
     }
 }
 
-/// Settles the link to one cell from another. Answers how many messages are in its ring; 0 where
-/// there is no such link.
+/// Settles the link to one cell from another. Its tail and its head are each looked for at a place
+/// first. Answers how many messages are in its ring; 0 where there is no such link.
 pub(crate) fn settle_between(
     tails: &mut [(VarId, LinkTail<Sealed>)],
     to: VarId,
+    near_tail: usize,
     heads: &mut [(VarId, LinkHead<Sealed>)],
     from: VarId,
+    near_head: usize,
 ) -> u32
     requires sources { IsStrictlyIncreasing (peers (lanes_taken heads.old)) }
     requires targets { IsStrictlyIncreasing (peers (lanes_sent tails.old)) }
@@ -77,8 +87,8 @@ pub(crate) fn settle_between(
     ensures heads { SettlesHead heads.old from heads.new }
     ensures settled { EndsAreSettled tails.new to heads.new from result }
 {
-    match head_from(heads, from) {
-        Some(place) => settle_tail_to(tails, to, &mut heads[place].1),
+    match head_from(heads, from, near_head) {
+        Some(place) => settle_tail_to(tails, to, near_tail, &mut heads[place].1),
         None => 0,
     }
 }

@@ -3,7 +3,7 @@ use Rattle.std.proofs.Common.{◌≡◌, ◌≢◌, ℕ, zero, suc, ◌+◌, ◌
 use Rattle.std.specs.Prelude.{IfOk, IfErr, IsErrAnd}
 use Rattle.std.specs.List.{sum_by}
 use Rattle.std.proofs.Math.Nat.{suc-mul, mul-le-mul_right}
-use Rattle.std.proofs.lemmas.Bool.{cases_eq, cases_Bool}
+use Rattle.std.proofs.lemmas.Bool.{cases_eq, cases_Bool, cases_lt}
 use Rattle.std.proofs.lemmas.Option.{none-some, same_Some, slice_get_within, slice_get-get_or}
 use Rattle.std.proofs.lemmas.List.{map-append}
 use Rattle.std.proofs.lemmas.List.Sums.{sum_by-cons, sum_by-set, sum_by-append}
@@ -176,6 +176,19 @@ module _ {X : Type 0} {F : X → Type 0} (M : DynBox X Global F → View) where
             omega (arith, old, new, write, takes, was);
         most = most_more n m k visit_limit t.most (turn_few all m x y (ready_at before now k d t.ready lt) turned);
       }
+
+  -- cells that were passed over, up to this place
+  pub turn_past : (k m n : ℕ) (before now : List (Cell X F)) → k ≤ m → AreTurning M false k n before now → AreTurning M false m n before now
+  turn_past k m n before now le t = record {
+    ready = t.ready;
+    turned = λ i a b e f lt. elim (cases_lt i k) [
+      | inl done ↦ t.turned i a b e f done
+      | inr passed ↦ (0, inr (refl, t.rest i a b e f passed, refl))
+    ];
+    rest = λ i a b e f ge. t.rest i a b e f (omega (arith, le, ge));
+    counted = t.counted;
+    most = let most = t.most in let grow = mul-le-mul_right visit_limit le in omega (arith, most, grow);
+  }
 
   pub failed_set : (f : VisitFault) (cells : List (Cell X F)) (k : ℕ) (y : Cell X F) → k < length cells → fault_in y ≡ Some f → SomeFailed f (set cells k y)
   failed_set f cells k y lt is = record { place = k; cell = y; at = set_here cells k y lt; is = is }

@@ -13,8 +13,10 @@ mod play;
 mod rounds;
 mod runs;
 mod settle;
+mod tail_places;
 mod watch;
 
+pub use play::turns_agree;
 pub use protocol_steps::RunEnd;
 pub use rounds::{CellsList, play_round, round};
 pub use runs::{all_ended, begin_all, run, sharing_after};

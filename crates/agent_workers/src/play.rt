@@ -1,12 +1,13 @@
 //! Playing cells: turns, sprints of turns, and parts beside each other.
 
-ghost use Rattle.std.specs.Prelude.{◌≡◌, ◌≤◌, ◌<◌, length, true, IfOk, IfErr, None, Some};
+ghost use Rattle.std.specs.Prelude.{◌≡◌, ◌≤◌, ◌<◌, length, true, false, IfOk, IfErr, None, Some};
 ghost use Rattle.dcop_base.specs.Limits.{variable_limit};
+ghost use Rattle.protocol_steps.specs.Rounds.{most_events};
 ghost use Rattle.agent_cells.specs.declared.fault.VisitFault.TheVariants.{StampEnd as stamp_end};
 ghost use Rattle.agent_cells.specs.Failed.{HasReachedEnd};
 ghost use Rattle.agent_cells.specs.State.{state_of, fault_in};
 ghost use Rattle.agent_workers.specs.Joined.{states_of, EachIs, EachBecomes};
-ghost use Rattle.agent_workers.specs.Turns.{visit_limit, sprint_limit, IsReady, StaysReady, HasTurned, MayHaveTurned, SomeFailed, AreTurning, HavePlayed};
+ghost use Rattle.agent_workers.specs.Turns.{visit_limit, sprint_limit, IsReady, StaysReady, HasTurned, SomeFailed, AreTurning, HavePlayed};
 ghost use Rattle.agent_workers.specs.Broken.{HasGoneOn, AreBrokenOff};
 
 use crate::parts::play_parts;
@@ -17,6 +18,11 @@ use std::thread::Threads;
 
 /// How many turns a part of a round has at most.
 const MOST_TURNS: usize = 32;
+
+/// The most turns of the code are as many as those of the definitions.
+pub fn turns_agree()
+    ensures { MOST_TURNS ≡ most_events }
+{}
 
 /// Plays cells in parts of this size, beside each other; for those after the first `busy` parts
 /// nothing waits. Answers how many messages were taken.
@@ -55,7 +61,7 @@ pub(crate) fn play_cells<R: Threads + Sync, G: Gate>(
 /// what a visit of one of them sends. Each cell is visited in the first turn, which takes all that it
 /// finds, since a visit takes as much of a link as its ring holds. So from then on something can wait
 /// only for a cell to which a visit after its own last one sent something, and a later turn visits
-/// only these; the others pass the gate, as in a visit that finds nothing.
+/// only these; the others are passed over, and pass no gate.
 pub(crate) fn play_part<G: Gate>(
     gate: &G,
     alone: bool,
@@ -90,8 +96,8 @@ fn visits_all(turn: usize, alone: bool) -> bool
     turn == 0 || !alone
 }
 
-/// Visits each cell that has not ended once, in order; where not `all` are to be visited, only those
-/// for which something waits, and the others pass the gate. Answers how many messages were taken.
+/// A turn: visits each cell that has not ended once, in order; where not `all` are to be visited, only
+/// those for which something waits. Answers how many messages were taken.
 fn take_turn<G: Gate>(
     gate: &G,
     all: bool,
@@ -106,41 +112,54 @@ fn take_turn<G: Gate>(
     ensures end { IfErr result (λ f. f ≡ stamp_end → EachIs (λ c. fault_in c ≡ None) cells.old
         → AreBrokenOff (λ b. meaning (b.vtable, b.value)) HasGoneOn visit_limit (states_of (λ b. meaning (b.vtable, b.value)) cells.old) cells.new) }
 {
+    if all {
+        return visit_all(gate, watch, cells);
+    }
+    visit_waiting(gate, watch, cells)
+}
+
+/// Visits each cell that has not ended once, in order. Answers how many messages were taken.
+fn visit_all<G: Gate>(gate: &G, watch: &mut Watch, cells: &mut [Cell]) -> Result<u64, VisitFault>
+    requires ready { EachIs (λ c. IsReady (λ b. meaning (b.vtable, b.value)) c) cells.old }
+    requires few { length cells.old ≤ variable_limit }
+    ensures ready { EachBecomes (λ a b. StaysReady (λ b. meaning (b.vtable, b.value)) a b) cells.old cells.new }
+    ensures ok { IfOk result (λ n. AreTurning (λ b. meaning (b.vtable, b.value)) true (length cells.old) n cells.old cells.new) }
+    ensures err { IfErr result (λ f. SomeFailed f cells.new) }
+    ensures end { IfErr result (λ f. f ≡ stamp_end → EachIs (λ c. fault_in c ≡ None) cells.old
+        → AreBrokenOff (λ b. meaning (b.vtable, b.value)) HasGoneOn visit_limit (states_of (λ b. meaning (b.vtable, b.value)) cells.old) cells.new) }
+{
     let mut taken = 0;
     for (place, cell) in cells.iter_mut().enumerate() {
-        taken += turn_once(gate, all, place, watch, cell)?;
+        taken += visit_once(gate, place, watch, cell)?;
     }
     Ok(taken)
 }
 
-/// The turn of the cell at this place: a visit, if it has not ended and is to be visited. Answers how
-/// many messages were taken.
-fn turn_once<G: Gate>(
+/// Visits each cell that has not ended and for which something waits once, in order, also one to
+/// which a visit before it in this turn sends something. Answers how many messages were taken.
+fn visit_waiting<G: Gate>(
     gate: &G,
-    all: bool,
-    place: usize,
     watch: &mut Watch,
-    cell: &mut Cell,
+    cells: &mut [Cell],
 ) -> Result<u64, VisitFault>
-    requires ready { IsReady (λ b. meaning (b.vtable, b.value)) cell.old }
-    ensures ready { StaysReady (λ b. meaning (b.vtable, b.value)) cell.old cell.new }
-    ensures ok { IfOk result (λ n. MayHaveTurned (λ b. meaning (b.vtable, b.value)) all n cell.old cell.new) }
-    ensures err { IfErr result (λ f. fault_in cell.new ≡ Some f) }
-    ensures end { IfErr result (λ f. f ≡ stamp_end → fault_in cell.old ≡ None
-        → HasReachedEnd (state_of (λ b. meaning (b.vtable, b.value)) cell.old) (state_of (λ b. meaning (b.vtable, b.value)) cell.new)) }
+    requires ready { EachIs (λ c. IsReady (λ b. meaning (b.vtable, b.value)) c) cells.old }
+    requires few { length cells.old ≤ variable_limit }
+    ensures ready { EachBecomes (λ a b. StaysReady (λ b. meaning (b.vtable, b.value)) a b) cells.old cells.new }
+    ensures ok { IfOk result (λ n. AreTurning (λ b. meaning (b.vtable, b.value)) false (length cells.old) n cells.old cells.new) }
+    ensures err { IfErr result (λ f. SomeFailed f cells.new) }
+    ensures end { IfErr result (λ f. f ≡ stamp_end → EachIs (λ c. fault_in c ≡ None) cells.old
+        → AreBrokenOff (λ b. meaning (b.vtable, b.value)) HasGoneOn visit_limit (states_of (λ b. meaning (b.vtable, b.value)) cells.old) cells.new) }
 {
-    if all || watch.waits(place) {
-        return visit_once(gate, place, watch, cell);
+    let mut taken = 0;
+    let mut from = 0;
+    while let Some(place) = watch.next(from, cells.len()) {
+        taken += visit_once(gate, place, watch, &mut cells[place])?;
+        from = place + 1;
     }
-    if !watch.has_ended(place) {
-        gate.pass(cell.agent());
-    }
-    Ok(0)
+    Ok(taken)
 }
 
-/// Visits the cell at this place, if it has not ended. Answers how many messages were taken. It is kept
-/// out of the loop over cells, which is short where most are passed over.
-#[inline(never)]
+/// Visits the cell at this place, if it has not ended. Answers how many messages were taken.
 fn visit_once<G: Gate>(
     gate: &G,
     place: usize,
@@ -156,12 +175,11 @@ fn visit_once<G: Gate>(
 {
     watch.look(place);
     if cell.ended() {
-        watch.end(place);
         return Ok(0);
     }
     let taken = cell.visit_marking(gate, watch.marks())?;
-    if cell.ended() {
-        watch.end(place);
+    if taken > 0 {
+        watch.keep(cell);
     }
     Ok(taken)
 }

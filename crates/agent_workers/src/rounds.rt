@@ -22,9 +22,10 @@ pub type CellsList = Vec<Cell>;
 /// One round: settles every link inside a node, of so many nodes, and then plays the cells in parts
 /// beside each other, at most as many as there are workers, of equal length but the last. A part is
 /// played in turns, in each of which every cell of the part that has not ended is visited once, in
-/// order; it stops after 32 turns, or after a turn that took nothing. Parts behind the last one for
-/// which something may wait are played one after another, in one thread. Answers how many messages
-/// were taken. It takes memory.
+/// order; where all cells are one part, the turns after the first pass over those for which nothing
+/// waits, and these pass no gate. It stops after 32 turns, or after a turn that took nothing. Parts
+/// behind the last one for which something may wait are played one after another, in one thread.
+/// Answers how many messages were taken. It takes memory.
 ///
 /// After a fault the cells are as their visits left them. [`VisitFault::StampEnd`] comes only where
 /// a cell stands failed by it.

@@ -8,6 +8,7 @@ ghost use Rattle.agent_cells.specs.State.{state_of, IsCell};
 ghost use Rattle.agent_workers.specs.Joined.{EachIs, IsJoined};
 ghost use Rattle.agent_workers.specs.Settled.{CanSettle, HasSettled, HasSettledPlace, HasSettledTo, HaveSettled};
 
+use crate::tail_places::TailPlaces;
 use agent_cells::Cell;
 
 /// Settles every link inside a node, of so many nodes. Of the parts of so many cells, it answers how
@@ -18,9 +19,10 @@ pub fn settle_all(cells: &mut [Cell], nodes: u32, size: usize) -> usize
     requires sound { EachIs (λ c. IsCell (λ b. meaning (b.vtable, b.value)) c) cells.old }
     ensures settled { HaveSettled (λ b. meaning (b.vtable, b.value)) (home_of nodes (length cells.old)) (length cells.old) cells.old cells.new }
 {
+    let mut tails = TailPlaces::new();
     let mut busy = 0;
     for to in 0..cells.len() {
-        if settle_links_to(cells, to, nodes) {
+        if settle_links_to(cells, to, nodes, &mut tails) {
             busy = to / size + 1;
         }
     }
@@ -28,7 +30,7 @@ pub fn settle_all(cells: &mut [Cell], nodes: u32, size: usize) -> usize
 }
 
 /// Settles every link to this agent inside its node. Whether something may wait for it.
-fn settle_links_to(cells: &mut [Cell], to: usize, nodes: u32) -> bool
+fn settle_links_to(cells: &mut [Cell], to: usize, nodes: u32, tails: &mut TailPlaces) -> bool
     requires joined { IsJoined (λ b. meaning (b.vtable, b.value)) nodes cells.old }
     requires sound { EachIs (λ c. IsCell (λ b. meaning (b.vtable, b.value)) c) cells.old }
     requires inside { to < length cells.old }
@@ -36,7 +38,7 @@ fn settle_links_to(cells: &mut [Cell], to: usize, nodes: u32) -> bool
 {
     let mut waits = false;
     for place in 0..cells[to].degree() {
-        if settle_place(cells, to, place, nodes) {
+        if settle_place(cells, to, place, nodes, tails) {
             waits = true;
         }
     }
@@ -45,7 +47,13 @@ fn settle_links_to(cells: &mut [Cell], to: usize, nodes: u32) -> bool
 
 /// Settles the link to an agent from its neighbour at this place, if it is in the agent's node.
 /// Whether something may wait on it.
-fn settle_place(cells: &mut [Cell], to: usize, place: usize, nodes: u32) -> bool
+fn settle_place(
+    cells: &mut [Cell],
+    to: usize,
+    place: usize,
+    nodes: u32,
+    tails: &mut TailPlaces,
+) -> bool
     requires joined { IsJoined (λ b. meaning (b.vtable, b.value)) nodes cells.old }
     requires sound { EachIs (λ c. IsCell (λ b. meaning (b.vtable, b.value)) c) cells.old }
     requires inside { to < length cells.old }
@@ -53,10 +61,11 @@ fn settle_place(cells: &mut [Cell], to: usize, place: usize, nodes: u32) -> bool
     ensures settled { HasSettledPlace (λ b. meaning (b.vtable, b.value)) (home_of nodes (length cells.old)) to place cells.old cells.new }
 {
     let from = cells[to].neighbour(place).0 as usize;
+    let near_tail = tails.pass(from);
     if !share_node(to, from, nodes, cells.len()) {
         return true;
     }
-    settle_at(cells, to, from) > 0
+    settle_at(cells, to, from, near_tail, place) > 0
 }
 
 /// Whether two agents are in one node, of so many nodes and agents.
@@ -81,8 +90,8 @@ fn home(agent: usize, nodes: u32, agents: usize) -> usize
     agent * nodes as usize / agents
 }
 
-/// Settles the link to one agent from another.
-fn settle_at(cells: &mut [Cell], to: usize, from: usize) -> u32
+/// Settles the link to one agent from another, whose ends are looked for at these places first.
+fn settle_at(cells: &mut [Cell], to: usize, from: usize, near_tail: usize, near_head: usize) -> u32
     requires inside { (to < length cells.old) × (from < length cells.old) × (to ≢ from) }
     requires can { (d : _) → CanSettle (λ b. meaning (b.vtable, b.value)) (slice_index_or cells.old from d) (slice_index_or cells.old to d) }
     ensures size { length cells.new ≡ length cells.old }
@@ -92,17 +101,17 @@ fn settle_at(cells: &mut [Cell], to: usize, from: usize) -> u32
 {
     if to < from {
         let (low, high) = cells.split_at_mut(from);
-        settle_two(&mut high[0], &mut low[to])
+        settle_two(&mut high[0], near_tail, &mut low[to], near_head)
     } else {
         let (low, high) = cells.split_at_mut(to);
-        settle_two(&mut low[from], &mut high[0])
+        settle_two(&mut low[from], near_tail, &mut high[0], near_head)
     }
 }
 
-/// Settles the link from one cell to another.
-fn settle_two(from: &mut Cell, to: &mut Cell) -> u32
+/// Settles the link from one cell to another, whose ends are looked for at these places first.
+fn settle_two(from: &mut Cell, near_tail: usize, to: &mut Cell, near_head: usize) -> u32
     requires can { CanSettle (λ b. meaning (b.vtable, b.value)) from.old to.old }
     ensures did { HasSettled (λ b. meaning (b.vtable, b.value)) from.old to.old from.new to.new }
 {
-    from.settle_to(to)
+    from.settle_to(near_tail, to, near_head)
 }

@@ -17,7 +17,10 @@ impl Cell {
     /// Settles the link from this cell to the other, in one thread: moves what stands in its
     /// backlog into its ring while there is room. Answers how many messages are in the ring, all of
     /// which the other cell then knows. Nothing but the link changes. It takes no memory.
-    pub fn settle_to(&mut self, other: &mut Cell) -> u32
+    ///
+    /// The other cell is looked for at place `near_tail` of this one's neighbours first, and this cell
+    /// at place `near_head` of the other's; what is not there is found by halving.
+    pub fn settle_to(&mut self, near_tail: usize, other: &mut Cell, near_head: usize) -> u32
         requires cell { IsCell (λ b. meaning b) self.old }
         requires other_cell { IsCell (λ b. meaning b) other.old }
         requires joined { EndsJoin (tails_in self.old) (state_of (λ b. meaning b) other.old).me (heads_in other.old) (state_of (λ b. meaning b) self.old).me }
@@ -39,8 +42,10 @@ impl Cell {
         settle_between(
             self.tails.as_mut_slice(),
             other.me,
+            near_tail,
             other.heads.as_mut_slice(),
             self.me,
+            near_head,
         )
     }
 
@@ -59,7 +64,7 @@ impl Cell {
         ensures begun { begun_in self.new ≡ begun_in self.old }
         ensures fault { fault_in self.new ≡ fault_in self.old }
     {
-        settle_tail_to(self.tails.as_mut_slice(), to, head)
+        settle_tail_to(self.tails.as_mut_slice(), to, 0, head)
     }
 
     /// Settles the link to this cell from a neighbour whose end is outside a cell, as
