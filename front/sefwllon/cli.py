@@ -293,7 +293,21 @@ def known_by(holds: Callable[[int | None], bool], best: Best, told: Translation)
 def hard_headline(best: Best, told: Translation) -> str:
     """What is known where the best assignment breaks a hard constraint."""
     known = known_by(told.none_keeps, best, told)
-    return f"no assignment keeps all hard constraints ({known})" if known else "no assignment that keeps all hard constraints was found"
+    return f"{none_keeps_all(told)} ({known})" if known else none_was_found(told)
+
+
+def none_keeps_all(told: Translation) -> str:
+    """That no assignment keeps all hard constraints, which in a WCSP is to cost less than its top."""
+    if told.top is None:
+        return "no assignment keeps all hard constraints"
+    return f"the WCSP has no solution, since no assignment costs less than its top {number(told.top)}"
+
+
+def none_was_found(told: Translation) -> str:
+    """That none was found, where there may be one."""
+    if told.top is None:
+        return "no assignment that keeps all hard constraints was found"
+    return f"no solution of the WCSP was found, which is an assignment that costs less than its top {number(told.top)}"
 
 
 def unchecked(best: Best) -> str | None:
@@ -329,11 +343,14 @@ def as_json(best: Best, told: Translation) -> str:
     lower, upper = told.own_bounds(best.lower, best.upper)
     if cost is not None and not broken:
         lower, upper = (lower, cost) if goal == "min" else (cost, upper)
+    if broken and told.top is not None:
+        cost = upper = None  # what a WCSP's top forbids is worth the top, and is no solution
+    notes = [hard_headline(best, told) if broken else None, note(best), *([] if values is None else told.notes(values))]
     answer = {
         "solved": best.solved and not broken,
         "verified": checked,
         "verified_by": None if not checked else "a check that was compiled without proofs" if best.quick else "dcop check",
-        "note": "; ".join(filter(None, [note(best), *([] if values is None else told.notes(values))])) or None,
+        "note": "; ".join(filter(None, notes)) or None,
         "method": best.method,
         "goal": goal,
         "cost": plain_number(cost),
@@ -367,7 +384,7 @@ def run_check(options: argparse.Namespace) -> int:
     broken = told.broken(values)
     bound = read.lower if told.problem.goal == "min" else read.upper
     if broken:
-        none = "no assignment keeps all hard constraints" if told.none_keeps(bound) else "the report holds"
+        none = none_keeps_all(told) if told.none_keeps(bound) else "the report holds"
         print(f"yes, {programs.verified}: {none}; this one breaks: {', '.join(broken)}")
         return SOLVED
     gap = abs(read.cost - bound)
@@ -382,9 +399,12 @@ def noun(told: Translation) -> str:
 
 def run_explain(options: argparse.Namespace) -> int:
     options.text = read_text(options.file)
-    if KINDS.get(Path(options.file).suffix.lower()):
+    kind, programs, words = KINDS.get(Path(options.file).suffix.lower()), Programs(), ["tree"]
+    if kind == "wcsp" and (options.answer or programs.dcop):
+        words += ["--format", "wcsp"]  # dcop reads such a file itself, and names the file's own lines
+    elif kind:
         options.text = load(options.file, options.text).problem.text()
-    answer = read_text(options.answer) if options.answer else Programs().run(["tree"], options.text).text
+    answer = read_text(options.answer) if options.answer else programs.run(words, options.text).text
     if not answer.startswith(("refused", "status no")):
         print("dcop takes this file.")
         return SOLVED
@@ -505,7 +525,10 @@ def bounds_of(programs: Programs, told: Translation, report: str, title: str, po
 def bounds_title(told: Translation, read: Report, title: str) -> str:
     own = {what: number(told.own_cost(getattr(read, what))) for what in ("cost", "lower", "upper")}
     known = "none is better" if read.exact else f"the best lies between {own['lower']} and {own['upper']}"
-    return f"{title}: {read.deliveries:,} messages, {noun(told)} {own['cost']}, {known}"
+    found = f"{noun(told)} {own['cost']}, {known}"
+    if told.top is not None and told.none_keeps(read.cost):
+        found = none_keeps_all(told) if told.none_keeps(read.lower) else f"no solution, the best sum is at least {own['lower']}"
+    return f"{title}: {read.deliveries:,} messages, {found}"
 
 
 def run_cost(options: argparse.Namespace) -> int:
@@ -535,8 +558,10 @@ def from_the_best(programs: Programs, told: Translation, total: int, report: str
     if answer.status != 0:
         raise Trouble(explain(answer.text, problem.text() + report))
     read = read_report(report, problem)
-    gap = abs(total - (read.lower if problem.goal == "min" else read.upper))
-    return f"{from_best(gap, told)} ({programs.verified})"
+    bound = read.lower if problem.goal == "min" else read.upper
+    if told.top is not None and told.none_keeps(bound):
+        return f"{none_keeps_all(told)} ({programs.verified})"
+    return f"{from_best(abs(total - bound), told)} ({programs.verified})"
 
 
 def assignment(words: list[str], told: Translation) -> list[int]:

@@ -3,7 +3,7 @@
 from __future__ import annotations
 
 import re
-from dataclasses import dataclass, field
+from dataclasses import dataclass, field, replace
 from fractions import Fraction
 from itertools import product
 from math import lcm, prod
@@ -38,6 +38,8 @@ class Source:
     """What the user is told besides."""
     infinity: Fraction | None = None
     """A cost that the tool that the file is of counts as a violation, and leaves out of what it prints as the cost."""
+    top: Fraction | None = None
+    """The top of a WCSP, where it is one: only what costs less in all is a solution."""
 
 
 @dataclass
@@ -76,6 +78,11 @@ class Translation:
         return sum(self.own_costs(assignment), Fraction(0))
 
     @property
+    def top(self) -> Fraction | None:
+        """The top of the WCSP that the problem was made from, if it was."""
+        return None if self.source is None else self.source.top
+
+    @property
     def slack(self) -> Fraction:
         """By how much the costs of two assignments may differ otherwise than the problem says, since costs are rounded."""
         return Fraction(len(self.problem.tables), self.scale) if self.rounded else Fraction(0)
@@ -97,11 +104,13 @@ class Translation:
         return [None if bound is None else self.own_cost(bound) + half * sign for bound, sign in ((lower, -1), (upper, 1))]
 
     def broken(self, assignment: list[int]) -> list[str]:
-        """The hard constraints that an assignment breaks, by name."""
+        """The hard constraints that an assignment breaks, by name, and that its sum reaches the top of a WCSP."""
         names = []
         for at, cells in self.hard.items():
             if self.problem.place(self.problem.tables[at], assignment) in cells:
                 names.append(self.hard_names[at])
+        if self.top is not None and self.own_sum(assignment) >= self.top:
+            names.append(f"a sum below the top {number(self.top)} (it is {number(self.own_sum(assignment))})")
         return names
 
     def fewest_broken(self, bound: int | None) -> int:
@@ -113,8 +122,8 @@ class Translation:
         return count if self.problem.goal == "min" else max(0, len(self.hard) - count)
 
     def none_keeps(self, bound: int | None) -> bool:
-        """Whether no assignment keeps all hard constraints, by a bound as above."""
-        return self.fewest_broken(bound) > 0
+        """Whether no assignment keeps all hard constraints, and its sum below the top of a WCSP, by a bound as above."""
+        return self.fewest_broken(bound) > 0 or (bound is not None and self.top is not None and self.own_cost(bound) >= self.top)
 
     def told(self, assignment: list[int]) -> dict[str, object]:
         """The assignment by the user's own names and values."""
@@ -196,7 +205,8 @@ def without_forbidden_values(source: Source) -> Source:
             (variable,) = constraint.scope
             kept[variable] = [v for v in kept[variable] if constraint.costs[v] is not FORBIDDEN]
             if not kept[variable]:
-                raise Trouble(f"every value of {source.names[variable]} is forbidden, the last by {constraint.name}")
+                name = source.names[variable]
+                raise Trouble(f"every value of {name} is forbidden, the last by {constraint.name}, so there is no solution")
     constraints = []
     for constraint in source.constraints:
         sizes = [len(source.values[v]) for v in constraint.scope]
@@ -208,7 +218,7 @@ def without_forbidden_values(source: Source) -> Source:
             costs.append(constraint.costs[place])
         constraints.append(Constraint(constraint.name, constraint.scope, costs))
     values = [[values[v] for v in keep] for values, keep in zip(source.values, kept)]
-    return Source(source.goal, source.names, values, constraints, source.title, source.notes, source.infinity)
+    return replace(source, values=values, constraints=constraints)
 
 
 def scale_of(source: Source) -> tuple[int, bool]:
@@ -285,4 +295,6 @@ def comments_of(source: Source, result: Translation) -> list[str]:
     if result.hard:
         what = "costs" if source.goal == "min" else "misses"
         lines.append(f"what is forbidden {what} {result.hard_cost}, more than all else together")
+    if source.top is not None:
+        lines.append(f"a solution's own cost is below the top {number(source.top)}")
     return [line.replace("\n", " ") for line in lines]

@@ -8,7 +8,7 @@ from itertools import product
 from math import prod
 
 from .evaluator import exact
-from .problem import Problem, Trouble
+from .problem import Problem, Trouble, is_number
 from .translate import Constraint, Source
 
 
@@ -28,10 +28,9 @@ class Words:
 
     def number(self) -> int:
         word = self.next()
-        try:
-            return int(word)
-        except ValueError:
-            raise Trouble(f"line {self.words[self.at - 1][0]}: {word} is no whole number") from None
+        if not is_number(word):
+            raise Trouble(f"line {self.words[self.at - 1][0]}: {word} is no whole number from 0 up, of 1 to 19 digits")
+        return int(word)
 
     def real(self) -> float:
         word = self.next()
@@ -42,7 +41,7 @@ class Words:
 
 
 def read_wcsp(text: str, title: str) -> Source:
-    """Reads a WCSP: cost functions by tuples, with a top cost that forbids."""
+    """Reads a WCSP: cost functions by tuples, with a top cost that forbids, as a cell and as a sum."""
     words = Words(text, "WCSP")
     words.next()
     count, _, functions, top = (words.number() for _ in range(4))
@@ -53,14 +52,14 @@ def read_wcsp(text: str, title: str) -> Source:
         arity = words.number()
         scope = tuple(words.number() for _ in range(arity))
         default = words.number()
-        if any(not 0 <= v < count for v in scope):
-            raise Trouble(f"function {number} names a variable that is not there")
+        if len(set(scope)) < len(scope) or any(v >= count for v in scope):
+            raise Trouble(f"function {number} names a variable that is not there, or one twice")
         cells = [default] * prod(sizes[v] for v in scope)
         for _ in range(words.number()):
             place = 0
             for variable in scope:
                 value = words.number()
-                if not 0 <= value < sizes[variable]:
+                if value >= sizes[variable]:
                     raise Trouble(f"function {number} names value {value} of variable {variable}")
                 place = place * sizes[variable] + value
             cells[place] = words.number()
@@ -69,11 +68,10 @@ def read_wcsp(text: str, title: str) -> Source:
             continue
         costs = [None if c >= top else Fraction(c) for c in cells]
         constraints.append(Constraint(f"function {number}", scope, costs))
-    if constant >= top:
-        raise Trouble("a function without variables costs the top already, so every assignment is forbidden")
     if constant and count:
         constraints.append(Constraint("constant", (0,), [Fraction(constant)] * sizes[0]))
-    return Source("min", [f"v{i}" for i in range(count)], [list(range(s)) for s in sizes], constraints, title)
+    names, values = [f"v{i}" for i in range(count)], [list(range(s)) for s in sizes]
+    return Source("min", names, values, constraints, title, top=Fraction(top))
 
 
 def write_wcsp(problem: Problem, name: str = "problem") -> str:
@@ -103,7 +101,7 @@ def read_uai(text: str, title: str) -> Source:
     scopes = [tuple(words.number() for _ in range(words.number())) for _ in range(words.number())]
     constraints = []
     for number, scope in enumerate(scopes, 1):
-        if len(set(scope)) < len(scope) or any(not 0 <= v < len(sizes) for v in scope):
+        if len(set(scope)) < len(scope) or any(v >= len(sizes) for v in scope):
             raise Trouble(f"factor {number} names a variable that is not there, or one twice")
         if words.number() != prod(sizes[v] for v in scope):
             raise Trouble(f"factor {number} has not as many entries as its variables have choices")

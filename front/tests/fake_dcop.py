@@ -15,7 +15,7 @@ from pathlib import Path
 
 sys.path.insert(0, str(Path(__file__).resolve().parents[1]))
 
-from sefwllon.problem import TextFault, parse  # noqa: E402
+from sefwllon.problem import TextFault, is_number, parse  # noqa: E402
 from sefwllon.report import read_report  # noqa: E402
 
 FAKE = os.environ.get("FAKE", "").split()
@@ -26,6 +26,8 @@ def main() -> int:
     text = sys.stdin.read()
     if words[0] == "check":
         return check(text)
+    if words == ["tree", "--format", "wcsp"]:
+        return wcsp_tree(text)
     if words[0] == "replay" and "logs" in FAKE:
         return replay(text, int(words[2]))
     if words[0] == "upgrade":
@@ -103,6 +105,14 @@ def solve(text: str, method: str, budget: int) -> int:
             print(f"event x {stamp} y {stamp}" if stamp % 2 else f"event y {stamp} x 1")
     print("end")
     return 1 if spent else 0
+
+
+def wcsp_tree(text: str) -> int:
+    """Refuses the first word behind the name that is no number."""
+    words = [(number, word) for number, line in enumerate(text.split("\n"), 1) for word in line.split()]
+    bad = next((number for number, word in words[1:] if not is_number(word)), None)
+    print("status tree\nend" if bad is None else f"refused wcsp line {bad} kind 1")
+    return 0 if bad is None else 3
 
 
 def check(text: str) -> int:

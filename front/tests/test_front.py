@@ -70,6 +70,13 @@ class Case(unittest.TestCase):
         return str(path)
 
 
+TORN = "torn 3 2 4 100\n2 2 2\n" + "".join(
+    f"2 {a} {b} {other} 2\n0 0 {same}\n1 1 {same}\n" for a, b in ((0, 1), (1, 2)) for same, other in ((60, 0), (0, 60))
+)
+"""A WCSP whose cells are all below its top, and whose sums are all 120."""
+NO_SOLUTION = "the WCSP has no solution, since no assignment costs less than its top 100"
+
+
 class Solving(Case):
     def test_a_certified_answer_is_verified(self):
         status, told, _ = self.front("solve", str(PROBLEMS / "pair.dcop"))
@@ -299,6 +306,63 @@ class Solving(Case):
         status, told, _ = self.front("solve", "--json", str(EXAMPLES / "knapsack.wcsp"))
         self.assertEqual((status, json.loads(told)["cost"]), (0, 8))
 
+    def test_a_wcsp_whose_best_sum_reaches_its_top_has_no_solution(self):
+        file, report, lost = self.file("torn.wcsp", TORN), self.file("report", ""), "a sum below the top 100 (it is 120)"
+        status, told, _ = self.front("solve", file, "--report", report)
+        self.assertEqual((status, told.splitlines()[:2]), (1, [f"{NO_SOLUTION} (verified)", f"broken, though it must hold: {lost}"]))
+        answer = json.loads(self.front("solve", "--json", file)[1])
+        self.assertEqual((answer["solved"], answer["cost"], answer["lower"], answer["upper"]), (False, None, 120, None))
+        self.assertEqual((answer["broken"], answer["note"]), ([lost], f"{NO_SOLUTION} (verified)"))
+        self.assertEqual(self.front("check", file, report)[1], f"yes, verified: {NO_SOLUTION}; this one breaks: {lost}\n")
+        told = self.front("cost", file, "v0=0", "v1=1", "v2=1", "--report", report)[1]
+        self.assertEqual(told, f"broken: {lost}\ncost 120\n{NO_SOLUTION} (verified)\n")
+        self.front("solve", file, "--method", "adopt", "--report", report, fake="logs")
+        self.assertIn(f"torn.wcsp: 2 messages, {NO_SOLUTION} (verified)</text>", self.front("draw", file, report, fake="logs")[1])
+
+    def test_that_a_wcsp_has_no_solution_is_told_no_better_than_it_is_known(self):
+        file = self.file("torn.wcsp", TORN)
+        self.assertEqual(self.front("solve", file, fake="wide")[1].splitlines()[0], f"{NO_SOLUTION} (not verified)")
+        status, told, _ = self.front("solve", file, "--time", "300ms", fake="slow")
+        self.assertEqual((status, told.splitlines()[0].split(",")[0]), (1, "no solution of the WCSP was found"))
+
+    def test_a_wcsp_s_top_is_no_cost_of_a_solution(self):
+        for top, wanted in ((121, (0, "cost 120")), (120, (1, "the WCSP has no solution"))):
+            status, told, _ = self.front("solve", self.file("torn.wcsp", TORN.replace(" 100\n", f" {top}\n")))
+            self.assertEqual((status, told.split(",")[0]), wanted)
+        for text in ("constants 1 2 2 9\n2\n0 4 0\n0 5 0\n", "nothing 1 1 0 0\n1\n", "cells 2 2 1 9\n2 2\n2 0 1 9 0\n"):
+            status, told, _ = self.front("solve", self.file("none.wcsp", text))
+            self.assertEqual((status, told.split(",")[0]), (1, "the WCSP has no solution"))
+
+    def test_a_wcsp_has_the_solutions_that_come_of_trying_all(self):
+        draw, solved = random.Random(1), 0
+        choices = list(itertools.product(range(2), repeat=2))
+        for _ in range(16):
+            top = draw.randrange(4, 14)
+            tables = {pair: {choice: draw.randrange(9) for choice in choices} for pair in ((0, 1), (1, 2), (0, 2))}
+            text = f"random 3 2 4 {top}\n2 2 2\n0 2 0\n"
+            for (a, b), costs in tables.items():
+                text += f"2 {a} {b} 0 4\n" + "".join(f"{i} {j} {cost}\n" for (i, j), cost in costs.items())
+            sums = []
+            for values in itertools.product(range(2), repeat=3):
+                costs = [2, *(costs[values[a], values[b]] for (a, b), costs in tables.items())]
+                sums.append(top if max(costs) >= top else sum(costs))
+            status, told, _ = self.front("solve", "--json", self.file("random.wcsp", text))
+            answer, best = json.loads(told), min(sums)
+            self.assertEqual((status, answer["cost"]), (0, best) if best < top else (1, None), text)
+            solved += best < top
+        self.assertTrue(4 < solved < 12, solved)
+
+    @unittest.skipUnless(REAL, "no built program")
+    def test_the_real_program_knows_no_solution_either(self):
+        for top, wanted in ((100, NO_SOLUTION), (121, "cost 120, and none is better")):
+            text = TORN.replace(" 100\n", f" {top}\n")
+            told = self.front("solve", self.file("torn.wcsp", text), program=REAL)[1]
+            self.assertEqual(told.splitlines()[0], f"{wanted} (verified)")
+            answer = Programs(REAL).run(["solve", "--format", "wcsp"], text).text
+            bar = Programs(REAL).run(["upgrade", "--format", "wcsp"], text).text.split()[2]
+            cost = next(line for line in answer.splitlines() if line.startswith("cost ")).split()[1]
+            self.assertEqual(int(cost) < int(bar), top == 121)
+
     @unittest.skipUnless(REAL, "no built program")
     def test_a_cut_with_a_certificate_is_verified(self):
         status, told, _ = self.front("solve", "--json", "--method", "cut", str(PROBLEMS / "pair.dcop"), program=REAL)
@@ -424,6 +488,28 @@ class Translating(Case):
         back = translate(wcsp.read_wcsp(wcsp.write_wcsp(problem), "pair"))
         for choice in itertools.product(range(2), repeat=2):
             self.assertEqual(back.own_cost(back.problem.cost(list(choice))), problem.cost(list(choice)))
+
+    def test_a_wcsp_s_top_is_told_beside_its_problem(self):
+        status, told, _ = self.front("from", "wcsp", self.file("torn.wcsp", TORN))
+        self.assertEqual((status, told.splitlines()[1]), (0, "# a solution's own cost is below the top 100"))
+        self.assertEqual(parse(told).cost([0, 0, 0]), 120)
+
+    def test_wcsp_faults_are_told(self):
+        head = "w 2 2 1 100\n2 2\n"
+        for text, why in (
+            (head + "1 0 0 1\n1 -5\n", "line 4: -5 is no whole number from 0 up"),
+            (head + "1 0 -3 0\n", "line 3: -3 is no whole number from 0 up"),
+            (head + "1 0 0 1\n1 1_0\n", "line 4: 1_0 is no whole number"),
+            (head + "1 -1 0 0\n", "line 3: -1 is no whole number"),
+            (head + "1 2 0 0\n", "function 1 names a variable that is not there"),
+            (head + "2 1 1 0 0\n", "or one twice"),
+            (head + "1 0 0 1\n2 5\n", "function 1 names value 2 of variable 0"),
+            (head + "1 0 0 1\n", "ends too early"),
+        ):
+            with self.assertRaisesRegex(Trouble, why):
+                wcsp.read_wcsp(text, "file")
+        with self.assertRaisesRegex(Trouble, "every value of v0 is forbidden, the last by function 1, so there is no solution"):
+            translate(wcsp.read_wcsp(head + "1 0 100 0\n", "file"))
 
     @unittest.skipUnless(HAS_YAML, "no PyYAML")
     def test_pydcop_faults_are_told(self):
@@ -638,6 +724,22 @@ class Telling(Case):
         self.assertIn("one turn of cut", explain("refused wide total cells 5000000 limit 4194304"))
         self.assertIn("without a certificate", explain("refused wide total cells 5000000 limit 4194304"))
         self.assertIn("build a later one", explain("refused words at 1 kind 10"))
+
+    def test_a_wcsp_is_explained_by_its_own_lines(self):
+        good, bad = self.file("good.wcsp", TORN), self.file("bad.wcsp", TORN.replace("1 1 60", "1 1 -60", 1))
+        why = "Line 5: `1 1 -60`\nThe WCSP is refused: a whole number from 0 up was expected.\n"
+        for program in (FAKE, *([REAL] if REAL else [])):
+            self.assertEqual(self.front("explain", bad, program=program)[:2], (3, why))
+            self.assertEqual(self.front("explain", good, program=program)[:2], (0, "dcop takes this file.\n"))
+        answer = self.file("answer", "refused wcsp line 2 kind 1\n")
+        for file in (good, bad):
+            self.assertEqual(self.front("explain", file, answer)[1].splitlines()[0], "Line 2: `2 2 2`")
+        with mock.patch("sefwllon.programs.found", return_value=None):
+            self.assertEqual(self.front("explain", good, answer)[1].splitlines()[0], "Line 2: `2 2 2`")
+            status, told, said = self.front("explain", bad)
+            self.assertEqual((status, told), (3, ""))
+            self.assertIn("line 5: -60 is no whole number from 0 up", said)
+            self.assertIn("dcop is not built", self.front("explain", good)[2])
 
     def test_pictures_are_svg(self):
         status, told, _ = self.front("draw", "graph", str(PROBLEMS / "tracking.dcop"))
