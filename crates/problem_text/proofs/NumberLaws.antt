@@ -21,6 +21,10 @@ pub words-skip : (bytes : List ℕ) → words (drop (blanks_of bytes) bytes) ≡
 words-skip [] = refl
 words-skip (b ∷ bs) = skip-step (is_blank b) b (blanks_of bs) bs refl (words-skip bs)
 
+-- the words behind a blank
+pub words-behind_blank : (b : ℕ) (bs text : List ℕ) → text ≡ b ∷ bs → is_blank b ≡ true → words bs ≡ words text
+words-behind_blank b bs text e h = rw (e, h) refl
+
 at-step : (t : Bool) (b : ℕ) (bs : List ℕ) → is_blank b ≡ t → 1 ≤ cond (not t) (1 + position_or_len is_blank bs) 0 → words (b ∷ bs) ≡ with_first (b ∷ bs)
 at-step true b bs h some = absurd (omega arith)
 at-step false b bs h some = words-word b bs h
