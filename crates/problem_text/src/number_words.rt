@@ -11,9 +11,6 @@ ghost use Rattle.problem_text.specs.Tables.{onto, numbers_of};
 use crate::word::{after_blanks, is_blank_byte, next_word};
 use dcop_base::{MAX_DIGITS, number_of_word};
 
-/// The most digits of a short number.
-const SHORT: usize = 8;
-
 /// The number that the first word of a text writes, where it is one, and what stands behind that
 /// word; `None` exactly where there is no word. A number's bytes are gone over once.
 pub fn next_number(text: &[u8]) -> Option<(Option<u64>, &[u8])>
@@ -21,9 +18,6 @@ pub fn next_number(text: &[u8]) -> Option<(Option<u64>, &[u8])>
         (λ r. (numbers_of (words text.now) ≡ onto r.0 (numbers_of (words r.1.now)))
         × (length (words r.1.now) + 1 ≡ length (words text.now))) }
 {
-    if let Some((number, after)) = short_behind_blank(text) {
-        return Some((Some(number), after));
-    }
     let from_word = after_blanks(text);
     if let Some((number, length)) = number_at(from_word) {
         let (_, after) = from_word.split_at(length);
@@ -33,46 +27,6 @@ pub fn next_number(text: &[u8]) -> Option<(Option<u64>, &[u8])>
         Some((word, after)) => Some((number_of_word(word), after)),
         None => None,
     }
-}
-
-/// The short number behind the one blank at the head of a text, and what stands behind that number;
-/// `None` where the text begins otherwise.
-fn short_behind_blank(text: &[u8]) -> Option<(u64, &[u8])>
-    ensures { IfSome result (λ r.
-        (numbers_of (words text.now) ≡ onto (Some r.0) (numbers_of (words r.1.now)))
-        × (length (words r.1.now) + 1 ≡ length (words text.now))) }
-{
-    let (blank, from_word) = text.split_first()?;
-    if !is_blank_byte(*blank) {
-        return None;
-    }
-    let (number, length) = short_at(from_word)?;
-    Some((number, from_word.split_at(length).1))
-}
-
-/// The number of at most [`SHORT`] digits with a blank behind it at the head of a text, and how many
-/// digits it has; `None` where no such number stands there, and near the end of the text.
-fn short_at(text: &[u8]) -> Option<(u64, usize)>
-    ensures some { IfSome result (λ r. 1 ≤ r.1) }
-    ensures within { IfSome result (λ r. r.1 ≤ length text.now) }
-    ensures run { IfSome result (λ r. r.1 ≡ position_or_len is_blank text.now) }
-    ensures number { IfSome result (λ r. number_of (take r.1 text.now) ≡ Some r.0) }
-{
-    if text.len() <= SHORT {
-        return None;
-    }
-    let mut value: u64 = 0;
-    for count in 0..SHORT + 1 {
-        let byte = text[count];
-        if !byte.is_ascii_digit() {
-            if count == 0 || !is_blank_byte(byte) {
-                return None;
-            }
-            return Some((value, count));
-        }
-        value = value * 10 + u64::from(byte - b'0');
-    }
-    None
 }
 
 /// The number that the word at the head of a text writes, and how many bytes that word has; `None`

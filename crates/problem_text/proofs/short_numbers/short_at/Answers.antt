@@ -1,7 +1,7 @@
 use Rattle.std.proofs.Common.{◌≡◌, ◌<◌, true, length, get_or, sym, ◌∙◌, arith}
 use Rattle.problem_text.specs.Lines.{is_blank}
 use Rattle.problem_text.proofs.NumberLaws.{run-digits}
-use Rattle.problem_text.proofs.number_words.short_at.Goals as goal
+use Rattle.problem_text.proofs.short_numbers.short_at.Goals as goal
 
 pub returns-then-not-is_ascii_digit-clause-run : goal.returns-then-not-is_ascii_digit-clause-run
 returns-then-not-is_ascii_digit-clause-run c =
