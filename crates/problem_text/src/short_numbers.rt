@@ -1,14 +1,14 @@
-//! Short numbers: those of few digits, each behind one space.
+//! Short numbers: those of few digits, each between two spaces. Most cells of a table are such, and
+//! are read without a search for the ends of words.
 
-ghost use Rattle.std.specs.Prelude.{◌≡◌, ◌+◌, ◌<◌, ◌≤◌, ◌++◌, Some, length, take, IfSome};
+ghost use Rattle.std.specs.Prelude.{◌≡◌, ◌+◌, ◌-◌, ◌<◌, ◌≤◌, ◌++◌, true, false, Some, length, take, IfSome, MatchOption};
 ghost use Rattle.std.specs.List.{position_or_len};
 ghost use Rattle.std.specs.Option.{option_map};
+ghost use Rattle.std.specs.Char.{is_ascii_digit};
 ghost use Rattle.dcop_base.specs.NumberWord.{number_of};
 ghost use Rattle.dcop_base.specs.Table.{greatest as greatest_of};
 ghost use Rattle.problem_text.specs.Lines.{is_blank, words};
 ghost use Rattle.problem_text.specs.Tables.{onto, numbers_of};
-
-use crate::word::is_blank_byte;
 
 /// The most digits of a short number.
 const SHORT: usize = 8;
@@ -25,11 +25,7 @@ pub struct ShortRun<'a> {
 }
 
 /// Writes the short numbers that a text begins with into `cells`, up to its end. It stops before
-/// what is no short number behind one space, and some bytes before the end of the text.
-///
-/// It is a function of its own, which calls none, so that its loop needs no memory but for the text
-/// and the cells.
-#[inline(never)]
+/// what is no short number between two spaces, and some bytes before the end of the text.
 pub fn short_run<'a>(cells: &mut [u64], text: &'a [u8]) -> ShortRun<'a>
     ensures size { length cells.new ≡ length cells.old }
     ensures count { result.count ≤ length cells.old }
@@ -72,7 +68,7 @@ fn short_behind_space(text: &[u8]) -> Option<(u64, &[u8])>
     Some((number, from_word.split_at(length).1))
 }
 
-/// The short number with a blank behind it at the head of a text, and how many digits it has; `None`
+/// The short number with a space behind it at the head of a text, and how many digits it has; `None`
 /// where none stands there.
 fn short_at(text: &[u8]) -> Option<(u64, usize)>
     requires { SHORT < length text.now }
@@ -84,13 +80,22 @@ fn short_at(text: &[u8]) -> Option<(u64, usize)>
     let mut value: u64 = 0;
     for count in 0..SHORT + 1 {
         let byte = text[count];
-        if !byte.is_ascii_digit() {
-            if count == 0 || !is_blank_byte(byte) {
+        let Some(digit) = digit_of(byte) else {
+            if count == 0 || byte != b' ' {
                 return None;
             }
             return Some((value, count));
-        }
-        value = value * 10 + u64::from(byte - b'0');
+        };
+        value = value * 10 + digit;
     }
     None
+}
+
+/// The value of a digit; `None` exactly where the byte is none.
+fn digit_of(byte: u8) -> Option<u64>
+    ensures { MatchOption result (is_ascii_digit byte ≡ false)
+        (λ d. (is_ascii_digit byte ≡ true) × (d ≡ byte - 48) × (d ≤ 9)) }
+{
+    let digit = u64::from(byte).wrapping_sub(u64::from(b'0'));
+    if digit > 9 { None } else { Some(digit) }
 }
