@@ -1,6 +1,10 @@
 -- Numbers among words, as they are read.
-use Rattle.std.proofs.Common.{◌≡◌, ℕ, ◌+◌, ◌≤◌, suc, Bool, true, false, not, List, [], ◌∷◌, ◌++◌, length, Option, Some, None, max, refl, sym, ap, ◌∙◌, append_assoc, arith, cond, ◌||◌, nat_lt, ◌==◌, if◌then◌else◌}
+use Rattle.std.proofs.Common.{◌≡◌, ℕ, ◌+◌, ◌≤◌, suc, Bool, true, false, not, List, [], ◌∷◌, ◌++◌, length, take, drop, Option, Some, None, max, refl, sym, ap, ◌∙◌, append_assoc, arith, cond, ◌||◌, nat_lt, ◌==◌, if◌then◌else◌}
 use Rattle.std.specs.List.{fold, list_any, filter}
+use Rattle.std.specs.Option.{option_map}
+use Rattle.std.proofs.Math.Seq.{take-length}
+use Rattle.std.proofs.lemmas.List.{take-append-le, length-append}
+use Rattle.std.proofs.lemmas.List.Sums.{fold-append}
 use Rattle.std.proofs.lemmas.Bool.Decides.{nat_tests}
 use Rattle.dcop_base.specs.Table.{CostTable, product, greatest}
 use Rattle.dcop_base.specs.Faults.{cell_count, greatest_sum}
@@ -25,6 +29,10 @@ pub behind-push : (xs : List ℕ) (x : ℕ) (o : Option (List ℕ)) → behind (
 behind-push xs x None = refl
 behind-push xs x (Some ys) = ap (λ zs. Some zs) (append_assoc xs (x ∷ []) ys)
 
+pub behind-is : (xs : List ℕ) (o : Option (List ℕ)) → behind xs o ≡ option_map (λ ys. xs ++ ys) o
+behind-is xs None = refl
+behind-is xs (Some ys) = refl
+
 -- what is told of cells of which so many, with this greatest, were read
 abbrev pub told : ℕ → ℕ → Option (List ℕ) → Option Summary
 told count greatest (Some cells) = Some (record { count = count + length cells; greatest = fold max greatest cells })
@@ -33,6 +41,19 @@ told count greatest None = None
 pub told-more : (count greatest x : ℕ) (o : Option (List ℕ)) → told (count + 1) (max greatest x) o ≡ told count greatest (onto (Some x) o)
 told-more count greatest x None = refl
 told-more count greatest x (Some ys) = let e : (count + 1) + length ys ≡ count + suc (length ys) = omega arith in rw e refl
+
+-- what is told of all, where some were read
+pub told-read : (xs : List ℕ) (count most : ℕ) (o : Option (List ℕ)) → count ≡ length xs → most ≡ greatest xs → told count most o ≡ told 0 0 (behind xs o)
+told-read xs count most None many greatest_is = refl
+told-read xs count most (Some ys) many greatest_is =
+    let lengths : count + length ys ≡ 0 + length (xs ++ ys) = omega (arith, many, length-append xs ys) in
+    let most_is : fold max most ys ≡ fold max 0 (xs ++ ys) = ap (λ n. fold max n ys) greatest_is ∙ sym (fold-append max 0 xs ys) in
+    rw (lengths, most_is) refl
+
+-- numbers that were written into the room of a list, of which the rest is cut off
+pub kept-short : (room : ℕ) (new old items : List ℕ) (count : ℕ) → length new ≡ room → items ≡ take count (take room (new ++ drop (length new) old)) → items ≡ take count new
+kept-short room new old items count size is =
+    is ∙ ap (λ xs. take count xs) (ap (λ n. take n (new ++ drop (length new) old)) (sym size) ∙ take-append-le (length new) new (drop (length new) old) (omega arith) ∙ take-length new)
 
 lt-max : (m a c : ℕ) → nat_lt m (max a c) ≡ nat_lt m a || nat_lt m c
 lt-max m a c = grind (arith, nat_tests)

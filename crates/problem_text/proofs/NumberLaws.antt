@@ -21,6 +21,11 @@ pub words-skip : (bytes : List ℕ) → words (drop (blanks_of bytes) bytes) ≡
 words-skip [] = refl
 words-skip (b ∷ bs) = skip-step (is_blank b) b (blanks_of bs) bs refl (words-skip bs)
 
+-- the words behind a space
+pub words-behind_space : (text from : List ℕ) → 1 ≤ length text → get_or text 0 0 ≡ 32 → from ≡ drop 1 text → words from ≡ words text
+words-behind_space [] from some space back = absurd (omega arith)
+words-behind_space (b ∷ bs) from some space back = rw (back, space) refl
+
 at-step : (t : Bool) (b : ℕ) (bs : List ℕ) → is_blank b ≡ t → 1 ≤ cond (not t) (1 + position_or_len is_blank bs) 0 → words (b ∷ bs) ≡ with_first (b ∷ bs)
 at-step true b bs h some = absurd (omega arith)
 at-step false b bs h some = words-word b bs h

@@ -13,6 +13,7 @@ use crate::draft::Draft;
 use crate::fault::TextKind;
 use crate::line_end::LineEnd;
 use crate::number_words::next_number;
+use crate::short_numbers::short_run;
 use dcop_base::{CAP, MAX_CELLS, MAX_COST, product_of};
 use std::alloc::Global;
 
@@ -60,10 +61,12 @@ pub fn cells_of(
     ensures bad { (d : Declared) → (scope : List ℕ)
         → IfErr result (λ e. Ends e (with_cells d scope (numbers_of (words text.now)))) }
 {
-    let mut cells = Vec::with_capacity(alloc, most.min(text.len()))?;
-    let mut count: usize = 0;
-    let mut greatest: u64 = 0;
-    let mut rest = text;
+    let mut cells = vec![in alloc; 0; most.min(text.len())]?;
+    let run = short_run(cells.as_mut_slice(), text);
+    cells.truncate(run.count);
+    let mut count = run.count;
+    let mut greatest = run.greatest;
+    let mut rest = run.after;
     while let Some((number, after)) = next_number(rest) {
         let Some(number) = number else {
             return Err(LineEnd::Fault(TextKind::BadNumber));

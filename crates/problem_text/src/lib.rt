@@ -23,6 +23,7 @@ mod numbered;
 mod plain_line;
 mod reader;
 mod scope_words;
+mod short_numbers;
 mod table_line;
 mod variable;
 mod word;

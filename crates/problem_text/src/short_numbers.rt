@@ -1,0 +1,101 @@
+//! Short numbers: those of few digits, each between two spaces. Most cells of a table are such, and
+//! are read without a search for the ends of words.
+
+ghost use Rattle.std.specs.Prelude.{◌≡◌, ◌+◌, ◌-◌, ◌<◌, ◌≤◌, ◌++◌, true, false, Some, length, take, IfSome, MatchOption};
+ghost use Rattle.std.specs.List.{position_or_len};
+ghost use Rattle.std.specs.Option.{option_map};
+ghost use Rattle.std.specs.Char.{is_ascii_digit};
+ghost use Rattle.dcop_base.specs.NumberWord.{number_of};
+ghost use Rattle.dcop_base.specs.Table.{greatest as greatest_of};
+ghost use Rattle.problem_text.specs.Lines.{is_blank, words};
+ghost use Rattle.problem_text.specs.Tables.{onto, numbers_of};
+
+/// The most digits of a short number.
+const SHORT: usize = 8;
+
+/// What was read of the numbers that a text begins with.
+#[derive(Clone, Copy, Debug)]
+pub struct ShortRun<'a> {
+    /// How many were read.
+    pub count: usize,
+    /// The greatest of them, 0 of none.
+    pub greatest: u64,
+    /// The text behind them.
+    pub after: &'a [u8],
+}
+
+/// Writes the short numbers that a text begins with into `cells`, up to its end. It stops before
+/// what is no short number between two spaces, and some bytes before the end of the text.
+pub fn short_run<'a>(cells: &mut [u64], text: &'a [u8]) -> ShortRun<'a>
+    ensures size { length cells.new ≡ length cells.old }
+    ensures count { result.count ≤ length cells.old }
+    ensures numbers { numbers_of (words text.now) ≡ option_map
+        (λ later. take result.count cells.new ++ later) (numbers_of (words result.after.now)) }
+    ensures greatest { result.greatest ≡ greatest_of (take result.count cells.new) }
+    ensures words { result.count + length (words result.after.now) ≡ length (words text.now) }
+{
+    let mut count: usize = 0;
+    let mut greatest: u64 = 0;
+    let mut rest = text;
+    while count < cells.len() {
+        let Some((number, after)) = short_behind_space(rest) else {
+            break;
+        };
+        cells[count] = number;
+        count += 1;
+        greatest = greatest.max(number);
+        rest = after;
+    }
+    ShortRun {
+        count,
+        greatest,
+        after: rest,
+    }
+}
+
+/// The short number behind the one space that a text begins with, and what stands behind that
+/// number; `None` where the text begins otherwise, and near its end.
+fn short_behind_space(text: &[u8]) -> Option<(u64, &[u8])>
+    ensures { IfSome result (λ r.
+        (numbers_of (words text.now) ≡ onto (Some r.0) (numbers_of (words r.1.now)))
+        × (length (words r.1.now) + 1 ≡ length (words text.now))) }
+{
+    if text.len() <= SHORT + 1 || text[0] != b' ' {
+        return None;
+    }
+    let (_, from_word) = text.split_at(1);
+    let (number, length) = short_at(from_word)?;
+    Some((number, from_word.split_at(length).1))
+}
+
+/// The short number with a space behind it at the head of a text, and how many digits it has; `None`
+/// where none stands there.
+fn short_at(text: &[u8]) -> Option<(u64, usize)>
+    requires { SHORT < length text.now }
+    ensures some { IfSome result (λ r. 1 ≤ r.1) }
+    ensures within { IfSome result (λ r. r.1 ≤ length text.now) }
+    ensures run { IfSome result (λ r. r.1 ≡ position_or_len is_blank text.now) }
+    ensures number { IfSome result (λ r. number_of (take r.1 text.now) ≡ Some r.0) }
+{
+    let mut value: u64 = 0;
+    for count in 0..SHORT + 1 {
+        let byte = text[count];
+        let Some(digit) = digit_of(byte) else {
+            if count == 0 || byte != b' ' {
+                return None;
+            }
+            return Some((value, count));
+        };
+        value = value * 10 + digit;
+    }
+    None
+}
+
+/// The value of a digit; `None` exactly where the byte is none.
+fn digit_of(byte: u8) -> Option<u64>
+    ensures { MatchOption result (is_ascii_digit byte ≡ false)
+        (λ d. (is_ascii_digit byte ≡ true) × (d ≡ byte - 48) × (d ≤ 9)) }
+{
+    let digit = u64::from(byte).wrapping_sub(u64::from(b'0'));
+    if digit > 9 { None } else { Some(digit) }
+}
