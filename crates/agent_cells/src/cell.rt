@@ -1,9 +1,7 @@
 //! A cell.
 
 ghost use Rattle.std.specs.Prelude.{◌≤◌};
-ghost use Rattle.std.specs.Vec.{vec_capacity};
 ghost use Rattle.dcop_base.specs.Limits.{amount_limit};
-ghost use Rattle.fifo_links.specs.Slots.{ring_slots};
 
 mod begin;
 mod handle;
@@ -37,9 +35,6 @@ pub struct Cell {
     journal: Journal,
     begun: bool,
     fault: Option<VisitFault>,
-    // Room for what a visit finds on one link.
-    room: Vec<Sealed>,
     alloc: Global,
     ghost stamped: { stamp ≤ amount_limit },
-    ghost roomy: { ring_slots ≤ vec_capacity room },
 }

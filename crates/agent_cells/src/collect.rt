@@ -11,7 +11,7 @@ ghost use Rattle.agent_cells.specs.Links.{IsSameHead, AreSameHeads, known_of};
 
 use crate::sealed::Sealed;
 use dcop_base::{NoMemory, VarId};
-use fifo_links::LinkHead;
+use fifo_links::{LinkHead, SLOTS};
 use protocol_steps::{Envelope, Letter, Take};
 use std::alloc::Global;
 
@@ -82,14 +82,11 @@ fn take_one(
 }
 
 /// Takes all that is found on each link; `None` where a look finds nothing on any, which takes no
-/// memory. `found` is room for what one link holds.
+/// memory.
 pub(crate) fn collect_waiting(
     alloc: Global,
     heads: &mut [(VarId, LinkHead<Sealed>)],
-    found: &mut Vec<Sealed>,
 ) -> Result<Option<Taken>, NoMemory>
-    requires room { ring_slots ≤ vec_capacity found.old }
-    ensures room { ring_slots ≤ vec_capacity found.new }
     ensures same { AreSameHeads heads.old heads.new }
     ensures found { IfOk result (λ o. MatchOption o (HasFoundNothing heads.old heads.new)
         (λ t. HasLookedAndCollected heads.old heads.new t.letters.items t.takes.items t.greatest)) }
@@ -98,7 +95,7 @@ pub(crate) fn collect_waiting(
     if finds_nothing(heads) {
         return Ok(None);
     }
-    let taken = collect(alloc, heads, found)?;
+    let taken = collect(alloc, heads)?;
     Ok(Some(taken))
 }
 
@@ -116,23 +113,17 @@ fn finds_nothing(heads: &mut [(VarId, LinkHead<Sealed>)]) -> bool
     true
 }
 
-/// Takes all that is found on each link, link by link. `found` is room for what one link holds.
+/// Takes all that is found on each link, link by link. It takes memory.
 #[tactic(auto, using(crate::proofs::CollectLaws::collecting_none, crate::proofs::CollectLaws::collecting_more, crate::proofs::CollectLaws::collecting_all, crate::proofs::SameLaws::same_heads, crate::proofs::SameLaws::heads_set))]
-fn collect(
-    alloc: Global,
-    heads: &mut [(VarId, LinkHead<Sealed>)],
-    found: &mut Vec<Sealed>,
-) -> Result<Taken, NoMemory>
-    requires room { ring_slots ≤ vec_capacity found.old }
-    ensures room { ring_slots ≤ vec_capacity found.new }
+fn collect(alloc: Global, heads: &mut [(VarId, LinkHead<Sealed>)]) -> Result<Taken, NoMemory>
     ensures same { AreSameHeads heads.old heads.new }
     ensures collected { IfOk result (λ t. HasCollected heads.old heads.new t.letters.items t.takes.items t.greatest) }
     ensures bounded { IfOk result (λ t. t.greatest ≤ amount_limit) }
 {
     let mut taken = Taken::new(alloc);
-    found.clear();
+    let mut found = Vec::with_capacity(alloc, SLOTS)?;
     for end in heads.iter_mut() {
-        take_one(end, found, &mut taken)?;
+        take_one(end, &mut found, &mut taken)?;
     }
     Ok(taken)
 }

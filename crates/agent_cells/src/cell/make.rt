@@ -10,13 +10,12 @@ ghost use Rattle.agent_cells.specs.State.{state_of, begun_in, fault_in, tails_in
 
 use super::{Cell, HeadList, TailList};
 use dcop_base::{NoMemory, VarId};
-use fifo_links::SLOTS;
 use protocol_steps::{Journal, Machine};
 use std::alloc::Global;
 
 impl Cell {
     /// The cell of agent `me`, which has not started, over links on which nothing was sent. Tails
-    /// and heads name its neighbours, ascending, each once. It takes memory.
+    /// and heads name its neighbours, ascending, each once. It takes no memory.
     pub fn new(
         alloc: Global,
         machine: Box<dyn Machine + Send>,
@@ -48,7 +47,6 @@ impl Cell {
             journal: Journal::from_vec(Vec::new(alloc)),
             begun: false,
             fault: None,
-            room: Vec::with_capacity(alloc, SLOTS)?,
             alloc,
         })
     }

@@ -99,7 +99,7 @@ impl Cell {
             (state_of (λ b. meaning b) self.old).sent (state_of (λ b. meaning b) self.new).sent) }
     {
         let heads = self.heads.as_mut_slice();
-        let Some(taken) = collect_waiting(self.alloc, heads, &mut self.room)? else {
+        let Some(taken) = collect_waiting(self.alloc, heads)? else {
             return Ok(0);
         };
         let count = taken.letters.len() as u64;
