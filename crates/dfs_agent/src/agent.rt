@@ -100,7 +100,7 @@ impl TokenAgent {
     {
         let neighbours = self.own.neighbours.as_slice();
         let path = self.path.as_slice();
-        match first_unvisited(self.alloc, neighbours, path, self.kept.as_slice())? {
+        match first_unvisited(neighbours, path, self.kept.as_slice()) {
             Some(child) => self.pass_token(child),
             None => self.end(),
         }
@@ -134,18 +134,18 @@ impl TokenAgent {
     }
 
     /// Whether a token is taken.
-    fn takes_token(&self, from: VarId, path: &[VarId]) -> Result<bool, NoMemory>
+    fn takes_token(&self, from: VarId, path: &[VarId]) -> bool
         requires running { IsRunning self.now }
         requires range { AreVariables path.now }
-        ensures { IfOk result (λ taken. taken ≡ takes_token self.now from path.now) }
+        ensures { result ≡ takes_token self.now from path.now }
     {
         if !matches!(self.stage, Stage::Closed) {
-            return Ok(false);
+            return false;
         }
         if path.last() != Some(&from) || path.len() > MOST_OTHERS {
-            return Ok(false);
+            return false;
         }
-        are_distinct_without(self.alloc, path, self.own.me)
+        are_distinct_without(path, self.own.me)
     }
 
     /// Opens with a token's path, where the token is taken.
@@ -157,7 +157,7 @@ impl TokenAgent {
         ensures running { IfOk result (λ _. IsRunning self.new) }
         ensures gives { IfOk result (Gives (token_message self.old from (Token path.now)) self.new) }
     {
-        if !self.takes_token(from, path)? {
+        if !self.takes_token(from, path) {
             return Ok(None);
         }
         self.path = copy_of(self.alloc, path)?;
@@ -218,7 +218,7 @@ impl TokenAgent {
         ensures viewed { IfOk result (λ _. self.new ≡ (token_step self.old letters.now).view) }
         ensures sent { IfOk result (λ ps. ps.items ≡ (token_step self.old letters.now).sends) }
     {
-        let mut parcels = Vec::new(self.alloc);
+        let mut parcels = Vec::with_capacity(self.alloc, letters.len())?;
         for letter in letters {
             if let Some(parcel) = self.handle(letter)? {
                 parcels.push(parcel)?;

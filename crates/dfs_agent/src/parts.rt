@@ -32,7 +32,7 @@ pub(crate) fn count_of(lists: &[VarList]) -> usize
 fn children_of(alloc: Global, kept: &[VarList]) -> Result<VarList, NoMemory>
     ensures { IfOk result (λ children. children ≡ flat_map (λ subtree. take 1 subtree) kept.now) }
 {
-    let mut children = Vec::new(alloc);
+    let mut children = Vec::with_capacity(alloc, kept.len())?;
     for subtree in kept {
         if let Some(child) = subtree.as_slice().first() {
             children.push(*child)?;
@@ -44,9 +44,10 @@ fn children_of(alloc: Global, kept: &[VarList]) -> Result<VarList, NoMemory>
 /// The agent, and then the subtrees of its children.
 #[tactic(auto, using(crate::proofs::VisitLaws::concat_more))]
 fn subtree_of(alloc: Global, me: VarId, kept: &[VarList]) -> Result<VarList, NoMemory>
+    requires { length (concat kept.now) ≤ variable_limit }
     ensures { IfOk result (λ subtree. subtree ≡ me ∷ concat kept.now) }
 {
-    let mut subtree = Vec::new(alloc);
+    let mut subtree = Vec::with_capacity(alloc, count_of(kept) + 1)?;
     subtree.push(me)?;
     for vars in kept {
         subtree.extend_from_slice(vars.as_slice())?;
@@ -98,7 +99,8 @@ pub(crate) fn token_for(
     requires me { me < variable_limit }
     ensures { IfOk result (λ parcel. parcel ≡ (child, Token (path.now ++ (me ∷ [])))) }
 {
-    let mut through = Vec::from_slice(alloc, path)?;
+    let mut through = Vec::with_capacity(alloc, path.len() + 1)?;
+    through.extend_from_slice(path)?;
     through.push(me)?;
     Ok(Parcel {
         to: child,
