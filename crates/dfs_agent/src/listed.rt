@@ -1,6 +1,6 @@
 //! Which variables stand in lists, by a look through the lists for each.
 
-ghost use Rattle.std.specs.Prelude.{◌≡◌, ◌||◌, not, IfOk};
+ghost use Rattle.std.specs.Prelude.{◌≡◌, true, ◌||◌, not, IfOk};
 ghost use Rattle.std.specs.List.{concat, filter, find};
 ghost use Rattle.dcop_base.specs.Table.{has};
 
@@ -32,12 +32,37 @@ fn is_among_any(lists: &[VarList], var: VarId) -> bool
     false
 }
 
+/// Whether a variable stands last in a path.
+fn is_last(path: &[VarId], var: VarId) -> bool
+    ensures { result ≡ true → has path.now var ≡ true }
+{
+    match path.last() {
+        Some(last) => *last == var,
+        None => false,
+    }
+}
+
+/// Whether a variable stands in a path. The parent stands last: so that is looked at first.
+fn is_above(path: &[VarId], var: VarId) -> bool
+    ensures { result ≡ has path.now var }
+{
+    is_last(path, var) || is_among(path, var)
+}
+
+/// Whether a variable stands in the path or in a kept subtree. A neighbour is most often the
+/// parent or a child: so the whole path is looked at last.
+fn is_visited(path: &[VarId], kept: &[VarList], var: VarId) -> bool
+    ensures { result ≡ (has path.now var || has (concat kept.now) var) }
+{
+    is_last(path, var) || is_among_any(kept, var) || is_among(path, var)
+}
+
 /// The first of these variables that stands neither in the path nor in a kept subtree.
 pub(crate) fn first_outside(vars: &[VarId], path: &[VarId], kept: &[VarList]) -> Option<VarId>
     ensures { result ≡ find (λ u. not (has path.now u || has (concat kept.now) u)) vars.now }
 {
     for var in vars {
-        if !is_among(path, *var) && !is_among_any(kept, *var) {
+        if !is_visited(path, kept, *var) {
             return Some(*var);
         }
     }
@@ -50,7 +75,7 @@ pub(crate) fn outside(alloc: Global, vars: &[VarId], path: &[VarId]) -> Result<V
 {
     let mut rest = Vec::new(alloc);
     for var in vars {
-        if !is_among(path, *var) {
+        if !is_above(path, *var) {
             rest.push(*var)?;
         }
     }
