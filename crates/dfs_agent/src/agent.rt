@@ -13,14 +13,15 @@ ghost use Rattle.dfs_agent.specs.Stage.{searching};
 ghost use Rattle.dfs_agent.specs.Sound.{AreOthers};
 ghost use Rattle.dfs_agent.specs.Search.{Gives, IsNew, IsRunning};
 
-use crate::parts::{copy_of, count_of, done_for, place_of, token_for};
+use crate::parts::{children_of, copy_of, count_of, done_for, place_of, token_for};
 use crate::stage::Stage;
-use crate::visited::{are_distinct_without, first_unvisited};
+use crate::visited::{are_distinct_without, first_unvisited, lower_of};
 use dcop_base::{MAX_VARIABLES, NoMemory, Private, Table, Val, VarId, VarList};
 use protocol_steps::{Batch, Letter, Machine, Message, Outbox, Parcel, Standing};
 use pseudotree::Place;
 use std::alloc::Global;
 use std::marker::Model;
+use std::mem;
 
 /// The most variables of a path that comes with a token, and of all subtrees that come back.
 const MOST_OTHERS: usize = MAX_VARIABLES - 1;
@@ -37,7 +38,7 @@ pub struct TokenAgent {
     /// What it knows of the problem.
     own: Private,
     stage: Stage,
-    /// The path that came with the token.
+    /// The path that came with the token, until the place has it.
     path: VarList,
     /// The subtrees that came back, one of each child, in their order.
     kept: Vec<VarList>,
@@ -45,14 +46,14 @@ pub struct TokenAgent {
 
 impl Model for TokenAgent {
     ghost use Rattle.protocol_steps.specs.Token.{TokenView};
-    ghost use Rattle.dfs_agent.specs.Stage.{view_at};
+    ghost use Rattle.dfs_agent.specs.Stage.{path_at, view_at};
     ghost use Rattle.dfs_agent.specs.Sound.{IsSound};
 
     ghost Value = { TokenView };
 
-    ghost view = { λ a. view_at a.own a.stage a.path a.kept.items };
+    ghost view = { λ a. view_at a.own a.stage (path_at a.stage a.path) a.kept.items };
 
-    ghost invariant = { λ a. IsSound a.own a.stage a.path a.kept.items };
+    ghost invariant = { λ a. IsSound a.own a.stage (path_at a.stage a.path) a.kept.items };
 }
 
 impl TokenAgent {
@@ -127,8 +128,11 @@ impl TokenAgent {
     {
         let path = self.path.as_slice();
         let kept = self.kept.as_slice();
-        let place = place_of(self.alloc, &self.own, path, kept)?;
+        let children = children_of(self.alloc, kept)?;
+        let lower = lower_of(self.alloc, self.own.neighbours.as_slice(), path)?;
         let parcel = done_for(self.alloc, self.own.me, path, kept)?;
+        let path = mem::replace(&mut self.path, VarList::from_vec(Vec::new(self.alloc)));
+        let place = place_of(self.alloc, self.own.me, path, children, lower);
         self.stage = Stage::Ended { place };
         Ok(parcel)
     }
