@@ -1,16 +1,19 @@
 -- What a token agent keeps in its steps, and how its messages, batches and starts make up those of a machine.
-use Rattle.std.proofs.Common.{◌≡◌, ℕ, ◌+◌, ◌<◌, ◌≤◌, Bool, true, false, ◌&&◌, nat_le, List, [], ◌∷◌, ◌++◌, length, drop, get_or, Option, Some, refl, sym, ap, subst, ◌∙◌}
+use Rattle.std.proofs.Common.{◌≡◌, ℕ, ◌+◌, ◌<◌, ◌≤◌, Bool, true, false, ◌&&◌, nat_le, List, [], ◌∷◌, ◌++◌, length, drop, get_or, Option, Some, not, take, refl, sym, ap, subst, ◌∙◌, arith}
 use Rattle.std.specs.Prelude.{slice_get}
-use Rattle.std.specs.List.{All, Contains, concat, fold}
+use Rattle.std.specs.List.{All, Contains, concat, filter, flat_map, fold}
 use Rattle.std.proofs.lemmas.Bool.{leb-true, false≢true}
 use Rattle.std.proofs.lemmas.List.{at_drop_more, at_drop_all, append-nil, length-append}
 use Rattle.std.proofs.lemmas.List.Folds.{concat-append}
-use Rattle.std.proofs.lemmas.List.Elements.{All-append, All-same}
+use Rattle.std.proofs.lemmas.List.Elements.{All-nil, All-append, All-same}
+use Rattle.std.proofs.lemmas.Option.{none-some}
+use Rattle.dcop_base.specs.Table.{has}
+use Rattle.pseudotree.specs.declared.agent.Place.{Place}
 use Rattle.dcop_base.specs.declared.knowledge.Private.{Private}
 use Rattle.dcop_base.specs.Limits.{variable_limit}
 use Rattle.adopt_context.specs.Context.{is_value}
 use Rattle.protocol_steps.specs.declared.message.Message.{Message}
-use Rattle.protocol_steps.specs.Agent.{Stepped, next_letter}
+use Rattle.protocol_steps.specs.Agent.{Phase, Stepped, next_letter}
 use Rattle.protocol_steps.specs.Token.{TokenView}
 use Rattle.protocol_steps.specs.TokenStep.{most_others, takes_done, token_message, token_start, token_step}
 use Rattle.protocol_steps.specs.View.{TokenKind}
@@ -20,7 +23,7 @@ use Rattle.protocol_steps.specs.Laws.{IsParentBeside}
 use Rattle.protocol_steps.proofs.ParcelLaws.{parcels_go_to_neighbours}
 use Rattle.dfs_agent.specs.declared.stage.Stage.{Stage}
 use Rattle.dfs_agent.specs.declared.stage.Stage.TheVariants.{Waiting, Closed, Open, Ended, Failed}
-use Rattle.dfs_agent.specs.Stage.{view_at}
+use Rattle.dfs_agent.specs.Stage.{searching, phase_at, path_at, view_at}
 use Rattle.dfs_agent.specs.Sound.{AreOthers, IsSound}
 use Rattle.dfs_agent.specs.Search.{sent, Gives}
 
@@ -54,6 +57,42 @@ keeps_sound own (Open child) path kept new from visited s h below e =
     })
 keeps_sound own (Ended place) path kept new from visited s h below e = absurd (false≢true h)
 keeps_sound own Failed path kept new from visited s h below e = absurd (false≢true h)
+
+-- an agent that searches has its path itself
+pub path_kept : (stage : Stage) (path : List ℕ) → phase_at stage ≡ searching → path_at stage path ≡ path
+path_kept Waiting path h = refl
+path_kept Closed path h = refl
+path_kept (Open child) path h = refl
+path_kept (Ended place) path h = absurd (false≢true (sym (ap (λ (p : Phase). p.ended) h)))
+path_kept Failed path h = absurd (false≢true (sym (ap (λ (p : Phase). p.failed) h)))
+
+-- an agent that ends with its place stays sound
+pub ends_sound : (own : Private) (stage : Stage) (path : List ℕ) (kept : List (List ℕ)) (place : Place) (vars children lower : List ℕ) → phase_at stage ≡ searching → IsSound own stage (path_at stage path) kept
+    → place ≡ (record { me = own.me; path = vars; path_sizes = []; children = children; lower = lower }) → vars ≡ path
+    → children ≡ flat_map (λ subtree. take 1 subtree) kept → lower ≡ filter (λ u. not (has path u)) own.neighbours → IsSound own (Ended place) place.path kept
+ends_sound own stage path kept place vars children lower h s e v c l =
+    let same : path_at stage path ≡ vars = path_kept stage path h ∙ sym v in
+    let below = ap (λ (us : List ℕ). filter (λ u. not (has us u)) own.neighbours) (sym v) in
+    let full : List ℕ → List ℕ → Place = λ cs ls. record { me = own.me; path = vars; path_sizes = []; children = cs; lower = ls } in
+    let found : full children lower ≡ full (flat_map (λ subtree. take 1 subtree) kept) (filter (λ u. not (has vars u)) own.neighbours) =
+    ap (λ (cs : List ℕ). full cs lower) c ∙ ap (λ (ls : List ℕ). full (flat_map (λ subtree. take 1 subtree) kept) ls) (l ∙ below) in
+    subst (λ (p : Place). IsSound own (Ended p) p.path kept) (sym e) (record {
+      known = s.known;
+      beside = subst (λ (us : List ℕ). IsParentBeside own.neighbours us) same s.beside;
+      above = subst (λ (us : List ℕ). AreOthers us) same s.above;
+      below = s.below;
+      placed = ap (λ (p : Place). Some p) found;
+    })
+
+-- an agent that fails stays sound
+pub fails_sound : (own : Private) (stage : Stage) (path : List ℕ) (kept : List (List ℕ)) → IsSound own stage path kept → IsSound own Failed [] kept
+fails_sound own stage path kept s = record {
+  known = s.known;
+  beside = λ parent h. absurd (none-some parent h);
+  above = record { few = omega arith; below = All-nil (λ v. v < variable_limit) };
+  below = s.below;
+  placed = refl;
+}
 
 -- what is handled so far leads, with the letters that are left, to the step on all letters
 pub record Leads (start : TokenView) (all : List (ℕ × Message)) (view : TokenView) (sends rest : List (ℕ × Message)) : Type 0 where

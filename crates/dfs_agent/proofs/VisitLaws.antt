@@ -2,7 +2,7 @@
 use Rattle.std.proofs.Common.{◌≡◌, ℕ, zero, suc, ◌+◌, ◌<◌, Bool, true, false, cond, not, ◌&&◌, ◌||◌, ◌==◌, Some, List, [], ◌∷◌, ◌++◌, length, take, drop, set, get_or, refl, sym, ap, ◌∙◌, inl, inr}
 use Rattle.std.specs.List.{All, concat, filter, find, list_any}
 use Rattle.std.proofs.lemmas.Bool.{cases_eq, eq-eqb, ne_eqb, or_right}
-use Rattle.std.proofs.lemmas.List.{take_more, take_at, drop_at, append-nil, at_drop_more, get_or-set_same, get_or-set_other}
+use Rattle.std.proofs.lemmas.List.{take_more, drop_more, take_at, drop_at, append-nil, at_drop_more, get_or-set_same, get_or-set_other}
 use Rattle.std.proofs.lemmas.List.Folds.{concat-append, list_any-append}
 use Rattle.std.proofs.lemmas.List.Elements.{All-nil, All-cons, All-head, All-tail, All-take, All-drop, All-same}
 use Rattle.dcop_base.specs.Table.{has, has_repeat}
@@ -14,6 +14,11 @@ concat_more xss k d h = ap concat (take_more xss k d h) ∙ concat-append (take 
 -- what stands in one more list
 pub has_more : (xss : List (List ℕ)) (k : ℕ) (d : List ℕ) (v : ℕ) → k < length xss → has (concat (take (k + 1) xss)) v ≡ (has (concat (take k xss)) v || has (get_or xss k d) v)
 has_more xss k d v h = ap (λ xs. has xs v) (concat_more xss k d h) ∙ list_any-append (λ y. y == v) (concat (take k xss)) (get_or xss k d)
+
+-- what stands in the rest, or in the first of the rest
+pub has_rest : (xss : List (List ℕ)) (k : ℕ) (d : List ℕ) (v : ℕ) → k < length xss → has (concat (drop k xss)) v ≡ (has (get_or xss k d) v || has (concat (drop (k + 1) xss)) v)
+has_rest xss k d v h =
+    ap (λ xs. has (concat xs) v) (drop_more xss k d h) ∙ list_any-append (λ y. y == v) (get_or xss k d) (concat (drop (k + 1) xss))
 
 -- what holds of all together holds of each
 each_of : (P : ℕ → Type 0) (xss : List (List ℕ)) → All P (concat xss) → All (λ xs. All P xs) xss

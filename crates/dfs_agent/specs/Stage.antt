@@ -1,5 +1,5 @@
 -- What the stage of a search says of a token agent.
-use Rattle.std.specs.Prelude.{ℕ, Bool, true, false, List, Option, Some, None}
+use Rattle.std.specs.Prelude.{ℕ, Bool, true, false, List, [], Option, Some, None}
 use Rattle.dcop_base.specs.declared.knowledge.Private.{Private}
 use Rattle.pseudotree.specs.declared.agent.Place.{Place}
 use Rattle.protocol_steps.specs.Agent.{Phase, not_started}
@@ -41,6 +41,14 @@ place_at Closed = None
 place_at (Open child) = None
 place_at (Ended place) = Some place
 place_at Failed = None
+
+-- the path of an agent at a stage: where it has ended, its place has the path, and where it has failed, none is known
+abbrev pub path_at : Stage → List ℕ → List ℕ
+path_at Waiting path = path
+path_at Closed path = path
+path_at (Open child) path = path
+path_at (Ended place) path = place.path
+path_at Failed path = []
 
 -- the view of an agent at a stage, with this path and these subtrees that came back
 abbrev pub view_at : Private → Stage → List ℕ → List (List ℕ) → TokenView

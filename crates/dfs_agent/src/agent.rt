@@ -13,14 +13,15 @@ ghost use Rattle.dfs_agent.specs.Stage.{searching};
 ghost use Rattle.dfs_agent.specs.Sound.{AreOthers};
 ghost use Rattle.dfs_agent.specs.Search.{Gives, IsNew, IsRunning};
 
-use crate::parts::{copy_of, count_of, done_for, place_of, token_for};
+use crate::parts::{children_of, copy_of, count_of, done_for, place_of, token_for};
 use crate::stage::Stage;
-use crate::visited::{are_distinct_without, first_unvisited};
+use crate::visited::{are_distinct_without, first_unvisited, lower_of};
 use dcop_base::{MAX_VARIABLES, NoMemory, Private, Table, Val, VarId, VarList};
 use protocol_steps::{Batch, Letter, Machine, Message, Outbox, Parcel, Standing};
 use pseudotree::Place;
 use std::alloc::Global;
 use std::marker::Model;
+use std::mem;
 
 /// The most variables of a path that comes with a token, and of all subtrees that come back.
 const MOST_OTHERS: usize = MAX_VARIABLES - 1;
@@ -37,7 +38,7 @@ pub struct TokenAgent {
     /// What it knows of the problem.
     own: Private,
     stage: Stage,
-    /// The path that came with the token.
+    /// The path that came with the token, until the place has it.
     path: VarList,
     /// The subtrees that came back, one of each child, in their order.
     kept: Vec<VarList>,
@@ -45,14 +46,14 @@ pub struct TokenAgent {
 
 impl Model for TokenAgent {
     ghost use Rattle.protocol_steps.specs.Token.{TokenView};
-    ghost use Rattle.dfs_agent.specs.Stage.{view_at};
+    ghost use Rattle.dfs_agent.specs.Stage.{path_at, view_at};
     ghost use Rattle.dfs_agent.specs.Sound.{IsSound};
 
     ghost Value = { TokenView };
 
-    ghost view = { λ a. view_at a.own a.stage a.path a.kept.items };
+    ghost view = { λ a. view_at a.own a.stage (path_at a.stage a.path) a.kept.items };
 
-    ghost invariant = { λ a. IsSound a.own a.stage a.path a.kept.items };
+    ghost invariant = { λ a. IsSound a.own a.stage (path_at a.stage a.path) a.kept.items };
 }
 
 impl TokenAgent {
@@ -100,7 +101,7 @@ impl TokenAgent {
     {
         let neighbours = self.own.neighbours.as_slice();
         let path = self.path.as_slice();
-        match first_unvisited(self.alloc, neighbours, path, self.kept.as_slice())? {
+        match first_unvisited(neighbours, path, self.kept.as_slice()) {
             Some(child) => self.pass_token(child),
             None => self.end(),
         }
@@ -127,25 +128,28 @@ impl TokenAgent {
     {
         let path = self.path.as_slice();
         let kept = self.kept.as_slice();
-        let place = place_of(self.alloc, &self.own, path, kept)?;
+        let children = children_of(self.alloc, kept)?;
+        let lower = lower_of(self.alloc, self.own.neighbours.as_slice(), path)?;
         let parcel = done_for(self.alloc, self.own.me, path, kept)?;
+        let path = mem::replace(&mut self.path, VarList::from_vec(Vec::new(self.alloc)));
+        let place = place_of(self.alloc, self.own.me, path, children, lower);
         self.stage = Stage::Ended { place };
         Ok(parcel)
     }
 
     /// Whether a token is taken.
-    fn takes_token(&self, from: VarId, path: &[VarId]) -> Result<bool, NoMemory>
+    fn takes_token(&self, from: VarId, path: &[VarId]) -> bool
         requires running { IsRunning self.now }
         requires range { AreVariables path.now }
-        ensures { IfOk result (λ taken. taken ≡ takes_token self.now from path.now) }
+        ensures { result ≡ takes_token self.now from path.now }
     {
         if !matches!(self.stage, Stage::Closed) {
-            return Ok(false);
+            return false;
         }
         if path.last() != Some(&from) || path.len() > MOST_OTHERS {
-            return Ok(false);
+            return false;
         }
-        are_distinct_without(self.alloc, path, self.own.me)
+        are_distinct_without(path, self.own.me)
     }
 
     /// Opens with a token's path, where the token is taken.
@@ -157,7 +161,7 @@ impl TokenAgent {
         ensures running { IfOk result (λ _. IsRunning self.new) }
         ensures gives { IfOk result (Gives (token_message self.old from (Token path.now)) self.new) }
     {
-        if !self.takes_token(from, path)? {
+        if !self.takes_token(from, path) {
             return Ok(None);
         }
         self.path = copy_of(self.alloc, path)?;
@@ -218,7 +222,7 @@ impl TokenAgent {
         ensures viewed { IfOk result (λ _. self.new ≡ (token_step self.old letters.now).view) }
         ensures sent { IfOk result (λ ps. ps.items ≡ (token_step self.old letters.now).sends) }
     {
-        let mut parcels = Vec::new(self.alloc);
+        let mut parcels = Vec::with_capacity(self.alloc, letters.len())?;
         for letter in letters {
             if let Some(parcel) = self.handle(letter)? {
                 parcels.push(parcel)?;

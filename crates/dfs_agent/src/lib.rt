@@ -8,6 +8,7 @@
 #![tactic(auto)]
 
 mod agent;
+mod listed;
 mod parts;
 mod stage;
 mod visited;

@@ -1,17 +1,15 @@
 //! The lists that an agent makes of its path and its kept subtrees, and what it sends of them.
 
-ghost use Rattle.std.specs.Prelude.{◌≡◌, ◌<◌, ◌≤◌, [], ◌∷◌, ◌++◌, not, length, take, IfOk};
-ghost use Rattle.std.specs.List.{All, concat, filter, flat_map};
+ghost use Rattle.std.specs.Prelude.{◌≡◌, ◌<◌, ◌≤◌, [], ◌∷◌, ◌++◌, length, take, IfOk};
+ghost use Rattle.std.specs.List.{concat, flat_map};
 ghost use Rattle.dcop_base.specs.Limits.{variable_limit};
-ghost use Rattle.dcop_base.specs.Table.{has};
 ghost use Rattle.protocol_steps.specs.Agent.{last_of};
 ghost use Rattle.protocol_steps.specs.TokenStep.{done_for};
 ghost use Rattle.protocol_steps.specs.declared.message.Message.TheVariants.{Token};
 ghost use Rattle.dfs_agent.specs.Search.{sent};
 ghost use Rattle.dfs_agent.specs.Sound.{AreOthers};
 
-use crate::visited::lower_of;
-use dcop_base::{NoMemory, Private, SizeList, VarId, VarList};
+use dcop_base::{NoMemory, SizeList, VarId, VarList};
 use protocol_steps::{Message, Parcel};
 use pseudotree::Place;
 use std::alloc::Global;
@@ -29,10 +27,10 @@ pub(crate) fn count_of(lists: &[VarList]) -> usize
 }
 
 /// The first variable of each subtree.
-fn children_of(alloc: Global, kept: &[VarList]) -> Result<VarList, NoMemory>
+pub(crate) fn children_of(alloc: Global, kept: &[VarList]) -> Result<VarList, NoMemory>
     ensures { IfOk result (λ children. children ≡ flat_map (λ subtree. take 1 subtree) kept.now) }
 {
-    let mut children = Vec::new(alloc);
+    let mut children = Vec::with_capacity(alloc, kept.len())?;
     for subtree in kept {
         if let Some(child) = subtree.as_slice().first() {
             children.push(*child)?;
@@ -44,9 +42,10 @@ fn children_of(alloc: Global, kept: &[VarList]) -> Result<VarList, NoMemory>
 /// The agent, and then the subtrees of its children.
 #[tactic(auto, using(crate::proofs::VisitLaws::concat_more))]
 fn subtree_of(alloc: Global, me: VarId, kept: &[VarList]) -> Result<VarList, NoMemory>
+    requires { length (concat kept.now) ≤ variable_limit }
     ensures { IfOk result (λ subtree. subtree ≡ me ∷ concat kept.now) }
 {
-    let mut subtree = Vec::new(alloc);
+    let mut subtree = Vec::with_capacity(alloc, count_of(kept) + 1)?;
     subtree.push(me)?;
     for vars in kept {
         subtree.extend_from_slice(vars.as_slice())?;
@@ -64,27 +63,26 @@ pub(crate) fn copy_of(alloc: Global, vars: &[VarId]) -> Result<VarList, NoMemory
 /// The place of an agent whose subtree is searched, without the sizes of its path.
 pub(crate) fn place_of(
     alloc: Global,
-    own: &Private,
-    path: &[VarId],
-    kept: &[VarList],
-) -> Result<Place, NoMemory>
-    requires neighbours { All (λ v. v < variable_limit) own.now.neighbours }
-    requires path { All (λ v. v < variable_limit) path.now }
-    ensures { IfOk result (λ place. place ≡ (record {
-      me = own.now.me;
-      path = path.now;
+    me: VarId,
+    path: VarList,
+    children: VarList,
+    lower: VarList,
+) -> Place
+    ensures { result ≡ (record {
+      me = me;
+      path = path;
       path_sizes = [];
-      children = flat_map (λ subtree. take 1 subtree) kept.now;
-      lower = filter (λ u. not (has path.now u)) own.now.neighbours;
-    })) }
+      children = children;
+      lower = lower;
+    }) }
 {
-    Ok(Place {
-        me: own.me,
-        path: copy_of(alloc, path)?,
+    Place {
+        me,
+        path,
         path_sizes: SizeList::from_vec(Vec::new(alloc)),
-        children: children_of(alloc, kept)?,
-        lower: lower_of(alloc, own.neighbours.as_slice(), path)?,
-    })
+        children,
+        lower,
+    }
 }
 
 /// The token for a child, with the path that ends in the agent.
@@ -98,7 +96,8 @@ pub(crate) fn token_for(
     requires me { me < variable_limit }
     ensures { IfOk result (λ parcel. parcel ≡ (child, Token (path.now ++ (me ∷ [])))) }
 {
-    let mut through = Vec::from_slice(alloc, path)?;
+    let mut through = Vec::with_capacity(alloc, path.len() + 1)?;
+    through.extend_from_slice(path)?;
     through.push(me)?;
     Ok(Parcel {
         to: child,

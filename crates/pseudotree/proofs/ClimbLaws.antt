@@ -5,7 +5,7 @@ use Rattle.std.proofs.lemmas.Bool.{eqb-true, cases_Bool, or_cases, or_parts}
 use Rattle.std.proofs.lemmas.Option.{same_Some, none-some}
 use Rattle.std.proofs.lemmas.Map.Steps.{length-le_from_distinct_below}
 use Rattle.pseudotree.specs.Fault.{parent_at, IsClimb, ReachesRoot}
-use Rattle.std.proofs.lemmas.List.{reverse-reverse}
+use Rattle.std.proofs.lemmas.List.{append_assoc, reverse-append, reverse-reverse}
 use Rattle.pseudotree.specs.Climb.{AreKnown, LeadsTo}
 
 -- these are the first variables above v, and `above` is the parent of the last one
@@ -110,6 +110,21 @@ ascent_more parents v us more above next u h e m n =
     let at : IsAscent parents v us (Some u) = subst (λ (a : Option ℕ). IsAscent parents v us a) e h in
     subst (λ (a : Option ℕ). IsAscent parents v more a) (sym n)
     (subst (λ (xs : List ℕ). IsAscent parents v xs (parent_at parents u)) (sym m) (IsAscent-push parents v us u at))
+
+-- an ascent to a variable, and then the climb from there
+climb_through : (parents : List (Option ℕ)) (v u : ℕ) (us ws : List ℕ) → IsAscent parents v us (Some u) → IsClimb parents u ws → IsClimb parents v (us ++ (u ∷ ws))
+climb_through parents v u [] ws h k = (h, k)
+climb_through parents v u (w ∷ us) ws h k = (h.0, climb_through parents w u us ws h.1 k)
+
+-- the path of the last variable of an ascent, and then the ascent backwards, is the path
+pub leads_through : (parents : List (Option ℕ)) (v u : ℕ) (us more known path : List ℕ) (above : Option ℕ) → IsAscent parents v us above → above ≡ Some u
+    → more ≡ us ++ (u ∷ []) → LeadsTo parents u known → path ≡ known ++ reverse more → LeadsTo parents v path
+leads_through parents v u us more known path above h e m k p =
+    let climb = climb_through parents v u us (reverse known) (subst (λ (a : Option ℕ). IsAscent parents v us a) e h) k in
+    let back : reverse path ≡ us ++ (u ∷ reverse known) =
+    ap reverse p ∙ reverse-append known (reverse more) ∙ ap (λ (xs : List ℕ). xs ++ reverse known) (reverse-reverse more ∙ m)
+    ∙ append_assoc us (u ∷ []) (reverse known) in
+    subst (λ (xs : List ℕ). IsClimb parents v xs) (sym back) climb
 
 -- an ascent to a variable without a parent, backwards, is the path
 pub leads_back : (parents : List (Option ℕ)) (v : ℕ) (us path : List ℕ) (above : Option ℕ) → IsAscent parents v us above → above ≡ None → path ≡ reverse us → LeadsTo parents v path

@@ -30,11 +30,20 @@ fn sizes_of(alloc: Global, sizes: &[u16], vars: &[VarId]) -> Result<SizeList, No
     requires { All (λ v. v < length sizes.now) vars.now }
     ensures { IfOk result (λ list. list ≡ map (slice_index sizes.now) vars.now) }
 {
-    let mut list = Vec::with_capacity(alloc, vars.len())?;
-    for var in vars {
-        list.push(sizes[var.0 as usize])?;
-    }
+    let mut list = vec![in alloc; 0; vars.len()]?;
+    write_sizes(list.as_mut_slice(), sizes, vars);
     Ok(SizeList::from_vec(list))
+}
+
+/// Writes the sizes of these variables, in their order.
+fn write_sizes(list: &mut [u16], sizes: &[u16], vars: &[VarId])
+    requires sized { length list.old ≡ length vars.now }
+    requires within { All (λ v. v < length sizes.now) vars.now }
+    ensures { list.new ≡ map (slice_index sizes.now) vars.now }
+{
+    for (k, var) in vars.iter().enumerate() {
+        list[k] = sizes[var.0 as usize];
+    }
 }
 
 fn copy_of(alloc: Global, vars: &[VarId]) -> Result<VarList, NoMemory>

@@ -1,7 +1,8 @@
 //! The paths of a tree, found by climbing from each variable to the root.
 
-ghost use Rattle.std.specs.Prelude.{◌≡◌, ◌<◌, ◌≤◌, length, IfOk, IfErr, MatchOption};
+ghost use Rattle.std.specs.Prelude.{◌≡◌, ℕ, ◌<◌, ◌≤◌, ◌++◌, length, reverse, IfOk, IfErr, MatchOption};
 ghost use Rattle.dcop_base.specs.Limits.{variable_limit};
+ghost use Rattle.pseudotree.specs.Tree.{path_of};
 ghost use Rattle.pseudotree.specs.Fault.{root_count, ReachesRoot};
 ghost use Rattle.pseudotree.specs.Climb.{AreKnown, LeadsTo, ArePaths, IsLoopFault};
 
@@ -24,9 +25,10 @@ pub(crate) fn paths_of(alloc: Global, parents: &[Option<VarId>]) -> Result<Vec<V
     ensures fault { IfErr result (IsLoopFault parents.now) }
 {
     let mut paths = Vec::with_capacity(alloc, parents.len())?;
+    let mut climb = Vec::new(alloc);
     for index in 0..parents.len() {
         let var = VarId(index as u32);
-        match path_to(alloc, parents, var)? {
+        match path_to(alloc, parents, paths.as_slice(), &mut climb, var)? {
             Some(path) => paths.push(path)?,
             None => return Err(TreeFault::Loop { var }),
         }
@@ -35,29 +37,46 @@ pub(crate) fn paths_of(alloc: Global, parents: &[Option<VarId>]) -> Result<Vec<V
 }
 
 /// The path to a variable; `None` where its parents do not reach the root.
+///
+/// It climbs no further than to a variable whose path is known. `climb` is room for the variables
+/// on the way.
 fn path_to(
     alloc: Global,
     parents: &[Option<VarId>],
+    paths: &[VarList],
+    climb: &mut Vec<VarId>,
     var: VarId,
 ) -> Result<Option<VarList>, NoMemory>
     requires within { var < length parents.now }
     requires known { AreKnown parents.now }
+    requires paths { (v : ℕ) → v < length paths.now → LeadsTo parents.now v (path_of paths.now v) }
     ensures { IfOk result (λ path.
         MatchOption path (¬ ReachesRoot parents.now var) (LeadsTo parents.now var)) }
 {
-    let mut climb = Vec::new(alloc);
+    climb.clear();
     let mut above = parents[var.0 as usize];
     for _step in 0..parents.len() {
-        match above {
-            None => {
-                climb.reverse();
-                return Ok(Some(VarList::from_vec(climb)));
-            }
-            Some(ancestor) => {
-                climb.push(ancestor)?;
-                above = parents[ancestor.0 as usize];
-            }
+        let Some(ancestor) = above else {
+            let path = path_through(alloc, &[], climb.as_mut_slice())?;
+            return Ok(Some(path));
+        };
+        climb.push(ancestor)?;
+        if let Some(known) = paths.get(ancestor.0 as usize) {
+            let path = path_through(alloc, known.as_slice(), climb.as_mut_slice())?;
+            return Ok(Some(path));
         }
+        above = parents[ancestor.0 as usize];
     }
     Ok(None)
+}
+
+/// A path that is known, and then the climb that led to its end, backwards. Turns the climb round.
+fn path_through(alloc: Global, known: &[VarId], climb: &mut [VarId]) -> Result<VarList, NoMemory>
+    ensures { IfOk result (λ path. path ≡ known.now ++ reverse climb.old) }
+{
+    climb.reverse();
+    let mut path = Vec::with_capacity(alloc, known.len() + climb.len())?;
+    path.extend_from_slice(known)?;
+    path.extend_from_slice(climb)?;
+    Ok(VarList::from_vec(path))
 }

@@ -1,0 +1,83 @@
+//! Which variables stand in lists, by a look through the lists for each.
+
+ghost use Rattle.std.specs.Prelude.{◌≡◌, true, ◌||◌, not, IfOk};
+ghost use Rattle.std.specs.List.{concat, filter, find};
+ghost use Rattle.dcop_base.specs.Table.{has};
+
+use dcop_base::{NoMemory, VarId, VarList};
+use std::alloc::Global;
+
+/// Whether a variable stands in a list. It looks at the whole list: so a processor takes many at
+/// once.
+fn is_among(vars: &[VarId], var: VarId) -> bool
+    ensures { result ≡ has vars.now var }
+{
+    let mut found = false;
+    for other in vars {
+        found = found | (*other == var);
+    }
+    found
+}
+
+/// Whether a variable stands in one of these lists.
+#[tactic(auto, using(crate::proofs::VisitLaws::has_rest))]
+fn is_among_any(lists: &[VarList], var: VarId) -> bool
+    ensures { result ≡ has (concat lists.now) var }
+{
+    for vars in lists {
+        if is_among(vars.as_slice(), var) {
+            return true;
+        }
+    }
+    false
+}
+
+/// Whether a variable stands last in a path.
+fn is_last(path: &[VarId], var: VarId) -> bool
+    ensures { result ≡ true → has path.now var ≡ true }
+{
+    match path.last() {
+        Some(last) => *last == var,
+        None => false,
+    }
+}
+
+/// Whether a variable stands in a path. The parent stands last: so that is looked at first.
+fn is_above(path: &[VarId], var: VarId) -> bool
+    ensures { result ≡ has path.now var }
+{
+    is_last(path, var) || is_among(path, var)
+}
+
+/// Whether a variable stands in the path or in a kept subtree. A neighbour is most often the
+/// parent or a child: so the whole path is looked at last.
+fn is_visited(path: &[VarId], kept: &[VarList], var: VarId) -> bool
+    ensures { result ≡ (has path.now var || has (concat kept.now) var) }
+{
+    is_last(path, var) || is_among_any(kept, var) || is_among(path, var)
+}
+
+/// The first of these variables that stands neither in the path nor in a kept subtree.
+pub(crate) fn first_outside(vars: &[VarId], path: &[VarId], kept: &[VarList]) -> Option<VarId>
+    ensures { result ≡ find (λ u. not (has path.now u || has (concat kept.now) u)) vars.now }
+{
+    for var in vars {
+        if !is_visited(path, kept, *var) {
+            return Some(*var);
+        }
+    }
+    None
+}
+
+/// Those of these variables that do not stand in the path, in their order.
+pub(crate) fn outside(alloc: Global, vars: &[VarId], path: &[VarId]) -> Result<VarList, NoMemory>
+    ensures { IfOk result (λ rest. rest ≡ filter (λ u. not (has path.now u)) vars.now) }
+{
+    let mut rest = Vec::new(alloc);
+    for var in vars {
+        if !is_above(path, *var) {
+            rest.push(*var)?;
+        }
+    }
+    Ok(VarList::from_vec(rest))
+}
