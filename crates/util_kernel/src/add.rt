@@ -1,16 +1,16 @@
 //! Sums, element by element.
 
-ghost use Rattle.std.specs.Prelude.{◌≡◌, ◌+◌, ◌≤◌, List, length};
+ghost use Rattle.std.specs.Prelude.{◌≡◌, ◌+◌, ◌≤◌, List, length, map, min};
 ghost use Rattle.std.specs.List.{All};
 ghost use Rattle.util_kernel.specs.Lanes.{sums};
 ghost use Rattle.std.specs.Simd.Lanes.{chunk, put_chunk};
 ghost use Rattle.dcop_base.specs.Limits.{amount_limit};
 
 use dcop_base::CAP;
-use std::simd::prelude::u64x8;
+use std::simd::prelude::u64x4;
 
 /// How many amounts a block has.
-const LANES: usize = 8;
+const LANES: usize = 4;
 
 /// Adds each amount of `from` to the one of `into` at its place; a sum above [`CAP`] becomes
 /// [`CAP`].
@@ -21,7 +21,7 @@ pub fn add_lanes(into: &mut [u64], from: &[u64])
     ensures { into.new ≡ sums into.old from.now }
 {
     let mut at = 0;
-    while into.len() - at >= LANES {
+    while at + LANES <= into.len() {
         add_block(into, from, at);
         at += LANES;
     }
@@ -31,7 +31,7 @@ pub fn add_lanes(into: &mut [u64], from: &[u64])
     }
 }
 
-/// Adds the block of eight from a place on.
+/// Adds the block of four from a place on.
 fn add_block(into: &mut [u64], from: &[u64], at: usize)
     requires equal { length into.old ≡ length from.now }
     requires room { at + LANES ≤ length into.old }
@@ -40,7 +40,14 @@ fn add_block(into: &mut [u64], from: &[u64], at: usize)
     ensures { into.new ≡ put_chunk at into.old
         (sums (chunk at LANES into.old) (chunk at LANES from.now)) }
 {
-    let sum = u64x8::from_slice(&into[at..]) + u64x8::from_slice(&from[at..]);
-    sum.simd_min(u64x8::splat(CAP))
-        .copy_to_slice(&mut into[at..]);
+    let sum = u64x4::from_slice(&into[at..]) + u64x4::from_slice(&from[at..]);
+    capped(sum).copy_to_slice(&mut into[at..]);
+}
+
+/// Of each amount the lesser of it and [`CAP`].
+pub(crate) fn capped(amounts: u64x4) -> u64x4
+    ensures { result ≡ map (λ n. min n amount_limit) amounts }
+{
+    let cap = u64x4::splat(CAP);
+    amounts.simd_gt(cap).select(cap, amounts)
 }

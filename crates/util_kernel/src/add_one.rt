@@ -6,11 +6,12 @@ ghost use Rattle.util_kernel.specs.Lanes.{raised};
 ghost use Rattle.std.specs.Simd.Lanes.{chunk, put_chunk};
 ghost use Rattle.dcop_base.specs.Limits.{amount_limit};
 
+use crate::add::capped;
 use dcop_base::CAP;
-use std::simd::prelude::u64x8;
+use std::simd::prelude::u64x4;
 
 /// How many amounts a block has.
-const LANES: usize = 8;
+const LANES: usize = 4;
 
 /// Adds `cell` to each amount of `into`; a sum above [`CAP`] becomes [`CAP`].
 pub fn add_one_lanes(into: &mut [u64], cell: u64)
@@ -19,7 +20,7 @@ pub fn add_one_lanes(into: &mut [u64], cell: u64)
     ensures { into.new ≡ raised into.old cell }
 {
     let mut at = 0;
-    while into.len() - at >= LANES {
+    while at + LANES <= into.len() {
         add_one_block(into, cell, at);
         at += LANES;
     }
@@ -29,14 +30,13 @@ pub fn add_one_lanes(into: &mut [u64], cell: u64)
     }
 }
 
-/// Adds one amount to the block of eight from a place on.
+/// Adds one amount to the block of four from a place on.
 fn add_one_block(into: &mut [u64], cell: u64, at: usize)
     requires room { at + LANES ≤ length into.old }
     requires into { All (λ n. n ≤ amount_limit) (chunk at LANES into.old) }
     requires cell { cell ≤ amount_limit }
     ensures { into.new ≡ put_chunk at into.old (raised (chunk at LANES into.old) cell) }
 {
-    let sum = u64x8::from_slice(&into[at..]) + u64x8::splat(cell);
-    sum.simd_min(u64x8::splat(CAP))
-        .copy_to_slice(&mut into[at..]);
+    let sum = u64x4::from_slice(&into[at..]) + u64x4::splat(cell);
+    capped(sum).copy_to_slice(&mut into[at..]);
 }
