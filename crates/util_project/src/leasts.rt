@@ -24,12 +24,46 @@ pub(crate) fn least_runs(
     requires runs { 1 ≤ size }
     ensures { IfOk result (λ kept. AreLeastRuns cells.now blocks size inner kept.items) }
 {
+    if inner == 1 {
+        return least_cells(alloc, cells, blocks, size);
+    }
     let mut kept = Vec::with_capacity(alloc, blocks * inner)?;
     for block in 0..blocks {
         let start = block * (size * inner);
         append_leasts(&mut kept, &cells[start..start + size * inner], size, inner)?;
     }
     Ok(kept)
+}
+
+/// [`least_runs`] where each run is one cell: the least cell of each block.
+fn least_cells(
+    alloc: Global,
+    cells: &[u64],
+    blocks: usize,
+    size: usize,
+) -> Result<Vec<u64>, NoMemory>
+    requires full { length cells.now ≡ blocks * size }
+    requires runs { 1 ≤ size }
+    ensures { IfOk result (λ kept. AreLeastRuns cells.now blocks size 1 kept.items) }
+{
+    let mut kept = Vec::with_capacity(alloc, blocks)?;
+    for block in 0..blocks {
+        let start = block * size;
+        kept.push(least_of(&cells[start..start + size]))?;
+    }
+    Ok(kept)
+}
+
+/// The least of these cells.
+fn least_of(cells: &[u64]) -> u64
+    requires { 1 ≤ length cells.now }
+    ensures { IsLeast (λ d. slice_index cells.now d) (length cells.now) result }
+{
+    let mut least = cells[0];
+    for number in 1..cells.len() {
+        least = least.min(cells[number]);
+    }
+    least
 }
 
 /// Appends the least of the runs of a block.
