@@ -10,6 +10,7 @@ ghost use Rattle.util_join.specs.Strides.{strides, offset, last_values, IsBlockS
 use crate::row::{Row, add_row, row_of};
 use crate::stride::stride_of;
 use dcop_base::{CAP, Table, VarId, product_of};
+use util_kernel::add_lanes;
 
 /// Adds a table to a joined table over these variables with these sizes and cells: to each cell the
 /// table's cell at the same values; a sum above [`CAP`] becomes [`CAP`].
@@ -75,9 +76,28 @@ fn add_rows(cells: &mut [u64], from: &[u64], size: usize, stride: usize, row: Ro
     ensures { IsBlockSum from.now (stride ∷ []) (size ∷ []) row.width row.step
         cells.old cells.new }
 {
+    if row.step == 1 {
+        return add_near_rows(cells, from, size, stride, row.width);
+    }
     for k in 0..size {
         let at = k * row.width;
         let (_, from) = from.split_at(stride * k);
         add_row(&mut cells[at..at + row.width], from, row.step);
+    }
+}
+
+/// [`add_rows`] where the place in the table moves by one cell along a row.
+fn add_near_rows(cells: &mut [u64], from: &[u64], size: usize, stride: usize, width: usize)
+    requires full { length cells.old ≡ size * width }
+    requires some { 1 ≤ width }
+    requires inside { stride * (size - 1) + (width - 1) < length from.now }
+    requires cells { All (λ n. n ≤ amount_limit) cells.old }
+    requires from { All (λ n. n ≤ amount_limit) from.now }
+    ensures { IsBlockSum from.now (stride ∷ []) (size ∷ []) width 1 cells.old cells.new }
+{
+    for k in 0..size {
+        let at = k * width;
+        let (_, from) = from.split_at(stride * k);
+        add_lanes(&mut cells[at..at + width], &from[..width]);
     }
 }
