@@ -7,6 +7,7 @@
 
 mod add;
 mod add_one;
+mod cap;
 mod least;
 
 pub use add::add_lanes;
