@@ -6,10 +6,14 @@ ghost use Rattle.util_project.specs.Leasts.{AppendsLeasts, AreLeastRuns};
 
 use dcop_base::NoMemory;
 use std::alloc::Global;
+use std::simd::prelude::*;
 use util_kernel::least_lanes;
 
 /// The shortest run that is taken eight cells at a time.
 const LANES: usize = 8;
+
+/// How many cells of a run are taken at a time where only its least one is sought.
+const FEW: usize = 4;
 
 /// Of so many blocks of cells, each of `size` runs of `inner` cells, the least of the runs of each
 /// block, cell by cell.
@@ -60,10 +64,38 @@ fn least_of(cells: &[u64]) -> u64
     ensures { IsLeast (λ d. slice_index cells.now d) (length cells.now) result }
 {
     let mut least = cells[0];
-    for number in 1..cells.len() {
-        least = least.min(cells[number]);
+    let mut at = 1;
+    if cells.len() >= FEW {
+        (least, at) = least_of_blocks(cells);
+    }
+    while at < cells.len() {
+        least = least.min(cells[at]);
+        at += 1;
     }
     least
+}
+
+/// The least of the cells of all whole blocks of [`FEW`], and how many cells these are.
+fn least_of_blocks(cells: &[u64]) -> (u64, usize)
+    requires { FEW ≤ length cells.now }
+    ensures least { IsLeast (λ d. slice_index cells.now d) result.1 result.0 }
+    ensures within { result.1 ≤ length cells.now }
+{
+    let mut lanes = u64x4::from_slice(cells);
+    let mut at = FEW;
+    while at + FEW <= cells.len() {
+        lanes = lanes.simd_min(u64x4::from_slice(&cells[at..]));
+        at += FEW;
+    }
+    (least_of_four(lanes), at)
+}
+
+/// The least of four cells.
+fn least_of_four(cells: u64x4) -> u64
+    ensures { IsLeast (λ j. slice_index cells j) 4 result }
+{
+    let four = cells.to_array();
+    four[0].min(four[1]).min(four[2].min(four[3]))
 }
 
 /// Appends the least of the runs of a block.
