@@ -18,13 +18,13 @@ lanes-first cells h = record {
   lower = λ d lt. (d, lt, (let same : 0 + d ≡ d = omega arith in omega (arith, get_or-chunk 0 4 cells d 0 lt ∙ ap (λ (i : ℕ). get_or cells i 0) same)));
 }
 
-pub lanes-more : (cells lanes next : List ℕ) (at : ℕ) → AreLeastLanes cells lanes at → at + 4 ≤ length cells → next ≡ zip2 min lanes (chunk at 4 cells) → AreLeastLanes cells next (at + 4)
+pub lanes-more : (cells lanes next : List ℕ) (at : ℕ) → AreLeastLanes cells lanes at → at + 4 ≤ length cells → next ≡ zip2 min (chunk at 4 cells) lanes → AreLeastLanes cells next (at + 4)
 lanes-more cells lanes next at so_far h e =
     let long : length (chunk at 4 cells) ≡ 4 = length-chunk at 4 cells h in
-    let lane : (j : ℕ) → j < 4 → get_or next j 0 ≡ min (get_or lanes j 0) (get_or cells (at + j) 0) =
-    λ j lt. ap (λ (xs : List ℕ). get_or xs j 0) e ∙ get_or-zip2 min lanes (chunk at 4 cells) j 0 0 0 (omega (arith, lt, so_far.four)) (omega (arith, lt, long)) ∙ ap (λ (x : ℕ). min (get_or lanes j 0) x) (get_or-chunk at 4 cells j 0 lt) in
+    let lane : (j : ℕ) → j < 4 → get_or next j 0 ≡ min (get_or cells (at + j) 0) (get_or lanes j 0) =
+    λ j lt. ap (λ (xs : List ℕ). get_or xs j 0) e ∙ get_or-zip2 min (chunk at 4 cells) lanes j 0 0 0 (omega (arith, lt, long)) (omega (arith, lt, so_far.four)) ∙ ap (λ (x : ℕ). min x (get_or lanes j 0)) (get_or-chunk at 4 cells j 0 lt) in
     record {
-      four = ap (λ (xs : List ℕ). length xs) e ∙ length-zip2 min lanes (chunk at 4 cells) (so_far.four ∙ sym long) ∙ so_far.four;
+      four = ap (λ (xs : List ℕ). length xs) e ∙ length-zip2 min (chunk at 4 cells) lanes (long ∙ sym so_far.four) ∙ long;
       some = λ j lt. elim (cases_lt (get_or cells (at + j) 0) (get_or lanes j 0)) [
         | inl less ↦ (at + j, omega (arith, lt), omega (arith, lane j lt, less))
         | inr more ↦ (let old = so_far.some j lt in (old.0, omega (arith, old.1), omega (arith, old.2, lane j lt, more)))

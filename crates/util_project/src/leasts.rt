@@ -84,7 +84,7 @@ fn least_of_blocks(cells: &[u64]) -> (u64, usize)
     let mut lanes = u64x4::from_slice(cells);
     let mut at = FEW;
     while at + FEW <= cells.len() {
-        lanes = lanes.simd_min(u64x4::from_slice(&cells[at..]));
+        lanes = u64x4::from_slice(&cells[at..]).simd_min(lanes);
         at += FEW;
     }
     (least_of_four(lanes), at)

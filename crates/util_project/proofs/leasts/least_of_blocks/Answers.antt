@@ -10,7 +10,7 @@ loop-at-init c = record { inside = omega (arith, c.requires); so_far = lanes-fir
 pub loop-at-preserved : goal.loop-at-preserved
 loop-at-preserved c = record {
   inside = omega arith;
-  so_far = lanes-more c.args.cells.now c.loop-at.lanes _ c.loop-at.at c.loop-at.invariant.so_far c.loop-at-test.true (least-block c.loop-at.lanes (chunk c.loop-at.at 4 c.args.cells.now));
+  so_far = lanes-more c.args.cells.now c.loop-at.lanes _ c.loop-at.at c.loop-at.invariant.so_far c.loop-at-test.true (least-block (chunk c.loop-at.at 4 c.args.cells.now) c.loop-at.lanes);
 }
 
 pub returns-clause-least : goal.returns-clause-least
