@@ -239,7 +239,11 @@ impl DpopAgent {
         let mut parcels = Vec::new(self.alloc);
         for letter in letters {
             let mut more = self.handle(letter)?;
-            parcels.append(&mut more)?;
+            if parcels.is_empty() {
+                parcels = more;
+            } else {
+                parcels.append(&mut more)?;
+            }
         }
         Ok(parcels)
     }

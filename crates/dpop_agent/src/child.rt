@@ -97,23 +97,6 @@ fn is_in_order(alloc: Global, me: VarId, path: &[VarId], scope: &[VarId]) -> Res
     Ok(scope == due.as_slice())
 }
 
-/// Whether a table of this scope, with the sizes that the agent knows, has so many cells.
-fn has_cells(
-    alloc: Global,
-    own: &Private,
-    place: &Place,
-    scope: &[VarId],
-    count: usize,
-) -> Result<bool, NoMemory>
-    requires sized { length place.now.path_sizes ≡ length place.now.path }
-    requires few { count ≤ joined_limit }
-    ensures { IfOk result (λ holds. holds
-        ≡ (count == product (map (size_of (keeping own.now place.now [])) scope.now))) }
-{
-    let sizes = sizes_of(alloc, own, place, scope)?;
-    Ok(are_cells_of(sizes.as_slice(), count))
-}
-
 /// Whether a table of these sizes has so many cells.
 fn are_cells_of(sizes: &[u16], count: usize) -> bool
     requires { count ≤ joined_limit }
@@ -142,7 +125,7 @@ fn is_narrow(
     Ok(cells_of(over.sizes.as_slice(), MAX_JOINED_CELLS).is_some())
 }
 
-/// Whether the child at this place may send a table of this scope with these cells.
+/// Whether the child at this place may send a table of this scope, of these sizes, with these cells.
 fn takes(
     alloc: Global,
     own: &Private,
@@ -150,9 +133,11 @@ fn takes(
     kept: &[Option<Table>],
     child: usize,
     scope: &[VarId],
+    sizes: &[u16],
     cells: &[u64],
 ) -> Result<bool, NoMemory>
     requires path { IsPathOf own.now.me place.now.path place.now.path_sizes }
+    requires sizes { sizes.now ≡ map (size_of (keeping own.now place.now [])) scope.now }
     requires few { length cells.now ≤ joined_limit }
     ensures { IfOk result (λ holds. holds
         ≡ takes_util (keeping own.now place.now kept.now) child scope.now cells.now) }
@@ -163,7 +148,7 @@ fn takes(
     if !is_in_order(alloc, own.me, place.path.as_slice(), scope)? {
         return Ok(false);
     }
-    if !has_cells(alloc, own, place, scope, cells.len())? {
+    if !are_cells_of(sizes, cells.len()) {
         return Ok(false);
     }
     is_narrow(alloc, own, place, kept, scope)
@@ -183,10 +168,19 @@ pub(crate) fn table_of(
     requires range { AreCells cells.now }
     ensures { IfOk result (IsTaken (keeping own.now place.now kept.now) child scope.now cells.now) }
 {
-    if !takes(alloc, own, place, kept, child, scope, cells)? {
+    let sizes = sizes_of(alloc, own, place, scope)?;
+    if !takes(
+        alloc,
+        own,
+        place,
+        kept,
+        child,
+        scope,
+        sizes.as_slice(),
+        cells,
+    )? {
         return Ok(None);
     }
-    let sizes = sizes_of(alloc, own, place, scope)?;
     Ok(Some(Table {
         scope: VarList::from_vec(Vec::from_slice(alloc, scope)?),
         sizes: SizeList::from_vec(sizes),

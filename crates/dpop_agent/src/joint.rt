@@ -11,7 +11,7 @@ ghost use Rattle.dpop_agent.specs.Sound.{IsKeeper};
 
 use crate::kept::are_all_there;
 use crate::separator::{Over, variables_with};
-use dcop_base::{NoMemory, Private, SizeList, Table, VarId, VarList, stands_in};
+use dcop_base::{NoMemory, Private, SizeList, Table, VarId, VarList};
 use pseudotree::Place;
 use std::alloc::Global;
 use util_join::{JoinFault, Joined};
@@ -20,7 +20,20 @@ use util_join::{JoinFault, Joined};
 fn is_above(var: VarId, me: VarId, path: &[VarId]) -> bool
     ensures { result ≡ (var == me || has path.now var) }
 {
-    var == me || stands_in(path, var)
+    var == me || stands_from_the_end(path, var)
+}
+
+/// Whether the variable stands in the path, sought from its end on: most neighbours stand there.
+fn stands_from_the_end(path: &[VarId], var: VarId) -> bool
+    ensures { result ≡ has path.now var }
+{
+    let Some((last, path)) = path.split_last() else {
+        return false;
+    };
+    if *last == var {
+        return true;
+    }
+    stands_from_the_end(path, var)
 }
 
 /// Whether these variables are the agent's and otherwise only those of its path.

@@ -1,6 +1,6 @@
 //! The sum of a table into the cells of a joined one.
 
-ghost use Rattle.std.specs.Prelude.{◌≡◌, ℕ, ◌+◌, ◌*◌, ◌-◌, ◌<◌, ◌≤◌, length, None};
+ghost use Rattle.std.specs.Prelude.{◌≡◌, ℕ, ◌+◌, ◌*◌, ◌-◌, ◌<◌, ◌≤◌, length, List, ◌∷◌, [], None};
 ghost use Rattle.std.specs.List.{All};
 ghost use Rattle.dcop_base.specs.Limits.{amount_limit};
 ghost use Rattle.dcop_base.specs.Table.{product, table_fault};
@@ -10,6 +10,7 @@ ghost use Rattle.util_join.specs.Strides.{strides, offset, last_values, IsBlockS
 use crate::row::{Row, add_row, row_of};
 use crate::stride::stride_of;
 use dcop_base::{CAP, Table, VarId, product_of};
+use util_kernel::add_lanes;
 
 /// Adds a table to a joined table over these variables with these sizes and cells: to each cell the
 /// table's cell at the same values; a sum above [`CAP`] becomes [`CAP`].
@@ -54,10 +55,49 @@ fn add_block(
         return;
     };
     let stride = stride_of(table, *var);
+    if over.is_empty() {
+        return add_rows(cells, from, usize::from(*size), stride, row);
+    }
     let block = product_of(sizes).saturating_mul(row.width);
     for k in 0..usize::from(*size) {
         let at = k * block;
         let (_, from) = from.split_at(stride * k);
         add_block(&mut cells[at..at + block], from, table, over, sizes, row);
+    }
+}
+
+/// Adds cells of a table, `from`, to the rows of so many values of one variable, by its stride.
+fn add_rows(cells: &mut [u64], from: &[u64], size: usize, stride: usize, row: Row)
+    requires full { length cells.old ≡ size * row.width }
+    requires some { 1 ≤ row.width }
+    requires inside { stride * (size - 1) + row.step * (row.width - 1) < length from.now }
+    requires cells { All (λ n. n ≤ amount_limit) cells.old }
+    requires from { All (λ n. n ≤ amount_limit) from.now }
+    ensures { IsBlockSum from.now (stride ∷ []) (size ∷ []) row.width row.step
+        cells.old cells.new }
+{
+    if row.step == 1 {
+        return add_near_rows(cells, from, size, stride, row.width);
+    }
+    for k in 0..size {
+        let at = k * row.width;
+        let (_, from) = from.split_at(stride * k);
+        add_row(&mut cells[at..at + row.width], from, row.step);
+    }
+}
+
+/// [`add_rows`] where the place in the table moves by one cell along a row.
+fn add_near_rows(cells: &mut [u64], from: &[u64], size: usize, stride: usize, width: usize)
+    requires full { length cells.old ≡ size * width }
+    requires some { 1 ≤ width }
+    requires inside { stride * (size - 1) + (width - 1) < length from.now }
+    requires cells { All (λ n. n ≤ amount_limit) cells.old }
+    requires from { All (λ n. n ≤ amount_limit) from.now }
+    ensures { IsBlockSum from.now (stride ∷ []) (size ∷ []) width 1 cells.old cells.new }
+{
+    for k in 0..size {
+        let at = k * width;
+        let (_, from) = from.split_at(stride * k);
+        add_lanes(&mut cells[at..at + width], &from[..width]);
     }
 }

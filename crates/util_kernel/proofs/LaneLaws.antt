@@ -1,9 +1,9 @@
 -- Laws of lanes: what the operators on blocks give, and how blocks make a whole.
 use Rattle.std.proofs.Common.{◌≡◌, ℕ, zero, suc, ◌+◌, ◌-◌, ◌%◌, ◌^◌, ◌<◌, ◌≤◌, Bool, cond, ltb, List, [], ◌∷◌, length, get_or, set, take, drop, map, min, replicate, refl, sym, ap, ◌∙◌, subst, inl, inr, arith}
 use Rattle.std.specs.List.{All}
-use Rattle.std.proofs.lemmas.Simd.{tops_compared, zip2_splat, length-chunk, get_or-chunk, length-replicate}
+use Rattle.std.proofs.lemmas.Simd.{tops_compared, zip2_splat, length-chunk, get_or-chunk}
 use Rattle.std.proofs.lemmas.Bool.{cases_Bool, ltb-true, ltb-false}
-use Rattle.std.proofs.lemmas.List.Elements.{All-head, All-tail, All-replicate}
+use Rattle.std.proofs.lemmas.List.Elements.{All-head, All-tail}
 use Rattle.std.proofs.lemmas.List.{drop-replicate}
 use lib.Lanes.{zip2, sel_l, chunk, put_chunk, top}
 use mir.Syntax.{w64}
@@ -26,17 +26,16 @@ selected (x ∷ xs) (y ∷ ys) = let head = chosen x y in let tail = selected xs
 pub least-block : (xs ys : List ℕ) → sel_l (map (top 63) (zip2 (λ (a b : ℕ). cond (ltb a b) (2 ^ 64 - 1) 0) xs ys)) xs ys ≡ leasts xs ys
 least-block xs ys = ap (λ (bs : List Bool). sel_l bs xs ys) (tops_compared w64 ltb xs ys) ∙ selected xs ys
 
--- the sums of two blocks, of which none wraps, and each of which is capped
+-- the sums of two blocks, of which none wraps
 sum-wraps : (x y : ℕ) → x ≤ amount_limit → y ≤ amount_limit → (x + y) % 2 ^ 64 ≡ x + y
 sum-wraps x y hx hy = omega arith
 
-pub sum-block : (xs ys : List ℕ) (n : ℕ) → length xs ≡ n → length ys ≡ n → All (λ x. x ≤ amount_limit) xs → All (λ y. y ≤ amount_limit) ys → leasts (zip2 (λ (a b : ℕ). (a + b) % 2 ^ 64) xs ys) (replicate n amount_limit) ≡ sums xs ys
-sum-block [] ys n ex ey hx hy = refl
-sum-block (x ∷ xs) [] n ex ey hx hy = refl
-sum-block (x ∷ xs) (y ∷ ys) zero ex ey hx hy = absurd (omega (arith, ex))
-sum-block (x ∷ xs) (y ∷ ys) (suc n) ex ey hx hy =
-    let head = ap (λ s. min s amount_limit) (sum-wraps x y (All-head (λ x. x ≤ amount_limit) x xs hx) (All-head (λ x. x ≤ amount_limit) y ys hy)) in
-    let tail = sum-block xs ys n (omega (arith, ex)) (omega (arith, ey)) (All-tail (λ x. x ≤ amount_limit) x xs hx) (All-tail (λ x. x ≤ amount_limit) y ys hy) in
+pub sum-block : (xs ys : List ℕ) → All (λ x. x ≤ amount_limit) xs → All (λ y. y ≤ amount_limit) ys → zip2 (λ (a b : ℕ). (a + b) % 2 ^ 64) xs ys ≡ zip2 (λ (a b : ℕ). a + b) xs ys
+sum-block [] ys hx hy = refl
+sum-block (x ∷ xs) [] hx hy = refl
+sum-block (x ∷ xs) (y ∷ ys) hx hy =
+    let head = sum-wraps x y (All-head (λ x. x ≤ amount_limit) x xs hx) (All-head (λ x. x ≤ amount_limit) y ys hy) in
+    let tail = sum-block xs ys (All-tail (λ x. x ≤ amount_limit) x xs hx) (All-tail (λ x. x ≤ amount_limit) y ys hy) in
     cc
 
 -- a list of which the first amounts are combined with those of another, and the rest are not
@@ -119,10 +118,6 @@ get_or-combined f (suc k) (x ∷ xs) (y ∷ ys) d = get_or-combined f k xs ys d
 -- a sum with one amount is a sum with as many of it
 pub raised-is : (cell : ℕ) (xs : List ℕ) (n : ℕ) → length xs ≡ n → sums xs (replicate n cell) ≡ raised xs cell
 raised-is cell xs n e = zip2_splat plus xs n cell e
-
-pub sum-block-one : (cell : ℕ) (xs : List ℕ) (n : ℕ) → length xs ≡ n → cell ≤ amount_limit → All (λ x. x ≤ amount_limit) xs → leasts (zip2 (λ (a b : ℕ). (a + b) % 2 ^ 64) xs (replicate n cell)) (replicate n amount_limit) ≡ raised xs cell
-sum-block-one cell xs n e h all =
-    sum-block xs (replicate n cell) n e (length-replicate n cell) all (All-replicate (λ x. x ≤ amount_limit) n cell h) ∙ raised-is cell xs n e
 
 take-replicate_more : (cell n m : ℕ) → n ≤ m → take n (replicate m cell) ≡ replicate n cell
 take-replicate_more cell zero m h = refl

@@ -3,14 +3,15 @@
 ghost use Rattle.std.specs.Prelude.{◌≡◌, ◌+◌, ◌≤◌, List, length};
 ghost use Rattle.std.specs.List.{All};
 ghost use Rattle.util_kernel.specs.Lanes.{sums};
-ghost use Rattle.std.specs.Simd.Lanes.{chunk, put_chunk};
+ghost use Rattle.std.specs.Simd.Lanes.{chunk, put_chunk, zip2};
 ghost use Rattle.dcop_base.specs.Limits.{amount_limit};
 
+use crate::cap::{cap_all, may_exceed};
 use dcop_base::CAP;
-use std::simd::prelude::u64x8;
+use std::simd::prelude::u64x4;
 
 /// How many amounts a block has.
-const LANES: usize = 8;
+const LANES: usize = 4;
 
 /// Adds each amount of `from` to the one of `into` at its place; a sum above [`CAP`] becomes
 /// [`CAP`].
@@ -20,10 +21,14 @@ pub fn add_lanes(into: &mut [u64], from: &[u64])
     requires from { All (λ n. n ≤ amount_limit) from.now }
     ensures { into.new ≡ sums into.old from.now }
 {
+    let mut bits = u64x4::splat(0);
     let mut at = 0;
-    while into.len() - at >= LANES {
-        add_block(into, from, at);
+    while at + LANES <= into.len() {
+        bits |= add_block(into, from, at);
         at += LANES;
+    }
+    if may_exceed(bits) {
+        cap_all(into);
     }
     while at < into.len() {
         into[at] = (into[at] + from[at]).min(CAP);
@@ -31,16 +36,16 @@ pub fn add_lanes(into: &mut [u64], from: &[u64])
     }
 }
 
-/// Adds the block of eight from a place on.
-fn add_block(into: &mut [u64], from: &[u64], at: usize)
+/// Adds the block of four from a place on, without a cap, and gives the sums.
+fn add_block(into: &mut [u64], from: &[u64], at: usize) -> u64x4
     requires equal { length into.old ≡ length from.now }
     requires room { at + LANES ≤ length into.old }
     requires into { All (λ n. n ≤ amount_limit) (chunk at LANES into.old) }
     requires from { All (λ n. n ≤ amount_limit) (chunk at LANES from.now) }
-    ensures { into.new ≡ put_chunk at into.old
-        (sums (chunk at LANES into.old) (chunk at LANES from.now)) }
+    ensures sums { result ≡ zip2 (λ a b. a + b) (chunk at LANES into.old) (chunk at LANES from.now) }
+    ensures stored { into.new ≡ put_chunk at into.old result }
 {
-    let sum = u64x8::from_slice(&into[at..]) + u64x8::from_slice(&from[at..]);
-    sum.simd_min(u64x8::splat(CAP))
-        .copy_to_slice(&mut into[at..]);
+    let sum = u64x4::from_slice(&into[at..]) + u64x4::from_slice(&from[at..]);
+    sum.copy_to_slice(&mut into[at..]);
+    sum
 }

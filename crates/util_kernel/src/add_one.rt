@@ -1,16 +1,17 @@
 //! Sums with one amount.
 
-ghost use Rattle.std.specs.Prelude.{◌≡◌, ◌+◌, ◌≤◌, length};
+ghost use Rattle.std.specs.Prelude.{◌≡◌, ◌+◌, ◌≤◌, length, replicate};
 ghost use Rattle.std.specs.List.{All};
 ghost use Rattle.util_kernel.specs.Lanes.{raised};
-ghost use Rattle.std.specs.Simd.Lanes.{chunk, put_chunk};
+ghost use Rattle.std.specs.Simd.Lanes.{chunk, put_chunk, zip2};
 ghost use Rattle.dcop_base.specs.Limits.{amount_limit};
 
+use crate::cap::{cap_all, may_exceed};
 use dcop_base::CAP;
-use std::simd::prelude::u64x8;
+use std::simd::prelude::u64x4;
 
 /// How many amounts a block has.
-const LANES: usize = 8;
+const LANES: usize = 4;
 
 /// Adds `cell` to each amount of `into`; a sum above [`CAP`] becomes [`CAP`].
 pub fn add_one_lanes(into: &mut [u64], cell: u64)
@@ -18,10 +19,14 @@ pub fn add_one_lanes(into: &mut [u64], cell: u64)
     requires cell { cell ≤ amount_limit }
     ensures { into.new ≡ raised into.old cell }
 {
+    let mut bits = u64x4::splat(0);
     let mut at = 0;
-    while into.len() - at >= LANES {
-        add_one_block(into, cell, at);
+    while at + LANES <= into.len() {
+        bits |= add_one_block(into, cell, at);
         at += LANES;
+    }
+    if may_exceed(bits) {
+        cap_all(into);
     }
     while at < into.len() {
         into[at] = (into[at] + cell).min(CAP);
@@ -29,14 +34,15 @@ pub fn add_one_lanes(into: &mut [u64], cell: u64)
     }
 }
 
-/// Adds one amount to the block of eight from a place on.
-fn add_one_block(into: &mut [u64], cell: u64, at: usize)
+/// Adds one amount to the block of four from a place on, without a cap, and gives the sums.
+fn add_one_block(into: &mut [u64], cell: u64, at: usize) -> u64x4
     requires room { at + LANES ≤ length into.old }
     requires into { All (λ n. n ≤ amount_limit) (chunk at LANES into.old) }
     requires cell { cell ≤ amount_limit }
-    ensures { into.new ≡ put_chunk at into.old (raised (chunk at LANES into.old) cell) }
+    ensures sums { result ≡ zip2 (λ a b. a + b) (chunk at LANES into.old) (replicate LANES cell) }
+    ensures stored { into.new ≡ put_chunk at into.old result }
 {
-    let sum = u64x8::from_slice(&into[at..]) + u64x8::splat(cell);
-    sum.simd_min(u64x8::splat(CAP))
-        .copy_to_slice(&mut into[at..]);
+    let sum = u64x4::from_slice(&into[at..]) + u64x4::splat(cell);
+    sum.copy_to_slice(&mut into[at..]);
+    sum
 }

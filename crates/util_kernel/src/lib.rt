@@ -1,4 +1,4 @@
-//! Kernels over lists of amounts, eight at a time.
+//! Kernels over lists of amounts, four or eight at a time.
 //!
 //! Each gives, at every length, exactly what a plain loop over the elements gives: [`add_lanes`]
 //! their sums, [`least_lanes`] the lesser of each two, [`add_one_lanes`] the sums with one amount.
@@ -7,6 +7,7 @@
 
 mod add;
 mod add_one;
+mod cap;
 mod least;
 
 pub use add::add_lanes;

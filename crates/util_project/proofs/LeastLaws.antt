@@ -119,6 +119,15 @@ runs-append cells b size inner start kept new block runs es eb h =
           (subst (λ (xs : List ℕ). All (λ c. c ≤ bound) xs) (sym eb) (All-take (λ c. c ≤ bound) (size * inner) (drop start cells) (All-drop (λ c. c ≤ bound) start cells all))) (runs.within bound all);
     }
 
+-- the least of one block of single cells more
+pub cells-append : (cells : List ℕ) (b size start : ℕ) (kept new block : List ℕ) (c : ℕ) → AreLeastRuns cells b size 1 kept → start ≡ b * size → block ≡ take size (drop start cells) → length block ≡ size → IsLeast (λ d. get_or block d 0) (length block) c → new ≡ kept ++ (c ∷ []) → AreLeastRuns cells (b + 1) size 1 new
+cells-append cells b size start kept new block c runs es eb long least e =
+    let one : size ≡ size * 1 = omega arith in
+    let sized = subst (λ (n : ℕ). IsLeast (λ d. get_or block d 0) n c) long least in
+    let here = least-same _ (λ d. get_or block (d * 1 + 0) 0) size c c (λ d lt. ap (λ (n : ℕ). get_or block n 0) (let same : d ≡ d * 1 + 0 = omega arith in same)) refl sized in
+    runs-append cells b size 1 start kept new block runs (es ∙ ap (λ (n : ℕ). b * n) one) (eb ∙ ap (λ (n : ℕ). take n (drop start cells)) one)
+    (appends-more block size 1 0 kept kept new c (appends-none block size 1 kept) here e)
+
 -- one run more that lowers a run
 pub lower-more : (block run new from : List ℕ) (n inner : ℕ) → length run ≡ inner → n * inner + inner ≤ length block → from ≡ take inner (drop (n * inner) block) → new ≡ leasts run from → ((i : ℕ) → i < inner → IsLeast (λ d. get_or block (d * inner + i) 0) n (get_or run i 0)) → (i : ℕ) → i < inner → IsLeast (λ d. get_or block (d * inner + i) 0) (n + 1) (get_or new i 0)
 lower-more block run new from n inner long fits ef en least i lt =

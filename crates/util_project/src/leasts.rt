@@ -6,10 +6,14 @@ ghost use Rattle.util_project.specs.Leasts.{AppendsLeasts, AreLeastRuns};
 
 use dcop_base::NoMemory;
 use std::alloc::Global;
+use std::simd::prelude::*;
 use util_kernel::least_lanes;
 
 /// The shortest run that is taken eight cells at a time.
 const LANES: usize = 8;
+
+/// How many cells of a run are taken at a time where only its least one is sought.
+const FEW: usize = 4;
 
 /// Of so many blocks of cells, each of `size` runs of `inner` cells, the least of the runs of each
 /// block, cell by cell.
@@ -24,12 +28,74 @@ pub(crate) fn least_runs(
     requires runs { 1 ≤ size }
     ensures { IfOk result (λ kept. AreLeastRuns cells.now blocks size inner kept.items) }
 {
+    if inner == 1 {
+        return least_cells(alloc, cells, blocks, size);
+    }
     let mut kept = Vec::with_capacity(alloc, blocks * inner)?;
     for block in 0..blocks {
         let start = block * (size * inner);
         append_leasts(&mut kept, &cells[start..start + size * inner], size, inner)?;
     }
     Ok(kept)
+}
+
+/// [`least_runs`] where each run is one cell: the least cell of each block.
+fn least_cells(
+    alloc: Global,
+    cells: &[u64],
+    blocks: usize,
+    size: usize,
+) -> Result<Vec<u64>, NoMemory>
+    requires full { length cells.now ≡ blocks * size }
+    requires runs { 1 ≤ size }
+    ensures { IfOk result (λ kept. AreLeastRuns cells.now blocks size 1 kept.items) }
+{
+    let mut kept = Vec::with_capacity(alloc, blocks)?;
+    for block in 0..blocks {
+        let start = block * size;
+        kept.push(least_of(&cells[start..start + size]))?;
+    }
+    Ok(kept)
+}
+
+/// The least of these cells.
+fn least_of(cells: &[u64]) -> u64
+    requires { 1 ≤ length cells.now }
+    ensures { IsLeast (λ d. slice_index cells.now d) (length cells.now) result }
+{
+    let mut least = cells[0];
+    let mut at = 1;
+    if cells.len() >= FEW {
+        (least, at) = least_of_blocks(cells);
+    }
+    while at < cells.len() {
+        least = least.min(cells[at]);
+        at += 1;
+    }
+    least
+}
+
+/// The least of the cells of all whole blocks of [`FEW`], and how many cells these are.
+fn least_of_blocks(cells: &[u64]) -> (u64, usize)
+    requires { FEW ≤ length cells.now }
+    ensures least { IsLeast (λ d. slice_index cells.now d) result.1 result.0 }
+    ensures within { result.1 ≤ length cells.now }
+{
+    let mut lanes = u64x4::from_slice(cells);
+    let mut at = FEW;
+    while at + FEW <= cells.len() {
+        lanes = u64x4::from_slice(&cells[at..]).simd_min(lanes);
+        at += FEW;
+    }
+    (least_of_four(lanes), at)
+}
+
+/// The least of four cells.
+fn least_of_four(cells: u64x4) -> u64
+    ensures { IsLeast (λ j. slice_index cells j) 4 result }
+{
+    let four = cells.to_array();
+    four[0].min(four[1]).min(four[2].min(four[3]))
 }
 
 /// Appends the least of the runs of a block.
