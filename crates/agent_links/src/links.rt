@@ -32,19 +32,19 @@ pub fn link_all(alloc: Global, known: &[Private]) -> Result<Links, NoMemory>
     requires beside { AreBeside (neighbours_in known.now) }
     ensures { IfOk result (λ l. AreLinks (neighbours_in known.now) (rows_in l.tails.items) (rows_in l.heads.items)) }
 {
-    let mut tails = empty_rows(alloc, known.len())?;
-    let mut heads = empty_rows(alloc, known.len())?;
+    let mut tails = empty_rows(alloc, known)?;
+    let mut heads = empty_rows(alloc, known)?;
     link_rows(alloc, known, tails.as_mut_slice(), heads.as_mut_slice())?;
     Ok(Links { tails, heads })
 }
 
-/// So many empty lists.
-fn empty_rows<T: Drop>(alloc: Global, count: usize) -> Result<Vec<Vec<T>>, NoMemory>
-    ensures { IfOk result (λ rows. rows_in rows.items ≡ replicate count []) }
+/// An empty list for each agent, with room for one item of each neighbour.
+fn empty_rows<T: Drop>(alloc: Global, known: &[Private]) -> Result<Vec<Vec<T>>, NoMemory>
+    ensures { IfOk result (λ rows. rows_in rows.items ≡ replicate (length known.now) []) }
 {
-    let mut rows = Vec::with_capacity(alloc, count)?;
-    for _ in 0..count {
-        rows.push(Vec::new(alloc))?;
+    let mut rows = Vec::with_capacity(alloc, known.len())?;
+    for own in known {
+        rows.push(Vec::with_capacity(alloc, own.neighbours.as_slice().len())?)?;
     }
     Ok(rows)
 }

@@ -20,7 +20,7 @@ pub(crate) fn neighbour_rows(alloc: Global, problem: &Problem) -> Result<Vec<Vec
 }
 
 /// So many empty lists.
-pub(crate) fn empty_rows<T: Drop>(alloc: Global, count: usize) -> Result<Vec<Vec<T>>, NoMemory>
+fn empty_rows(alloc: Global, count: usize) -> Result<Vec<Vec<VarId>>, NoMemory>
     ensures { IfOk result (λ rows. rows_in rows.items ≡ replicate count []) }
 {
     let mut rows = Vec::with_capacity(alloc, count)?;

@@ -3,4 +3,4 @@ use Rattle.problem_parts.specs.Rows.{rows_in}
 use Rattle.problem_parts.proofs.neighbours.empty_rows.Given as goal
 
 abbrev pub invariant-loop : goal.invariant-loop
-invariant-loop g l = rows_in l.rows.items ≡ replicate l.counter []
+invariant-loop l = rows_in l.rows.items ≡ replicate l.counter []
