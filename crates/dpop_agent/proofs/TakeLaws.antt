@@ -1,5 +1,5 @@
 -- A child's table that is taken: it may be kept, and an agent that keeps it stays sound.
-use Rattle.std.proofs.Common.{◌≡◌, ℕ, ◌*◌, ◌≤◌, Bool, true, false, cond, not, ◌&&◌, ◌||◌, eqb, ltb, nat_le, List, [], ◌∷◌, ◌++◌, map, length, Option, Some, None, is_some, refl, sym, ap, subst, ◌∙◌, inl, inr}
+use Rattle.std.proofs.Common.{◌≡◌, ℕ, zero, suc, ◌*◌, ◌<◌, ◌≤◌, get_or, Bool, true, false, cond, not, ◌&&◌, ◌||◌, eqb, ltb, nat_le, List, [], ◌∷◌, ◌++◌, map, length, Option, Some, None, is_some, refl, sym, ap, subst, ◌∙◌, inl, inr, arith}
 use Rattle.std.specs.List.{filter, list_all, position, slice_get, slice_set, zip}
 use Rattle.std.specs.Cmp.Lexicographic.{pointwise}
 use Rattle.std.proofs.lemmas.Bool.{both_ways, cases_Bool, cases_lt, cond-true, eq-eqb, eqb-true, le-leb, le-ltb, lt-leb, lt-ltb, or_cases, true≢false, false≢true}
@@ -28,6 +28,10 @@ use Rattle.dpop_agent.specs.Stage.{phase_at, view_at, working}
 use Rattle.dpop_agent.specs.Keeping.{keeping, IsChildTable, MayKeep}
 use Rattle.dpop_agent.specs.Sound.{IsKeeper, IsMade, IsSound}
 use Rattle.dpop_agent.specs.Deed.{Gives, IsTaken}
+use Rattle.dpop_agent.specs.Joint.{IsOver}
+use Rattle.dpop_agent.specs.declared.separator.Over.{Over}
+use Rattle.std.specs.Option.{IfSome}
+use Rattle.dpop_agent.proofs.MarkLaws.{filter_same, stands_kept}
 use Rattle.dpop_agent.proofs.OverLaws.{all_had, apart_end, filter_apart, has_end, path_size, product_end, size_me}
 
 -- whether a number stays within a limit, asked by a capped count
@@ -212,3 +216,42 @@ passes_over own place stage kept made value v from k scope cells parcels view fo
     (let w : DpopView = view_at own place stage kept made value in
     subst (λ (o : Option ℕ). Gives (take_util w o scope cells) w parcels) (sym found)
     (subst (λ (b : Bool). Gives (cond b (join (with_table w k scope cells)) (quiet w)) w parcels) (sym not_taken) (record { viewed = refl; sent = none })))
+
+-- whether a variable stands in a kept table, after one more is kept at a place that was free
+stands_more : (kept : List (Option CostTable)) (k : ℕ) (t : CostTable) (u : ℕ) → k < length kept → get_or kept k None ≡ None → stands_kept (slice_set kept k (Some t)) u ≡ (has t.scope u || stands_kept kept u)
+stands_more [] k t u lt free = absurd (omega (arith, lt))
+stands_more (None ∷ es) zero t u lt free = refl
+stands_more (Some s ∷ es) zero t u lt free = absurd (true≢false (ap is_some free))
+stands_more (None ∷ es) (suc k) t u lt free = stands_more es k t u (omega (arith, lt)) free
+stands_more (Some s ∷ es) (suc k) t u lt free = ap (λ (b : Bool). has s.scope u || b) (stands_more es k t u (omega (arith, lt)) free) ∙ swapped (has s.scope u) (has t.scope u) (stands_kept es u)
+  where
+    swapped : (a b c : Bool) → (a || (b || c)) ≡ (b || (a || c))
+    swapped true true c = refl
+    swapped true false c = refl
+    swapped false true c = refl
+    swapped false false c = refl
+
+-- the variables of the joined table where a table's scope counted as kept are those where it is kept
+pub known_after : (own : Private) (place : Place) (stage : Stage) (kept : List (Option CostTable)) (made : Option CostTable) (value k : ℕ) (scope cells : List ℕ) (t : CostTable) (over : Over) → IsTaken (keeping own place kept) k scope cells (Some t)
+    → over.vars.items ≡ separator_with (keeping own place kept) (scope ∷ kept_scopes (keeping own place kept)) ++ (own.me ∷ []) → over.sizes.items ≡ map (size_of (keeping own place [])) over.vars.items
+    → IsOver (view_at own place stage (slice_set kept k (Some t)) made value) over
+known_after own place stage kept made value k scope cells t over taken vars sizes =
+    let free = (passed own place kept k scope cells taken.0).free in
+    let within : k < length kept = slice_get_within kept k None free in
+    let none : get_or kept k None ≡ None = get_or_from_slice_get kept k None None free in
+    let before : ℕ → Bool = λ u. has own.neighbours u || (has scope u || stands_kept kept u) in
+    let after : ℕ → Bool = λ u. has own.neighbours u || stands_kept (slice_set kept k (Some t)) u in
+    let same : (u : ℕ) → before u ≡ after u = λ u.
+    ap (λ (b : Bool). has own.neighbours u || b) (ap (λ (vs : List ℕ). has vs u || stands_kept kept u) (sym taken.1.0) ∙ sym (stands_more kept k t u within none)) in
+    record {
+      vars = vars ∙ ap (λ (us : List ℕ). us ++ (own.me ∷ [])) (filter_same before after place.path (λ i d lt. same (get_or place.path i d)));
+      sizes = sizes;
+    }
+
+-- what is known of an agent's joined table is known of what it keeps
+pub known_kept : (own : Private) (place : Place) (stage : Stage) (kept now : List (Option CostTable)) (made : Option CostTable) (value : ℕ) (v : DpopView) (known : Option Over) → view_at own place stage kept made value ≡ v → now ≡ kept → IfSome known (IsOver v) → IfSome known (IsOver (keeping own place now))
+known_kept own place stage kept now made value v None view same h = tt
+known_kept own place stage kept now made value v (Some over) view same h =
+    let is : IsOver (view_at own place stage kept made value) over = subst (λ (w : DpopView). IsOver w over) (sym view) h in
+    let here : IsOver (keeping own place kept) over = record { vars = is.vars; sizes = is.sizes } in
+    subst (λ (es : List (Option CostTable)). IsOver (keeping own place es) over) (sym same) here

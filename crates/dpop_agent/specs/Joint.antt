@@ -6,6 +6,7 @@ use Rattle.adopt_context.specs.Bounds.{cap}
 use Rattle.protocol_steps.specs.Dpop.{DpopView, own_tables, kept_tables, kept_scopes, joined_cells_with, size_of, separator}
 use Rattle.dcop_base.specs.Limits.{joined_limit}
 use Rattle.protocol_steps.specs.DpopJoin.{can_join}
+use Rattle.dpop_agent.specs.declared.separator.Over.{Over}
 
 -- a table over these variables with these sizes, of which each cell is this cost of the same values, capped
 pub record IsCostOf (over sizes : List ℕ) (costs : (ℕ → ℕ) → ℕ) (t : CostTable) : Type 0 where
@@ -26,6 +27,11 @@ over_of v = separator v ++ (v.own.me ∷ [])
 -- the sizes of these
 abbrev pub over_sizes : DpopView → List ℕ
 over_sizes v = map (size_of v) (over_of v)
+
+-- these variables are those of an agent's joined table, each with its size
+pub record IsOver (v : DpopView) (over : Over) : Type 0 where
+  pub vars : over.vars.items ≡ over_of v
+  pub sizes : over.sizes.items ≡ map (size_of v) over.vars.items
 
 -- a joined table of zeros over these variables exactly where it is not too wide
 abbrev pub IsZeroOver : List ℕ → List ℕ → Option CostTable → Type 0

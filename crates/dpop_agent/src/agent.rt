@@ -1,6 +1,6 @@
 //! The DPOP agent.
 
-ghost use Rattle.std.specs.Prelude.{◌≡◌, true, [], ◌↔◌, map, replicate, Some, None, is_some, IfOk, OnOk, OnErr, IsErr, MatchOption};
+ghost use Rattle.std.specs.Prelude.{◌≡◌, true, [], ◌↔◌, map, replicate, Some, None, is_some, IfOk, IfSome, OnOk, OnErr, IsErr, MatchOption};
 ghost use Rattle.std.specs.List.{All};
 ghost use Rattle.dcop_base.specs.Table.{AreWithin};
 ghost use Rattle.protocol_steps.specs.declared.message.Message.TheVariants.{Util, ValueAll};
@@ -15,9 +15,11 @@ ghost use Rattle.protocol_steps.specs.DpopStep.{dpop_message, dpop_start, dpop_s
 ghost use Rattle.protocol_steps.specs.View.{DpopKind};
 ghost use Rattle.dpop_agent.specs.Stage.{working};
 ghost use Rattle.dpop_agent.specs.Deed.{Gives, IsRunning};
+ghost use Rattle.dpop_agent.specs.Joint.{IsOver};
 
 use crate::child::{are_sized, table_of, util_for};
 use crate::joint::joined_of;
+use crate::separator::{Over, variables_with};
 use crate::stage::Stage;
 use crate::util::{best_of, util_of};
 use crate::values::values_for;
@@ -125,15 +127,16 @@ impl DpopAgent {
     }
 
     /// Joins where all children's tables are kept and the joined table is not too wide: the table
-    /// goes to the parent; the root decides.
-    fn join(&mut self) -> Result<Vec<Parcel>, NoMemory>
+    /// goes to the parent; the root decides. The joined table's variables may be known already.
+    fn join(&mut self, known: Option<Over>) -> Result<Vec<Parcel>, NoMemory>
         requires working { self.old.phase ≡ working }
+        requires known { IfSome known (IsOver self.old) }
         ensures own { (self.new.own ≡ self.old.own) × (self.new.place ≡ self.old.place) }
         ensures running { IfOk result (λ _. IsRunning self.new) }
         ensures gives { IfOk result (λ ps. Gives (join self.old) self.new ps.items) }
     {
         let kept = self.kept.as_slice();
-        let Some(joined) = joined_of(self.alloc, &self.own, &self.place, kept)? else {
+        let Some(joined) = joined_of(self.alloc, &self.own, &self.place, kept, known)? else {
             return Ok(Vec::new(self.alloc));
         };
         let made = util_of(self.alloc, &self.own, &self.place, kept, &joined)?;
@@ -164,6 +167,7 @@ impl DpopAgent {
             return Ok(Vec::new(self.alloc));
         };
         let kept = self.kept.as_slice();
+        let over = variables_with(self.alloc, &self.own, &self.place, kept, scope)?;
         let Some(table) = table_of(
             self.alloc,
             &self.own,
@@ -172,12 +176,13 @@ impl DpopAgent {
             child,
             scope,
             cells,
+            over.sizes.as_slice(),
         )?
         else {
             return Ok(Vec::new(self.alloc));
         };
         self.kept[child] = Some(table);
-        self.join()
+        self.join(Some(over))
     }
 
     /// Whether these values are taken.
@@ -264,7 +269,7 @@ impl DpopAgent {
         ensures gives { IfOk result (λ ps. Gives (dpop_start self.old) self.new ps.items) }
     {
         self.stage = Stage::Working;
-        self.join()
+        self.join(None)
     }
 }
 

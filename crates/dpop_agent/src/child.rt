@@ -16,7 +16,7 @@ ghost use Rattle.dpop_agent.specs.Keeping.{keeping};
 ghost use Rattle.dpop_agent.specs.Sound.{IsKeeper};
 ghost use Rattle.dpop_agent.specs.Deed.{IsTaken, parcels_up};
 
-use crate::separator::{sizes_of, variables_with};
+use crate::separator::sizes_of;
 use adopt_context::size_beside;
 use cost_table::cells_of;
 use dcop_base::{CellList, NoMemory, Private, SizeList, Table, Val, VarId, VarList, stands_in};
@@ -108,24 +108,15 @@ fn are_cells_of(sizes: &[u16], count: usize) -> bool
     }
 }
 
-/// Whether the joined table stays within its limit where this scope counts as kept.
-fn is_narrow(
-    alloc: Global,
-    own: &Private,
-    place: &Place,
-    kept: &[Option<Table>],
-    scope: &[VarId],
-) -> Result<bool, NoMemory>
-    requires { IsPathOf own.now.me place.now.path place.now.path_sizes }
-    ensures { IfOk result (λ holds. holds
-        ≡ nat_le (joined_cells_with (keeping own.now place.now kept.now)
-        (scope.now ∷ kept_scopes (keeping own.now place.now kept.now))) joined_limit) }
+/// Whether a joined table of these sizes stays within its limit.
+fn is_narrow(sizes: &[u16]) -> bool
+    ensures { result ≡ nat_le (product sizes.now) joined_limit }
 {
-    let over = variables_with(alloc, own, place, kept, scope)?;
-    Ok(cells_of(over.sizes.as_slice(), MAX_JOINED_CELLS).is_some())
+    cells_of(sizes, MAX_JOINED_CELLS).is_some()
 }
 
-/// Whether the child at this place may send a table of this scope, of these sizes, with these cells.
+/// Whether the child at this place may send a table of this scope, of these sizes, with these cells,
+/// where the joined table has the sizes `over` if the scope counts as kept.
 fn takes(
     alloc: Global,
     own: &Private,
@@ -135,10 +126,12 @@ fn takes(
     scope: &[VarId],
     sizes: &[u16],
     cells: &[u64],
+    over: &[u16],
 ) -> Result<bool, NoMemory>
-    requires path { IsPathOf own.now.me place.now.path place.now.path_sizes }
     requires sizes { sizes.now ≡ map (size_of (keeping own.now place.now [])) scope.now }
     requires few { length cells.now ≤ joined_limit }
+    requires over { product over.now ≡ joined_cells_with (keeping own.now place.now kept.now)
+        (scope.now ∷ kept_scopes (keeping own.now place.now kept.now)) }
     ensures { IfOk result (λ holds. holds
         ≡ takes_util (keeping own.now place.now kept.now) child scope.now cells.now) }
 {
@@ -151,10 +144,11 @@ fn takes(
     if !are_cells_of(sizes, cells.len()) {
         return Ok(false);
     }
-    is_narrow(alloc, own, place, kept, scope)
+    Ok(is_narrow(over))
 }
 
-/// The table that a child sends with this scope and these cells, where it is taken.
+/// The table that a child sends with this scope and these cells, where it is taken. The joined table
+/// has the sizes `over` if the scope counts as kept.
 pub(crate) fn table_of(
     alloc: Global,
     own: &Private,
@@ -163,9 +157,12 @@ pub(crate) fn table_of(
     child: usize,
     scope: &[VarId],
     cells: &[u64],
+    over: &[u16],
 ) -> Result<Option<Table>, NoMemory>
     requires keeper { IsKeeper own.now place.now kept.now }
     requires range { AreCells cells.now }
+    requires over { product over.now ≡ joined_cells_with (keeping own.now place.now kept.now)
+        (scope.now ∷ kept_scopes (keeping own.now place.now kept.now)) }
     ensures { IfOk result (IsTaken (keeping own.now place.now kept.now) child scope.now cells.now) }
 {
     let sizes = sizes_of(alloc, own, place, scope)?;
@@ -178,6 +175,7 @@ pub(crate) fn table_of(
         scope,
         sizes.as_slice(),
         cells,
+        over,
     )? {
         return Ok(None);
     }

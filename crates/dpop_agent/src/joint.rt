@@ -1,12 +1,12 @@
 //! Joined tables.
 
-ghost use Rattle.std.specs.Prelude.{◌≡◌, ◌==◌, ◌||◌, ◌≤◌, [], true, false, length, IfOk};
+ghost use Rattle.std.specs.Prelude.{◌≡◌, ◌==◌, ◌||◌, ◌≤◌, [], true, false, length, IfOk, IfSome};
 ghost use Rattle.std.specs.List.{All, list_all, filter, flat_map};
 ghost use Rattle.dcop_base.specs.Table.{has, has_repeat};
 ghost use Rattle.protocol_steps.specs.Dpop.{there};
 ghost use Rattle.util_join.specs.Join.{LiesIn};
 ghost use Rattle.dpop_agent.specs.Keeping.{keeping};
-ghost use Rattle.dpop_agent.specs.Joint.{HasGained, IsZeroOver, IsZeroWhereNarrow, IsJointWhereMay};
+ghost use Rattle.dpop_agent.specs.Joint.{HasGained, IsOver, IsZeroOver, IsZeroWhereNarrow, IsJointWhereMay};
 ghost use Rattle.dpop_agent.specs.Sound.{IsKeeper};
 
 use crate::kept::are_all_there;
@@ -84,35 +84,57 @@ pub(crate) fn zeros_over(alloc: Global, over: Over) -> Result<Option<Joined>, No
     }
 }
 
+/// The variables of the joined table: those that are known already, or else what is found.
+fn known_or_found(
+    alloc: Global,
+    own: &Private,
+    place: &Place,
+    kept: &[Option<Table>],
+    known: Option<Over>,
+) -> Result<Over, NoMemory>
+    requires keeper { IsKeeper own.now place.now kept.now }
+    requires known { IfSome known (IsOver (keeping own.now place.now kept.now)) }
+    ensures { IfOk result (IsOver (keeping own.now place.now kept.now)) }
+{
+    match known {
+        Some(over) => Ok(over),
+        None => variables_with(alloc, own, place, kept, &[]),
+    }
+}
+
 /// The joined table of zeros that an agent starts from; `None` exactly where it is too wide.
 fn zeros(
     alloc: Global,
     own: &Private,
     place: &Place,
     kept: &[Option<Table>],
+    known: Option<Over>,
 ) -> Result<Option<Joined>, NoMemory>
-    requires { IsKeeper own.now place.now kept.now }
+    requires keeper { IsKeeper own.now place.now kept.now }
+    requires known { IfSome known (IsOver (keeping own.now place.now kept.now)) }
     ensures { IfOk result (IsZeroWhereNarrow (keeping own.now place.now kept.now)) }
 {
-    let over = variables_with(alloc, own, place, kept, &[])?;
+    let over = known_or_found(alloc, own, place, kept, known)?;
     zeros_over(alloc, over)
 }
 
 /// The joined table of the agent's own tables and all its children's tables; `None` exactly where
-/// not all of them are kept, or the table is too wide.
+/// not all of them are kept, or the table is too wide. Its variables may be known already.
 pub(crate) fn joined_of(
     alloc: Global,
     own: &Private,
     place: &Place,
     kept: &[Option<Table>],
+    known: Option<Over>,
 ) -> Result<Option<Table>, NoMemory>
-    requires { IsKeeper own.now place.now kept.now }
+    requires keeper { IsKeeper own.now place.now kept.now }
+    requires known { IfSome known (IsOver (keeping own.now place.now kept.now)) }
     ensures { IfOk result (IsJointWhereMay (keeping own.now place.now kept.now)) }
 {
     if !are_all_there(kept) {
         return Ok(None);
     }
-    let Some(mut joined) = zeros(alloc, own, place, kept)? else {
+    let Some(mut joined) = zeros(alloc, own, place, kept, known)? else {
         return Ok(None);
     };
     add_own(

@@ -16,7 +16,7 @@ add_own-requires c =
     let place = c.args.place.now in
     let kept = c.args.kept.now in
     let zero = subst (λ (o : Option CostTable). IsZeroWhereNarrow (keeping own place kept) o) c.in-Some.is c.in_ok-joined.ensures in
-    own_may own place kept c.requires (λ value. 0) c.in-Some.joined c.as_slice.result.now c.as_slice-2.result.now zero.1 c.as_slice.ensures c.as_slice-2.ensures
+    own_may own place kept c.requires.keeper (λ value. 0) c.in-Some.joined c.as_slice.result.now c.as_slice-2.result.now zero.1 c.as_slice.ensures c.as_slice-2.ensures
 
 pub add_kept-requires : goal.add_kept-requires
 add_kept-requires c =
@@ -24,7 +24,7 @@ add_kept-requires c =
     let place = c.args.place.now in
     let kept = c.args.kept.now in
     let zero = subst (λ (o : Option CostTable). IsZeroWhereNarrow (keeping own place kept) o) c.in-Some.is c.in_ok-joined.ensures in
-    kept_may own place kept c.requires (λ value. 0) c.in-Some.joined c.add_own.new.joined zero.1 c.add_own.ensures.same_scope c.add_own.ensures.same_sizes
+    kept_may own place kept c.requires.keeper (λ value. 0) c.in-Some.joined c.add_own.new.joined zero.1 c.add_own.ensures.same_scope c.add_own.ensures.same_sizes
 
 pub returns : goal.returns
 returns c =

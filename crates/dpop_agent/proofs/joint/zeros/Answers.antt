@@ -11,7 +11,7 @@ use Rattle.dpop_agent.proofs.joint.zeros.Goals as goal
 
 pub zeros_over-requires-clause-distinct : goal.zeros_over-requires-clause-distinct
 zeros_over-requires-clause-distinct c =
-    ap has_repeat c.in_ok-over.ensures.vars ∙ over_apart c.args.own.now c.args.place.now c.args.kept.now c.requires
+    ap has_repeat c.in_ok-over.ensures.vars ∙ over_apart c.args.own.now c.args.place.now c.args.kept.now c.requires.keeper
 
 pub zeros_over-requires-clause-sized : goal.zeros_over-requires-clause-sized
 zeros_over-requires-clause-sized c =
@@ -22,7 +22,7 @@ pub zeros_over-requires-clause-positive : goal.zeros_over-requires-clause-positi
 zeros_over-requires-clause-positive c =
     let v : DpopView = keeping c.args.own.now c.args.place.now c.args.kept.now in
     let sizes = c.in_ok-over.ensures.sizes ∙ ap (λ (vs : List ℕ). map (size_of v) vs) c.in_ok-over.ensures.vars in
-    subst (λ (ss : List ℕ). All (λ s. 1 ≤ s) ss) (sym sizes) (over_positive c.args.own.now c.args.place.now c.args.kept.now c.requires)
+    subst (λ (ss : List ℕ). All (λ s. 1 ≤ s) ss) (sym sizes) (over_positive c.args.own.now c.args.place.now c.args.kept.now c.requires.keeper)
 
 pub returns : goal.returns
 returns c =
@@ -33,4 +33,4 @@ returns c =
     let over = c.in_ok-over.over.vars.items in
     let sizes = c.in_ok-over.over.sizes.items in
     IfOk-weaker c.zeros_over.result (IsZeroOver over sizes) (IsZeroWhereNarrow v)
-    (λ zero is. zero_where_narrow own place kept c.requires over zero c.in_ok-over.ensures.vars (subst (λ (ss : List ℕ). IsZeroOver over ss zero) c.in_ok-over.ensures.sizes is)) c.zeros_over.ensures
+    (λ zero is. zero_where_narrow own place kept c.requires.keeper over zero c.in_ok-over.ensures.vars (subst (λ (ss : List ℕ). IsZeroOver over ss zero) c.in_ok-over.ensures.sizes is)) c.zeros_over.ensures

@@ -10,6 +10,7 @@ use Rattle.dpop_agent.proofs.RangeLaws.{util_scope, util_cells}
 use Rattle.dpop_agent.specs.Keeping.{keeping}
 use Rattle.dpop_agent.specs.Joint.{IsJointWhereMay}
 use Rattle.dpop_agent.proofs.AgentLaws.{joins, joined_sound, copied_some, root_joins}
+use Rattle.dpop_agent.proofs.TakeLaws.{known_kept}
 use Rattle.dpop_agent.proofs.agent.DpopAgent.join.Goals as goal
 
 pub util_for-requires-clause-scope : goal.util_for-requires-clause-scope
@@ -26,8 +27,20 @@ util_for-requires-clause-cells c =
     let can = subst (λ (es : List (Option CostTable)). can_join (keeping a.own a.place es) ≡ true) c.as_slice-kept.ensures.value joint.0 in
     util_cells a.own a.place a.kept.items c.self.invariant.keeper c.in_ok-made.made made (subst IsTable c.made.view_is c.made.invariant) can
 
+pub joined_of-requires-clause-known : goal.joined_of-requires-clause-known
+joined_of-requires-clause-known c =
+    let a = c.self.inside in
+    known_kept a.own a.place a.stage a.kept.items c.as_slice-kept.result.now a.made a.value c.args.self.now c.args.known c.self.view_is c.as_slice-kept.ensures.value c.requires.known
+
 pub invariant_of-self : goal.invariant_of-self
 invariant_of-self c =
+    let a = c.self.inside in
+    let now = c.as_slice-kept.result.now in
+    let joint = subst (λ (o : Option CostTable). IsJointWhereMay (keeping a.own a.place now) o) c.in-Some.is c.in_ok-joined.ensures in
+    joined_sound a.own a.place a.stage a.kept.items now a.joined a.made c.in-Some.joined c.in_ok-made.made c.self.invariant (ap (λ (v : DpopView). v.phase) c.self.view_is ∙ c.requires.working) c.as_slice-kept.ensures.value joint c.in_ok-made.ensures
+
+pub invariant_of-self-else-is_none : goal.invariant_of-self-else-is_none
+invariant_of-self-else-is_none c =
     let a = c.self.inside in
     let now = c.as_slice-kept.result.now in
     let joint = subst (λ (o : Option CostTable). IsJointWhereMay (keeping a.own a.place now) o) c.in-Some.is c.in_ok-joined.ensures in

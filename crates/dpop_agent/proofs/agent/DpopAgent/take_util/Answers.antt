@@ -1,16 +1,24 @@
-use Rattle.std.proofs.Common.{ℕ, List, Option, Some, eqb, sym, ap, subst, ◌∙◌}
+use Rattle.std.proofs.Common.{◌≡◌, ℕ, ◌∷◌, ◌++◌, [], List, Option, Some, eqb, sym, ap, subst, ◌∙◌}
 use Rattle.std.specs.List.{position, slice_set}
 use Rattle.std.proofs.lemmas.Result.{IfOk-weaker}
 use Rattle.dcop_base.specs.Table.{CostTable}
 use Rattle.protocol_steps.specs.declared.message.Message.TheVariants.{Util}
-use Rattle.protocol_steps.specs.Dpop.{DpopView}
+use Rattle.protocol_steps.specs.Dpop.{DpopView, separator_with, kept_scopes}
 use Rattle.protocol_steps.specs.DpopJoin.{join}
 use Rattle.protocol_steps.specs.DpopStep.{dpop_message}
 use Rattle.dpop_agent.specs.Stage.{view_at}
 use Rattle.dpop_agent.specs.Keeping.{keeping}
 use Rattle.dpop_agent.specs.Deed.{Gives, IsTaken}
-use Rattle.dpop_agent.proofs.TakeLaws.{keeps_sound, open_works, passes_over, takes, untaken}
+use Rattle.dpop_agent.proofs.TakeLaws.{cells_with, known_after, keeps_sound, open_works, passes_over, takes, untaken}
 use Rattle.dpop_agent.proofs.agent.DpopAgent.take_util.Goals as goal
+
+pub table_of-requires-clause-over : goal.table_of-requires-clause-over
+table_of-requires-clause-over c =
+    let a = c.self.inside in
+    let now = c.as_slice-kept.result.now in
+    let v : DpopView = keeping a.own a.place now in
+    let sizes = c.as_slice-2.ensures.value ∙ c.in_ok-over.ensures.sizes in
+    cells_with a.own a.place now (c.args.scope.now ∷ kept_scopes v) c.in_ok-over.over.vars.items c.as_slice-2.result.now c.in_ok-over.ensures.vars sizes
 
 pub returns-in_default-2-clause-gives : goal.returns-in_default-2-clause-gives
 returns-in_default-2-clause-gives c =
@@ -48,7 +56,11 @@ join-requires c =
     let well = ap (λ (v : DpopView). v.phase.failed) c.self.view_is ∙ c.requires.running.well in
     let taken = subst (λ (es : List (Option CostTable)). IsTaken (keeping a.own a.place es) k scope cells (Some t)) c.as_slice-kept.ensures.value
     (subst (λ (o : Option CostTable). IsTaken (keeping a.own a.place now) k scope cells o) c.in-Some-2.is c.in_ok-table.ensures) in
-    record { working = open_works a.own a.place a.stage a.kept.items a.joined a.made k scope cells c.self.invariant started well taken.0 }
+    let vars = subst (λ (es : List (Option CostTable)). c.in_ok-over.over.vars.items ≡ separator_with (keeping a.own a.place es) (scope ∷ kept_scopes (keeping a.own a.place es)) ++ (a.own.me ∷ [])) c.as_slice-kept.ensures.value c.in_ok-over.ensures.vars in
+    record {
+      working = open_works a.own a.place a.stage a.kept.items a.joined a.made k scope cells c.self.invariant started well taken.0;
+      known = known_after a.own a.place a.stage a.kept.items a.made a.value k scope cells t c.in_ok-over.over taken vars c.in_ok-over.ensures.sizes;
+    }
 
 pub returns-clause-gives : goal.returns-clause-gives
 returns-clause-gives c =
