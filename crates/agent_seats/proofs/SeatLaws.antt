@@ -1,9 +1,10 @@
 -- Agents as they are made, and the ends of their links.
-use Rattle.std.proofs.Common.{◌≡◌, ℕ, zero, suc, ◌<◌, ◌≤◌, ◌&&◌, ◌||◌, not, Bool, false, ◌⊎◌, inl, inr, List, [], ◌∷◌, ◌++◌, map, length, slice_get, slice_index_or, Some, refl, sym, ap, ◌∙◌, arith}
-use Rattle.std.specs.List.{range_with_len}
+use Rattle.std.proofs.Common.{◌≡◌, ℕ, zero, suc, ◌<◌, ◌≤◌, ◌&&◌, ◌||◌, not, Bool, false, ◌⊎◌, inl, inr, List, [], ◌∷◌, ◌++◌, map, length, get_or, slice_get, slice_index_or, Some, refl, sym, ap, ◌∙◌, arith}
+use Rattle.std.specs.List.{range_with_len, zip}
 use Rattle.std.proofs.lemmas.Bool.{eq-eqb}
 use Rattle.std.proofs.lemmas.Option.{none-some, same_Some}
-use Rattle.std.proofs.lemmas.List.{get_or-map}
+use Rattle.std.proofs.lemmas.List.{get_or-map, length-map}
+use Rattle.std.proofs.lemmas.Slice.Zip.{get_or-zip, length-zip}
 use Rattle.std.proofs.lemmas.List.FromFn.{length-map-range_with_len, get_or-map-range_with_len}
 use Rattle.std.specs.declared.vec.Vec.{Vec}
 use Rattle.std.specs.declared.alloc.Global.{Global}
@@ -25,7 +26,7 @@ use Rattle.agent_links.specs.Beside.{neighbours_in, near, AreBeside}
 use Rattle.agent_links.specs.Links.{rows_in}
 use Rattle.agent_seats.specs.declared.seat.Seat.{Seat}
 use Rattle.agent_seats.specs.Kinds.{view_of}
-use Rattle.agent_seats.specs.Seats.{all_neighbours, IsSeat}
+use Rattle.agent_seats.specs.Seats.{all_neighbours, HaveEnds, IsSeat, AreSeated}
 
 fresh_agent : (p : Dcop) (start : Start) (i : ℕ) → started_of (agent_of p start i) ≡ false
 fresh_agent p Token i = refl
@@ -108,11 +109,6 @@ lists_size p = length-map-range_with_len (neighbours p) 0 (length p.sizes)
 pub list_at : (p : Dcop) (i : ℕ) → i < length p.sizes → slice_index_or (all_neighbours p) i [] ≡ neighbours p i
 list_at p i lt = get_or-map-range_with_len (neighbours p) 0 (length p.sizes) i i [] lt (omega arith)
 
--- a row that is taken out of rows
-pub row_is : {T : Type 0} (all rows : List (Vec T Global)) (k : ℕ) (row : Vec T Global) → k < length all → ((d : Vec T Global) → row ≡ slice_index_or rows k d) → ((d : Vec T Global) → slice_index_or rows k d ≡ slice_index_or all k d)
-    → row.items ≡ slice_index_or (rows_in all) k []
-row_is {T} all rows k row lt out still = ap (λ (r : Vec T Global). r.items) (out row ∙ still row) ∙ sym (get_or-map (λ (r : Vec T Global). r.items) all k row [] lt)
-
 last_at : {A : Type 0} (xs : List A) (x s : A) (i : ℕ) → slice_get (xs ++ x ∷ []) i ≡ Some s → (slice_get xs i ≡ Some s) ⊎ ((length xs ≡ i) × (x ≡ s))
 last_at [] x s zero e = inr (refl, same_Some x s e)
 last_at [] x s (suc i) e = absurd (none-some s e)
@@ -177,3 +173,48 @@ own_is p start known n me own e at same =
       omega (arith, lt, same),
       at.1 ∙ ap (λ (xs : List Private). slice_index_or xs n own) e ∙ get_or-map-range_with_len (knowledge_for p start) 0 (length p.sizes) n n own lt (omega arith) ∙ ap (knowledge_for p start) same,
     )
+
+-- what the next agent knows, and its ends
+pub turn_is : (p : Dcop) (start : Start) (known : List Private) (tails : List (Vec Tail Global)) (heads : List (Vec Head Global)) (k : ℕ) (x : Private × (Vec Tail Global × Vec Head Global))
+    → known ≡ map (knowledge_for p start) (range_with_len 0 (length p.sizes)) → HaveEnds (all_neighbours p) (rows_in tails) (rows_in heads)
+    → (k < length (zip known (zip tails heads))) × (x ≡ get_or (zip known (zip tails heads)) k x)
+    → (k < length p.sizes) × (x.0 ≡ knowledge_for p start k) × (x.1.0.items ≡ get_or (rows_in tails) k []) × (x.1.1.items ≡ get_or (rows_in heads) k [])
+turn_is p start known tails heads k x e ends at =
+    let n : ℕ = length p.sizes in
+    let knowns : length known ≡ n = ap (λ (xs : List Private). length xs) e ∙ length-map-range_with_len (knowledge_for p start) 0 n in
+    let tail_rows : length tails ≡ n = sym (length-map tails (λ (r : Vec Tail Global). r.items)) ∙ ends.tails_size ∙ lists_size p in
+    let head_rows : length heads ≡ n = sym (length-map heads (λ (r : Vec Head Global). r.items)) ∙ ends.heads_size ∙ lists_size p in
+    let inner = length-zip tails heads in
+    let outer = length-zip known (zip tails heads) in
+    let below = at.0 in
+    let lt : k < n = omega (arith, below, outer, inner, knowns, tail_rows, head_rows) in
+    let in_known : k < length known = omega (arith, lt, knowns) in
+    let in_tails : k < length tails = omega (arith, lt, tail_rows) in
+    let in_heads : k < length heads = omega (arith, lt, head_rows) in
+    let in_ends : k < length (zip tails heads) = omega (arith, lt, inner, tail_rows, head_rows) in
+    let pair : x ≡ (get_or known k x.0, get_or (zip tails heads) k x.1) = at.1 ∙ get_or-zip known (zip tails heads) k x in_known in_ends in
+    let own : x.0 ≡ get_or known k x.0 = ap (λ (y : Private × (Vec Tail Global × Vec Head Global)). y.0) pair in
+    let row : x.1 ≡ (get_or tails k x.1.0, get_or heads k x.1.1) = ap (λ (y : Private × (Vec Tail Global × Vec Head Global)). y.1) pair ∙ get_or-zip tails heads k x.1 in_tails in_heads in (
+      lt,
+      (own_is p start known k k x.0 e (in_known, own) refl).1,
+      ap (λ (y : Vec Tail Global × Vec Head Global). y.0.items) row ∙ sym (get_or-map (λ (r : Vec Tail Global). r.items) tails k x.1.0 [] in_tails),
+      ap (λ (y : Vec Tail Global × Vec Head Global). y.1.items) row ∙ sym (get_or-map (λ (r : Vec Head Global). r.items) heads k x.1.1 [] in_heads),
+    )
+
+-- as many agents were seated as know something
+pub all_seated : (p : Dcop) (start : Start) (known : List Private) (tails : List (Vec Tail Global)) (heads : List (Vec Head Global)) (seats : List Seat)
+    → known ≡ map (knowledge_for p start) (range_with_len 0 (length p.sizes)) → HaveEnds (all_neighbours p) (rows_in tails) (rows_in heads)
+    → length seats ≡ length (zip known (zip tails heads))
+    → ((i : ℕ) (s : Seat) → slice_get seats i ≡ Some s → IsSeat (agent_of p start i) i (slice_index_or (rows_in tails) i []) (slice_index_or (rows_in heads) i []) s)
+    → AreSeated p start (rows_in tails) (rows_in heads) seats
+all_seated p start known tails heads seats e ends count each =
+    let n : ℕ = length p.sizes in
+    let knowns : length known ≡ n = ap (λ (xs : List Private). length xs) e ∙ length-map-range_with_len (knowledge_for p start) 0 n in
+    let tail_rows : length tails ≡ n = sym (length-map tails (λ (r : Vec Tail Global). r.items)) ∙ ends.tails_size ∙ lists_size p in
+    let head_rows : length heads ≡ n = sym (length-map heads (λ (r : Vec Head Global). r.items)) ∙ ends.heads_size ∙ lists_size p in
+    let inner = length-zip tails heads in
+    let outer = length-zip known (zip tails heads) in
+    record {
+      size = omega (arith, count, outer, inner, knowns, tail_rows, head_rows);
+      each = each;
+    }

@@ -1,6 +1,6 @@
 //! The agents of a problem, each with the ends of its links.
 
-ghost use Rattle.std.specs.Prelude.{◌≡◌, ◌<◌, [], length, map, IfOk, slice_index_or};
+ghost use Rattle.std.specs.Prelude.{◌≡◌, ◌<◌, [], length, map, IfOk};
 ghost use Rattle.std.specs.List.{All, range_with_len};
 ghost use Rattle.dcop_base.specs.Knowledge.{private_of as known_by, acquaintance_of};
 ghost use Rattle.dcop_base.specs.Whole.{IsProblem};
@@ -27,7 +27,6 @@ use problem_parts::{acquaintances, add_tables, privates};
 use protocol_steps::{acquaintance_is_knowledge, places_fit, private_is_knowledge};
 use pseudotree::{Place, Tree, place};
 use std::alloc::Global;
-use std::mem;
 
 /// The agents of a start, with links to their neighbours.
 pub fn seats_of(alloc: Global, problem: &Problem, start: &Start) -> Result<Vec<Seat>, NoMemory>
@@ -124,28 +123,12 @@ fn seat_each(
     ensures { IfOk result (λ seats. AreSeated problem.now start.now (rows_in links.tails.items) (rows_in links.heads.items) seats.items) }
 {
     problem_is_whole(problem);
-    let Links {
-        mut tails,
-        mut heads,
-    } = links;
+    let Links { tails, heads } = links;
     let mut seats = Vec::with_capacity(alloc, known.len())?;
-    for own in known {
-        let me = seats.len();
-        let own_tails = take_row(alloc, &mut tails, me);
-        let own_heads = take_row(alloc, &mut heads, me);
+    for (own, (own_tails, own_heads)) in known.into_iter().zip(tails.into_iter().zip(heads)) {
         seats.push(seat_for(alloc, problem, start, own, own_tails, own_heads)?)?;
     }
     Ok(seats)
-}
-
-/// One of some lists, which leaves an empty one in its place.
-fn take_row<T: Drop>(alloc: Global, rows: &mut Vec<Vec<T>>, place: usize) -> Vec<T>
-    requires { place < length rows.old.items }
-    ensures row { (d : _) → result ≡ slice_index_or rows.old.items place d }
-    ensures rest { (k : _) (d : _) → place < k → slice_index_or rows.new.items k d ≡ slice_index_or rows.old.items k d }
-    ensures size { length rows.new.items ≡ length rows.old.items }
-{
-    mem::replace(&mut rows[place], Vec::new(alloc))
 }
 
 /// The agent of a variable, with the ends of its links.

@@ -1,4 +1,4 @@
-use Rattle.std.proofs.Common.{◌≡◌, ◌≤◌, ℕ, [], length, slice_get, slice_index_or, Some}
+use Rattle.std.proofs.Common.{◌≡◌, ℕ, [], length, slice_get, slice_index_or, Some}
 use Rattle.agent_links.specs.Links.{rows_in}
 use Rattle.delivery_core.specs.Starts.{agent_of}
 use Rattle.agent_seats.specs.declared.seat.Seat.{Seat}
@@ -8,10 +8,6 @@ use Rattle.agent_seats.proofs.seats.seat_each.Given as goal
 abbrev pub invariant-loop-own : goal.invariant-loop-own
 invariant-loop-own l = record {
   size : length l.seats.items ≡ length l.yielded;
-  tails_size : length l.tails.items ≡ length l.initial.tails.items;
-  heads_size : length l.heads.items ≡ length l.initial.heads.items;
-  tails_rest : (k : ℕ) (d : _) → length l.seats.items ≤ k → slice_index_or l.tails.items k d ≡ slice_index_or l.initial.tails.items k d;
-  heads_rest : (k : ℕ) (d : _) → length l.seats.items ≤ k → slice_index_or l.heads.items k d ≡ slice_index_or l.initial.heads.items k d;
   each : (i : ℕ) (s : Seat) → slice_get l.seats.items i ≡ Some s
-      → IsSeat (agent_of l.problem l.start i) i (slice_index_or (rows_in l.initial.tails.items) i []) (slice_index_or (rows_in l.initial.heads.items) i []) s;
+      → IsSeat (agent_of l.problem l.start i) i (slice_index_or (rows_in l.fn.links.tails.items) i []) (slice_index_or (rows_in l.fn.links.heads.items) i []) s;
 }
