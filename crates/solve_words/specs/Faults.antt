@@ -4,7 +4,7 @@ use Rattle.std.specs.List.{list_any}
 use Rattle.std.specs.Option.{option_or}
 use Rattle.dcop_base.specs.NumberWord.{number_of}
 use Rattle.solve_words.specs.Names.{choice_named, format_named, yes_or_no}
-use Rattle.solve_words.specs.Options.{option_named, most_events, numbers_of}
+use Rattle.solve_words.specs.Options.{option_named, most_replayed, numbers_of}
 use Rattle.solve_words.specs.Standing.{belongs_to}
 use Rattle.solve_words.specs.Settings.{Pair}
 use Rattle.solve_words.specs.declared.verb.Verb.{Verb}
@@ -30,7 +30,7 @@ abbrev pub value_fault : WordOption → List ℕ → Option WordKind
 value_fault Method word = choice_fault (is_some (choice_named word))
 value_fault Certificate word = choice_fault (is_some (yes_or_no word))
 value_fault Format word = choice_fault (is_some (format_named word))
-value_fault After word = range_fault 0 most_events (number_of word)
+value_fault After word = range_fault 0 most_replayed (number_of word)
 value_fault (Number quantity) word =
     range_fault (numbers_of quantity).least (numbers_of quantity).most (number_of word)
 

@@ -1,6 +1,6 @@
 -- The table of options: their words, and the numbers that they take.
 use Rattle.std.specs.Prelude.{ℕ, ◌≤◌, List, [], ◌∷◌, Option, bytes_eq, codes, find}
-use Rattle.dcop_base.specs.Limits.{amount_limit, budget_limit, variable_limit, joined_limit, worker_limit, node_limit, seed_limit}
+use Rattle.dcop_base.specs.Limits.{amount_limit, budget_limit, variable_limit, size_limit, joined_limit, worker_limit, node_limit, seed_limit}
 use Rattle.dcop_base.specs.Limits.{made_size_limit, made_degree_limit, made_cost_limit}
 use Rattle.solve_words.specs.declared.options.WordOption.{WordOption}
 use Rattle.solve_words.specs.declared.options.WordOption.TheVariants.{Method, Certificate, Format, After, Number}
@@ -37,8 +37,8 @@ abbrev pub option_named : List ℕ → Option WordOption
 option_named word = find (λ option. bytes_eq (word_of option) word) options
 
 -- how many events a replay may be told to play at most
-abbrev pub most_events : ℕ
-most_events = 1000000000
+abbrev pub most_replayed : ℕ
+most_replayed = 1000000000
 
 -- what an option's number may be, and what it is where the option is not given
 abbrev pub numbers_of : Quantity → Numbers
@@ -51,7 +51,7 @@ numbers_of Vars = record { least = 1; most = variable_limit; default = 20 }
 numbers_of Size = record { least = 1; most = made_size_limit; default = 4 }
 numbers_of Degree = record { least = 1; most = made_degree_limit; default = 2 }
 numbers_of Top = record { least = 0; most = made_cost_limit; default = 100 }
-numbers_of Cells = record { least = 1024; most = joined_limit; default = joined_limit }
+numbers_of Cells = record { least = size_limit; most = joined_limit; default = joined_limit }
 
 -- a number that an option takes
 abbrev pub IsNumberOf : Quantity → ℕ → Type 0
