@@ -14,8 +14,9 @@ a slot is so too in each slot that overlaps it by its time.
 What somebody likes or dislikes counts for each meeting of theirs, and what a meeting does for that meeting. The cost
 of a timetable is the sum of the wishes that it does not meet: 0 where it meets all of them.
 
-A line absent is of one person, a line like or dislike of one person or meeting; each may name many slots. The names of a list stand between
-semicolons or commas. From # at the beginning of a line it is a comment. The file is UTF-8, with commas.
+A line absent is of one person, a line like or dislike of one person or meeting; each may name many slots. The names of
+a list stand between semicolons or commas. From # at the beginning of a line it is a comment. The file is UTF-8, with
+commas.
 """
 
 from __future__ import annotations
