@@ -22,6 +22,8 @@ import time
 TOP = pathlib.Path(__file__).resolve().parent.parent
 TICKS = os.sysconf("SC_CLK_TCK")
 PAUSE = 1.5
+# What stands in the name of a folder in which `rt` tries a wrong body.
+EDITED = "rt-edit-"
 
 
 def looked_at(process):
@@ -29,12 +31,13 @@ def looked_at(process):
     try:
         words = (process / "cmdline").read_bytes().decode(errors="replace").split("\0")
         fields = (process / "stat").read_text().rpartition(")")[2].split()
+        folder = os.readlink(process / "cwd")
     except OSError:
         return None
     if pathlib.Path(words[0]).name != "rattle" or "--crate-name" not in words:
         return None
     crate = words[words.index("--crate-name") + 1]
-    part = "wrong bodies" if words[1] == "check" else "tests" if "--test" in words else "proof"
+    part = "wrong bodies" if EDITED in folder else "tests" if "--test" in words else "proof"
     seconds = (int(fields[11]) + int(fields[12])) / TICKS
     return (process.name, fields[19]), (crate, part), seconds
 
