@@ -15,7 +15,7 @@
 set -eu
 . "$(dirname "$0")/common.sh"
 copy_crates dcop_base pseudotree cost_table util_kernel util_join util_project adopt_context adopt_bounds \
-    protocol_steps dfs_agent dpop_agent adopt_agent delivery_core
+    protocol_steps dfs_agent dpop_agent adopt_agent dcop_edge delivery_core
 uses="dcop_base pseudotree adopt_context protocol_steps adopt_agent delivery_core"
 add_crate adopt/crate "bench_adopt staticlib: $uses"
 make_crate bench_adopt lib

@@ -14,16 +14,48 @@ use agent_seats::{Agent, Seat, seats_of};
 use agent_workers::run;
 use dcop_base::{NoMemory, Problem, problem_is_whole};
 use dcop_edge::Gate;
-use delivery_core::Start;
+use delivery_core::{Start, play_out};
 use protocol_steps::Outcome;
 use std::alloc::Global;
 use std::thread::Threads;
 use worker_runs::cells_tell_outcomes;
 
-/// What the agents of a problem come to that are run from this start, by workers in rounds until all
-/// have ended or as many messages are delivered as DPOP takes. This is the one place of this crate
-/// where agents are boxed, and the boxes are handed to nobody but `run`.
+/// What the agents of a problem come to that are run from this start, in rounds until all have ended or
+/// as many messages are delivered as DPOP takes: by workers, or, where there is one, on this thread,
+/// without cells and links.
 pub(crate) fn run_agents<R: Threads + Sync, G: Gate>(
+    crew: &Crew<R, G>,
+    alloc: Global,
+    problem: &Problem,
+    start: &Start,
+) -> Result<Outcome, NoMemory>
+    requires start { IsStartFor problem.now start.now }
+    ensures { IfOk result (HaveRun (turn_deliveries problem.now) (agents_of problem.now start.now)) }
+{
+    if crew.workers > 1 {
+        return run_cells(crew, alloc, problem, start);
+    }
+    play_alone(crew.gate, alloc, problem, start)
+}
+
+/// The same, on this thread.
+fn play_alone<G: Gate>(
+    gate: &G,
+    alloc: Global,
+    problem: &Problem,
+    start: &Start,
+) -> Result<Outcome, NoMemory>
+    requires start { IsStartFor problem.now start.now }
+    ensures { IfOk result (HaveRun (turn_deliveries problem.now) (agents_of problem.now start.now)) }
+{
+    problem_is_whole(problem);
+    let budget = 2 * (problem.sizes.as_slice().len() as u64 - 1);
+    play_out(alloc, gate, problem, start, budget)
+}
+
+/// The same, by workers. This is the one place of this crate where agents are boxed, and the boxes are
+/// handed to nobody but `run`.
+fn run_cells<R: Threads + Sync, G: Gate>(
     crew: &Crew<R, G>,
     alloc: Global,
     problem: &Problem,

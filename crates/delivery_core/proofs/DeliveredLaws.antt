@@ -1,12 +1,11 @@
--- How many messages are delivered where playing stops: those of one round more than the budget at most.
+-- How many messages are delivered in a turn and in a round.
 use Rattle.std.proofs.Common.{◌≡◌, ℕ, ◌+◌, ◌*◌, ◌<◌, ◌≤◌, min, Bool, true, false, cond, eqb, leb, ◌||◌, List, [], ◌∷◌, map, length, Option, Some, None, refl, sym, subst, ◌∙◌, arith}
 use Rattle.std.specs.List.{flat_map, sum_by, range_with_len, slice_get, slice_set}
 use Rattle.std.proofs.lemmas.Bool.{or_parts, leb-false}
-use Rattle.std.proofs.lemmas.List.{length-map, length-set}
+use Rattle.std.proofs.lemmas.List.{length-set}
 use Rattle.std.proofs.lemmas.List.FromFn.{length-range_with_len}
 use Rattle.std.proofs.lemmas.List.Sums.{fold-append, sum_by-append, sum_by-cons}
 use Rattle.std.proofs.Math.Nat.{mul-suc}
-use Rattle.std.proofs.lemmas.Nat.{mul-le}
 use Rattle.protocol_steps.specs.declared.event.Take.{Take}
 use Rattle.protocol_steps.specs.declared.event.Event.{Event}
 use Rattle.protocol_steps.specs.View.{View}
@@ -14,9 +13,8 @@ use Rattle.protocol_steps.specs.Step.{start_of, step_of}
 use Rattle.protocol_steps.specs.Network.{Desk, Network, start_state, batch}
 use Rattle.protocol_steps.specs.Effect.{desk_after, effect, effect_at, pending, has_ended, deliveries}
 use Rattle.protocol_steps.proofs.TallyLaws.{sum-set}
-use Rattle.dcop_base.specs.Limits.{budget_limit}
 use Rattle.protocol_steps.specs.Rounds.{link_share}
-use Rattle.delivery_core.specs.Turns.{take_some, turn_takes, turn, after, turns, round, stops, PlaysTo}
+use Rattle.delivery_core.specs.Turns.{take_some, turn_takes, turn, after, turns, round, stops}
 
 -- how many messages these takes take
 abbrev counts : List Take → ℕ
@@ -59,7 +57,7 @@ effect_at-views net e (Some v) None = refl
 effect_at-views net e (Some v) (Some x) = length-set net.views e.agent (step_of v (batch net.desks e.agent e.takes)).view
 
 -- so many messages more, and as many agents
-abbrev Delivers : ℕ → Network → Network → Type 0
+abbrev pub Delivers : ℕ → Network → Network → Type 0
 Delivers more net mid = (deliveries mid ≤ deliveries net + more) × (length mid.views ≡ length net.views)
 
 event-few : (net : Network) (i : ℕ) (ts : List Take) (b : Bool) → Delivers (counts ts) net (after net (cond b [] (record { agent = i; takes = ts } ∷ [])))
@@ -69,7 +67,7 @@ event-few net i ts false =
     (effect_at-few net e (slice_get net.views i) (slice_get net.desks i) refl, effect_at-views net e (slice_get net.views i) (slice_get net.desks i))
 
 -- a turn
-turn-few : (net : Network) (i : ℕ) → Delivers (64 * length net.views) net (after net (turn net i))
+pub turn-few : (net : Network) (i : ℕ) → Delivers (64 * length net.views) net (after net (turn net i))
 turn-few net i =
     let ts : List Take = turn_takes net i in
     let one : Delivers (counts ts) net (after net (turn net i)) = event-few net i ts (eqb (length ts) 0) in
@@ -90,7 +88,7 @@ turns-few n net (i ∷ is) size =
     (omega (arith, one.0, rest.0, sum, size), rest.1 ∙ one.1)
 
 -- a round
-round-few : (n : ℕ) (net : Network) → length net.views ≡ n → Delivers ((64 * n) * n) net (after net (round net))
+pub round-few : (n : ℕ) (net : Network) → length net.views ≡ n → Delivers ((64 * n) * n) net (after net (round net))
 round-few n net size =
     let all = turns-few n net (range_with_len 0 (length net.views)) size in
     let long : length (range_with_len 0 (length net.views)) ≡ n = length-range_with_len 0 (length net.views) ∙ size in
@@ -102,32 +100,14 @@ on-below budget net on =
     let first : (has_ended net || leb budget (deliveries net)) ≡ false = (or_parts (has_ended net || leb budget (deliveries net)) (eqb (length (round net)) 0) on).0 in
     leb-false budget (deliveries net) (or_parts (has_ended net) (leb budget (deliveries net)) first).1
 
--- rounds
-plays-few : (budget n : ℕ) (net end : Network) (pieces : List (List Event)) → length net.views ≡ n → deliveries net ≤ budget + (64 * n) * n → PlaysTo budget net pieces end → deliveries end ≤ budget + (64 * n) * n
-plays-few budget n net end [] size few plays = subst (λ (x : Network). deliveries x ≤ budget + (64 * n) * n) plays.1 few
-plays-few budget n net end (es ∷ pieces) size few plays =
-    let below : deliveries net < budget = on-below budget net plays.0 in
-    let one : Delivers ((64 * n) * n) net (after net es) = subst (λ (fs : List Event). Delivers ((64 * n) * n) net (after net fs)) plays.1 (round-few n net size) in
-    plays-few budget n (after net es) end pieces (one.1 ∙ size) (omega (arith, below, one.0)) plays.2
-
 -- an agent's desk at its start
 abbrev first_desk : View → Desk
 first_desk v = record { sent = (start_of v).sends; takes = [] }
 
 -- in a start state nothing was taken
-none-taken : (made : List View) → deliveries (start_state made) ≡ 0
+pub none-taken : (made : List View) → deliveries (start_state made) ≡ 0
 none-taken [] = refl
 none-taken (v ∷ vs) =
     let rest : deliveries (start_state vs) ≡ 0 = none-taken vs in
     let all = sum_by-cons taken_by (first_desk v) (map first_desk vs) in
     omega (arith, rest, all)
-
--- from a start state of at most 1,000 agents under a budget of at most 10,000,000 so few are delivered that they are counted
-pub played-few : (budget : ℕ) (made : List View) (end : Network) (pieces : List (List Event)) → budget ≤ budget_limit → length made ≤ 1000 → PlaysTo budget (start_state made) pieces end → deliveries end ≤ 74000000
-played-few budget made end pieces few agents plays =
-    let n : ℕ = length made in
-    let size : length (start_state made).views ≡ n = length-map made (λ v. (start_of v).view) in
-    let start = none-taken made in
-    let all = plays-few budget n (start_state made) end pieces size (omega (arith, start)) plays in
-    let wide : (64 * n) * n ≤ 64000 * 1000 = mul-le (64 * n) n 64000 1000 (omega (arith, agents)) agents in
-    omega (arith, all, wide, few)

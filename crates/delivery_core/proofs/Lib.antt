@@ -14,4 +14,5 @@ mod PlayLaws
 mod DeliveredLaws
 mod StopLaws
 mod RoundLaws
+mod SprintLaws
 mod PlayedOutLaws

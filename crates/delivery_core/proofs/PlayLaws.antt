@@ -15,7 +15,7 @@ use Rattle.delivery_core.specs.State.{CoreView}
 use Rattle.delivery_core.specs.NetworkState.{most_counted}
 use Rattle.delivery_core.specs.Turns.{turn, turns, round, after, stops, PlaysTo, IsPlayed}
 use Rattle.delivery_core.specs.Shown.{IsCore}
-use Rattle.delivery_core.specs.SeatTurns.{Leads, TakesTurn, Turned, PlaysRound, Playing, is_over, kept_if, KeepsPlaying}
+use Rattle.delivery_core.specs.SeatTurns.{Leads, TakesTurn, Turned, PlaysRound, Playing, is_over}
 use Rattle.delivery_core.proofs.RunLaws.{is_state}
 
 -- runs one after another
@@ -84,7 +84,7 @@ or_true : (b : Bool) → (b || true) ≡ true
 or_true true = refl
 or_true false = refl
 
-empty_by : (es : List Event) → length es ≡ 0 → es ≡ []
+pub empty_by : (es : List Event) → length es ≡ 0 → es ≡ []
 empty_by [] h = refl
 empty_by (e ∷ es) h = absurd (omega (arith, h))
 
@@ -110,7 +110,7 @@ playing_none p budget first s events none core = record {
 }
 
 -- a round was played, with some event
-playing_next : (p : Dcop) (budget : ℕ) (first : Network) (k : ℕ) (s t : CoreView) (events new : List Event) → Playing p budget first k s events → budget ≤ most_counted → is_over budget s ≡ false
+pub playing_next : (p : Dcop) (budget : ℕ) (first : Network) (k : ℕ) (s t : CoreView) (events new : List Event) → Playing p budget first k s events → budget ≤ most_counted → is_over budget s ≡ false
     → PlaysRound s events t new → length new ≢ length events → Playing p budget first (k + 1) t new
 playing_next p budget first k s t events new h le over plays grown =
     let one = plays p h.mid h.core in
@@ -134,7 +134,7 @@ playing_next p budget first k s t events new h le over plays grown =
     }
 
 -- playing stops
-played : (p : Dcop) (budget : ℕ) (first : Network) (k : ℕ) (s : CoreView) (events : List Event) → (h : Playing p budget first k s events) → stops budget h.mid ≡ true → IsPlayed budget first events s
+pub played : (p : Dcop) (budget : ℕ) (first : Network) (k : ℕ) (s : CoreView) (events : List Event) → (h : Playing p budget first k s events) → stops budget h.mid ≡ true → IsPlayed budget first events s
 played p budget first k s events h stop = record {
   end = h.mid;
   pieces = h.pieces;
@@ -145,7 +145,7 @@ played p budget first k s events h stop = record {
 }
 
 -- a round had no event
-played_still : (p : Dcop) (budget : ℕ) (first : Network) (k : ℕ) (s t : CoreView) (events new : List Event) → Playing p budget first k s events → PlaysRound s events t new → length new ≡ length events
+pub played_still : (p : Dcop) (budget : ℕ) (first : Network) (k : ℕ) (s t : CoreView) (events new : List Event) → Playing p budget first k s events → PlaysRound s events t new → length new ≡ length events
     → IsPlayed budget first new t
 played_still p budget first k s t events new h plays same =
     let one = plays p h.mid h.core in
@@ -157,43 +157,3 @@ played_still p budget first k s t events new h plays same =
     let now : IsCore p h.mid t = subst (λ (n : Network). IsCore p n t) (sym still) one.1.core in
     let h_new : Playing p budget first k t events = record { pieces = h.pieces; mid = h.mid; ran = h.ran; core = now; joined = h.joined; spent = h.spent; next = h.next } in
     subst (λ (fs : List Event). IsPlayed budget first fs t) (sym kept) (played p budget first k t events h_new (stops_still budget h.mid none))
-
--- nothing is kept of no event
-pub kept_none : (keep : Bool) → [] ≡ kept_if keep []
-kept_none true = refl
-kept_none false = refl
-
--- of events and more events both are kept
-pub kept_more : (keep : Bool) (kept events more : List Event) → kept ≡ kept_if keep events → kept ++ kept_if keep more ≡ kept_if keep (events ++ more)
-kept_more true kept events more is = ap (λ (es : List Event). es ++ more) is
-kept_more false kept events more is = ap (λ (es : List Event). es ++ []) is
-
--- the same round after other events
-round_after : (s t : CoreView) (events more : List Event) → PlaysRound s [] t more → PlaysRound s events t (events ++ more)
-round_after s t events more plays = λ p net core. let one = plays p net core in (one.0, one.1, ap (λ (es : List Event). events ++ es) one.2)
-
--- a round was played, with some event
-pub keeps_next : (p : Dcop) (budget : ℕ) (first : Network) (k : ℕ) (s t : CoreView) (keep : Bool) (kept more : List Event) → KeepsPlaying p budget first k s keep kept → budget ≤ most_counted → is_over budget s ≡ false
-    → PlaysRound s [] t more → (length more ≡ 0 → ⊥) → KeepsPlaying p budget first (k + 1) t keep (kept ++ kept_if keep more)
-keeps_next p budget first k s t keep kept more h le over plays some = (
-  h.0 ++ more,
-  playing_next p budget first k s t h.0 (h.0 ++ more) h.1 le over (round_after s t h.0 more plays) (λ e. some (let both = length-append h.0 more in omega (arith, e, both))),
-  kept_more keep kept h.0 more h.2,
-)
-
--- a round had no event
-pub keeps_still : (p : Dcop) (budget : ℕ) (first : Network) (k : ℕ) (s t : CoreView) (keep : Bool) (kept more : List Event) → KeepsPlaying p budget first k s keep kept → PlaysRound s [] t more → length more ≡ 0
-    → (events : List Event) × IsPlayed budget first events t × (length t.seats ≡ length p.sizes) × (kept ≡ kept_if keep events)
-keeps_still p budget first k s t keep kept more h plays none =
-    let same : h.0 ++ more ≡ h.0 = ap (λ (es : List Event). h.0 ++ es) (empty_by more none) ∙ append-nil h.0 in (
-      h.0,
-      subst (λ (es : List Event). IsPlayed budget first es t) same
-          (played_still p budget first k s t h.0 (h.0 ++ more) h.1 (round_after s t h.0 more plays) (ap length same)),
-      (plays p (h.1).mid (h.1).core).1.core.shows.size,
-      h.2,
-    )
-
--- playing stops
-pub keeps_stop : (p : Dcop) (budget : ℕ) (first : Network) (k : ℕ) (s : CoreView) (keep : Bool) (kept : List Event) → (h : KeepsPlaying p budget first k s keep kept) → stops budget (h.1).mid ≡ true
-    → (events : List Event) × IsPlayed budget first events s × (length s.seats ≡ length p.sizes) × (kept ≡ kept_if keep events)
-keeps_stop p budget first k s keep kept h stop = (h.0, played p budget first k s h.0 h.1 stop, (h.1).core.shows.size, h.2)

@@ -1,24 +1,21 @@
--- Rounds that are played are rounds under a budget: one event of an agent at most, which takes what is pending at its turn, and that is no less than before the round.
+-- A turn of all agents: one event of an agent at most, which takes what is pending at its turn, and that is no less than before.
 use Rattle.std.proofs.Common.{◌≡◌, ◌≢◌, ℕ, zero, suc, ◌+◌, ◌<◌, ◌≤◌, min, Bool, true, false, cond, eqb, ◌==◌, if◌then◌else◌, List, [], ◌∷◌, ◌++◌, length, drop, Option, Some, None, refl, sym, ap, subst, ◌∙◌, inl, inr, arith}
-use Rattle.std.specs.List.{flat_map, fold, range_with_len, slice_get, slice_set}
+use Rattle.std.specs.List.{flat_map, range_with_len, slice_get, slice_set}
 use Rattle.std.proofs.lemmas.Bool.{cases_eq, cases_lt, eqb-true, eq-eqb, ne_eqb}
-use Rattle.std.proofs.lemmas.Option.{none-some}
 use Rattle.std.proofs.lemmas.List.{append-nil, length-append, length-drop, length-set}
 use Rattle.std.proofs.lemmas.List.Concat.{flat_map-append}
 use Rattle.std.proofs.lemmas.List.Sums.{sum_by-append, sum_by-cons}
 use Rattle.protocol_steps.specs.declared.message.Message.{Message}
 use Rattle.protocol_steps.specs.declared.event.Take.{Take}
 use Rattle.protocol_steps.specs.declared.event.Event.{Event}
-use Rattle.protocol_steps.specs.declared.event.EventFault.{EventFault}
 use Rattle.protocol_steps.specs.View.{View, ended_of}
 use Rattle.protocol_steps.specs.Step.{step_of}
 use Rattle.protocol_steps.specs.Network.{Desk, Network, message_to, messages_to, taken_from, sent_at, takes_at, link, waiting, batch}
-use Rattle.protocol_steps.specs.Effect.{desk_after, network_after, effect, effect_at, pending, pending_at}
-use Rattle.protocol_steps.specs.Run.{event_fault, unless, happen, run, journal}
-use Rattle.protocol_steps.specs.Rounds.{taken_in, IsRound, AreRounds, link_share}
+use Rattle.protocol_steps.specs.Effect.{desk_after, network_after, effect_at, pending, pending_at}
+use Rattle.protocol_steps.specs.Run.{journal}
+use Rattle.protocol_steps.specs.Rounds.{taken_in, link_share}
 use Rattle.protocol_steps.proofs.EventLaws.{get_same, get_other}
-use Rattle.delivery_core.specs.Turns.{take_some, turn_takes, turn, after, turns, round, PlaysTo}
-use Rattle.delivery_core.proofs.DeliveredLaws.{on-below}
+use Rattle.delivery_core.specs.Turns.{take_some, turn_takes, turn, after, turns, round}
 use Rattle.delivery_core.proofs.StopLaws.{past-none}
 
 -- an event of another agent leaves what is pending, and may add to it
@@ -89,10 +86,10 @@ turn-grows : (net : Network) (a i j : ℕ) → a ≢ i → length (pending net i
 turn-grows net a i j ne = event-grows net a i j (turn_takes net a) (eqb (length (turn_takes net a)) 0) ne
 
 -- journals of events one after another
-journal-append : (i : ℕ) (es fs : List Event) → journal i (es ++ fs) ≡ journal i es ++ journal i fs
+pub journal-append : (i : ℕ) (es fs : List Event) → journal i (es ++ fs) ≡ journal i es ++ journal i fs
 journal-append i es fs = flat_map-append (λ (e : Event). if e.agent == i then e.takes ∷ [] else []) es fs
 
-taken-append : (i j : ℕ) (es fs : List Event) → taken_in i j (es ++ fs) ≡ taken_in i j es + taken_in i j fs
+pub taken-append : (i j : ℕ) (es fs : List Event) → taken_in i j (es ++ fs) ≡ taken_in i j es + taken_in i j fs
 taken-append i j es fs =
     ap (λ (js : List (List Take)). taken_from j (flat_map (λ ts. ts) js)) (journal-append i es fs)
     ∙ ap (λ (ts : List Take). taken_from j ts) (flat_map-append (λ (ts : List Take). ts) (journal i es) (journal i fs))
@@ -103,7 +100,7 @@ event-other : (a i : ℕ) (ts : List Take) (b : Bool) → a ≢ i → journal i 
 event-other a i ts true ne = refl
 event-other a i ts false ne = ap (λ (b : Bool). cond b (ts ∷ []) [] ++ []) (ne_eqb a i ne)
 
-event-one : (a i : ℕ) (ts : List Take) (b : Bool) → length (journal i (cond b [] (record { agent = a; takes = ts } ∷ []))) ≤ 1
+pub event-one : (a i : ℕ) (ts : List Take) (b : Bool) → length (journal i (cond b [] (record { agent = a; takes = ts } ∷ []))) ≤ 1
 event-one a i ts true = omega arith
 event-one a i ts false = at-most (eqb a i)
   where
@@ -121,7 +118,7 @@ event-own i j ts false some =
     ap (λ (b : Bool). taken_from j (flat_map (λ us. us) (cond b (ts ∷ []) [] ++ []))) (eq-eqb i i refl)
     ∙ ap (taken_from j) (append-nil ts)
 
-turn-other : (net : Network) (a i : ℕ) → a ≢ i → journal i (turn net a) ≡ []
+pub turn-other : (net : Network) (a i : ℕ) → a ≢ i → journal i (turn net a) ≡ []
 turn-other net a i ne = event-other a i (turn_takes net a) (eqb (length (turn_takes net a)) 0) ne
 
 turn-own : (net : Network) (i j : ℕ) → taken_in i j (turn net i) ≡ taken_from j (turn_takes net i)
@@ -136,7 +133,7 @@ few-below net i s (suc m) lt =
     ap length (journal-append i (turn net s) (turns mid (range_with_len (s + 1) m)) ∙ ap (λ (js : List (List Take)). js ++ journal i (turns mid (range_with_len (s + 1) m))) (turn-other net s i (λ e. omega (arith, lt, e))))
     ∙ rest
 
-few-one : (net : Network) (i s m : ℕ) → length (journal i (turns net (range_with_len s m))) ≤ 1
+pub few-one : (net : Network) (i s m : ℕ) → length (journal i (turns net (range_with_len s m))) ≤ 1
 few-one net i s zero = omega arith
 few-one net i s (suc m) =
     let mid : Network = after net (turn net s) in
@@ -216,7 +213,7 @@ turns-serve net i j s (suc m) size le lt =
           omega (arith, joined, grown, rest)
     ]
 
-round-serves : (net : Network) (i j : ℕ) → length net.desks ≡ length net.views → min 64 (length (pending net i j)) ≤ taken_in i j (round net)
+pub round-serves : (net : Network) (i j : ℕ) → length net.desks ≡ length net.views → min 64 (length (pending net i j)) ≤ taken_in i j (round net)
 round-serves net i j size =
     elim (cases_lt i (length net.views)) [
       | inl lt ↦ turns-serve net i j 0 (length net.views) size (omega arith) (omega (arith, lt))
@@ -224,54 +221,3 @@ round-serves net i j size =
           let none : length (pending net i j) ≡ 0 = ap (λ (o : Option View). length (pending_at net i j o)) (past-none net.views i past) in
           omega (arith, none)
     ]
-
-turns-same : (net : Network) (is : List ℕ) → SameSize net (after net (turns net is))
-turns-same net [] = (refl, refl)
-turns-same net (i ∷ is) =
-    let mid : Network = after net (turn net i) in
-    let one = turn-same net i in
-    let rest = turns-same mid is in
-    subst (λ (x : Network). SameSize net x) (sym (fold-after net (turn net i) (turns mid is))) (rest.0 ∙ one.0, rest.1 ∙ one.1)
-  where
-    fold-after : (net : Network) (es fs : List Event) → after net (es ++ fs) ≡ after (after net es) fs
-    fold-after net [] fs = refl
-    fold-after net (e ∷ es) fs = fold-after (effect net e) es fs
-
--- after an event that is not lawful there is no run
-none_stays : (es : List Event) → fold happen None es ≡ None
-none_stays [] = refl
-none_stays (e ∷ es) = none_stays es
-
--- the first events of a run, and the rest
-abbrev Splits : Network → Network → List Event → List Event → Type 0
-Splits net end es fs = (run net es ≡ Some (after net es)) × (run (after net es) fs ≡ Some end)
-
-split-first : (net end : Network) (e : Event) (es fs : List Event) (f : Option EventFault) → event_fault net e ≡ f → (run (effect net e) (es ++ fs) ≡ Some end → Splits (effect net e) end es fs)
-    → run net (e ∷ (es ++ fs)) ≡ Some end → Splits net end (e ∷ es) fs
-split-first net end e es fs None fine rest ran =
-    let here : happen (Some net) e ≡ Some (effect net e) = ap (λ (f : Option EventFault). unless f (effect net e)) fine in
-    let split = rest (ap (λ (o : Option Network). fold happen o (es ++ fs)) (sym here) ∙ ran) in
-    (ap (λ (o : Option Network). fold happen o es) here ∙ split.0, split.1)
-split-first net end e es fs (Some f) fault rest ran =
-    let here : happen (Some net) e ≡ None = ap (λ (f : Option EventFault). unless f (effect net e)) fault in
-    absurd (none-some end (sym (none_stays (es ++ fs)) ∙ ap (λ (o : Option Network). fold happen o (es ++ fs)) (sym here) ∙ ran))
-
-run-split : (net end : Network) (es fs : List Event) → run net (es ++ fs) ≡ Some end → Splits net end es fs
-run-split net end [] fs ran = (refl, ran)
-run-split net end (e ∷ es) fs ran = split-first net end e es fs (event_fault net e) refl (run-split (effect net e) end es fs) ran
-
--- rounds that are played from one network to another, a run, are rounds under the budget; at their end there are as many agents with as many desks
-pub plays-rounds : (budget : ℕ) (net end : Network) (pieces : List (List Event)) → length net.desks ≡ length net.views → PlaysTo budget net pieces end → run net (flat_map (λ es. es) pieces) ≡ Some end
-    → AreRounds budget net pieces end × (length end.desks ≡ length end.views)
-plays-rounds budget net end [] size plays ran = (plays.1, subst (λ (n : Network). length n.desks ≡ length n.views) plays.1 size)
-plays-rounds budget net end (es ∷ pieces) size plays ran =
-    let mid : Network = after net es in
-    let split = run-split net end es (flat_map (λ fs. fs) pieces) ran in
-    let sizes : SameSize net mid = subst (λ (fs : List Event). SameSize net (after net fs)) plays.1 (turns-same net (range_with_len 0 (length net.views))) in
-    let rest = plays-rounds budget mid end pieces (sizes.1 ∙ size ∙ sym sizes.0) plays.2 split.1 in
-    let one : IsRound net es mid = record {
-      leads = split.0;
-      few = λ i. let at_most = subst (λ (fs : List Event). length (journal i fs) ≤ 1) plays.1 (few-one net i 0 (length net.views)) in omega (arith, at_most);
-      served = λ i j runs. subst (λ (fs : List Event). min 64 (length (pending net i j)) ≤ taken_in i j fs) plays.1 (round-serves net i j size);
-    } in
-    ((on-below budget net plays.0, (mid, one, rest.0)), rest.1)

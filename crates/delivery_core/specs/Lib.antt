@@ -6,6 +6,7 @@ pub mod Turns
 pub mod Inboxes
 pub mod SeatEvents
 pub mod SeatTurns
+pub mod Sprints
 pub mod Starts
 pub mod Kinds
 pub mod Shown

@@ -43,10 +43,6 @@ pub record Turned (p : Dcop) (net : Network) (before : List Event) (k : ℕ) (s 
 abbrev pub PlaysRound : CoreView → List Event → CoreView → List Event → Type 0
 PlaysRound old before new events = (p : Dcop) (net : Network) → IsCore p net old → (mid : Network) × Leads p net (round net) mid new × (events ≡ before ++ round net)
 
--- events, where they are kept
-abbrev pub kept_if : Bool → List Event → List Event
-kept_if keep events = if keep then events else []
-
 -- rounds so far, and what more rounds make of them
 pub record Playing (p : Dcop) (budget : ℕ) (first : Network) (k : ℕ) (s : CoreView) (events : List Event) : Type 0 where
   pub pieces : List (List Event)
@@ -61,12 +57,6 @@ pub record Playing (p : Dcop) (budget : ℕ) (first : Network) (k : ℕ) (s : Co
 abbrev pub is_over : ℕ → CoreView → Bool
 is_over budget s = list_all ended_of (views_of s.seats) || nat_le budget s.delivered
 
--- the same, with those events that were kept
-abbrev pub KeepsPlaying : Dcop → ℕ → Network → ℕ → CoreView → Bool → List Event → Type 0
-KeepsPlaying p budget first k s keep kept = (events : List Event) × Playing p budget first k s events × (kept ≡ kept_if keep events)
-
--- rounds from one core state to another, until playing stops, and their events where they are kept
-abbrev pub PlaysOut : ℕ → Bool → CoreView → CoreView → List Event → Type 0
-PlaysOut budget keep old new kept =
-    (p : Dcop) (first : Network) → IsCore p first old
-    → (events : List Event) × IsPlayed budget first events new × (length new.seats ≡ length p.sizes) × (kept ≡ kept_if keep events)
+-- rounds from one core state to another, until playing stops, and their events
+abbrev pub PlaysOut : ℕ → CoreView → CoreView → List Event → Type 0
+PlaysOut budget old new events = (p : Dcop) (first : Network) → IsCore p first old → IsPlayed budget first events new × (length new.seats ≡ length p.sizes)

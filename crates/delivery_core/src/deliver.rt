@@ -8,40 +8,57 @@ ghost use Rattle.delivery_core.specs.NetworkState.{most_counted};
 ghost use Rattle.delivery_core.specs.SeatEvents.{deliver, deliver_all, core_fault};
 ghost use Rattle.delivery_core.specs.Shown.{Shows, Moves};
 
+use crate::arrivals::Arrivals;
 use crate::seat::Seat;
 use dcop_base::{NoMemory, VarId};
 use protocol_steps::{Event, Letter, Outbox, Parcel, Take};
 use std::alloc::Global;
 
-/// A parcel comes to its receiver.
-fn post_one(seats: &mut [Seat], from: VarId, parcel: Parcel) -> Result<(), NoMemory>
+/// A parcel comes to its receiver, and is told.
+fn post_one(
+    seats: &mut [Seat],
+    arrivals: &mut Arrivals,
+    from: VarId,
+    parcel: Parcel,
+) -> Result<(), NoMemory>
     requires { parcel.0 < length seats.old }
     ensures { OnOk result (seats.new ≡ deliver from seats.old parcel) }
 {
     let Parcel { to, message } = parcel;
+    arrivals.tell(to.0 as usize);
     seats[to.0 as usize].add(from, Letter { from, message })
 }
 
-/// All parcels that an agent sent come to their receivers.
-pub(crate) fn post(seats: &mut [Seat], from: VarId, out: Outbox) -> Result<(), NoMemory>
+/// All parcels that an agent sent come to their receivers, and are told.
+pub(crate) fn post(
+    seats: &mut [Seat],
+    arrivals: &mut Arrivals,
+    from: VarId,
+    out: Outbox,
+) -> Result<(), NoMemory>
     requires { All (λ p. p.0 < length seats.old) out }
     ensures { OnOk result (seats.new ≡ deliver_all from seats.old out) }
 {
     for parcel in out.into_vec() {
-        post_one(seats, from, parcel)?;
+        post_one(seats, arrivals, from, parcel)?;
     }
     Ok(())
 }
 
 /// The agent of a lawful event takes its batch, steps and sends.
-pub(crate) fn act(alloc: Global, seats: &mut [Seat], event: &Event) -> Result<(), NoMemory>
+pub(crate) fn act(
+    alloc: Global,
+    seats: &mut [Seat],
+    arrivals: &mut Arrivals,
+    event: &Event,
+) -> Result<(), NoMemory>
     requires network { (p : Dcop) × (net : Network) × Shows p net seats.old }
     requires lawful { core_fault seats.old event.now ≡ None }
     ensures { OnOk result (Moves seats.old event.now seats.new) }
 {
     let agent = event.agent;
     let out = seats[agent.0 as usize].react(alloc, event.takes.as_slice())?;
-    post(seats, agent, out)
+    post(seats, arrivals, agent, out)
 }
 
 /// How many messages are taken, as far as they are counted.

@@ -20,7 +20,7 @@ const MOST_TAKEN: usize = 64;
 pub(crate) fn new_links(alloc: Global, senders: &[VarId]) -> Result<Vec<Link>, NoMemory>
     ensures { IfOk result (λ links. links.items ≡ map new_link senders.now) }
 {
-    let mut links = Vec::new(alloc);
+    let mut links = Vec::with_capacity(alloc, senders.len())?;
     for from in senders {
         links.push(Link::new(alloc, *from))?;
     }

@@ -12,6 +12,7 @@ use crate::agent::Agent;
 use crate::inbox;
 use crate::link::Link;
 use dcop_base::{NoMemory, Sequence, VarId};
+use dcop_edge::Gate;
 use protocol_steps::{Letter, Outbox, Take};
 use std::alloc::Global;
 use std::marker::Model;
@@ -109,15 +110,21 @@ impl Seat {
         Ok(out)
     }
 
-    /// What the agent takes in its turn: what is pending, at most 64 messages of each sender. An
-    /// agent for which nothing came since it was last found idle is not looked at again.
-    pub(crate) fn takes(&mut self, alloc: Global) -> Result<Vec<Take>, NoMemory>
+    /// What the agent takes in its turn: what is pending, at most 64 messages of each sender. It passes
+    /// the gate first, unless it has ended, or nothing came for it since it was last found idle.
+    pub(crate) fn takes<G: Gate>(
+        &mut self,
+        alloc: Global,
+        gate: &G,
+        me: VarId,
+    ) -> Result<Vec<Take>, NoMemory>
         ensures same { self.new ≡ self.old }
         ensures takes { IfOk result (λ takes. takes.items ≡ seat_takes self.old) }
     {
         if self.idle || self.agent.ended() {
             return Ok(Vec::new(alloc));
         }
+        gate.pass(me);
         let takes = inbox::takes_of(alloc, self.links.as_slice())?;
         self.idle = takes.is_empty();
         Ok(takes)

@@ -13,6 +13,7 @@ ghost use Rattle.delivery_core.specs.Agents.{IsTreeFor, IsStartFor, agents_of};
 ghost use Rattle.delivery_core.specs.Starts.{agent_of, knowledge_for, new_seat, Begun, Starts};
 
 use crate::agent::Agent;
+use crate::arrivals::Arrivals;
 use crate::deliver::post;
 use crate::inbox::new_links;
 use crate::seat::Seat;
@@ -118,24 +119,33 @@ pub(crate) fn make(alloc: Global, problem: &Problem, start: &Start) -> Result<Ve
 }
 
 /// An agent starts, after those before it.
-fn start_one(alloc: Global, seats: &mut [Seat], me: usize) -> Result<(), NoMemory>
+fn start_one(
+    alloc: Global,
+    seats: &mut [Seat],
+    arrivals: &mut Arrivals,
+    me: usize,
+) -> Result<(), NoMemory>
     requires begun { (p : Dcop) × (made : List View) × Begun p made me seats.old }
     requires inside { me < length seats.old }
     requires few { length seats.old ≤ variable_limit }
     ensures { OnOk result (Starts me seats.old (me + 1) seats.new) }
 {
     let out = seats[me].begin(alloc)?;
-    post(seats, VarId(me as u32), out)
+    post(seats, arrivals, VarId(me as u32), out)
 }
 
 /// All agents start, in ascending order.
-pub(crate) fn start_all(alloc: Global, seats: &mut [Seat]) -> Result<(), NoMemory>
+pub(crate) fn start_all(
+    alloc: Global,
+    seats: &mut [Seat],
+    arrivals: &mut Arrivals,
+) -> Result<(), NoMemory>
     requires begun { (p : Dcop) × (made : List View) × Begun p made 0 seats.old }
     requires few { length seats.old ≤ variable_limit }
     ensures { OnOk result (Starts 0 seats.old (length seats.old) seats.new) }
 {
     for me in 0..seats.len() {
-        start_one(alloc, seats, me)?;
+        start_one(alloc, seats, arrivals, me)?;
     }
     Ok(())
 }

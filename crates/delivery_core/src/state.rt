@@ -1,6 +1,6 @@
 //! The state of a core, and its readers.
 
-ghost use Rattle.std.specs.Prelude.{◌≡◌, ◌<◌, ◌≤◌, length, slice_index_or, MatchOption, IfOk, OnOk, Some, None};
+ghost use Rattle.std.specs.Prelude.{◌≡◌, ◌<◌, ◌≤◌, length, slice_index_or, MatchOption, IfOk, IfSome, OnOk, Some, None};
 ghost use Rattle.std.specs.Option.{option_map};
 ghost use Rattle.std.specs.List.{list_all};
 ghost use Rattle.dcop_base.specs.Limits.{variable_limit};
@@ -11,12 +11,14 @@ ghost use Rattle.delivery_core.specs.SeatEvents.{core_fault};
 ghost use Rattle.delivery_core.specs.SeatTurns.{seat_takes};
 ghost use Rattle.delivery_core.specs.Shown.{IsCore, IsSomeCore, Advances, Refuses, CountsWaiting};
 
+use crate::arrivals::Arrivals;
 use crate::deliver::{act, count_of};
 use crate::inbox::{count_from, last_of};
 use crate::lawful::fault_of;
 use crate::seat::Seat;
 use crate::start::{Start, make, start_all};
 use dcop_base::{MAX_VARIABLES, NoMemory, Problem, Table, Val, VarId};
+use dcop_edge::Gate;
 use protocol_steps::{Event, EventFault, Message, Standing, Take};
 use pseudotree::Place;
 use std::alloc::Global;
@@ -27,6 +29,7 @@ use std::marker::Model;
 pub struct CoreState {
     pub(crate) seats: Vec<Seat>,
     pub(crate) delivered: u64,
+    arrivals: Arrivals,
 }
 
 impl Model for CoreState {
@@ -57,10 +60,12 @@ impl CoreState {
         ensures few { IfOk result (λ state. length state.seats ≤ variable_limit) }
     {
         let mut seats = make(alloc, problem, start)?;
-        start_all(alloc, seats.as_mut_slice())?;
+        let mut arrivals = Arrivals::new(alloc, seats.len())?;
+        start_all(alloc, seats.as_mut_slice(), &mut arrivals)?;
         Ok(CoreState {
             seats,
             delivered: 0,
+            arrivals,
         })
     }
 
@@ -154,14 +159,28 @@ impl CoreState {
         self.seats.len()
     }
 
-    /// What an agent takes in its turn.
-    pub(crate) fn takes(&mut self, alloc: Global, me: usize) -> Result<Vec<Take>, NoMemory>
+    /// The next agent to whom something came since it was looked at last, from this one on.
+    pub(crate) fn next_called(&self, from: usize) -> Option<usize>
+        ensures { IfSome result (λ me. (from ≤ me) × (me < length self.now.seats)) }
+    {
+        self.arrivals.next(from, self.seats.len())
+    }
+
+    /// What an agent takes in its turn. Where it has not ended and something may wait for it, it passes
+    /// the gate first.
+    pub(crate) fn takes<G: Gate>(
+        &mut self,
+        alloc: Global,
+        gate: &G,
+        me: VarId,
+    ) -> Result<Vec<Take>, NoMemory>
         requires { me < length self.old.seats }
         ensures same { self.new ≡ self.old }
         ensures takes { IfOk result (λ takes. (d : SeatView) →
             takes.items ≡ seat_takes (slice_index_or self.old.seats me d)) }
     {
-        self.seats[me].takes(alloc)
+        self.arrivals.forget(me.0 as usize);
+        self.seats[me.0 as usize].takes(alloc, gate, me)
     }
 
     /// A lawful event.
@@ -170,7 +189,7 @@ impl CoreState {
         requires lawful { core_fault self.old.seats event.now ≡ None }
         ensures { OnOk result (Advances self.old event.now self.new) }
     {
-        act(alloc, self.seats.as_mut_slice(), event)?;
+        act(alloc, self.seats.as_mut_slice(), &mut self.arrivals, event)?;
         let taken = count_of(event.takes.as_slice());
         self.delivered = self.delivered.saturating_add(taken);
         Ok(())

@@ -1,18 +1,17 @@
-//! Playing in rounds.
+//! Playing in rounds of one turn.
 
-ghost use Rattle.std.specs.Prelude.{◌≡◌, ◌<◌, ◌≤◌, ◌++◌, length, IfOk, OnOk};
-ghost use Rattle.dcop_base.specs.Limits.{variable_limit, budget_limit};
-ghost use Rattle.delivery_core.specs.Agents.{IsStartFor, agents_of, network_of};
+ghost use Rattle.std.specs.Prelude.{◌≡◌, ◌<◌, ◌≤◌, length, IfOk, OnOk};
+ghost use Rattle.dcop_base.specs.Limits.{variable_limit};
+ghost use Rattle.delivery_core.specs.Agents.{IsStartFor, network_of};
 ghost use Rattle.delivery_core.specs.Turns.{IsPlayed};
 ghost use Rattle.delivery_core.specs.Shown.{IsSomeCore};
-ghost use Rattle.protocol_steps.specs.Outcomes.{HaveRun};
-ghost use Rattle.delivery_core.specs.SeatTurns.{is_over, kept_if, TakesTurn, PlaysRound, PlaysOut};
+ghost use Rattle.delivery_core.specs.SeatTurns.{is_over, TakesTurn, PlaysRound, PlaysOut};
 
-use crate::outcome::outcome_of;
 use crate::start::Start;
 use crate::state::CoreState;
-use dcop_base::{MAX_VARIABLES, NoMemory, Problem, Sequence, VarId, problem_is_whole};
-use protocol_steps::{Event, EventList, Outcome};
+use dcop_base::{MAX_VARIABLES, NoMemory, Problem, Sequence, VarId};
+use dcop_edge::{Gate, OpenGate};
+use protocol_steps::{Event, EventList};
 use std::alloc::Global;
 
 /// What was played.
@@ -25,8 +24,9 @@ pub struct Played {
 }
 
 /// The turn of one agent: it takes what is pending, and the event is added.
-fn take_turn(
+pub(crate) fn take_turn<G: Gate>(
     alloc: Global,
+    gate: &G,
     state: &mut CoreState,
     me: usize,
     events: &mut Vec<Event>,
@@ -36,7 +36,7 @@ fn take_turn(
     requires few { length state.old.seats ≤ variable_limit }
     ensures { OnOk result (TakesTurn me state.old events.old.items state.new events.new.items) }
 {
-    let takes = state.takes(alloc, me)?;
+    let takes = state.takes(alloc, gate, VarId(me as u32))?;
     if takes.is_empty() {
         return Ok(());
     }
@@ -50,60 +50,47 @@ fn take_turn(
 }
 
 /// A round: the turns of all agents in ascending order.
-fn play_round(alloc: Global, state: &mut CoreState, events: &mut Vec<Event>) -> Result<(), NoMemory>
+pub(crate) fn play_round<G: Gate>(
+    alloc: Global,
+    gate: &G,
+    state: &mut CoreState,
+    events: &mut Vec<Event>,
+) -> Result<(), NoMemory>
     requires core { IsSomeCore state.old }
     requires few { length state.old.seats ≤ variable_limit }
     ensures { OnOk result (PlaysRound state.old events.old.items state.new events.new.items) }
 {
     for me in 0..state.count() {
-        take_turn(alloc, state, me, events)?;
+        take_turn(alloc, gate, state, me, events)?;
     }
     Ok(())
 }
 
 /// Whether no further round is played: all agents have ended, or the budget is spent.
-fn is_over(state: &CoreState, budget: u64) -> bool
+pub(crate) fn is_over(state: &CoreState, budget: u64) -> bool
     ensures { result ≡ is_over budget state.now }
 {
     state.all_ended() || state.deliveries() >= budget
 }
 
-/// The events, and after them those of one more round, where events are kept.
-fn keep_round(kept: &mut Vec<Event>, events: Vec<Event>, keep: bool) -> Result<(), NoMemory>
-    ensures { OnOk result (kept.new.items ≡ kept.old.items ++ kept_if keep events.items) }
-{
-    if keep {
-        for event in events {
-            kept.push(event)?;
-        }
-    }
-    Ok(())
-}
-
-/// Plays rounds until playing stops. Gives what happened, where events are kept, and else nothing.
-fn play_rounds(
-    alloc: Global,
-    state: &mut CoreState,
-    budget: u64,
-    keep: bool,
-) -> Result<Vec<Event>, NoMemory>
+/// Plays rounds until playing stops. Gives what happened.
+fn play_rounds(alloc: Global, state: &mut CoreState, budget: u64) -> Result<Vec<Event>, NoMemory>
     requires core { IsSomeCore state.old }
     requires few { length state.old.seats ≤ variable_limit }
-    ensures { IfOk result (λ kept. PlaysOut budget keep state.old state.new kept.items) }
+    ensures { IfOk result (λ events. PlaysOut budget state.old state.new events.items) }
 {
-    let mut kept = Vec::new(alloc);
+    let mut events = Vec::new(alloc);
     for _ in 0..budget {
         if is_over(state, budget) {
-            return Ok(kept);
+            return Ok(events);
         }
-        let mut events = Vec::new(alloc);
-        play_round(alloc, state, &mut events)?;
-        if events.is_empty() {
-            return Ok(kept);
+        let before = events.len();
+        play_round(alloc, &OpenGate, state, &mut events)?;
+        if events.len() == before {
+            return Ok(events);
         }
-        keep_round(&mut kept, events, keep)?;
     }
-    Ok(kept)
+    Ok(events)
 }
 
 /// Plays the agents in rounds from the start state. In a round the agents come in ascending order,
@@ -122,31 +109,9 @@ pub fn play(alloc: Global, problem: &Problem, start: Start, budget: u64) -> Resu
     ensures size { IfOk result (λ played. length played.state.seats ≡ length problem.now.sizes) }
 {
     let mut state = CoreState::start(alloc, problem, &start)?;
-    let events = play_rounds(alloc, &mut state, budget, true)?;
+    let events = play_rounds(alloc, &mut state, budget)?;
     Ok(Played {
         state,
         events: Sequence::from_vec(events),
     })
-}
-
-/// Plays the agents as [`play`] does, and tells what they have come to. No event is kept. The
-/// budget is at most 10,000,000.
-///
-/// # Errors
-///
-/// [`NoMemory`] where memory was wanted and not had.
-pub fn play_out(
-    alloc: Global,
-    problem: &Problem,
-    start: Start,
-    budget: u64,
-) -> Result<Outcome, NoMemory>
-    requires start { IsStartFor problem.now start }
-    requires budget { budget ≤ budget_limit }
-    ensures { IfOk result (HaveRun budget (agents_of problem.now start)) }
-{
-    problem_is_whole(problem);
-    let mut state = CoreState::start(alloc, problem, &start)?;
-    play_rounds(alloc, &mut state, budget, false)?;
-    outcome_of(alloc, state)
 }

@@ -18,6 +18,7 @@ ghost use Rattle.log_check.specs.Shows.{IsToldBy, ShowsReport};
 use crate::end::end_difference;
 use certificate_text::{Differs, Report, Verdict};
 use dcop_base::{NoMemory, Problem, problem_is_whole};
+use dcop_edge::OpenGate;
 use delivery_core::{Start, play_out};
 use log_holds::{differences_are_exact, logs_show};
 use log_replay::{LogFault, WrongStamp, replay_log};
@@ -129,7 +130,7 @@ pub fn start_for(alloc: Global, problem: &Problem, error: u64) -> Result<Start, 
         agents_of problem.now start ≡ adopt_agents problem.now (dfs problem.now) error) }
 {
     let budget = search_deliveries(problem);
-    let outcome = play_out(alloc, problem, Start::Token, budget)?;
+    let outcome = play_out(alloc, &OpenGate, problem, &Start::Token, budget)?;
     let found = tree_found(alloc, problem, &outcome)?;
     Ok(Start::Adopt(found.tree, error))
 }

@@ -2,7 +2,7 @@
 
 ghost use Rattle.std.specs.Prelude.{◌≡◌, ◌≤◌, ◌<◌, ◌+◌, ◌||◌, [], Some, IfOk, OnOk, OnErr, length, is_err, vec_len, vec_capacity, ◌==◌};
 ghost use Rattle.dcop_edge.specs.Faults.{HasCause};
-ghost use Rattle.dcop_edge.specs.Memory.{no_calls, fails_next};
+ghost use Rattle.dcop_edge.specs.Memory.{no_calls, fails_next, after_call};
 ghost use Rattle.serve_edge.specs.Listener.{HasListenCause, first_of, last_of};
 
 use crate::fault::{FailingCalls, ListenFault};
@@ -68,11 +68,26 @@ impl Listener for MemoryListener {
 
     ghost lent = { λ l. l.lent };
 
-    fn open(&mut self, _port: u16) -> Result<(), Failed> {
+    fn open(&mut self, _port: u16) -> Result<(), Failed>
+        ensures cause { HasCause self.old.calls.faults self.new.calls.faults result }
+        ensures waiting { Some self.new.waiting.items ≡ Some self.old.waiting.items }
+        ensures closed { Some self.new.closed.items ≡ Some self.old.closed.items }
+        ensures lent { self.new.lent ≡ self.old.lent }
+        ensures exact { is_err result ≡ fails_next self.old.calls }
+        ensures counted { self.new.calls ≡ after_call self.old.calls }
+    {
         self.calls.come()
     }
 
-    fn accept(&mut self) -> Result<(MemorySource, MemorySink), ListenFault> {
+    fn accept(&mut self) -> Result<(MemorySource, MemorySink), ListenFault>
+        ensures cause { HasListenCause self.old.calls.faults self.new.calls.faults result }
+        ensures given { IfOk result (λ c. Some self.old.waiting.items ≡ first_of c (Some self.new.waiting.items)) }
+        ensures none_given { OnErr result (Some self.new.waiting.items ≡ Some self.old.waiting.items) }
+        ensures closed { Some self.new.closed.items ≡ Some self.old.closed.items }
+        ensures lent { OnOk result (self.new.lent ≡ self.old.lent + 1) }
+        ensures not_lent { OnErr result (self.new.lent ≡ self.old.lent) }
+        ensures exact { is_err result ≡ (fails_next self.old.calls || length self.old.waiting.items == 0) }
+    {
         self.calls.come()?;
         let Some(connection) = self.waiting.pop_front() else {
             self.calls.charge();

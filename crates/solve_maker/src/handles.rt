@@ -9,7 +9,8 @@ use std::thread::Threads;
 use std::time::{Clock, Duration};
 
 /// The threads of a runtime, and none of its other handles: each call of these is answered
-/// [`Unsupported`](io::ErrorKind::Unsupported). Agents in one node dial nobody and ask for no time.
+/// [`Unsupported`](io::ErrorKind::Unsupported), but for `sleep`, which returns at once. Agents in one
+/// node dial nobody and ask for no time.
 #[derive(Drop)]
 pub(crate) struct ThreadsAlone<'a, R>(pub(crate) &'a R, pub(crate) Global);
 

@@ -1,6 +1,6 @@
 //! Running agents, and the tree that they find.
 
-ghost use Rattle.std.specs.Prelude.{◌≡◌, ◌<◌, ◌≤◌, ℕ, length, is_some, IfOk, IfSome};
+ghost use Rattle.std.specs.Prelude.{◌≡◌, ◌<◌, ◌≤◌, ℕ, false, length, is_some, IfOk, IfSome};
 ghost use Rattle.dcop_base.specs.Limits.{budget_limit, variable_limit};
 ghost use Rattle.protocol_steps.specs.JournalStamps.{journal_at};
 ghost use Rattle.worker_runs.specs.CellRounds.{total};
@@ -30,7 +30,7 @@ use agent_seats::{Agent, Seat, seats_of};
 use agent_workers::run;
 use dcop_base::{NoMemory, Problem, problem_is_whole};
 use dcop_edge::Gate;
-use delivery_core::Start;
+use delivery_core::{Start, play_out};
 use problem_solved::ProblemSolved;
 use problem_text::ProblemFile;
 use protocol_steps::{Outcome, RunEnd};
@@ -60,9 +60,50 @@ pub(crate) fn run_agents<R: Threads + Sync, G: Gate>(
     Ok(ran.outcome)
 }
 
-/// The same, with the log of the run where it is asked for. Agents are boxed where they are run, since no
-/// call may hand boxes out.
+/// The same, with the log of the run where it is asked for. Where one worker runs the agents and no log is
+/// asked for, they are played on this thread, without cells and links.
 pub(crate) fn run_logged<R: Threads + Sync, G: Gate>(
+    crew: &Crew<R, G>,
+    alloc: Global,
+    problem: &Problem,
+    start: &Start,
+    budget: u64,
+    certified: bool,
+) -> Result<Logged, NoMemory>
+    requires start { IsStartFor problem.now start.now }
+    requires budget { budget ≤ budget_limit }
+    ensures { IfOk result (HaveLogged budget (agents_of problem.now start.now) certified) }
+{
+    if certified {
+        return run_cells(crew, alloc, problem, start, budget, certified);
+    }
+    if crew.workers > 1 {
+        return run_cells(crew, alloc, problem, start, budget, certified);
+    }
+    play_alone(crew.gate, alloc, problem, start, budget, certified)
+}
+
+/// What agents come to that one thread plays, without a log.
+fn play_alone<G: Gate>(
+    gate: &G,
+    alloc: Global,
+    problem: &Problem,
+    start: &Start,
+    budget: u64,
+    certified: bool,
+) -> Result<Logged, NoMemory>
+    requires start { IsStartFor problem.now start.now }
+    requires budget { budget ≤ budget_limit }
+    requires plain { certified ≡ false }
+    ensures { IfOk result (HaveLogged budget (agents_of problem.now start.now) certified) }
+{
+    let outcome = play_out(alloc, gate, problem, start, budget)?;
+    Ok(Logged { outcome, log: None })
+}
+
+/// What agents come to that workers run in cells, with the log of the run where it is asked for. Agents
+/// are boxed where they are run, since no call may hand boxes out.
+fn run_cells<R: Threads + Sync, G: Gate>(
     crew: &Crew<R, G>,
     alloc: Global,
     problem: &Problem,

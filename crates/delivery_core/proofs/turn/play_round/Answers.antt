@@ -3,16 +3,16 @@ use Rattle.delivery_core.proofs.PlayLaws.{turned_none, turned_next, turned_all}
 use Rattle.delivery_core.proofs.turn.play_round.Goals as goal
 
 pub loop-me-init : goal.loop-me-init
-loop-me-init c = λ p net core. turned_none p net c.args.events.now.items c.args.state.now core
+loop-me-init g c = λ p net core. turned_none p net c.args.events.now.items c.args.state.now core
 
 pub take_turn-requires-clause-core : goal.take_turn-requires-clause-core
-take_turn-requires-clause-core c =
+take_turn-requires-clause-core g c κs within =
     let n = c.requires.core in
     let h = c.loop-me.invariant n.0 n.1 n.2 in
     (n.0, h.mid, h.leads.core)
 
 pub take_turn-requires-clause-inside : goal.take_turn-requires-clause-inside
-take_turn-requires-clause-inside c =
+take_turn-requires-clause-inside g c κs within =
     let n = c.requires.core in
     let h = c.loop-me.invariant n.0 n.1 n.2 in
     let old = n.2.shows.size in
@@ -22,7 +22,7 @@ take_turn-requires-clause-inside c =
     omega (arith, old, now, end, lt)
 
 pub take_turn-requires-clause-few : goal.take_turn-requires-clause-few
-take_turn-requires-clause-few c =
+take_turn-requires-clause-few g c κs within =
     let n = c.requires.core in
     let h = c.loop-me.invariant n.0 n.1 n.2 in
     let old = n.2.shows.size in
@@ -31,7 +31,7 @@ take_turn-requires-clause-few c =
     omega (arith, old, now, few)
 
 pub loop-me-preserved : goal.loop-me-preserved
-loop-me-preserved c = λ p net core.
+loop-me-preserved g c = λ p net core.
     let old = core.shows.size in
     let end = c.count-me-end.ensures in
     let lt = c.loop-me-test.true in
@@ -39,7 +39,7 @@ loop-me-preserved c = λ p net core.
     (c.loop-me.invariant p net core) c.in_ok-take_turn.ensures (omega (arith, old, end, lt))
 
 pub returns : goal.returns
-returns c = λ p net core.
+returns g c = λ p net core.
     let old = core.shows.size in
     let end = c.count-me-end.ensures in
     let le = c.loop-me-test.false in

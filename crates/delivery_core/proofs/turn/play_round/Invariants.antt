@@ -5,4 +5,4 @@ use Rattle.delivery_core.specs.SeatTurns.{Turned}
 use Rattle.delivery_core.proofs.turn.play_round.Given as goal
 
 abbrev pub invariant-loop-me : goal.invariant-loop-me
-invariant-loop-me l = (p : Dcop) (net : Network) → IsCore p net l.initial.state → Turned p net l.initial.events.items l.me l.state l.events.items
+invariant-loop-me g l = (p : Dcop) (net : Network) → IsCore p net l.initial.state → Turned p net l.initial.events.items l.me l.state l.events.items

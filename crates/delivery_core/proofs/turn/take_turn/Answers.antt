@@ -14,7 +14,7 @@ use Rattle.delivery_core.proofs.TurnLaws.{turn_lawful, turn_leads, turn_adds, tu
 use Rattle.delivery_core.proofs.turn.take_turn.Goals as goal
 
 pub returns-then-is_empty : goal.returns-then-is_empty
-returns-then-is_empty c = λ p net core.
+returns-then-is_empty g c = λ p net core.
     let s = there_is c.args.state.now.seats c.args.me c.requires.inside in
     let takes : c.in_ok-takes.takes.items ≡ seat_takes s.0 =
     c.in_ok-takes.ensures.takes s.0 ∙ ap seat_takes (get_or_from_slice_get c.args.state.now.seats c.args.me s.0 s.0 s.1) in
@@ -25,10 +25,10 @@ returns-then-is_empty c = λ p net core.
     (leads.0, leads.1, sym (ap (λ (es : List Event). c.args.events.now.items ++ es) none ∙ append-nil c.args.events.now.items))
 
 pub follow-requires-clause-core : goal.follow-requires-clause-core
-follow-requires-clause-core c = subst (λ (t : CoreView). IsSomeCore t) (sym c.in_ok-takes.ensures.same) c.requires.core
+follow-requires-clause-core g c = subst (λ (t : CoreView). IsSomeCore t) (sym c.in_ok-takes.ensures.same) c.requires.core
 
 pub follow-requires-clause-lawful : goal.follow-requires-clause-lawful
-follow-requires-clause-lawful c =
+follow-requires-clause-lawful g c =
     let core = c.requires.core in
     let s = there_is c.args.state.now.seats c.args.me c.requires.inside in
     let found : c.in_ok-takes.takes.items ≡ seat_takes s.0 =
@@ -40,7 +40,7 @@ follow-requires-clause-lawful c =
     (turn_lawful core.0 core.1 c.args.state.now.seats core.2.shows c.args.me s.0 s.1 (ap (λ n. n == 0) size ∙ sym c.if-is_empty.ensures)))
 
 pub returns : goal.returns
-returns c = λ p net core.
+returns g c = λ p net core.
     let s = there_is c.args.state.now.seats c.args.me c.requires.inside in
     let found : c.in_ok-takes.takes.items ≡ seat_takes s.0 =
     c.in_ok-takes.ensures.takes s.0 ∙ ap seat_takes (get_or_from_slice_get c.args.state.now.seats c.args.me s.0 s.0 s.1) in

@@ -8,7 +8,7 @@ use Rattle.agent_seats.proofs.CellLaws.{seats_ready}
 use Rattle.cut_dpop.specs.Start.{turn_deliveries}
 use Rattle.cut_dpop.proofs.RunLaws.{have_run_of}
 use Rattle.cut_dpop.proofs.AgreedLaws.{if-ok}
-use Rattle.cut_dpop.proofs.agents.run_agents.Goals as goal
+use Rattle.cut_dpop.proofs.agents.run_cells.Goals as goal
 
 pub run-requires-clause-joined : goal.run-requires-clause-joined
 run-requires-clause-joined g c κs within =

@@ -1,7 +1,7 @@
 use Rattle.std.proofs.Common.{arith}
 use Rattle.agent_seats.proofs.CellLaws.{seats_ready}
 use Rattle.solve_top.proofs.CrewLaws.{have_logged_by, read_ascends, read_few, read_some, read_told}
-use Rattle.solve_top.proofs.agents.run_logged.Goals as goal
+use Rattle.solve_top.proofs.agents.run_cells.Goals as goal
 
 pub run-requires-clause-joined : goal.run-requires-clause-joined
 run-requires-clause-joined g c κs within =
