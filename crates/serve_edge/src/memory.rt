@@ -87,6 +87,8 @@ impl Listener for MemoryListener {
         ensures lent { OnOk result (self.new.lent ≡ self.old.lent + 1) }
         ensures not_lent { OnErr result (self.new.lent ≡ self.old.lent) }
         ensures exact { is_err result ≡ (fails_next self.old.calls || length self.old.waiting.items == 0) }
+        ensures counted { self.new.calls.came ≡ (after_call self.old.calls).came }
+        ensures same { self.new.calls.fails ≡ self.old.calls.fails }
     {
         self.calls.come()?;
         let Some(connection) = self.waiting.pop_front() else {
