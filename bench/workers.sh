@@ -8,7 +8,7 @@
 # first ones has 2^18 cells, both by dpop; (c) 100 variables of size 4 in a binary tree, 30 of them tied to
 # their grandparents too, by adopt.
 # First, on each file, the agents of the method on the tree that was found: how much faster one worker runs
-# them than `play_out` of `delivery_core` plays them, in one process, the best of seven runs of each in turn,
+# them than `play_out` of `delivery_turns` plays them, in one process, the best of seven runs of each in turn,
 # agents made in the time; 0.9 is wanted. Both must come to the same values by as many messages. The program
 # of bench/workers is proved and built in a copy of the repository, where it is one more crate.
 # Then it prints the best of N runs (5, where it is not given) of the whole command, the runs with 1, 2 and 4 workers
@@ -52,11 +52,9 @@ binary = [(above(i), i) for i in range(1, 100)]
 ties = [(above(above(i)), i) for i in random.sample(range(3, 100), 30)]
 write("adopt", 1, 100, 4, 100, sorted(binary + ties))
 PY
-copy_crates dcop_base dcop_edge pseudotree cost_table util_kernel util_join util_project adopt_context \
-    adopt_bounds protocol_steps token_runs worker_runs fifo_links dfs_agent dpop_agent adopt_agent delivery_core \
-    agent_cells agent_workers agent_links agent_seats tree_search problem_text
+copy_crates $(with_those_below delivery_turns agent_seats tree_search problem_text)
 uses="dcop_base dcop_edge pseudotree adopt_context protocol_steps token_runs worker_runs fifo_links dfs_agent"
-uses="$uses dpop_agent adopt_agent delivery_core agent_cells agent_workers agent_links agent_seats"
+uses="$uses dpop_agent adopt_agent delivery_core delivery_turns agent_cells agent_workers agent_links agent_seats"
 add_crate workers/program "bench_workers: $uses tree_search problem_text"
 for file in tree ladders adopt; do
     [ "$file" = adopt ] && method=adopt || method=dpop

@@ -12,14 +12,14 @@ from pathlib import Path
 
 from . import __version__, draw, meetings, pydcop, replay, wcsp
 from .explain import differs, explain
-from .problem import MOST_BYTES, TextFault, Trouble, parse
+from .problem import MOST_BYTES, Problem, TextFault, Trouble, parse
 from .programs import VERIFIED, VERIFIED_UNPROVED, Answer, Programs
 from .progress import Progress
 from .report import Report, fitted, read_report, read_tree
-from .solving import START, Best, Refused, Solver, accepts, cost_of, deadline, in_order
+from .solving import NO, START, Best, Refused, Solver, accepts, cost_of, deadline, in_order
 from .translate import Translation, number, plain, translate
 
-SOLVED, OPEN, USAGE, TEXT = 0, 1, 2, 3
+SOLVED, OPEN, TEXT = 0, 1, 3
 OWN_SEARCH = "found by a short search of sefwllon's own, since no method of dcop came to an assignment in time"
 NO_CERTIFICATE = "there is no certificate of it to check"
 UNCHECKED_CUT = "exact by the proved program, but no certificate of the cut was checked"
@@ -369,17 +369,12 @@ def run_check(options: argparse.Namespace) -> int:
     programs = Programs()
     told = load(options.file, options.text, programs)
     report = read_text(options.report)
-    options.text = fitted(told.problem, report).text() + report
-    answer = programs.run(["check"], options.text)
-    if answer.status == 10:
-        print("no: " + differs(answer.text))
-        return OPEN
-    if answer.status != 0:
-        raise Refused(answer)
     problem = fitted(told.problem, report)
-    read = read_report(report, problem)
-    if not accepts(answer, read):
-        raise Trouble("dcop check says yes to another cost than the report's: don't trust this program")
+    try:
+        read = checked_report(programs, problem, report)
+    except Rejected as rejected:
+        print(f"no: {rejected.why}")
+        return OPEN
     values = in_order(read, problem, told.problem).values
     broken = told.broken(values)
     bound = read.lower if told.problem.goal == "min" else read.upper
@@ -391,6 +386,28 @@ def run_check(options: argparse.Namespace) -> int:
     own = number(told.own_sum(values))
     print(f"yes, {programs.verified}: {noun(told)} {own}, {'and ' if gap == 0 else ''}{from_best(gap, told)}")
     return SOLVED
+
+
+class Rejected(Trouble):
+    """dcop check says no to a report."""
+
+    def __init__(self, why: str) -> None:
+        super().__init__("dcop check says no to this report: " + why)
+        self.why = why
+
+
+def checked_report(programs: Programs, problem: Problem, report: str) -> Report:
+    """A report on a problem, where dcop check says yes to it, and to its own cost."""
+    text = problem.text() + report
+    answer = programs.run(["check"], text)
+    if answer.status == NO:
+        raise Rejected(differs(answer.text))
+    if answer.status != 0:
+        raise Trouble(crashed(answer) or explain(answer.text, text))
+    read = read_report(report, problem)
+    if not accepts(answer, read):
+        raise Trouble("dcop check says yes to another cost than the report's: don't trust this program")
+    return read
 
 
 def noun(told: Translation) -> str:
@@ -509,14 +526,9 @@ def tree_of(programs: Programs, told: Translation, report: str | None) -> str:
 def bounds_of(programs: Programs, told: Translation, report: str, title: str, points: int) -> str:
     """The root's bounds over the messages of a log."""
     problem = fitted(told.problem, report)
-    read = read_report(report, problem)
-    if read.certificate != "log":
+    if read_report(report, problem).certificate != "log":
         raise Trouble("the report has no log: make it with `sefwllon solve --method adopt --report OUT`")
-    answer = programs.run(["check"], problem.text() + report)
-    if answer.status == 10:
-        raise Trouble("dcop check says no to this report: " + differs(answer.text))
-    if answer.status != 0:
-        raise Refused(answer)
+    read = checked_report(programs, problem, report)
     with Progress(told) as progress:
         moments = replay.moments(programs, problem, report, max(2, points), progress.replayed)
     return draw.bounds(moments, lambda total: number(told.own_cost(total)), f"{bounds_title(told, read, title)} ({programs.verified})", read.cost)
@@ -552,12 +564,7 @@ def run_cost(options: argparse.Namespace) -> int:
 def from_the_best(programs: Programs, told: Translation, total: int, report: str) -> str:
     """How far a sum may be from the best one, by a report's certificate."""
     problem = fitted(told.problem, report)
-    answer = programs.run(["check"], problem.text() + report)
-    if answer.status == 10:
-        raise Trouble("dcop check says no to this report: " + differs(answer.text))
-    if answer.status != 0:
-        raise Trouble(explain(answer.text, problem.text() + report))
-    read = read_report(report, problem)
+    read = checked_report(programs, problem, report)
     bound = read.lower if problem.goal == "min" else read.upper
     if told.top is not None and told.none_keeps(bound):
         return f"{none_keeps_all(told)} ({programs.verified})"

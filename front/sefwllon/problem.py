@@ -61,9 +61,6 @@ class Problem:
     source: str | None = None
     """The text that it was read from, up to its line `end`."""
 
-    def index_of(self, name: str) -> int | None:
-        return next((i for i, v in enumerate(self.variables) if v.name == name), None)
-
     def place(self, table: Table, assignment: list[int]) -> int:
         """Which cell of a table an assignment picks."""
         place = 0

@@ -8,7 +8,7 @@ from dataclasses import dataclass
 from .explain import differs
 from .problem import Problem, Trouble
 from .programs import Programs
-from .solving import Refused
+from .solving import NO, Refused
 
 POINTS = 64
 """How often a log is replayed for a picture, at most."""
@@ -72,7 +72,7 @@ def replayed(programs: Programs, problem: Problem, report: str, events: int, del
     answer = programs.run(["replay", "--after", str(events)], problem.text() + report)
     if answer.unserved:
         raise Trouble("this program dcop has no `replay` yet, which the picture of a log is made with: build a later one")
-    if answer.status == 10:
+    if answer.status == NO:
         raise Trouble("the log is that of no run: " + differs(answer.text))
     if answer.status != 0:
         raise Refused(answer)

@@ -24,7 +24,7 @@ CUT_SHARE = 0.5
 """Which part of what is left of the time a cut may take where other ways are left."""
 CELLS = (1_048_576, 65_536, 4_096)
 """How many cells a joined table of a cut may have: fewer where all tables of a turn together are too many."""
-WIDE, NO_MEMORY, MANY = 4, 7, 11
+WIDE, NO_MEMORY, NO, MANY = 4, 7, 10, 11
 
 
 @dataclass
