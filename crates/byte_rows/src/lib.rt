@@ -1,5 +1,5 @@
 //! Calls that the program does not make, and sources and sinks that fail, with ample memory: codes, frames, numbered
-//! names.
+//! names, a log.
 #![tactic(auto)]
 
 #[cfg(test)]
@@ -8,5 +8,7 @@ mod codes;
 mod edges;
 #[cfg(test)]
 mod frames;
+#[cfg(test)]
+mod logs;
 #[cfg(test)]
 mod texts;

@@ -24,7 +24,7 @@ use Rattle.certificate_text.specs.declared.verdict.Differs.TheVariants.{Cost, Ro
 use Rattle.certificate_text.specs.declared.verdict.Verdict.{Verdict}
 use Rattle.certificate_text.specs.declared.verdict.Verdict.TheVariants.{Yes, No}
 use Rattle.certificate_text.specs.Fits.{FitsCut}
-use Rattle.certificate_text.specs.TurnReading.{first_tables}
+use Rattle.certificate_text.specs.Turns.{first_tables}
 use Rattle.problem_solved.proofs.SolvedLaws.{solved_problem, solved_sizes}
 use Rattle.problem_solved.specs.Goal.{problem_solved, IsAtMostWorse}
 use Rattle.problem_solved.specs.Holds.{HoldsCut}

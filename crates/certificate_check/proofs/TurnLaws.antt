@@ -27,7 +27,7 @@ use Rattle.certificate_text.specs.declared.certificate.Turn.{Turn}
 use Rattle.certificate_text.specs.declared.certificate.Util.{Util}
 use Rattle.certificate_text.specs.declared.verdict.Differs.{Differs}
 use Rattle.certificate_text.specs.Fits.{FitsTables, FitsCut}
-use Rattle.certificate_text.specs.TurnReading.{first_tables}
+use Rattle.certificate_text.specs.Turns.{first_tables}
 use Rattle.problem_solved.specs.Told.{variables, parents_told}
 use Rattle.problem_solved.specs.Turns.{turn_at, turn_by}
 use Rattle.certificate_check.specs.Cells.{HaveOneEach}

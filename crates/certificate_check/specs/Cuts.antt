@@ -10,7 +10,7 @@ use Rattle.certificate_text.specs.declared.certificate.Turn.{Turn}
 use Rattle.certificate_text.specs.declared.report.Report.{Report}
 use Rattle.certificate_text.specs.declared.verdict.Differs.{Differs}
 use Rattle.certificate_text.specs.declared.verdict.Differs.TheVariants.{Scope, Cell, TurnScope, TurnCell}
-use Rattle.certificate_text.specs.TurnReading.{first_tables}
+use Rattle.certificate_text.specs.Turns.{first_tables}
 use Rattle.problem_solved.specs.Goal.{problem_solved}
 use Rattle.problem_solved.specs.Told.{told, variables}
 use Rattle.problem_solved.specs.Turns.{turn_at}

@@ -15,7 +15,7 @@ use Rattle.certificate_text.specs.declared.verdict.Verdict.TheVariants.{Yes, No}
 use Rattle.problem_solved.specs.Goal.{problem_solved}
 use Rattle.problem_solved.specs.Gap.{gap_of}
 use Rattle.problem_solved.specs.Told.{parents_told}
-use Rattle.certificate_text.specs.TurnReading.{first_tables}
+use Rattle.certificate_text.specs.Turns.{first_tables}
 use Rattle.certificate_check.specs.Cuts.{cut_difference}
 use Rattle.certificate_check.specs.Differences.{IsTreeDifference, difference_in}
 use Rattle.problem_solved.specs.Holds.{HoldsTables, HoldsCut}

@@ -6,7 +6,7 @@ ghost use Rattle.dcop_base.specs.Problem.{IsAssignment};
 ghost use Rattle.pseudotree.specs.Pseudotree.{IsPseudotreeOf};
 ghost use Rattle.pseudotree.specs.Fault.{parents_of};
 ghost use Rattle.certificate_text.specs.Fits.{FitsCut};
-ghost use Rattle.certificate_text.specs.TurnReading.{first_tables};
+ghost use Rattle.certificate_text.specs.Turns.{first_tables};
 ghost use Rattle.problem_solved.specs.Goal.{solved};
 ghost use Rattle.problem_solved.specs.Told.{parents_told};
 ghost use Rattle.problem_solved.specs.Verdict.{ShowsBest};

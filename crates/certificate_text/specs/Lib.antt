@@ -1,16 +1,5 @@
 pub mod Named
 pub mod CertificateText
 pub mod ReportText
-pub mod Told
-pub mod HeadLines
-pub mod ValueLine
-pub mod UtilLine
-pub mod UtilWords
-pub mod CertificateLine
-pub mod TurnLine
-pub mod ReportLines
-pub mod TurnReading
-pub mod ReportReading
 pub mod Fits
-pub mod Steps
-pub mod Again
+pub mod Turns

@@ -1,5 +1,8 @@
 //! Certificates: what lets a reader check the bounds that a report gives.
 
+ghost use Rattle.std.specs.Prelude.{◌≡◌};
+ghost use Rattle.certificate_text.specs.Turns.{first_tables};
+
 use dcop_base::{CellList, Sequence, ValList, VarId, VarList};
 use run_log::Log;
 
@@ -49,3 +52,13 @@ pub struct Util {
 
 /// UTIL tables.
 pub type UtilList = Sequence<Util>;
+
+/// The tables of the first of these turns, none where there is no turn.
+pub fn first_tables(turns: &[Turn]) -> &[Util]
+    ensures { result.now ≡ first_tables turns.now }
+{
+    match turns.first() {
+        Some(turn) => turn.tables.as_slice(),
+        None => &[],
+    }
+}

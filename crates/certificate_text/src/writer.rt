@@ -8,7 +8,6 @@ ghost use Rattle.problem_text.specs.Canonical.{line, goal_lines};
 ghost use Rattle.certificate_text.specs.CertificateText.{parent_word, util_words, table_lines, log_lines, cut_words, turn_words, turn_lines, cut_lines, certificate_lines, evidence_lines};
 ghost use Rattle.certificate_text.specs.Named.{HasWord, IsNamedUtil, IsNamedTurn, IsNamedCertificate, CanTell};
 ghost use Rattle.run_log.specs.LogText.{IsNamedEvent};
-ghost use Rattle.certificate_text.specs.Again.{IsReadBack};
 ghost use Rattle.certificate_text.specs.ReportText.{ending_word, method_word, head_lines, bound_lines, value_words, value_lines, report_text};
 
 use crate::certificate::{Certificate, Turn, Util};
@@ -23,14 +22,16 @@ use std::alloc::Global;
 /// Its lines are `status`, `method`, `goal max` where the goal is max, `error`, `deliveries`,
 /// `cost`, `lower`, `upper`, a line `value NAME V` for each variable in order, the certificate
 /// where there is one, and `end`. V is the value's name where the variable has value names, and
-/// the value as a number otherwise. [`read_report`](crate::read_report) of it gives the report
-/// again, where that has a certificate and fits the file.
+/// the value as a number otherwise. Where the report has a certificate and fits the file,
+/// `read_report` of `report_reader` gives it again.
+///
+/// # Errors
+///
+/// [`NoMemory`] where memory was wanted and not had.
 pub fn write_report(alloc: Global, report: &Report, file: &ProblemFile) -> Result<Bytes, NoMemory>
     requires { CanTell report.now file.now }
-    ensures text { IfOk result (λ bytes. bytes ≡ report_text report.now file.now) }
-    ensures again { IfOk result (λ bytes. IsReadBack bytes file.now report.now) }
+    ensures { IfOk result (λ bytes. bytes ≡ report_text report.now file.now) }
 {
-    is_read_again(report, file);
     let mut text = String::new(alloc);
     write_head(&mut text, report)?;
     write_bounds(&mut text, report)?;
@@ -45,17 +46,9 @@ pub fn write_report(alloc: Global, report: &Report, file: &ProblemFile) -> Resul
     Ok(Bytes::from_vec(text.into_bytes()))
 }
 
-/// A law: the text of a report that has a certificate and fits the file is read as that report.
-fn is_read_again(report: &Report, file: &ProblemFile)
-    ensures { IsReadBack (report_text report.now file.now) file.now report.now }
-{
-    let problem = &file.problem;
-    let _sizes = problem.sizes.as_slice();
-}
-
 impl Ending {
-    /// The word that tells the ending.
-    fn word(self) -> &'static str
+    /// The word that tells the ending: `solved` or `spent`.
+    pub fn word(self) -> &'static str
         ensures { result.now ≡ ending_word self }
     {
         match self {
@@ -66,8 +59,8 @@ impl Ending {
 }
 
 impl Method {
-    /// The word that tells the method.
-    fn word(self) -> &'static str
+    /// The word that tells the method: `plain`, `dpop`, `adopt` or `cut`.
+    pub fn word(self) -> &'static str
         ensures { result.now ≡ method_word self }
     {
         match self {
@@ -100,14 +93,17 @@ fn write_bounds(text: &mut String, report: &Report) -> Result<(), NoMemory>
     write_number(text, "upper", report.upper)
 }
 
-fn write_number(text: &mut String, word: &str, number: u64) -> Result<(), NoMemory>
+/// Writes a line of a word and a number.
+pub fn write_number(text: &mut String, word: &str, number: u64) -> Result<(), NoMemory>
     ensures { OnOk result (string_bytes text.new
         ≡ string_bytes text.old ++ line (word.now ∷ decimal number ∷ [])) }
 {
     Ok(write!(text, "{word} {number}\n")?)
 }
 
-fn write_values(
+/// Writes a line `value NAME V` for each variable in order. V is the value's name where the variable has
+/// value names, and the value as a number otherwise.
+pub fn write_values(
     text: &mut String,
     names: &Names,
     labels: &[Labels],

@@ -28,7 +28,7 @@ use Rattle.cut_laws.proofs.CertificateLaws.{turns_make_certificates}
 use Rattle.certificate_text.specs.declared.certificate.Turn.{Turn}
 use Rattle.certificate_text.specs.declared.certificate.Util.{Util}
 use Rattle.certificate_text.specs.Fits.{KeepParents, FitsCut}
-use Rattle.certificate_text.specs.TurnReading.{first_tables}
+use Rattle.certificate_text.specs.Turns.{first_tables}
 use Rattle.problem_solved.specs.Told.{told, parents_told}
 use Rattle.problem_solved.specs.Turns.{turn_at, turn_by, turn_scopes, turn_cells}
 use Rattle.util_tables.specs.Utils.{IsUtilOf, AreUtilsOf}

@@ -7,7 +7,7 @@ use Rattle.pseudotree.specs.Pseudotree.{IsPseudotree}
 use Rattle.cut_laws.specs.Turns.{turn_count}
 use Rattle.cut_laws.specs.Certificate.{IsCutCertificate}
 use Rattle.certificate_text.specs.Fits.{FitsCut}
-use Rattle.certificate_text.specs.TurnReading.{first_tables}
+use Rattle.certificate_text.specs.Turns.{first_tables}
 use Rattle.problem_solved.specs.Told.{parents_told}
 use Rattle.problem_solved.specs.Turns.{turn_scopes, turn_cells}
 use Rattle.cut_dpop.specs.End.{IsCutEnd}

@@ -5,14 +5,7 @@ pub mod InboxLaws
 mod DeliverLaws
 pub mod NearLaws
 pub mod ShownLaws
-mod ActLaws
+pub mod ActLaws
 mod StartLaws
-mod CountLaws
+pub mod CountLaws
 pub mod RunLaws
-mod TurnLaws
-mod PlayLaws
-mod DeliveredLaws
-mod StopLaws
-mod RoundLaws
-mod SprintLaws
-mod PlayedOutLaws

@@ -2,11 +2,9 @@ pub mod State
 pub mod Agents
 pub mod NetworkState
 pub mod Faults
-pub mod Turns
 pub mod Inboxes
 pub mod SeatEvents
-pub mod SeatTurns
-pub mod Sprints
+pub mod Takes
 pub mod Starts
 pub mod Kinds
 pub mod Shown

@@ -1,19 +1,16 @@
 -- What an event does to the agents of a core state.
-use Rattle.std.specs.Prelude.{◌≡◌, ℕ, ◌+◌, true, List, length, Option, Some, None, min, slice_get}
-use Rattle.std.specs.List.{fold, sum_by, slice_set}
-use Rattle.dcop_base.specs.Problem.{Dcop}
-use Rattle.dcop_base.specs.Graph.{neighbours}
+use Rattle.std.specs.Prelude.{ℕ, List, length, Option, Some, None, slice_get}
+use Rattle.std.specs.List.{fold, slice_set}
 use Rattle.protocol_steps.specs.declared.message.Message.{Message}
 use Rattle.protocol_steps.specs.declared.event.Take.{Take}
 use Rattle.protocol_steps.specs.declared.event.Event.{Event}
 use Rattle.protocol_steps.specs.declared.event.EventFault.{EventFault}
 use Rattle.protocol_steps.specs.declared.event.EventFault.TheVariants.{Nobody}
-use Rattle.protocol_steps.specs.View.{private_of, ended_of, started_of}
+use Rattle.protocol_steps.specs.View.{ended_of}
 use Rattle.protocol_steps.specs.Step.{step_of}
 use Rattle.protocol_steps.specs.Run.{or_else, form_fault}
-use Rattle.delivery_core.specs.State.{SeatView, CoreView}
-use Rattle.delivery_core.specs.NetworkState.{most_counted}
-use Rattle.delivery_core.specs.Inboxes.{senders, add_letter, letters_by, inbox_after, short_in}
+use Rattle.delivery_core.specs.State.{SeatView}
+use Rattle.delivery_core.specs.Inboxes.{add_letter, letters_by, inbox_after, short_in}
 
 -- an agent after these takes, and what it sends
 abbrev pub seat_after : SeatView → List Take → SeatView
@@ -39,13 +36,7 @@ abbrev pub seats_after : List SeatView → ℕ → List Take → Option SeatView
 seats_after seats i ts None = seats
 seats_after seats i ts (Some x) = deliver_all i (slice_set seats i (seat_after x ts)) (seat_sends x ts)
 
--- a core state after an event
-abbrev pub core_after : CoreView → Event → CoreView
-core_after s e = record {
-  seats = seats_after s.seats e.agent e.takes (slice_get s.seats e.agent);
-  delivered = min (s.delivered + sum_by (λ t. t.count) e.takes) most_counted;
-}
-
+-- the first thing that is wrong with takes of an agent, where it is there, among so many
 abbrev pub seat_fault : ℕ → List Take → Option SeatView → Option EventFault
 seat_fault n ts None = Some Nobody
 seat_fault n ts (Some x) = or_else (form_fault n (ended_of x.view) ts) (short_in x.inbox ts)
@@ -53,17 +44,3 @@ seat_fault n ts (Some x) = or_else (form_fault n (ended_of x.view) ts) (short_in
 -- the first thing that is wrong with an event
 abbrev pub core_fault : List SeatView → Event → Option EventFault
 core_fault seats e = seat_fault (length seats) e.takes (slice_get seats e.agent)
-
--- an agent of this problem: it has started, its neighbours are those of the problem, and it has a link of each
-pub record IsSeat (p : Dcop) (i : ℕ) (x : SeatView) : Type 0 where
-  pub links : senders x.inbox ≡ neighbours p i
-  pub own : (private_of x.view).neighbours ≡ neighbours p i
-
--- the agents of this problem
-pub record AreSeats (p : Dcop) (seats : List SeatView) : Type 0 where
-  pub size : length seats ≡ length p.sizes
-  pub each : (i : ℕ) (x : SeatView) → slice_get seats i ≡ Some x → IsSeat p i x
-
--- all agents have started
-abbrev pub HaveStarted : List SeatView → Type 0
-HaveStarted seats = (i : ℕ) (x : SeatView) → slice_get seats i ≡ Some x → started_of x.view ≡ true

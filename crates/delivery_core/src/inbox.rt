@@ -6,7 +6,7 @@ ghost use Rattle.std.specs.List.Sorted.{IsStrictlyIncreasing};
 ghost use Rattle.delivery_core.specs.State.{LinkView, waiting_from, last_letter};
 ghost use Rattle.delivery_core.specs.Inboxes.{edit_link, with_letter, with_last, take_off, keep_last, letters_by, short_in};
 ghost use Rattle.delivery_core.specs.Starts.{new_link};
-ghost use Rattle.delivery_core.specs.SeatTurns.{inbox_takes};
+ghost use Rattle.delivery_core.specs.Takes.{inbox_takes};
 
 use crate::link::Link;
 use dcop_base::{NoMemory, VarId};

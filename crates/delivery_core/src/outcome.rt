@@ -44,9 +44,12 @@ fn made_by(alloc: Global, seats: Vec<Seat>) -> Result<Made, NoMemory>
     Ok(Made { tables, places })
 }
 
-/// What the agents of a core state have come to. Their tables and places are handed on, and not
-/// copied.
-pub(crate) fn outcome_of(alloc: Global, state: CoreState) -> Result<Outcome, NoMemory>
+/// What the agents of a state have come to. Their tables and places are handed on, and not copied.
+///
+/// # Errors
+///
+/// [`NoMemory`] where memory was wanted and not had.
+pub fn outcome_of(alloc: Global, state: CoreState) -> Result<Outcome, NoMemory>
     requires { 0 < length state.seats }
     ensures { IfOk result (TellsOf state) }
 {

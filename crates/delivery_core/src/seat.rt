@@ -6,7 +6,7 @@ ghost use Rattle.protocol_steps.specs.Step.{start_of};
 ghost use Rattle.protocol_steps.specs.Machine.{MayStart, MayReact, IsBatch, IsToNeighbour};
 ghost use Rattle.delivery_core.specs.Inboxes.{edit_link, with_letter, letters_by, inbox_after};
 ghost use Rattle.delivery_core.specs.SeatEvents.{seat_after, seat_sends};
-ghost use Rattle.delivery_core.specs.SeatTurns.{seat_takes};
+ghost use Rattle.delivery_core.specs.Takes.{seat_takes};
 
 use crate::agent::Agent;
 use crate::inbox;
@@ -34,7 +34,7 @@ impl Model for Seat {
     ghost view = { λ s. record { view = s.agent; inbox = s.links.items } };
 
     ghost use Rattle.std.specs.Prelude.{◌≡◌, true, []};
-    ghost use Rattle.delivery_core.specs.SeatTurns.{inbox_takes};
+    ghost use Rattle.delivery_core.specs.Takes.{inbox_takes};
 
     ghost invariant = { λ s. s.idle ≡ true → inbox_takes s.links.items ≡ [] };
 }

@@ -8,7 +8,7 @@ ghost use Rattle.protocol_steps.specs.View.{ended_of, value_of, standing_of};
 ghost use Rattle.delivery_core.specs.Agents.{IsStartFor, network_of};
 ghost use Rattle.delivery_core.specs.State.{SeatView, view_at, place_in, table_in, last_sent, count_waiting, views_of};
 ghost use Rattle.delivery_core.specs.SeatEvents.{core_fault};
-ghost use Rattle.delivery_core.specs.SeatTurns.{seat_takes};
+ghost use Rattle.delivery_core.specs.Takes.{seat_takes};
 ghost use Rattle.delivery_core.specs.Shown.{IsCore, IsSomeCore, Advances, Refuses, CountsWaiting};
 
 use crate::arrivals::Arrivals;
@@ -153,22 +153,27 @@ impl CoreState {
     }
 
     /// How many agents there are.
-    pub(crate) fn count(&self) -> usize
+    pub fn count(&self) -> usize
         ensures { result ≡ length self.now.seats }
     {
         self.seats.len()
     }
 
-    /// The next agent to whom something came since it was looked at last, from this one on.
-    pub(crate) fn next_called(&self, from: usize) -> Option<usize>
+    /// The next agent to whom something came since [`CoreState::takes`] looked at it last, from this one
+    /// on. It is a hint: no clause says that none is left out.
+    pub fn next_called(&self, from: usize) -> Option<usize>
         ensures { IfSome result (λ me. (from ≤ me) × (me < length self.now.seats)) }
     {
         self.arrivals.next(from, self.seats.len())
     }
 
-    /// What an agent takes in its turn. Where it has not ended and something may wait for it, it passes
-    /// the gate first.
-    pub(crate) fn takes<G: Gate>(
+    /// What an agent takes in its turn: of each sender what waits, at most 64 messages; nothing where it
+    /// has ended. Where it has not and something may wait for it, it passes the gate first.
+    ///
+    /// # Errors
+    ///
+    /// [`NoMemory`] where memory was wanted and not had.
+    pub fn takes<G: Gate>(
         &mut self,
         alloc: Global,
         gate: &G,
@@ -183,8 +188,13 @@ impl CoreState {
         self.seats[me.0 as usize].takes(alloc, gate, me)
     }
 
-    /// A lawful event.
-    pub(crate) fn follow(&mut self, alloc: Global, event: &Event) -> Result<(), NoMemory>
+    /// Plays a lawful event: its agent takes, steps and sends. [`CoreState::happen`] is the same for one
+    /// of which that is not known.
+    ///
+    /// # Errors
+    ///
+    /// [`NoMemory`] where memory was wanted and not had. The state is then of no more use.
+    pub fn follow(&mut self, alloc: Global, event: &Event) -> Result<(), NoMemory>
         requires core { IsSomeCore self.old }
         requires lawful { core_fault self.old.seats event.now ≡ None }
         ensures { OnOk result (Advances self.old event.now self.new) }

@@ -15,7 +15,7 @@ use Rattle.cut_laws.specs.Slice.{slice_of}
 use Rattle.dcop_optimum.specs.Certificate.{tables_on_path}
 use Rattle.problem_text.specs.File.{TextFile}
 use Rattle.certificate_text.specs.Fits.{FitsTables, FitsCut, FitsCertificate}
-use Rattle.certificate_text.specs.TurnReading.{first_tables}
+use Rattle.certificate_text.specs.Turns.{first_tables}
 use Rattle.certificate_text.specs.declared.certificate.Certificate.{Certificate}
 use Rattle.certificate_text.specs.declared.certificate.Certificate.TheVariants.{Tables, Log, Cut}
 use Rattle.certificate_text.specs.declared.certificate.Turn.{Turn}

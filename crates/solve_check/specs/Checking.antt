@@ -5,8 +5,8 @@ use Rattle.problem_text.specs.File.{TextFile, IsFile}
 use Rattle.problem_text.specs.Declarations.{Declared}
 use Rattle.problem_text.specs.Steps.{declared_by}
 use Rattle.certificate_text.specs.declared.report.Report.{Report}
-use Rattle.certificate_text.specs.ReportLines.{Fault}
-use Rattle.certificate_text.specs.ReportReading.{report_read}
+use Rattle.report_reader.specs.ReportLines.{Fault}
+use Rattle.report_reader.specs.ReportReading.{report_read}
 use Rattle.problem_solved.specs.Verdict.{ShowsBest}
 use Rattle.certificate_check.specs.Verdicts.{IsVerdict, IsExact}
 use Rattle.solve_report.specs.declared.answer.Answer.{Answer}

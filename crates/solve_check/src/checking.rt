@@ -3,7 +3,7 @@
 ghost use Rattle.std.specs.Prelude.{◌≡◌, ◌+◌, ◌≤◌, length, IfOk};
 ghost use Rattle.dcop_base.specs.Limits.{input_limit};
 ghost use Rattle.problem_text.specs.Steps.{declared_by};
-ghost use Rattle.certificate_text.specs.Again.{HasFit};
+ghost use Rattle.report_reader.specs.Again.{HasFit};
 ghost use Rattle.problem_solved.specs.Verdict.{ShowsBest};
 ghost use Rattle.certificate_check.specs.Verdicts.{IsVerdict, IsExact};
 ghost use Rattle.solve_report.specs.AnswerText.{HasText};
@@ -11,9 +11,10 @@ ghost use Rattle.solve_report.specs.Verdict.{IsNamedVerdict};
 ghost use Rattle.solve_check.specs.Checking.{AnswersCheck};
 
 use certificate_check::check;
-use certificate_text::{Report, Verdict, read_report};
+use certificate_text::{Report, Verdict};
 use dcop_base::{NoMemory, problem_is_whole};
 use problem_text::{ProblemFile, ReportFault};
+use report_reader::read_report;
 use solve_report::Answer;
 use std::alloc::Global;
 

@@ -27,8 +27,8 @@ fn main(rt: HostRuntime) -> ExitCode {
         &words,
         &mut source,
         &mut sink,
-        &mut dialer,
         &OpenGate,
+        &mut dialer,
     );
     ExitCode::from(status.code())
 }

@@ -23,7 +23,7 @@ use Rattle.certificate_text.specs.declared.report.Report.{Report}
 use Rattle.certificate_text.specs.declared.report.Ending.TheVariants.{Solved}
 use Rattle.certificate_text.specs.Fits.{FitsUtil, FitsCut}
 use Rattle.certificate_text.specs.Named.{IsNamedUtil, IsNamedCertificate, CanTell}
-use Rattle.certificate_text.specs.TurnReading.{first_tables}
+use Rattle.certificate_text.specs.Turns.{first_tables}
 use Rattle.problem_solved.specs.Goal.{solved, problem_solved}
 use Rattle.problem_solved.specs.Told.{parents_told}
 use Rattle.problem_solved.specs.Turns.{turn_scopes, turn_cells}

@@ -37,8 +37,8 @@ pub fn answer_bytes<R: Threads + Wait + Clock + RandomSource + Net + AllocGlobal
         alloc,
         words.as_slice(),
         &mut source,
-        &mut dialer,
         &OpenGate,
+        &mut dialer,
     )?;
     text_of(alloc, &answer)
 }

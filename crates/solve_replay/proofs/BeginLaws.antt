@@ -8,15 +8,15 @@ use Rattle.problem_text.specs.declared.file.Goal.TheVariants.{Min, Max}
 use Rattle.problem_text.specs.declared.fault.ReportKind.{ReportKind}
 use Rattle.problem_text.specs.declared.fault.ReportKind.TheVariants.{BadLine, NoCertificate}
 use Rattle.problem_text.specs.PlainLines.{Plain}
-use Rattle.certificate_text.specs.declared.certificate_line.Form.{Form}
+use Rattle.report_reader.specs.declared.certificate_line.Form.{Form}
 use Rattle.certificate_text.specs.declared.report.Method.{Method}
 use Rattle.certificate_text.specs.declared.report.Report.{Report}
-use Rattle.certificate_text.specs.CertificateLine.{form_told, certificate_line}
-use Rattle.certificate_text.specs.HeadLines.{status_line, method_line, max_line, number_line}
-use Rattle.certificate_text.specs.ReportLines.{Fault, Left, whole, told_at, first_of, one_line, and_then}
-use Rattle.certificate_text.specs.ReportReading.{goal_read, head_read, bounds_read, values_read, evidence_read, certificate_read, lines_read}
-use Rattle.certificate_text.specs.Told.{is_alone, begins_with}
-use Rattle.certificate_text.specs.ValueLine.{value_line}
+use Rattle.report_reader.specs.CertificateLine.{form_told, certificate_line}
+use Rattle.report_reader.specs.HeadLines.{status_line, method_line, max_line, number_line}
+use Rattle.report_reader.specs.ReportLines.{Fault, Left, whole, told_at, first_of, one_line, and_then}
+use Rattle.report_reader.specs.ReportReading.{goal_read, head_read, bounds_read, values_read, evidence_read, certificate_read, lines_read}
+use Rattle.report_reader.specs.Told.{is_alone, begins_with}
+use Rattle.report_reader.specs.ValueLine.{value_line}
 use Rattle.solve_replay.specs.CertificateLine.{certificate_word, first_certificate, CertificatesBegin}
 
 -- one of these lines begins a certificate

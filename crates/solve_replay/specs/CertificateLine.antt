@@ -3,8 +3,8 @@ use Rattle.std.specs.Prelude.{◌≡◌, ℕ, List, Option, Some, None, Ok, IsTr
 use Rattle.problem_text.specs.File.{TextFile}
 use Rattle.problem_text.specs.PlainLines.{Plain, plain_lines}
 use Rattle.certificate_text.specs.declared.report.Report.{Report}
-use Rattle.certificate_text.specs.Told.{begins_with}
-use Rattle.certificate_text.specs.ReportReading.{report_read}
+use Rattle.report_reader.specs.Told.{begins_with}
+use Rattle.report_reader.specs.ReportReading.{report_read}
 
 -- the first word of a certificate
 abbrev pub certificate_word : List ℕ

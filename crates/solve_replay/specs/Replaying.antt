@@ -17,8 +17,8 @@ use Rattle.certificate_text.specs.declared.certificate.Certificate.TheVariants.{
 use Rattle.certificate_text.specs.declared.report.Report.{Report}
 use Rattle.certificate_text.specs.declared.verdict.Differs.TheVariants.{Event as Unlawful}
 use Rattle.certificate_text.specs.declared.verdict.Verdict.TheVariants.{No}
-use Rattle.certificate_text.specs.ReportLines.{Fault}
-use Rattle.certificate_text.specs.ReportReading.{report_read}
+use Rattle.report_reader.specs.ReportLines.{Fault}
+use Rattle.report_reader.specs.ReportReading.{report_read}
 use Rattle.log_holds.specs.Holds.{agents_for}
 use Rattle.delivery_core.specs.Faults.{FirstFault}
 use Rattle.delivery_core.specs.declared.replaying.ReplayFault.{ReplayFault}

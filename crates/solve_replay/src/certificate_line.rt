@@ -3,7 +3,7 @@
 ghost use Rattle.std.specs.Prelude.{◌≡◌, ◌<◌, ◌≤◌, ◌+◌, length};
 ghost use Rattle.dcop_base.specs.Limits.{input_limit};
 ghost use Rattle.problem_text.specs.Lines.{words};
-ghost use Rattle.certificate_text.specs.Told.{begins_with};
+ghost use Rattle.report_reader.specs.Told.{begins_with};
 ghost use Rattle.solve_replay.specs.CertificateLine.{certificate_line, certificate_word};
 
 use problem_text::{is_word, next_plain_line, next_word};

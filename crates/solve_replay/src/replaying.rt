@@ -20,12 +20,13 @@ ghost use Rattle.solve_replay.specs.Replaying.{log_up_to, IsFaultAnswer, IsRepla
 use crate::certificate_line::certificate_line;
 use crate::events::{events_of, log_up_to};
 use crate::rows::rows_of;
-use certificate_text::{Certificate, Differs, Verdict, read_report};
+use certificate_text::{Certificate, Differs, Verdict};
 use dcop_base::{NoMemory, Problem, problem_is_whole};
 use delivery_core::{CoreState, ReplayFault, replay};
 use log_check::start_for;
 use problem_solved::ProblemSolved;
 use problem_text::{Names, ProblemFile, ReportFault, ReportKind};
+use report_reader::read_report;
 use run_log::LogEvent;
 use solve_report::Answer;
 use std::alloc::Global;

@@ -1,16 +1,15 @@
 //! The text of what an edit session answers.
 
-ghost use Rattle.std.specs.Prelude.{◌≡◌, ◌<◌, ◌++◌, length, OnOk, IfOk};
-ghost use Rattle.std.specs.List.{flat_map, All, AllZip};
+ghost use Rattle.std.specs.Prelude.{◌≡◌, ◌++◌, OnOk, IfOk};
+ghost use Rattle.std.specs.List.{flat_map, All};
 ghost use Rattle.std.specs.String.{string_bytes};
 ghost use Rattle.problem_text.specs.Canonical.{line};
-ghost use Rattle.certificate_text.specs.Named.{HasWord};
-ghost use Rattle.certificate_text.specs.ReportText.{value_words, value_lines};
 ghost use Rattle.solve_report.specs.Edits.{IsNamedOptimum, optimum_lines, optima_lines, edits_text};
 
 use crate::refusal::bytes_of;
-use dcop_base::{Bytes, NoMemory, Val, VarId};
-use problem_text::{Edited, Labels, Names, ProblemFile};
+use certificate_text::write_values;
+use dcop_base::{Bytes, NoMemory};
+use problem_text::{Edited, ProblemFile};
 use std::alloc::Global;
 
 /// The text of a session: for each answer a line with its number, which counts from 1, the number
@@ -58,36 +57,4 @@ fn write_optimum(
     } = edited;
     write!(text, "answer {number}\nremade {remade}\ncost {cost}\n")?;
     write_values(text, &file.names, file.labels.as_slice(), values.as_slice())
-}
-
-fn write_values(
-    text: &mut String,
-    names: &Names,
-    labels: &[Labels],
-    values: &[Val],
-) -> Result<(), NoMemory>
-    requires named { length values.now ≡ length names.now }
-    requires worded { AllZip HasWord labels.now values.now }
-    ensures { OnOk result (string_bytes text.new
-        ≡ string_bytes text.old ++ flat_map line (value_lines names.now labels.now values.now)) }
-{
-    for place in 0..names.len() {
-        let name = names.name(VarId(place as u32));
-        write_value(text, name, &labels[place], values[place])?;
-    }
-    Ok(())
-}
-
-fn write_value(text: &mut String, name: &str, labels: &Labels, value: Val) -> Result<(), NoMemory>
-    requires { HasWord labels.now value }
-    ensures { OnOk result (string_bytes text.new
-        ≡ string_bytes text.old ++ line (value_words name.now labels.now value)) }
-{
-    if labels.len() == 0 {
-        let number = value.0;
-        Ok(write!(text, "value {name} {number}\n")?)
-    } else {
-        let label = labels.name(value.0 as usize);
-        Ok(write!(text, "value {name} {label}\n")?)
-    }
 }

@@ -4,12 +4,10 @@ ghost use Rattle.std.specs.Prelude.{◌≡◌, ◌++◌, OnOk, IfOk};
 ghost use Rattle.std.specs.List.{flat_map};
 ghost use Rattle.std.specs.String.{string_bytes};
 ghost use Rattle.problem_text.specs.Canonical.{line};
-ghost use Rattle.certificate_text.specs.ReportText.{method_word};
-ghost use Rattle.solve_report.specs.Summary.{found_lines, made_lines, number_words, run_lines, summary_text};
+ghost use Rattle.solve_report.specs.Summary.{found_lines, made_lines, run_lines, summary_text};
 
 use crate::refusal::bytes_of;
-use crate::verdict::word_of;
-use certificate_text::{Ending, Method};
+use certificate_text::{Ending, Method, write_number};
 use dcop_base::{Bytes, NoMemory};
 use std::alloc::Global;
 
@@ -57,8 +55,8 @@ fn write_run(text: &mut String, status: Ending, method: Method) -> Result<(), No
     ensures { OnOk result (string_bytes text.new
         ≡ string_bytes text.old ++ flat_map line (run_lines status method)) }
 {
-    let status = word_of(status);
-    let method = method_word(method);
+    let status = status.word();
+    let method = method.word();
     Ok(write!(text, "status {status}\nmethod {method}\n")?)
 }
 
@@ -84,24 +82,4 @@ fn write_found(text: &mut String, summary: &Summary) -> Result<(), NoMemory>
     write_number(text, "upper", summary.upper)?;
     write_number(text, "mark", summary.mark)?;
     Ok(())
-}
-
-/// A word and a number.
-fn write_number(text: &mut String, word: &str, number: u64) -> Result<(), NoMemory>
-    ensures { OnOk result (string_bytes text.new
-        ≡ string_bytes text.old ++ line (number_words word.now number)) }
-{
-    Ok(write!(text, "{word} {number}\n")?)
-}
-
-/// The word that tells a method.
-fn method_word(method: Method) -> &'static str
-    ensures { result.now ≡ method_word method }
-{
-    match method {
-        Method::Plain => "plain",
-        Method::Dpop => "dpop",
-        Method::Adopt => "adopt",
-        Method::Cut => "cut",
-    }
 }

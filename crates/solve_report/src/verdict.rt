@@ -4,13 +4,12 @@ ghost use Rattle.std.specs.Prelude.{◌≡◌, ◌∷◌, ◌++◌, ◌<◌, [],
 ghost use Rattle.std.specs.List.{flat_map};
 ghost use Rattle.std.specs.Fmt.{decimal};
 ghost use Rattle.std.specs.String.{string_bytes};
-ghost use Rattle.certificate_text.specs.ReportText.{ending_word};
 ghost use Rattle.certificate_text.specs.declared.verdict.Verdict.TheVariants.{Yes, No};
 ghost use Rattle.solve_report.specs.Verdict.{IsNamedFault, IsNamedDifference, IsNamedVerdict};
 ghost use Rattle.solve_report.specs.Verdict.{name_in, left_right, fault_words, difference_words, verdict_text};
 
 use crate::refusal::bytes_of;
-use certificate_text::{Differs, Ending, Verdict};
+use certificate_text::{Differs, Verdict};
 use dcop_base::{Bytes, NoMemory, Val, VarId};
 use problem_text::Names;
 use protocol_steps::EventFault;
@@ -99,14 +98,14 @@ fn write_difference(text: &mut String, names: &Names, differs: &Differs) -> Resu
             let name = name_of(names, *var);
             write_cell(text, name, *cell, *value, *left, *right)
         }
-        Differs::Cost { left, right } => write_number(text, "cost", *left, *right),
-        Differs::Root { left, right } => write_number(text, "root", *left, *right),
-        Differs::Lower { left, right } => write_number(text, "lower", *left, *right),
-        Differs::Upper { left, right } => write_number(text, "upper", *left, *right),
-        Differs::Error { left, right } => write_number(text, "error", *left, *right),
-        Differs::Deliveries { left, right } => write_number(text, "deliveries", *left, *right),
+        Differs::Cost { left, right } => write_sides(text, "cost", *left, *right),
+        Differs::Root { left, right } => write_sides(text, "root", *left, *right),
+        Differs::Lower { left, right } => write_sides(text, "lower", *left, *right),
+        Differs::Upper { left, right } => write_sides(text, "upper", *left, *right),
+        Differs::Error { left, right } => write_sides(text, "error", *left, *right),
+        Differs::Deliveries { left, right } => write_sides(text, "deliveries", *left, *right),
         Differs::Status { ending } => {
-            let word = word_of(*ending);
+            let word = ending.word();
             Ok(write!(text, " status {word}")?)
         }
         Differs::Event { at, fault } => {
@@ -134,7 +133,7 @@ fn write_fault(text: &mut String, names: &Names, fault: &EventFault) -> Result<(
         EventFault::Order => Ok(text.push_str(" order")?),
         EventFault::TooMany { from, asked, there } => {
             text.push_str(" too-many")?;
-            write_number(text, name_of(names, *from), *asked, *there)
+            write_sides(text, name_of(names, *from), *asked, *there)
         }
     }
 }
@@ -175,19 +174,9 @@ fn write_cell(
 }
 
 /// A word, and the number on the left and the one on the right.
-fn write_number(text: &mut String, word: &str, left: u64, right: u64) -> Result<(), NoMemory>
+fn write_sides(text: &mut String, word: &str, left: u64, right: u64) -> Result<(), NoMemory>
     ensures { OnOk result (string_bytes text.new
         ≡ string_bytes text.old ++ flat_map (λ word. 32 ∷ word) (left_right word.now left right)) }
 {
     Ok(write!(text, " {word} left {left} right {right}")?)
-}
-
-/// The word that tells an ending.
-pub(crate) fn word_of(ending: Ending) -> &'static str
-    ensures { result.now ≡ ending_word ending }
-{
-    match ending {
-        Ending::Solved => "solved",
-        Ending::Spent => "spent",
-    }
 }

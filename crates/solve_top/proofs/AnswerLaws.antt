@@ -16,8 +16,8 @@ use Rattle.solve_words.specs.Command.{answer_to}
 use Rattle.certificate_text.specs.declared.report.Ending.{Ending}
 use Rattle.certificate_text.specs.declared.report.Ending.TheVariants as endings
 use Rattle.certificate_text.specs.declared.report.Report.{Report}
-use Rattle.certificate_text.specs.ReportLines.{Fault as ReportFault}
-use Rattle.certificate_text.specs.ReportReading.{report_read}
+use Rattle.report_reader.specs.ReportLines.{Fault as ReportFault}
+use Rattle.report_reader.specs.ReportReading.{report_read}
 use Rattle.solve_report.specs.declared.answer.Answer.{Answer}
 use Rattle.solve_report.specs.declared.answer.Answer.TheVariants as answers
 use Rattle.answer_edge.specs.declared.status.Status.{Status}

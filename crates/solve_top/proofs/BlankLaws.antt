@@ -7,9 +7,9 @@ use Rattle.problem_text.specs.File.{TextFile}
 use Rattle.problem_text.specs.Lines.{has_some, lines, words}
 use Rattle.problem_text.specs.PlainLines.{Plain, plain_content, plain_numbered, plain_lines}
 use Rattle.certificate_text.specs.declared.report.Report.{Report}
-use Rattle.certificate_text.specs.ReportLines.{Left, whole}
-use Rattle.certificate_text.specs.ReportReading.{lines_read, report_read}
-use Rattle.certificate_text.proofs.NumberLaws.{SameWords, read-same}
+use Rattle.report_reader.specs.ReportLines.{Left, whole}
+use Rattle.report_reader.specs.ReportReading.{lines_read, report_read}
+use Rattle.report_reader.proofs.NumberLaws.{SameWords, read-same}
 use Rattle.solve_inputs.proofs.PrefixLaws.{lines_join}
 
 kept_same : (c : Bool) (x y : Plain) (xs ys : List Plain) → x.words ≡ y.words → SameWords xs ys → SameWords (cond c (x ∷ xs) xs) (cond c (y ∷ ys) ys)

@@ -7,10 +7,7 @@ mod GivenLaws
 mod ServedLaws
 mod AnswerLaws
 mod OneLaws
-mod NodeLaws
 mod ShowLaws
-mod CrewLaws
-mod WiringLaws
 mod LinkNameLaws
 mod LinkAnswerLaws
 mod LinklessLaws

@@ -27,7 +27,7 @@ use Rattle.solve_top.specs.Drilling.{made_for}
 use Rattle.solve_top.specs.declared.drilling.Drill.{Drill}
 use Rattle.solve_top.specs.Nodes.{nodes_of, difference_answer, AskForNodes, IsAnswerIn, IsFaultNamed, IsOfLinks, TellsAnswer, TellsFault, TellsLinks}
 use Rattle.solve_top.specs.Phases.{IsPhaseOf}
-use Rattle.solve_top.specs.Wiring.{IsFaultOf}
+use Rattle.solve_agents.specs.Wiring.{IsFaultOf}
 use Rattle.solve_top.specs.declared.task.FileTask.{FileTask}
 use Rattle.solve_top.proofs.AnswerLaws.{asks_nodes, drilled-status}
 use Rattle.solve_top.proofs.GivenLaws.{difference-status}

@@ -16,8 +16,8 @@ use Rattle.certificate_text.specs.declared.report.Ending.TheVariants as endings
 use Rattle.certificate_text.specs.declared.report.Report.{Report}
 use Rattle.certificate_text.specs.declared.verdict.Verdict.{Verdict}
 use Rattle.certificate_text.specs.declared.verdict.Verdict.TheVariants as verdicts
-use Rattle.certificate_text.specs.ReportLines.{Fault as ReportFault}
-use Rattle.certificate_text.specs.ReportReading.{report_read}
+use Rattle.report_reader.specs.ReportLines.{Fault as ReportFault}
+use Rattle.report_reader.specs.ReportReading.{report_read}
 use Rattle.protocol_steps.specs.Network.{start_state}
 use Rattle.run_log.specs.Logs.{events_of}
 use Rattle.solve_report.specs.declared.answer.Answer.{Answer}

@@ -1,22 +1,31 @@
--- Of inputs that are read alike DPOP has one answer, and auto has it too where DPOP fits; an optimum of `edit` is that of DPOP.
-use Rattle.std.proofs.Common.{◌≡◌, ℕ, inl, inr, Bool, List, Option, None, Result, Ok, Err, sym, subst, ◌∙◌}
+-- Of inputs that are read alike DPOP has one answer, and auto has it too where DPOP fits; a drill by DPOP has one; an optimum of `edit` is that of DPOP.
+use Rattle.std.proofs.Common.{◌≡◌, ℕ, inl, inr, Bool, false, List, Option, None, Result, Ok, Err, sym, ap, subst, ◌∙◌}
 use Rattle.dcop_optimum.specs.TreeOptimum.{FirstOptimaOfTreesAreOne}
 use Rattle.pseudotree.specs.DepthFirst.{DepthFirstTreesAreLinked}
 use Rattle.pseudotree.specs.declared.width.Wide.{Wide}
 use Rattle.problem_text.specs.Declarations.{Declared}
+use Rattle.problem_text.specs.Steps.{declared_by}
 use Rattle.problem_solved.specs.Goal.{problem_solved}
 use Rattle.solve_methods.specs.Auto.{AnswersAuto, IsAutoBy}
 use Rattle.solve_methods.specs.Dpop.{wide_in, AnswersDpop, IsAnswerBy}
+use Rattle.solve_methods.specs.Drill.{drilled}
 use Rattle.solve_report.specs.declared.answer.Answer.{Answer}
 use Rattle.solve_report.specs.declared.answer.Answer.TheVariants as answers
 use Rattle.solve_top.specs.declared.task.Task.TheVariants.{File}
 use Rattle.solve_top.specs.declared.task.FileTask.TheVariants as tasks
-use Rattle.solve_top.specs.Answering.{IsTextAnswer, IsInputAnswer, IsAnswer}
+use Rattle.solve_top.specs.Answering.{IsFileAnswer, IsTextAnswer, IsInputAnswer, IsDrillAnswer, IsUnreadAnswer, IsServedAnswer, IsCommandAnswer, IsAnswer}
+use Rattle.solve_top.specs.Drilling.{drill_of, made_for}
+use Rattle.solve_top.specs.Served.{task_of}
+use Rattle.solve_top.specs.declared.drilling.Drill.{Drill}
+use Rattle.solve_top.specs.declared.task.Task.{Task}
+use Rattle.solve_top.specs.declared.task.FileTask.{FileTask}
 use Rattle.answer_edge.specs.Input.{Input, Unread, Broken, TooLong, Whole}
-use Rattle.solve_top.specs.Same.{AreReadAlike, AutoAnswersAreThoseOfDpop, ComeToDpop, DpopAnswersAreOne, EditAnswersAreThoseOfDpop, FitAnswersAreOne, HasFitProblem}
+use Rattle.solve_top.specs.Same.{AreReadAlike, AskForDrill, AutoAnswersAreThoseOfDpop, ComeToDpop, DpopAnswersAreOne, DrillAnswersAreOne, EditAnswersAreThoseOfDpop, FitAnswersAreOne, HasFitProblem}
 use Rattle.solve_top.specs.Solving.{HasFitTree}
+use Rattle.solve_words.specs.declared.command.Command.{Command}
 use Rattle.solve_words.specs.declared.command.Format.{Format}
-use Rattle.solve_inputs.specs.Told.{Told}
+use Rattle.solve_words.specs.declared.fault.WordFault.{WordFault}
+use Rattle.solve_inputs.specs.Told.{Told, told_of}
 use Rattle.solve_inputs.specs.Inputs.{input_read, declared_in}
 use Rattle.solve_top.proofs.AnswerLaws.{fit-none, IsAnswer-task, task-IsAnswer}
 use Rattle.solve_top.proofs.EditLaws.{same_as_dpop}
@@ -96,6 +105,24 @@ fit_answers_one optima trees format format' certified words words' input input' 
     one_of_input optima trees certified format format' input input' a b alike
     (come_to_input format certified words input a come (solved-belongs words input a given solved))
     (come_to_input format' certified words' input' b come' (solved-belongs words' input' b given' solved'))
+
+-- an answer to words that ask for a drill is one of that drill
+drill-belongs : (drill : Drill) (words : List (List ℕ)) (input : Input) (answer : Answer) → AskForDrill drill words → IsAnswer words input answer → IsDrillAnswer drill answer
+drill-belongs drill words input answer asks is =
+    let served : IsServedAnswer asks.command (task_of asks.command) input answer = subst (λ (r : Result Command WordFault). IsCommandAnswer r input answer) asks.asked is in
+    let unread : IsServedAnswer asks.command None input answer = subst (λ (t : Option Task). IsServedAnswer asks.command t input answer) asks.unread served in
+    subst (λ (d : Option Drill). IsUnreadAnswer d answer) asks.served unread.1
+
+-- the answer of DPOP of which a drill tells
+drill-dpop : (drill : Drill) (answer : Answer) → drill.task ≡ tasks.Dpop false → (is : IsDrillAnswer drill answer) → AnswersDpop (declared_by (made_for drill)) false is.solved
+drill-dpop drill answer by is = subst (λ (t : FileTask). IsFileAnswer t (told_of (made_for drill) None) is.solved) by is.is
+
+pub drill_answers_one : FirstOptimaOfTreesAreOne → DepthFirstTreesAreLinked → DrillAnswersAreOne
+drill_answers_one optima trees drill words words' input input' a b by asks asks' given given' solved solved' =
+    let of_a = drill-belongs drill words input a asks (solved-belongs words input a given solved) in
+    let of_b = drill-belongs drill words' input' b asks' (solved-belongs words' input' b given' solved') in
+    let same : of_a.solved ≡ of_b.solved = one_answer optima trees false (declared_by (made_for drill)) of_a.solved of_b.solved (drill-dpop drill a by of_a) (drill-dpop drill b by of_b) in
+    of_a.told ∙ ap (λ (answer : Answer). drilled drill.seed answer) same ∙ sym of_b.told
 
 pub edit_answers_dpop : FirstOptimaOfTreesAreOne → DepthFirstTreesAreLinked → EditAnswersAreThoseOfDpop
 edit_answers_dpop optima trees format certified words bytes told report file s answer asks read declares whole is now =

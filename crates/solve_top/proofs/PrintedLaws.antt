@@ -15,9 +15,9 @@ use Rattle.certificate_text.specs.declared.verdict.Differs.TheVariants as differ
 use Rattle.certificate_text.specs.declared.verdict.Verdict.{Verdict}
 use Rattle.certificate_text.specs.declared.verdict.Verdict.TheVariants.{Yes, No}
 use Rattle.certificate_text.specs.ReportText.{report_text}
-use Rattle.certificate_text.specs.ReportLines.{Fault as ReportFault}
-use Rattle.certificate_text.specs.ReportReading.{report_read}
-use Rattle.certificate_text.proofs.AgainLaws.{report-again}
+use Rattle.report_reader.specs.ReportLines.{Fault as ReportFault}
+use Rattle.report_reader.specs.ReportReading.{report_read}
+use Rattle.report_reader.proofs.AgainLaws.{report-again}
 use Rattle.certificate_check.specs.Verdicts.{IsExactOn}
 use Rattle.delivery_core.specs.Faults.{FirstFault}
 use Rattle.log_holds.specs.Differences.{unlawful, fault_in}

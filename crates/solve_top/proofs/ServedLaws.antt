@@ -2,23 +2,14 @@
 use Rattle.std.proofs.Common.{◌≡◌, None}
 use Rattle.solve_words.specs.declared.command.Command.{Command}
 use Rattle.solve_words.specs.declared.command.Command.TheVariants.{Solve, Tree, Check, Replay, Drill, Upgrade, Edit}
-use Rattle.solve_words.specs.declared.command.Choice.TheVariants.{Plain, Dpop, Adopt, Auto, Cut}
 use Rattle.solve_top.specs.Drilling.{drill_of}
 use Rattle.solve_top.specs.Served.{task_of}
 
 pub command_served : (command : Command) → task_of command ≡ None → ¬ (drill_of command ≡ None)
-command_served (Solve Plain workers error budget nodes certificate format cells) unread undrilled = cc unread
-command_served (Solve Dpop workers error budget nodes certificate format cells) unread undrilled = cc unread
-command_served (Solve Adopt workers error budget nodes certificate format cells) unread undrilled = cc unread
-command_served (Solve Auto workers error budget nodes certificate format cells) unread undrilled = cc unread
-command_served (Solve Cut workers error budget nodes certificate format cells) unread undrilled = cc unread
+command_served (Solve method workers error budget nodes certificate format cells) unread undrilled = cc unread
 command_served (Tree workers format) unread undrilled = cc unread
 command_served (Check format) unread undrilled = cc unread
 command_served (Replay after format) unread undrilled = cc unread
 command_served (Upgrade format) unread undrilled = cc unread
 command_served Edit unread undrilled = cc unread
-command_served (Drill Plain workers error budget nodes seed vars size degree top cells) unread undrilled = cc undrilled
-command_served (Drill Dpop workers error budget nodes seed vars size degree top cells) unread undrilled = cc undrilled
-command_served (Drill Adopt workers error budget nodes seed vars size degree top cells) unread undrilled = cc undrilled
-command_served (Drill Auto workers error budget nodes seed vars size degree top cells) unread undrilled = cc undrilled
-command_served (Drill Cut workers error budget nodes seed vars size degree top cells) unread undrilled = cc undrilled
+command_served (Drill method workers error budget nodes seed vars size degree top cells) unread undrilled = cc undrilled

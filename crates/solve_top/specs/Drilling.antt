@@ -6,26 +6,17 @@ use Rattle.problem_text.specs.File.{TextFile}
 use Rattle.problem_text.specs.Numbered.{numbered_file}
 use Rattle.solve_words.specs.declared.command.Command.{Command}
 use Rattle.solve_words.specs.declared.command.Command.TheVariants as commands
-use Rattle.solve_words.specs.declared.command.Format.TheVariants.{Dcop as Own}
-use Rattle.solve_top.specs.Served.{task_of, IsFileTaskInRange}
+use Rattle.solve_top.specs.Served.{task_by, IsFileTaskInRange}
 use Rattle.solve_top.specs.declared.drilling.Drill.{Drill}
-use Rattle.solve_top.specs.declared.task.Task.{Task}
-use Rattle.solve_top.specs.declared.task.Task.TheVariants.{File}
 
 -- the file that is made for a drill
 abbrev pub made_for : Drill → TextFile
 made_for drill = numbered_file (made_problem drill.seed drill.vars drill.size drill.degree drill.top)
 
--- a drill by these numbers, where this is asked on the file that is made
-abbrev pub drill_by : ℕ → ℕ → ℕ → ℕ → ℕ → Option Task → Option Drill
-drill_by seed vars size degree top (Some (File format task)) =
-    Some (record { seed = seed; vars = vars; size = size; degree = degree; top = top; task = task })
-drill_by seed vars size degree top _ = None
-
 -- what a command asks to be made and solved: what `solve` does with the same options, without a certificate
 abbrev pub drill_of : Command → Option Drill
 drill_of (commands.Drill method workers error budget nodes seed vars size degree top cells) =
-    drill_by seed vars size degree top (task_of (commands.Solve method workers error budget nodes false Own cells))
+    Some (record { seed = seed; vars = vars; size = size; degree = degree; top = top; task = task_by method error budget false cells })
 drill_of _ = None
 
 -- a drill for which a problem can be made, and whose task is in its range

@@ -3,7 +3,6 @@ pub mod Drilling
 pub mod Answering
 pub mod Phases
 pub mod Nodes
-pub mod Wiring
 pub mod Taken
 pub mod Solving
 pub mod Same

@@ -1,27 +1,14 @@
 -- Agents in more nodes than one: which words ask for them, and the answers of the links between nodes.
-use Rattle.std.specs.Prelude.{◌≡◌, ◌≢◌, ℕ, ◌<◌, ◌≤◌, ◌⊎◌, List, [], Option, Some, None, Result, Ok, Err, length, option_map}
-use Rattle.std.specs.List.{All}
+use Rattle.std.specs.Prelude.{◌≡◌, ◌≢◌, ℕ, ◌<◌, ◌≤◌, ◌⊎◌, List, Option, Some, None, Result, Ok, Err, option_map}
 use Rattle.dcop_edge.specs.Faults.{Rose}
-use Rattle.dcop_base.specs.Problem.{Dcop}
 use Rattle.dcop_base.specs.Whole.{IsProblem}
 use Rattle.dcop_base.specs.declared.memory.NoMemory.{NoMemory}
 use Rattle.protocol_steps.specs.declared.message.Message.{Message as Sent}
-use Rattle.delivery_core.specs.declared.start.Start.{Start}
-use Rattle.delivery_core.specs.Agents.{agents_of, IsStartFor}
-use Rattle.worker_runs.specs.Cells.{CellState}
-use Rattle.worker_runs.specs.CellRounds.{AreStarted}
-use Rattle.worker_runs.specs.NodeRounds.{home}
-use Rattle.node_runs.specs.Wires.{Wire}
-use Rattle.agent_links.specs.Links.{pairs_to}
-use Rattle.agent_seats.specs.Seats.{all_neighbours}
 use Rattle.message_code.specs.Code.{code_of}
 use Rattle.tcp_links.specs.declared.fault.Difference.{Difference}
 use Rattle.tcp_links.specs.declared.fault.Difference.TheVariants.{Message, Bytes}
 use Rattle.tcp_links.specs.declared.fault.NodeFault.{NodeFault}
 use Rattle.tcp_links.specs.declared.fault.NodeFault.TheVariants.{Failed, Differs, NoMemory as no_memory}
-use Rattle.tcp_links.specs.Plans.{IsBetween, AreOrdered}
-use Rattle.tcp_links.specs.Ends.{IsDifference}
-use Rattle.node_seats.specs.Links.{KeepsPairs}
 use Rattle.problem_text.specs.Declarations.{Declared}
 use Rattle.problem_text.specs.File.{TextFile}
 use Rattle.problem_text.specs.Steps.{declared_by}
@@ -36,6 +23,7 @@ use Rattle.answer_edge.specs.Statuses.{status_of}
 use Rattle.answer_edge.specs.Input.{Input, Unread, Whole}
 use Rattle.solve_inputs.specs.Told.{Told, told_of}
 use Rattle.solve_inputs.specs.Inputs.{input_read}
+use Rattle.solve_agents.specs.Differing.{HaveDiffered}
 use Rattle.solve_top.specs.Answering.{IsTextAnswer, IsTaskAnswer, IsDrillAnswer, IsUnreadAnswer}
 use Rattle.solve_top.specs.Served.{task_of}
 use Rattle.solve_top.specs.Drilling.{drill_of, made_for}
@@ -56,22 +44,6 @@ pub record AskForNodes (words : List (List ℕ)) : Type 0 where
   pub command : Command
   pub asked : answer_to words ≡ Ok command
   pub many : 1 < nodes_of command
-
--- in a phase of this kind, agents of a problem were run in so many nodes, over links that had passed nothing, one from each agent to each of its neighbours in another node and no other, by sender and then receiver; and they came to this difference between what was sent and what was taken
-pub record HaveDiffered (p : Dcop) (is_phase : Start → ℕ → Type 0) (nodes : ℕ) (d : Difference) : Type 0 where
-  pub start : Start
-  pub fits : IsStartFor p start
-  pub budget : ℕ
-  pub phase : is_phase start budget
-  pub links : List Wire
-  pub between : All (IsBetween (length p.sizes) nodes) links
-  pub ordered : AreOrdered links
-  pub pairs : KeepsPairs (home nodes (length p.sizes)) links (pairs_to (all_neighbours p) (length (all_neighbours p)))
-  pub fresh : All (λ (w : Wire). w.passages ≡ []) links
-  pub started : List CellState
-  pub starts : AreStarted (agents_of p start) started
-  pub last : List CellState
-  pub right : IsDifference nodes (home nodes (length p.sizes)) budget links started last d
 
 -- the code of an envelope, where there is one
 abbrev pub code_in : Option (ℕ × Sent) → Option (List ℕ)

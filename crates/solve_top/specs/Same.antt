@@ -1,5 +1,5 @@
--- The answer of DPOP is one function of what was read, and so is that of auto where DPOP fits; an optimum of `edit` is that of DPOP.
-use Rattle.std.specs.Prelude.{◌≡◌, ℕ, ◌⊎◌, Bool, List, Some, Ok}
+-- The answer of DPOP is one function of what was read, and so is that of auto where DPOP fits; a drill by DPOP has one; an optimum of `edit` is that of DPOP.
+use Rattle.std.specs.Prelude.{◌≡◌, ℕ, ◌⊎◌, Bool, false, List, Some, None, Ok}
 use Rattle.solve_words.specs.declared.command.Command.{Command}
 use Rattle.solve_words.specs.declared.command.Format.{Format}
 use Rattle.solve_words.specs.Command.{answer_to}
@@ -19,6 +19,8 @@ use Rattle.answer_edge.specs.declared.status.Status.TheVariants.{Solved}
 use Rattle.answer_edge.specs.Statuses.{status_of}
 use Rattle.answer_edge.specs.Input.{Input, Whole}
 use Rattle.solve_top.specs.Served.{task_of}
+use Rattle.solve_top.specs.Drilling.{drill_of}
+use Rattle.solve_top.specs.declared.drilling.Drill.{Drill}
 use Rattle.solve_top.specs.Solving.{HasFitTree}
 use Rattle.solve_inputs.specs.Told.{Told}
 use Rattle.solve_inputs.specs.Inputs.{input_read, declared_in}
@@ -69,6 +71,18 @@ ComeToDpop format certified input words = AskForDpop format certified words ⊎ 
 abbrev pub FitAnswersAreOne : Type 0
 FitAnswersAreOne = (format format' : Format) (certified : Bool) (words words' : List (List ℕ)) (input input' : Input) (a b : Answer) → ComeToDpop format certified input words → ComeToDpop format' certified input' words'
     → AreReadAlike format format' input input' → IsGiven words input a → IsGiven words' input' b → status_of a ≡ Solved → status_of b ≡ Solved → a ≡ b
+
+-- words that ask for this drill
+pub record AskForDrill (drill : Drill) (words : List (List ℕ)) : Type 0 where
+  pub command : Command
+  pub asked : answer_to words ≡ Ok command
+  pub unread : task_of command ≡ None
+  pub served : drill_of command ≡ Some drill
+
+-- whatever words ask for one drill by DPOP, in any number of nodes: the solved answers are one
+abbrev pub DrillAnswersAreOne : Type 0
+DrillAnswersAreOne = (drill : Drill) (words words' : List (List ℕ)) (input input' : Input) (a b : Answer) → drill.task ≡ tasks.Dpop false → AskForDrill drill words → AskForDrill drill words'
+    → IsGiven words input a → IsGiven words' input' b → status_of a ≡ Solved → status_of b ≡ Solved → a ≡ b
 
 -- an answer of auto on such an input is one of DPOP, with a certificate or without alike
 abbrev pub AutoAnswersAreThoseOfDpop : Type 0

@@ -14,20 +14,17 @@ ghost use Rattle.solve_inputs.specs.Told.{told_of};
 ghost use Rattle.solve_inputs.specs.Inputs.{input_read};
 ghost use Rattle.solve_inputs.specs.Fronts.{front_read};
 
-use crate::agents::by_search;
-use crate::choosing::by_dpop;
-use crate::crew::Crew;
 use crate::cutting::by_cut;
 use crate::drilling::unread_answer;
 use crate::editing::edits_behind;
-use crate::reaching::by_adopt;
+use crate::methods::{by_adopt, by_auto, by_dpop, by_search};
 use crate::replaying::replay_behind;
-use crate::settling::by_auto;
 use crate::task::{FileTask, Task, nodes_of, workers_of};
 use answer_edge::{MAX_INPUT, ReadEnd, fault_answer, read_all, words_answer};
 use dcop_base::NoMemory;
 use dcop_edge::{Gate, Source};
 use problem_text::{ProblemFile, TextKind};
+use solve_agents::Crew;
 use solve_check::check_answer;
 use solve_inputs::{InputFault, ReadInput, read_front, read_input, wcsp_answer};
 use solve_methods::{Asked, plain_answer};
@@ -43,19 +40,19 @@ use wire_edge::Dialer;
 
 /// The answer to words, and where they are served to all that the source has left. The words are
 /// tested before anything is read.
-pub fn answer_of<R, S, D, G>(
+pub fn answer_of<R, S, G, D>(
     rt: &R,
     alloc: Global,
     words: &[String],
     source: &mut S,
-    dialer: &mut D,
     gate: &G,
+    dialer: &mut D,
 ) -> Result<Answer, NoMemory>
 where
     R: Threads + Wait + Clock + RandomSource + Net + AllocGlobal + Sync,
     S: Source,
-    D: Dialer,
     G: Gate,
+    D: Dialer,
     ensures answered { IfOk result (Answered (map string_bytes words.now)
         (source_state (S.left source.old) (S.faults source.old))
         (source_state (S.left source.new) (S.faults source.new))) }

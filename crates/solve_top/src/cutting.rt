@@ -7,11 +7,10 @@ ghost use Rattle.solve_cut.specs.Cut.{AnswersCut};
 ghost use Rattle.solve_methods.specs.Goal.{TellsRight};
 ghost use Rattle.solve_report.specs.AnswerText.{HasText};
 
-use crate::agents::tree_for;
-use crate::crew::Crew;
 use dcop_base::NoMemory;
 use dcop_edge::Gate;
 use problem_text::ProblemFile;
+use solve_agents::{Crew, tree_for};
 use solve_cut::cut_answer;
 use solve_report::Answer;
 use std::alloc::Global;

@@ -9,15 +9,15 @@ ghost use Rattle.solve_top.specs.Drilling.{drill_of, IsDrillInRange};
 ghost use Rattle.solve_top.specs.Served.{task_of};
 
 use crate::answering::file_answer;
-use crate::crew::Crew;
-use crate::task::{FileTask, Task};
+use crate::task::FileTask;
 use dcop_base::NoMemory;
 use dcop_edge::Gate;
 use instance_make::make_problem;
+use solve_agents::Crew;
 use solve_inputs::ReadInput;
 use solve_methods::drill_answer;
 use solve_report::Answer;
-use solve_words::{Command, Format};
+use solve_words::Command;
 use std::alloc::{AllocGlobal, Global};
 use std::net::Net;
 use std::random::RandomSource;
@@ -52,41 +52,27 @@ impl Drill {
     {
         let Command::Drill {
             method,
-            workers,
             error,
             budget,
-            nodes,
             seed,
             vars,
             size,
             degree,
             top,
             cells,
+            ..
         } = *command
         else {
             return None;
         };
-        let solve = Command::Solve {
-            method,
-            workers,
-            error,
-            budget,
-            nodes,
-            certificate: false,
-            format: Format::Dcop,
-            cells,
-        };
-        match Task::of(&solve) {
-            Some(Task::File { task, .. }) => Some(Drill {
-                seed,
-                vars,
-                size,
-                degree,
-                top,
-                task,
-            }),
-            _ => None,
-        }
+        Some(Drill {
+            seed,
+            vars,
+            size,
+            degree,
+            top,
+            task: FileTask::by(method, error, budget, false, cells),
+        })
     }
 }
 

@@ -9,13 +9,12 @@ ghost use Rattle.solve_methods.specs.Goal.{TellsRight};
 ghost use Rattle.solve_report.specs.AnswerText.{HasText};
 ghost use Rattle.solve_top.specs.Answering.{IsEditsAnswer};
 
-use crate::agents::tree_for;
 use crate::answering::lines_in;
-use crate::crew::Crew;
 use answer_edge::fault_answer;
 use dcop_base::NoMemory;
 use dcop_edge::Gate;
 use problem_text::ProblemFile;
+use solve_agents::{Crew, tree_for};
 use solve_edit::edit_answer;
 use solve_inputs::{InputFault, read_front, wcsp_answer};
 use solve_report::Answer;

@@ -1,6 +1,6 @@
-//! The laws of the answers of DPOP, auto and `edit`.
+//! The laws of the answers of DPOP, auto, `drill` and `edit`.
 
-ghost use Rattle.solve_top.specs.Same.{AutoAnswersAreThoseOfDpop, DpopAnswersAreOne, EditAnswersAreThoseOfDpop, FitAnswersAreOne, SolvedAnswersAreOne};
+ghost use Rattle.solve_top.specs.Same.{AutoAnswersAreThoseOfDpop, DpopAnswersAreOne, DrillAnswersAreOne, EditAnswersAreThoseOfDpop, FitAnswersAreOne, SolvedAnswersAreOne};
 
 use dcop_optimum::first_optima_of_trees_are_one;
 use pseudotree::depth_first_trees_are_linked;
@@ -44,6 +44,17 @@ pub fn auto_answers_are_those_of_dpop()
 /// It is the contract of a call that does nothing: who needs the law calls it.
 pub fn fit_answers_are_one()
     ensures { FitAnswersAreOne }
+{
+    first_optima_of_trees_are_one();
+    depth_first_trees_are_linked();
+}
+
+/// The solved answers of `drill --method dpop` to words that ask for the same problem are one, whatever
+/// the number of workers and of nodes: its summary is the same at each run.
+///
+/// It is the contract of a call that does nothing: who needs the law calls it.
+pub fn drill_answers_are_one()
+    ensures { DrillAnswersAreOne }
 {
     first_optima_of_trees_are_one();
     depth_first_trees_are_linked();

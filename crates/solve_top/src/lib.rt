@@ -5,27 +5,21 @@
 //! tells of its file is right, and when each fault may come.
 #![tactic(auto)]
 
-mod agents;
 mod answering;
-mod choosing;
-mod crew;
 mod cutting;
 mod drilling;
 mod editing;
 mod law;
 mod linking;
-mod logging;
-mod nodes;
-mod reaching;
+mod methods;
 mod replaying;
-mod settling;
 mod task;
 mod top;
 
 pub use answer_edge::{MAX_INPUT, Status};
 pub use answering::answer_of;
 pub use law::{
-    auto_answers_are_those_of_dpop, dpop_answers_are_one, edit_answers_are_those_of_dpop,
-    fit_answers_are_one, solved_answers_are_one,
+    auto_answers_are_those_of_dpop, dpop_answers_are_one, drill_answers_are_one,
+    edit_answers_are_those_of_dpop, fit_answers_are_one, solved_answers_are_one,
 };
 pub use top::solve;

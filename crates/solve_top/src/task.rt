@@ -1,10 +1,10 @@
 //! The commands that are served.
 
 ghost use Rattle.std.specs.Prelude.{◌≡◌, ◌<◌, ◌≤◌, IfSome};
-ghost use Rattle.dcop_base.specs.Limits.{node_limit};
+ghost use Rattle.dcop_base.specs.Limits.{amount_limit, budget_limit, joined_limit, node_limit, size_limit};
 ghost use Rattle.solve_top.specs.Nodes.{nodes_of};
 ghost use Rattle.solve_words.specs.Ranges.{IsInRange};
-ghost use Rattle.solve_top.specs.Served.{task_of, IsTaskInRange};
+ghost use Rattle.solve_top.specs.Served.{task_by, task_of, IsFileTaskInRange, IsTaskInRange};
 
 use solve_words::{Choice, Command, Format};
 
@@ -55,6 +55,40 @@ pub enum FileTask {
     Upgrade,
 }
 
+impl FileTask {
+    /// What a method is asked for on a file, with a certificate or without. `limit` is that of a cut.
+    pub(crate) fn by(
+        method: Choice,
+        error: u64,
+        budget: u64,
+        certified: bool,
+        limit: u64,
+    ) -> FileTask
+        requires error { error ≤ amount_limit }
+        requires budget { budget ≤ budget_limit }
+        requires least { size_limit ≤ limit }
+        requires most { limit ≤ joined_limit }
+        ensures same { result ≡ task_by method error budget certified limit }
+        ensures range { IsFileTaskInRange result }
+    {
+        match method {
+            Choice::Plain => FileTask::Plain,
+            Choice::Dpop => FileTask::Dpop { certified },
+            Choice::Adopt => FileTask::Adopt {
+                error,
+                budget,
+                certified,
+            },
+            Choice::Auto => FileTask::Auto {
+                error,
+                budget,
+                certified,
+            },
+            Choice::Cut => FileTask::Cut { limit, certified },
+        }
+    }
+}
+
 impl Task {
     /// What a command asks for on an input; `None` exactly for a drill, which reads nothing.
     pub fn of(command: &Command) -> Option<Task>
@@ -64,53 +98,17 @@ impl Task {
     {
         match *command {
             Command::Solve {
-                method: Choice::Plain,
-                format,
-                ..
-            } => Some(Task::on_file(format, FileTask::Plain)),
-            Command::Solve {
-                method: Choice::Dpop,
-                certificate: certified,
-                format,
-                ..
-            } => Some(Task::on_file(format, FileTask::Dpop { certified })),
-            Command::Solve {
-                method: Choice::Adopt,
+                method,
                 error,
                 budget,
-                certificate: certified,
+                certificate,
                 format,
+                cells,
                 ..
-            } => Some(Task::on_file(
-                format,
-                FileTask::Adopt {
-                    error,
-                    budget,
-                    certified,
-                },
-            )),
-            Command::Solve {
-                method: Choice::Auto,
-                error,
-                budget,
-                certificate: certified,
-                format,
-                ..
-            } => Some(Task::on_file(
-                format,
-                FileTask::Auto {
-                    error,
-                    budget,
-                    certified,
-                },
-            )),
-            Command::Solve {
-                method: Choice::Cut,
-                certificate: certified,
-                format,
-                cells: limit,
-                ..
-            } => Some(Task::on_file(format, FileTask::Cut { limit, certified })),
+            } => {
+                let task = FileTask::by(method, error, budget, certificate, cells);
+                Some(Task::on_file(format, task))
+            }
             Command::Tree { format, .. } => Some(Task::on_file(format, FileTask::Tree)),
             Command::Check { format } => Some(Task::Check { format }),
             Command::Replay { after, format } => Some(Task::Replay { format, after }),

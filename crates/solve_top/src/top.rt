@@ -55,16 +55,16 @@ pub fn solve<
     R: Threads + Wait + Clock + RandomSource + Net + AllocGlobal + Sync,
     S: Source,
     K: Sink,
-    D: Dialer,
     G: Gate,
+    D: Dialer,
 >(
     rt: &R,
     alloc: Global,
     words: &[String],
     source: &mut S,
     sink: &mut K,
-    dialer: &mut D,
     gate: &G,
+    dialer: &mut D,
 ) -> Status
     ensures answered { result ≢ Status.NoMemory → Solves (map string_bytes words.now)
         (D.is_honest dialer.old) (D.faults dialer.old) (D.faults dialer.new)
@@ -99,7 +99,7 @@ pub fn solve<
         (AskForNodes (map string_bytes words.now) → D.is_honest dialer.old) →
         GoesWell result (Task.File Format.Dcop asks.drill.task) }
 {
-    let Ok(answer) = answer_of(rt, alloc, words, source, dialer, gate) else {
+    let Ok(answer) = answer_of(rt, alloc, words, source, gate, dialer) else {
         return Status::NoMemory;
     };
     show(alloc, &answer, sink)

@@ -47,7 +47,7 @@ where
     }
     let mut source = MemorySource::new(PAIR.as_bytes().to_vec(alloc)?, Vec::new(alloc));
     let mut sink = MemorySink::new(alloc, Vec::new(alloc));
-    let status = solve(rt, alloc, &words, &mut source, &mut sink, dialer, &OpenGate);
+    let status = solve(rt, alloc, &words, &mut source, &mut sink, &OpenGate, dialer);
     match kind_of(status.code(), sink.bytes()) {
         Some(answer) => Ok(answer),
         None => bail!("exit {} with another text", status.code()),

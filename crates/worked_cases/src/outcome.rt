@@ -96,14 +96,14 @@ fn solved<R: Threads + Wait + Clock + RandomSource + Net + AllocGlobal + Sync>(
     let words = &case.words;
     if case.failing_dials.is_empty() && case.failing_polls.is_empty() && case.alters.is_empty() {
         let mut dialer = SteadyDialer::new();
-        return Ok(solve(rt, alloc, words, source, sink, &mut dialer, &OpenGate));
+        return Ok(solve(rt, alloc, words, source, sink, &OpenGate, &mut dialer));
     }
     let mut dialer = MemoryDialer::new(
         case.failing_dials.clone()?,
         case.failing_polls.clone()?,
         case.alters.clone()?,
     );
-    Ok(solve(rt, alloc, words, source, sink, &mut dialer, &OpenGate))
+    Ok(solve(rt, alloc, words, source, sink, &OpenGate, &mut dialer))
 }
 
 fn is_as_expected(answer: &Answer, found: &Found) -> bool {

@@ -56,7 +56,7 @@ where
     let mut source = MemorySource::new(problem, Vec::new(alloc));
     let mut sink = MemorySink::new(alloc, Vec::new(alloc));
     let mut dialer = SteadyDialer::new();
-    let status = solve(rt, alloc, &list, &mut source, &mut sink, &mut dialer, gate);
+    let status = solve(rt, alloc, &list, &mut source, &mut sink, gate, &mut dialer);
     if status != Status::Solved {
         return None;
     }

@@ -1,5 +1,5 @@
 use Rattle.std.proofs.Common.{◌≡◌, ◌++◌, drop}
-use Rattle.delivery_core.specs.SeatTurns.{inbox_takes}
+use Rattle.delivery_core.specs.Takes.{inbox_takes}
 use Rattle.delivery_core.proofs.inbox.takes_of.Given as goal
 
 abbrev pub invariant-loop-link : goal.invariant-loop-link

@@ -1,5 +1,5 @@
 use Rattle.std.proofs.Common.{arith}
-use Rattle.certificate_text.proofs.NumberLaws.{fault-line}
+use Rattle.report_reader.proofs.NumberLaws.{fault-line}
 use Rattle.solve_check.proofs.checking.check_answer.Goals as goal
 
 pub overflow_add-result : goal.overflow_add-result

@@ -1,5 +1,5 @@
 use Rattle.std.proofs.Common.{arith}
-use Rattle.certificate_text.proofs.NumberLaws.{fault-line}
+use Rattle.report_reader.proofs.NumberLaws.{fault-line}
 use Rattle.solve_replay.proofs.ReplayLaws.{events-fit}
 use Rattle.solve_replay.proofs.replaying.replay_answer.Goals as goal
 

@@ -1,0 +1,34 @@
+//! A log of one event.
+
+use dcop_base::{Sequence, VarId};
+use problem_text::Names;
+use protocol_steps::Take;
+use run_log::{Log, LogEvent, read_log, write_log};
+use std::test::Fail;
+
+/// Agent x takes two messages of y.
+const TEXT: &[u8] = b"event x 1 y 2\n";
+
+#[test]
+fn a_log_is_written_and_read_again(rt: HostRuntime) -> Result<(), Fail> {
+    let mut names = Names::new(rt.alloc());
+    names.push("x")?;
+    names.push("y")?;
+    let takes = vec![in rt.alloc();
+        Take {
+            from: VarId(1),
+            count: 2
+        },
+    ]?;
+    let event = LogEvent {
+        agent: VarId(0),
+        stamp: 1,
+        takes: Sequence::from_vec(takes),
+    };
+    let log = Log::from_vec(vec![in rt.alloc(); event]?);
+    let written = write_log(rt.alloc(), &log, &names)?;
+    assert_eq!(rt; written.as_slice(), TEXT);
+    let read = read_log(rt.alloc(), TEXT, &names)?;
+    assert_eq!(rt; read.as_slice().len(), 1);
+    Ok(())
+}

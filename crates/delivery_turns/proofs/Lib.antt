@@ -1,0 +1,7 @@
+mod TurnLaws
+mod PlayLaws
+mod DeliveredLaws
+mod StopLaws
+mod RoundLaws
+mod SprintLaws
+mod PlayedOutLaws

@@ -1,0 +1,49 @@
+use Rattle.std.proofs.Common.{◌≡◌, ◌≤◌, length, vec_len, sym, ◌∙◌, arith}
+use Rattle.std.proofs.lemmas.Bool.{eqb-true, eqb-false}
+use Rattle.delivery_core.specs.NetworkState.{most_counted}
+use Rattle.delivery_turns.proofs.PlayLaws.{over_is, stops_over, stops_spent}
+use Rattle.delivery_turns.proofs.SprintLaws.{sprinted_none, sprinted_next, sprints_stop, sprints_still}
+use Rattle.delivery_turns.proofs.sprint.play_sprints.Goals as goal
+
+pub loop-init : goal.loop-init
+loop-init g c = λ p first core. sprinted_none p c.args.budget first c.args.state.now core
+
+pub returns-then-is_over : goal.returns-then-is_over
+returns-then-is_over g c = λ p first core.
+    let fits : c.args.budget ≤ most_counted = omega arith in
+    let h = c.loop.invariant p first core in
+    sprints_stop p c.args.budget first c.loop.counter c.loop.state h
+    (stops_over c.args.budget h.mid (sym (over_is p c.args.budget h.mid c.loop.state fits h.core) ∙ sym c.is_over.ensures ∙ c.if-is_over.true))
+
+pub play_sprint-requires-clause-core : goal.play_sprint-requires-clause-core
+play_sprint-requires-clause-core g c κs within =
+    let n = c.requires.core in
+    let h = c.loop.invariant n.0 n.1 n.2 in
+    (n.0, h.mid, h.core)
+
+pub play_sprint-requires-clause-few : goal.play_sprint-requires-clause-few
+play_sprint-requires-clause-few g c κs within =
+    let n = c.requires.core in
+    let h = c.loop.invariant n.0 n.1 n.2 in
+    let old = n.2.shows.size in
+    let now = h.core.shows.size in
+    let few = c.requires.few in
+    omega (arith, old, now, few)
+
+pub returns-then-is_empty : goal.returns-then-is_empty
+returns-then-is_empty g c = λ p first core.
+    let none : length c.play_sprint.new.events.items ≡ 0 = sym c.play_sprint.new.events.ok.0 ∙ eqb-true (vec_len c.play_sprint.new.events) 0 (sym c.if-is_empty.ensures) in
+    sprints_still p c.args.budget first c.loop.counter c.loop.state c.play_sprint.new.state c.play_sprint.new.events.items (c.loop.invariant p first core) c.in_ok-play_sprint.ensures none
+
+pub loop-preserved : goal.loop-preserved
+loop-preserved g c = λ p first core.
+    let fits : c.args.budget ≤ most_counted = omega arith in
+    let some : length c.play_sprint.new.events.items ≡ 0 → ⊥ = λ none. eqb-false (vec_len c.play_sprint.new.events) 0 (sym c.if-is_empty.ensures) (c.play_sprint.new.events.ok.0 ∙ none) in
+    sprinted_next p c.args.budget first c.loop.counter c.loop.state c.play_sprint.new.state c.play_sprint.new.events.items fits (c.loop.invariant p first core) (sym c.is_over.ensures ∙ c.if-is_over.false) c.in_ok-play_sprint.ensures some
+
+pub returns : goal.returns
+returns g c = λ p first core.
+    let h = c.loop.invariant p first core in
+    let spent = h.spent in
+    let done = c.loop-test.false in
+    sprints_stop p c.args.budget first c.loop.counter c.loop.state h (stops_spent c.args.budget h.mid (omega (arith, spent, done)))

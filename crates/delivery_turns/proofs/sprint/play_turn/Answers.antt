@@ -1,0 +1,63 @@
+use Rattle.std.proofs.Common.{◌≤◌, length, arith}
+use Rattle.delivery_turns.proofs.SprintLaws.{turning_none, turning_past, turning_next, turning_all}
+use Rattle.delivery_turns.proofs.sprint.play_turn.Goals as goal
+
+pub loop-me-init : goal.loop-me-init
+loop-me-init g c = (λ p net core. turning_none p net c.args.events.now.items c.args.state.now core, omega arith)
+
+pub take_turn-requires-clause-core : goal.take_turn-requires-clause-core
+take_turn-requires-clause-core g c κs within =
+    let n = c.requires.core in
+    let h = c.loop-me.invariant.0 n.0 n.1 n.2 in
+    (n.0, h.mid, h.leads.core)
+
+pub take_turn-requires-clause-few : goal.take_turn-requires-clause-few
+take_turn-requires-clause-few g c κs within =
+    let n = c.requires.core in
+    let h = c.loop-me.invariant.0 n.0 n.1 n.2 in
+    let old = n.2.shows.size in
+    let now = h.leads.core.shows.size in
+    let few = c.requires.few in
+    omega (arith, old, now, few)
+
+pub overflow_add-from : goal.overflow_add-from
+overflow_add-from g c =
+    let n = c.requires.core in
+    let h = c.loop-me.invariant.0 n.0 n.1 n.2 in
+    let old = n.2.shows.size in
+    let now = h.leads.core.shows.size in
+    let few = c.requires.few in
+    let inside = c.in-Some.ensures.1 in
+    omega (arith, old, now, few, inside)
+
+pub loop-me-smaller : goal.loop-me-smaller
+loop-me-smaller g c =
+    let n = c.requires.core in
+    let h = c.loop-me.invariant.0 n.0 n.1 n.2 in
+    let old = n.2.shows.size in
+    let now = h.leads.core.shows.size in
+    let from = c.in-Some.ensures.0 in
+    let inside = c.in-Some.ensures.1 in
+    omega (arith, old, now, from, inside)
+
+pub loop-me-preserved : goal.loop-me-preserved
+loop-me-preserved g c = (
+  λ p net core.
+      let h = c.loop-me.invariant.0 p net core in
+      let old = core.shows.size in
+      let few : length p.sizes ≤ 1000 = let few = c.requires.few in omega (arith, old, few) in
+      turning_next p net c.args.events.now.items c.in-Some.me c.loop-me.state c.take_turn.new.state c.loop-me.events.items c.take_turn.new.events.items few
+      (turning_past p net c.args.events.now.items c.loop-me.from c.in-Some.me c.loop-me.state c.loop-me.events.items c.in-Some.ensures.0 h) c.in_ok-take_turn.ensures,
+  let n = c.requires.core in
+      let h = c.loop-me.invariant.0 n.0 n.1 n.2 in
+      let old = n.2.shows.size in
+      let now = h.leads.core.shows.size in
+      let inside = c.in-Some.ensures.1 in
+      omega (arith, old, now, inside),
+)
+
+pub returns : goal.returns
+returns g c = λ p net core.
+    let few = c.requires.few in
+    let from = c.loop-me.invariant.1 in
+    turning_all p net c.args.events.now.items c.loop-me.from c.loop-me.state c.loop-me.events.items (omega (arith, few, from)) (c.loop-me.invariant.0 p net core)

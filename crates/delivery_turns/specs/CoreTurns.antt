@@ -1,0 +1,53 @@
+-- A round of play over the agents of a core state.
+use Rattle.std.specs.Prelude.{◌≡◌, ℕ, ◌+◌, ◌-◌, ◌≤◌, Bool, ◌||◌, nat_le, List, ◌++◌, length, Some}
+use Rattle.std.specs.List.{flat_map, list_all, range_with_len}
+use Rattle.dcop_base.specs.Problem.{Dcop}
+use Rattle.protocol_steps.specs.declared.event.Event.{Event}
+use Rattle.protocol_steps.specs.View.{ended_of}
+use Rattle.protocol_steps.specs.Network.{Network}
+use Rattle.protocol_steps.specs.Effect.{deliveries}
+use Rattle.protocol_steps.specs.Run.{run}
+use Rattle.delivery_core.specs.State.{CoreView, views_of}
+use Rattle.delivery_turns.specs.Turns.{turn, turns, round, after, PlaysTo, IsPlayed}
+use Rattle.delivery_core.specs.Shown.{IsCore}
+
+-- events that lead from one network state to a core state, each of which takes something
+pub record Leads (p : Dcop) (net : Network) (es : List Event) (mid : Network) (s : CoreView) : Type 0 where
+  pub ran : run net es ≡ Some mid
+  pub is : after net es ≡ mid
+  pub core : IsCore p mid s
+  pub more : deliveries net + length es ≤ deliveries mid
+
+-- the turn of agent k, from some core state and some events to others
+abbrev pub TakesTurn : ℕ → CoreView → List Event → CoreView → List Event → Type 0
+TakesTurn k old before new events = (p : Dcop) (net : Network) → IsCore p net old → (mid : Network) × Leads p net (turn net k) mid new × (events ≡ before ++ turn net k)
+
+-- the turns of the first k agents of a round, and those that are left
+pub record Turned (p : Dcop) (net : Network) (before : List Event) (k : ℕ) (s : CoreView) (events : List Event) : Type 0 where
+  pub es : List Event
+  pub mid : Network
+  pub leads : Leads p net es mid s
+  pub joined : events ≡ before ++ es
+  pub left : round net ≡ es ++ turns mid (range_with_len k (length p.sizes - k))
+
+-- a round, from some core state and some events to others
+abbrev pub PlaysRound : CoreView → List Event → CoreView → List Event → Type 0
+PlaysRound old before new events = (p : Dcop) (net : Network) → IsCore p net old → (mid : Network) × Leads p net (round net) mid new × (events ≡ before ++ round net)
+
+-- rounds so far, and what more rounds make of them
+pub record Playing (p : Dcop) (budget : ℕ) (first : Network) (k : ℕ) (s : CoreView) (events : List Event) : Type 0 where
+  pub pieces : List (List Event)
+  pub mid : Network
+  pub ran : run first events ≡ Some mid
+  pub core : IsCore p mid s
+  pub joined : events ≡ flat_map (λ es. es) pieces
+  pub spent : k ≤ deliveries mid
+  pub next : (rest : List (List Event)) (end : Network) → PlaysTo budget mid rest end → PlaysTo budget first (pieces ++ rest) end
+
+-- whether no further round is played, by the core state
+abbrev pub is_over : ℕ → CoreView → Bool
+is_over budget s = list_all ended_of (views_of s.seats) || nat_le budget s.delivered
+
+-- rounds from one core state to another, until playing stops, and their events
+abbrev pub PlaysOut : ℕ → CoreView → CoreView → List Event → Type 0
+PlaysOut budget old new events = (p : Dcop) (first : Network) → IsCore p first old → IsPlayed budget first events new × (length new.seats ≡ length p.sizes)

@@ -1,0 +1,67 @@
+-- Rounds of many turns over the agents of a core state.
+use Rattle.std.specs.Prelude.{◌≡◌, ℕ, ◌+◌, ◌*◌, ◌≤◌, List, ◌++◌, length, min}
+use Rattle.dcop_base.specs.Limits.{variable_limit}
+use Rattle.dcop_base.specs.Problem.{Dcop}
+use Rattle.protocol_steps.specs.declared.event.Event.{Event}
+use Rattle.protocol_steps.specs.declared.run_end.RunEnd.{RunEnd}
+use Rattle.protocol_steps.specs.Network.{Network}
+use Rattle.protocol_steps.specs.Effect.{pending, deliveries}
+use Rattle.protocol_steps.specs.Run.{journal}
+use Rattle.protocol_steps.specs.RunEnds.{IsRunEnd}
+use Rattle.protocol_steps.specs.Rounds.{most_events, link_share, taken_in, AreRounds}
+use Rattle.delivery_core.specs.State.{CoreView}
+use Rattle.delivery_turns.specs.Turns.{round}
+use Rattle.delivery_turns.specs.CoreTurns.{Leads}
+use Rattle.delivery_core.specs.Shown.{IsCore}
+
+-- the most messages that one agent takes in a turn, and that all of them take
+abbrev pub agent_share : ℕ
+agent_share = link_share * variable_limit
+
+abbrev pub turn_share : ℕ
+turn_share = agent_share * variable_limit
+
+-- turns of some agents, all below this one, each at most once, lead from a network to a core state
+pub record Turning (p : Dcop) (net : Network) (before : List Event) (from : ℕ) (s : CoreView) (events : List Event) : Type 0 where
+  pub es : List Event
+  pub mid : Network
+  pub leads : Leads p net es mid s
+  pub joined : events ≡ before ++ es
+  pub few : (i : ℕ) → length (journal i es) ≤ 1
+  pub none : (i : ℕ) → from ≤ i → length (journal i es) ≡ 0
+  pub counted : deliveries mid ≤ deliveries net + from * agent_share
+
+-- turns of some agents, each at most once, lead from one core state to another
+abbrev pub TakesTurns : CoreView → List Event → CoreView → List Event → Type 0
+TakesTurns old before new events =
+    (p : Dcop) (net : Network) → IsCore p net old
+    → (es : List Event) × (mid : Network) × Leads p net es mid new × (events ≡ before ++ es) × ((i : ℕ) → length (journal i es) ≤ 1) × (deliveries mid ≤ deliveries net + turn_share)
+
+-- turns so far, so many of each agent at most: the first was of all agents, so of each link at least 64 messages were taken, where so many were pending before; and without an event nothing is pending
+pub record Sprinting (p : Dcop) (net : Network) (k : ℕ) (s : CoreView) (events : List Event) : Type 0 where
+  pub mid : Network
+  pub leads : Leads p net events mid s
+  pub few : (i : ℕ) → length (journal i events) ≤ k
+  pub served : (i j : ℕ) → min link_share (length (pending net i j)) ≤ taken_in i j events
+  pub counted : deliveries mid ≤ deliveries net + k * turn_share
+  pub still : length events ≡ 0 → length (round net) ≡ 0
+
+-- a round of at most 32 turns, from one core state to another
+abbrev pub PlaysSprint : CoreView → CoreView → List Event → Type 0
+PlaysSprint old new events = (p : Dcop) (net : Network) → IsCore p net old → Sprinting p net most_events new events
+
+-- rounds so far
+pub record Sprinted (p : Dcop) (budget : ℕ) (first : Network) (k : ℕ) (s : CoreView) : Type 0 where
+  pub pieces : List (List Event)
+  pub mid : Network
+  pub are : AreRounds budget first pieces mid
+  pub core : IsCore p mid s
+  pub spent : k ≤ deliveries mid
+  pub counted : deliveries mid ≤ deliveries first + budget + most_events * turn_share
+
+-- rounds under a budget lead from one core state to another, where the run has ended
+abbrev pub PlaysSprints : ℕ → CoreView → CoreView → Type 0
+PlaysSprints budget old new =
+    (p : Dcop) (first : Network) → IsCore p first old
+    → (pieces : List (List Event)) × (end : Network) × (how : RunEnd) × AreRounds budget first pieces end × IsRunEnd budget end how × IsCore p end new
+    × (deliveries end ≤ deliveries first + budget + most_events * turn_share)

@@ -1,0 +1,116 @@
+//! Playing in rounds of one turn.
+
+ghost use Rattle.std.specs.Prelude.{◌≡◌, ◌<◌, ◌≤◌, length, IfOk, OnOk};
+ghost use Rattle.dcop_base.specs.Limits.{variable_limit};
+ghost use Rattle.delivery_core.specs.Agents.{IsStartFor, network_of};
+ghost use Rattle.delivery_turns.specs.Turns.{IsPlayed};
+ghost use Rattle.delivery_core.specs.Shown.{IsSomeCore};
+ghost use Rattle.delivery_turns.specs.CoreTurns.{is_over, TakesTurn, PlaysRound, PlaysOut};
+
+use dcop_base::{NoMemory, Problem, Sequence, VarId};
+use dcop_edge::{Gate, OpenGate};
+use delivery_core::{CoreState, Start};
+use protocol_steps::{Event, EventList};
+use std::alloc::Global;
+
+/// What was played.
+#[derive(Drop)]
+pub struct Played {
+    /// The network state at the end.
+    pub state: CoreState,
+    /// What happened, in order.
+    pub events: EventList,
+}
+
+/// The turn of one agent: it takes what is pending, and the event is added.
+pub(crate) fn take_turn<G: Gate>(
+    alloc: Global,
+    gate: &G,
+    state: &mut CoreState,
+    me: usize,
+    events: &mut Vec<Event>,
+) -> Result<(), NoMemory>
+    requires core { IsSomeCore state.old }
+    requires inside { me < length state.old.seats }
+    requires few { length state.old.seats ≤ variable_limit }
+    ensures { OnOk result (TakesTurn me state.old events.old.items state.new events.new.items) }
+{
+    let takes = state.takes(alloc, gate, VarId(me as u32))?;
+    if takes.is_empty() {
+        return Ok(());
+    }
+    let event = Event {
+        agent: VarId(me as u32),
+        takes: Sequence::from_vec(takes),
+    };
+    state.follow(alloc, &event)?;
+    events.push(event)?;
+    Ok(())
+}
+
+/// A round: the turns of all agents in ascending order.
+pub(crate) fn play_round<G: Gate>(
+    alloc: Global,
+    gate: &G,
+    state: &mut CoreState,
+    events: &mut Vec<Event>,
+) -> Result<(), NoMemory>
+    requires core { IsSomeCore state.old }
+    requires few { length state.old.seats ≤ variable_limit }
+    ensures { OnOk result (PlaysRound state.old events.old.items state.new events.new.items) }
+{
+    for me in 0..state.count() {
+        take_turn(alloc, gate, state, me, events)?;
+    }
+    Ok(())
+}
+
+/// Whether no further round is played: all agents have ended, or the budget is spent.
+pub(crate) fn is_over(state: &CoreState, budget: u64) -> bool
+    ensures { result ≡ is_over budget state.now }
+{
+    state.all_ended() || state.deliveries() >= budget
+}
+
+/// Plays rounds until playing stops. Gives what happened.
+fn play_rounds(alloc: Global, state: &mut CoreState, budget: u64) -> Result<Vec<Event>, NoMemory>
+    requires core { IsSomeCore state.old }
+    requires few { length state.old.seats ≤ variable_limit }
+    ensures { IfOk result (λ events. PlaysOut budget state.old state.new events.items) }
+{
+    let mut events = Vec::new(alloc);
+    for _ in 0..budget {
+        if is_over(state, budget) {
+            return Ok(events);
+        }
+        let before = events.len();
+        play_round(alloc, &OpenGate, state, &mut events)?;
+        if events.len() == before {
+            return Ok(events);
+        }
+    }
+    Ok(events)
+}
+
+/// Plays the agents in rounds from the start state. In a round the agents come in ascending order,
+/// and each that has not ended and has something pending makes one event: from each sender it
+/// takes what is pending, at most 64 messages. Playing stops where, after the start or a round,
+/// all have ended, the deliveries are at least `budget`, or the round had no event. A tree of the
+/// start is a pseudotree of the problem, and linked: each variable but the root is a neighbour of
+/// its parent; an error is at most 2^62.
+///
+/// # Errors
+///
+/// [`NoMemory`] where memory was wanted and not had.
+pub fn play(alloc: Global, problem: &Problem, start: Start, budget: u64) -> Result<Played, NoMemory>
+    requires start { IsStartFor problem.now start }
+    ensures end { IfOk result (λ played. IsPlayed budget (network_of problem.now start) played.events played.state) }
+    ensures size { IfOk result (λ played. length played.state.seats ≡ length problem.now.sizes) }
+{
+    let mut state = CoreState::start(alloc, problem, &start)?;
+    let events = play_rounds(alloc, &mut state, budget)?;
+    Ok(Played {
+        state,
+        events: Sequence::from_vec(events),
+    })
+}

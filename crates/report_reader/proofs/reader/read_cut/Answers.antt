@@ -1,0 +1,18 @@
+use Rattle.std.proofs.Common.{length, ap, arith}
+use Rattle.dcop_base.specs.Problem.{Dcop}
+use Rattle.cost_table.proofs.ProblemCutLaws.{length-ones_at}
+use Rattle.problem_text.specs.File.{TextFile, IsFile}
+use Rattle.report_reader.specs.declared.turns.CutSizes.{CutSizes}
+use Rattle.report_reader.proofs.reader.read_cut.Goals as goal
+
+pub read_turns-requires-clause-many : goal.read_turns-requires-clause-many
+read_turns-requires-clause-many c =
+    let file : IsFile c.args.file.now = rw (← c.file.view_is) c.file.invariant in
+    let named = file.named in
+    let names = ap (λ (f : TextFile). length f.names) c.file.view_is in
+    let whole = ap (λ (f : TextFile). length f.problem.sizes) c.file.view_is in
+    let sizes = ap (λ (p : Dcop). length p.sizes) c.problem.view_is in
+    let given = ap length c.as_slice.ensures in
+    let long = length-ones_at c.args.cut.now c.as_slice.result.now in
+    let made = ap (λ (s : CutSizes). length s.slice) c.in_ok-sizes.ensures in
+    omega (arith, named, names, whole, sizes, given, long, made)

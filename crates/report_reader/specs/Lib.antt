@@ -1,0 +1,12 @@
+pub mod Told
+pub mod HeadLines
+pub mod ValueLine
+pub mod UtilLine
+pub mod UtilWords
+pub mod CertificateLine
+pub mod TurnLine
+pub mod ReportLines
+pub mod TurnReading
+pub mod ReportReading
+pub mod Steps
+pub mod Again

@@ -1,0 +1,117 @@
+-- How agents are joined, before and behind calls.
+use Rattle.std.proofs.Common.{◌≡◌, ℕ, ◌<◌, ◌≤◌, List, [], length, Option, Result, Ok, Err, IfErr, refl, sym, ap, subst, ◌∙◌}
+use Rattle.std.specs.List.{All}
+use Rattle.std.specs.Result.{IsErrAnd}
+use Rattle.dcop_base.specs.Problem.{Dcop}
+use Rattle.dcop_edge.specs.Faults.{Rose}
+use Rattle.pseudotree.specs.DepthFirst.{dfs}
+use Rattle.pseudotree.specs.Width.{wide_of}
+use Rattle.pseudotree.specs.declared.width.Wide.{Wide}
+use Rattle.protocol_steps.specs.View.{View}
+use Rattle.delivery_core.specs.declared.start.Start.{Start}
+use Rattle.delivery_core.specs.Agents.{agents_of, IsStartFor}
+use Rattle.worker_runs.specs.Cells.{CellState}
+use Rattle.worker_runs.specs.NodeRounds.{home}
+use Rattle.node_runs.specs.Wires.{Wire}
+use Rattle.agent_links.specs.Links.{pairs_to}
+use Rattle.agent_seats.specs.Seats.{all_neighbours}
+use Rattle.wire_edge.specs.Wire.{Told}
+use Rattle.tcp_links.specs.declared.fault.Difference.{Difference}
+use Rattle.tcp_links.specs.declared.fault.NodeFault.{NodeFault}
+use Rattle.tcp_links.specs.declared.fault.NodeFault.TheVariants.{Failed, Differs, NoMemory}
+use Rattle.tcp_links.specs.declared.plan.NodePlan.{NodePlan}
+use Rattle.tcp_links.specs.Plans.{IsBetween, AreOrdered, IsHonest}
+use Rattle.tcp_links.specs.Ends.{IsDifference, HasDifference, DiffersOver}
+use Rattle.tcp_links.specs.Faults.{IsNoDifference, HasNodeCause}
+use Rattle.letter_wires.specs.Honest.{AreHonest}
+use Rattle.node_seats.specs.Links.{node_in, KeepsPairs}
+use Rattle.node_seats.specs.Seats.{IsSameFrame}
+use Rattle.solve_methods.specs.Dpop.{wide_in}
+use Rattle.solve_agents.specs.Differing.{HaveDiffered}
+use Rattle.solve_agents.specs.Phases.{IsPhase}
+use Rattle.solve_agents.specs.Wiring.{IsFaultOf, MayFail}
+
+-- a difference that was come to in a phase of one kind, where that is one of another kind
+differed_in : (p : Dcop) (is_phase is_phase' : Start → ℕ → Type 0) (nodes : ℕ) (d : Difference) → ((start : Start) (most : ℕ) → is_phase' start most → is_phase start most) → HaveDiffered p is_phase' nodes d → HaveDiffered p is_phase nodes d
+differed_in p is_phase is_phase' nodes d kind h = record {
+  start = h.start;
+  fits = h.fits;
+  budget = h.budget;
+  phase = kind h.start h.budget h.phase;
+  links = h.links;
+  between = h.between;
+  ordered = h.ordered;
+  pairs = h.pairs;
+  fresh = h.fresh;
+  started = h.started;
+  starts = h.starts;
+  last = h.last;
+  right = h.right;
+}
+
+-- a fault behind calls that left the dialer's count as it was, in as many nodes, over links that are honest where these are, in a phase that is of this kind
+module _ (p : Dcop) (is_phase is_phase' : Start → ℕ → Type 0) (nodes nodes' : ℕ) (honest honest' : Type 0) (first old new : ℕ) where
+  fault_behind : (e : NodeFault) → old ≡ first → nodes' ≡ nodes → (honest → honest') → ((start : Start) (most : ℕ) → is_phase' start most → is_phase start most) → IsFaultOf p is_phase' nodes' honest' old new e → IsFaultOf p is_phase nodes honest first new e
+  fault_behind Failed still many so kind fails =
+      subst (λ (k : ℕ). (1 < nodes) × (k ≤ new) × Rose k new) still (subst (λ (k : ℕ). 1 < k) many fails.0, fails.1, fails.2)
+  fault_behind (Differs d) still many so kind fails = (
+    subst (λ (k : ℕ). 1 < k) many fails.0,
+    fails.1 ∙ still,
+    (λ (h : honest). fails.2 (so h)),
+    subst (λ (k : ℕ). HaveDiffered p is_phase k d) many (differed_in p is_phase is_phase' nodes' d kind fails.3),
+  )
+  fault_behind NoMemory still many so kind fails = fails ∙ still
+
+  -- so it is with a call
+  pub fails_behind : {T : Type 0} (r : Result T NodeFault) → old ≡ first → nodes' ≡ nodes → (honest → honest') → ((start : Start) (most : ℕ) → is_phase' start most → is_phase start most)
+      → MayFail {T = T} p is_phase' nodes' honest' old new r → MayFail {T = T} p is_phase nodes honest first new r
+  fails_behind {T} (Ok value) still many so kind fails = fails ∙ still
+  fails_behind {T} (Err e) still many so kind fails = fault_behind e still many so kind fails
+
+  -- and with a fault that is handed on
+  pub fails_on : {T : Type 0} (r : Result T NodeFault) (e : NodeFault) → IsErrAnd r (λ x. x ≡ e) → old ≡ first → nodes' ≡ nodes → (honest → honest') → ((start : Start) (most : ℕ) → is_phase' start most → is_phase start most)
+      → IsFaultOf p is_phase' nodes' honest' old new e → MayFail {T = T} p is_phase nodes honest first new r
+  fails_on {T} (Ok value) e is still many so kind fails = absurd is
+  fails_on {T} (Err x) e is still many so kind fails =
+      subst (λ (f : NodeFault). IsFaultOf p is_phase nodes honest first new f) (sym is) (fault_behind e still many so kind fails)
+
+-- what is too wide in the tree that was found is so in the depth-first tree
+pub wide_is : (p : Dcop) (paths : List (List ℕ)) (wide : Option Wide) → paths ≡ dfs p → wide ≡ wide_of p paths → wide_in p ≡ wide
+wide_is p paths wide same is = sym (is ∙ ap (wide_of p) same)
+
+-- a plan with the same wires is honest where the other is
+pub frame_honest : {W : Type 0} (told : W → Told) (is_joined : W → W → Type 0) (before after : NodePlan W) → IsSameFrame before after → IsHonest told is_joined before → IsHonest told is_joined after
+frame_honest {W} told is_joined before after frame honest = subst (λ (ws : List (W × W)). AreHonest told is_joined ws) (sym frame.wires) honest
+
+-- what a run of nodes says of links: agents of a start were run so over a plan that a frame keeps, whose links were new
+module _ {W : Type 0} (p : Dcop) (start : Start) (fits : IsStartFor p start) (budget : ℕ) (before plan : NodePlan W) (nodes_are : plan.nodes ≡ before.nodes) (agents_are : plan.agents ≡ length p.sizes)
+    (between : All (IsBetween (length p.sizes) plan.nodes) plan.kept.items) (fresh : All (λ (w : Wire). w.passages ≡ []) plan.kept.items)
+    (ordered : AreOrdered plan.kept.items) (pairs : KeepsPairs (node_in plan) plan.kept.items (pairs_to (all_neighbours p) (length (all_neighbours p)))) (last : List CellState) where
+  differed : (d : Difference) → HasDifference budget (agents_of p start) plan last d → HaveDiffered p (IsPhase start budget) before.nodes d
+  differed d h = record {
+    start = start;
+    fits = fits;
+    budget = budget;
+    phase = (refl, refl);
+    links = plan.kept.items;
+    between = subst (λ (k : ℕ). All (IsBetween (length p.sizes) k) plan.kept.items) nodes_are between;
+    ordered = ordered;
+    pairs =
+        subst (λ (k : ℕ). KeepsPairs (home k (length p.sizes)) plan.kept.items (pairs_to (all_neighbours p) (length (all_neighbours p)))) nodes_are
+        (subst (λ (n : ℕ). KeepsPairs (home plan.nodes n) plan.kept.items (pairs_to (all_neighbours p) (length (all_neighbours p)))) agents_are pairs);
+    fresh = fresh;
+    started = h.started;
+    starts = h.starts;
+    last = last;
+    right =
+        subst (λ (k : ℕ). IsDifference k (home k (length p.sizes)) budget plan.kept.items h.started last d) nodes_are
+        (subst (λ (n : ℕ). IsDifference plan.nodes (home plan.nodes n) budget plan.kept.items h.started last d) agents_are h.right);
+  }
+
+  pub ran_fails : {T : Type 0} (made : List View) → made ≡ agents_of p start → (many : 1 < before.nodes) (honest : Type 0) (old new : ℕ) (r : Result T NodeFault) → HasNodeCause old new r → (honest → IfErr r IsNoDifference) → IfErr r (DiffersOver budget made plan last)
+      → MayFail {T = T} p (IsPhase start budget) before.nodes honest old new r
+  ran_fails made are many honest old new (Ok value) cause none differs = cause
+  ran_fails made are many honest old new (Err Failed) cause none differs = (many, cause.0, cause.1)
+  ran_fails made are many honest old new (Err (Differs d)) cause none differs =
+      (many, cause, (λ (h : honest). none h), differed d (subst (λ (vs : List View). HasDifference budget vs plan last d) are differs))
+  ran_fails made are many honest old new (Err NoMemory) cause none differs = cause

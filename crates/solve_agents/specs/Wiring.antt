@@ -1,0 +1,40 @@
+-- How the agents of a problem are joined, and what a call on them says of the links between nodes.
+use Rattle.std.specs.Prelude.{◌≡◌, ℕ, ◌<◌, ◌≤◌, Result, Ok, Err}
+use Rattle.dcop_edge.specs.Faults.{Rose}
+use Rattle.dcop_base.specs.Problem.{Dcop}
+use Rattle.delivery_core.specs.declared.start.Start.{Start}
+use Rattle.wire_edge.specs.Wire.{Told}
+use Rattle.tcp_links.specs.declared.fault.NodeFault.{NodeFault}
+use Rattle.tcp_links.specs.declared.fault.NodeFault.TheVariants.{Failed, Differs, NoMemory}
+use Rattle.tcp_links.specs.Plans.{IsNewPlan, IsHonest}
+use Rattle.solve_agents.specs.declared.nodes.Wiring.{Wiring}
+use Rattle.solve_agents.specs.declared.nodes.Wiring.TheVariants.{Rings, Nodes}
+use Rattle.solve_agents.specs.Differing.{HaveDiffered}
+
+module _ {W : Type 0} where
+  -- in how many nodes the agents are
+  abbrev pub nodes_in : Wiring W → ℕ
+  nodes_in Rings = 1
+  nodes_in (Nodes plan) = plan.nodes
+
+  -- so many agents are joined: by rings, or by a plan for them that has no link yet, of more nodes than one
+  abbrev pub IsWiringFor : ℕ → Wiring W → Type 0
+  IsWiringFor agents Rings = Unit {0}
+  IsWiringFor agents (Nodes plan) = IsNewPlan agents plan.nodes plan × (1 < plan.nodes)
+
+module _ {W : Type 0} (told : W → Told) (is_joined : W → W → Type 0) where
+  -- the two wires of each pair of nodes are joined
+  abbrev pub IsHonestWiring : Wiring W → Type 0
+  IsHonestWiring Rings = Unit {0}
+  IsHonestWiring (Nodes plan) = IsHonest told is_joined plan
+
+-- a fault of a problem's agents in so many nodes, in a phase of this kind, where this is that the links between them are honest: the dialer's count rose where they failed, and in no other case; a difference was come to by agents of the problem, and not over honest links; and neither comes with one node
+abbrev pub IsFaultOf : Dcop → (Start → ℕ → Type 0) → ℕ → Type 0 → ℕ → ℕ → NodeFault → Type 0
+IsFaultOf p is_phase nodes honest old new Failed = (1 < nodes) × (old ≤ new) × Rose old new
+IsFaultOf p is_phase nodes honest old new (Differs d) = (1 < nodes) × (new ≡ old) × (¬ honest) × HaveDiffered p is_phase nodes d
+IsFaultOf p is_phase nodes honest old new NoMemory = new ≡ old
+
+-- a call on a problem's agents leaves the dialer's count as it was, or ends in such a fault
+abbrev pub MayFail : {T : Type 0} → Dcop → (Start → ℕ → Type 0) → ℕ → Type 0 → ℕ → ℕ → Result T NodeFault → Type 0
+MayFail p is_phase nodes honest old new (Ok value) = new ≡ old
+MayFail p is_phase nodes honest old new (Err fault) = IsFaultOf p is_phase nodes honest old new fault

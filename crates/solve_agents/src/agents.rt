@@ -1,0 +1,205 @@
+//! Running agents in one node, and the tree that they find.
+
+ghost use Rattle.std.specs.Prelude.{◌≡◌, ◌<◌, ◌≤◌, ℕ, false, length, is_some, IfOk, IfSome};
+ghost use Rattle.dcop_base.specs.Limits.{budget_limit, variable_limit};
+ghost use Rattle.protocol_steps.specs.JournalStamps.{journal_at};
+ghost use Rattle.worker_runs.specs.CellRounds.{total};
+ghost use Rattle.worker_runs.specs.CellRuns.{journals_of, IsCellOutcome};
+ghost use Rattle.worker_runs.specs.Merges.{AscendsAbove, IsMerge};
+ghost use Rattle.agent_workers.specs.Joined.{states_of};
+ghost use Rattle.agent_links.specs.Ready.{IsNewCell, deliveries_in};
+ghost use Rattle.run_log.specs.Logs.{entries_of};
+ghost use Rattle.delivery_core.specs.Agents.{IsStartFor, agents_of};
+ghost use Rattle.problem_solved.specs.Goal.{problem_solved};
+ghost use Rattle.pseudotree.specs.DepthFirst.{dfs};
+ghost use Rattle.pseudotree.specs.Pseudotree.{IsPseudotreeOf};
+ghost use Rattle.tree_search.specs.Found.{IsFound};
+ghost use Rattle.solve_methods.specs.Kept.{HaveLogged};
+ghost use Rattle.protocol_steps.specs.Outcomes.{HaveRun};
+ghost use Rattle.agent_seats.specs.Kinds.{view_of};
+
+use crate::crew::Crew;
+use crate::logging::log_if;
+use agent_cells::Cell;
+use agent_links::{make_each, outcome_of};
+use agent_seats::{Agent, Seat, seats_of};
+use agent_workers::run;
+use dcop_base::{NoMemory, Problem, problem_is_whole};
+use dcop_edge::Gate;
+use delivery_core::Start;
+use delivery_turns::play_out;
+use problem_solved::ProblemSolved;
+use problem_text::ProblemFile;
+use protocol_steps::{Outcome, RunEnd};
+use pseudotree::Tree;
+use run_log::merged_stamps_are_right;
+use solve_methods::Logged;
+use std::alloc::Global;
+use std::thread::Threads;
+use tree_search::{Found, search_deliveries, tree_found};
+use worker_runs::{cells_tell_outcomes, journals_merge};
+
+/// What the agents of a problem come to that are run from this start, by workers in rounds until all
+/// have ended or so many messages are delivered.
+fn run_agents<R: Threads + Sync, G: Gate>(
+    crew: &Crew<R, G>,
+    alloc: Global,
+    problem: &Problem,
+    start: &Start,
+    budget: u64,
+) -> Result<Outcome, NoMemory>
+    requires start { IsStartFor problem.now start.now }
+    requires budget { budget ≤ budget_limit }
+    ensures { IfOk result (HaveRun budget (agents_of problem.now start.now)) }
+{
+    let ran = run_logged(crew, alloc, problem, start, budget, false)?;
+    Ok(ran.outcome)
+}
+
+/// The same, with the log of the run where it is asked for. Where one worker runs the agents and no log is
+/// asked for, they are played on this thread, without cells and links.
+pub(crate) fn run_logged<R: Threads + Sync, G: Gate>(
+    crew: &Crew<R, G>,
+    alloc: Global,
+    problem: &Problem,
+    start: &Start,
+    budget: u64,
+    certified: bool,
+) -> Result<Logged, NoMemory>
+    requires start { IsStartFor problem.now start.now }
+    requires budget { budget ≤ budget_limit }
+    ensures { IfOk result (HaveLogged budget (agents_of problem.now start.now) certified) }
+{
+    if certified || crew.workers > 1 {
+        return run_cells(crew, alloc, problem, start, budget, certified);
+    }
+    play_alone(crew.gate, alloc, problem, start, budget, certified)
+}
+
+/// What agents come to that one thread plays, without a log.
+fn play_alone<G: Gate>(
+    gate: &G,
+    alloc: Global,
+    problem: &Problem,
+    start: &Start,
+    budget: u64,
+    certified: bool,
+) -> Result<Logged, NoMemory>
+    requires start { IsStartFor problem.now start.now }
+    requires budget { budget ≤ budget_limit }
+    requires plain { certified ≡ false }
+    ensures { IfOk result (HaveLogged budget (agents_of problem.now start.now) certified) }
+{
+    let outcome = play_out(alloc, gate, problem, start, budget)?;
+    Ok(Logged { outcome, log: None })
+}
+
+/// What agents come to that workers run in cells, with the log of the run where it is asked for. Agents
+/// are boxed where they are run, since no call may hand boxes out.
+fn run_cells<R: Threads + Sync, G: Gate>(
+    crew: &Crew<R, G>,
+    alloc: Global,
+    problem: &Problem,
+    start: &Start,
+    budget: u64,
+    certified: bool,
+) -> Result<Logged, NoMemory>
+    requires start { IsStartFor problem.now start.now }
+    requires budget { budget ≤ budget_limit }
+    ensures { IfOk result (HaveLogged budget (agents_of problem.now start.now) certified) }
+{
+    cells_tell_outcomes();
+    journals_merge();
+    merged_stamps_are_right();
+    problem_is_whole(problem);
+    let make = |seat: Seat| -> Result<Cell, NoMemory>
+        ensures { IfOk result (IsNewCell (λ b. meaning (b.vtable, b.value)) (view_of seat.agent) seat.me seat.tails.items seat.heads.items) }
+    {
+        let Seat {
+            agent,
+            me,
+            tails,
+            heads,
+        } = seat;
+        match agent {
+            Agent::Token(agent) => {
+                let Ok(machine) = Box::new(alloc, agent) else {
+                    return Err(NoMemory);
+                };
+                Cell::new(alloc, machine, me, tails, heads)
+            }
+            Agent::Dpop(agent) => {
+                let Ok(machine) = Box::new(alloc, agent) else {
+                    return Err(NoMemory);
+                };
+                Cell::new(alloc, machine, me, tails, heads)
+            }
+            Agent::Adopt(agent) => {
+                let Ok(machine) = Box::new(alloc, agent) else {
+                    return Err(NoMemory);
+                };
+                Cell::new(alloc, machine, me, tails, heads)
+            }
+        }
+    };
+    let seats = seats_of(alloc, problem, start)?;
+    let mut cells = make_each(alloc, seats, &make)?;
+    let end = run(crew.rt, &mut cells, crew.workers, budget, crew.gate)?;
+    logged_of(alloc, cells.as_slice(), end, certified)
+}
+
+/// What the agents of cells have come to that have run to this end, with the log of the run where it
+/// is asked for.
+pub(crate) fn logged_of(
+    alloc: Global,
+    cells: &[Cell],
+    end: RunEnd,
+    certified: bool,
+) -> Result<Logged, NoMemory>
+    requires some { 0 < length cells.now }
+    requires few { length cells.now ≤ variable_limit }
+    requires told { deliveries_in end ≡ total (states_of (λ b. meaning (b.vtable, b.value)) cells.now) }
+    requires ascend { (i : ℕ) → AscendsAbove 0 (journal_at (journals_of (states_of (λ b. meaning (b.vtable, b.value)) cells.now)) i) }
+    ensures outcome { IfOk result (λ ran. IsCellOutcome (states_of (λ b. meaning (b.vtable, b.value)) cells.now) ran.outcome) }
+    ensures asked { IfOk result (λ ran. is_some ran.log ≡ certified) }
+    ensures merged { IfOk result (λ ran. IfSome ran.log (λ events. IsMerge (journals_of (states_of (λ b. meaning (b.vtable, b.value)) cells.now)) (entries_of events))) }
+{
+    let outcome = outcome_of(alloc, cells, end)?;
+    let log = log_if(alloc, certified, cells)?;
+    Ok(Logged { outcome, log })
+}
+
+/// The depth-first tree of a problem, which its token agents find in one node.
+///
+/// # Errors
+///
+/// [`NoMemory`] where memory was wanted and not had.
+pub fn find_tree<R: Threads + Sync, G: Gate>(
+    crew: &Crew<R, G>,
+    alloc: Global,
+    problem: &Problem,
+) -> Result<Found, NoMemory>
+    ensures { IfOk result (IsFound problem.now) }
+{
+    let budget = search_deliveries(problem);
+    let outcome = run_agents(crew, alloc, problem, &Start::Token, budget)?;
+    tree_found(alloc, problem, &outcome)
+}
+
+/// The depth-first tree of the problem solved for a file, which its token agents find in one node.
+///
+/// # Errors
+///
+/// [`NoMemory`] where memory was wanted and not had.
+pub fn tree_for<R: Threads + Sync, G: Gate>(
+    crew: &Crew<R, G>,
+    alloc: Global,
+    file: &ProblemFile,
+) -> Result<Tree, NoMemory>
+    ensures tree { IfOk result (IsPseudotreeOf (problem_solved file.now)) }
+    ensures paths { IfOk result (λ tree. tree.paths ≡ dfs (problem_solved file.now)) }
+{
+    let solved = ProblemSolved::of(alloc, file)?;
+    let found = find_tree(crew, alloc, solved.problem())?;
+    Ok(found.tree)
+}

@@ -1,0 +1,92 @@
+//! What agents come to by auto: DPOP where its tables fit, and ADOPT otherwise.
+
+ghost use Rattle.std.specs.Prelude.{◌≤◌, length, IfOk};
+ghost use Rattle.dcop_base.specs.Limits.{amount_limit, budget_limit};
+ghost use Rattle.problem_solved.specs.Goal.{problem_solved};
+ghost use Rattle.solve_methods.specs.Auto.{GivesSettled};
+ghost use Rattle.solve_agents.specs.Phases.{IsPhaseByAuto};
+ghost use Rattle.solve_agents.specs.Wiring.{nodes_in, IsWiringFor, IsHonestWiring, MayFail};
+
+use crate::choosing::choose_on;
+use crate::crew::Crew;
+use crate::nodes::{Wiring, find_over};
+use crate::reaching::reach_on;
+use dcop_base::Problem;
+use dcop_edge::Gate;
+use problem_solved::ProblemSolved;
+use problem_text::ProblemFile;
+use pseudotree::widths;
+use solve_methods::{Asked, Settled};
+use std::alloc::{AllocGlobal, Global};
+use std::net::Net;
+use std::random::RandomSource;
+use std::sync::Wait;
+use std::thread::Threads;
+use std::time::Clock;
+use tcp_links::NodeFault;
+use wire_edge::Dialer;
+
+/// What the agents of the problem solved for a file come to by auto: they search its depth-first tree
+/// first; by DPOP they go on where nothing is too wide there, and else by ADOPT.
+///
+/// # Errors
+///
+/// With one node [`NodeFault::NoMemory`] alone, where memory was wanted and not had. With more,
+/// [`NodeFault::Failed`] where the dialer gave no wires or one failed, which its count tells, and
+/// [`NodeFault::Differs`] where what one node received is not what another one sent, over a dialer
+/// that is not honest alone.
+pub fn settle_for<R, D, G>(
+    crew: &Crew<R, G>,
+    alloc: Global,
+    dialer: &mut D,
+    file: &ProblemFile,
+    asked: Asked,
+) -> Result<Settled, NodeFault>
+where
+    R: Threads + Wait + Clock + RandomSource + Net + AllocGlobal + Sync,
+    D: Dialer,
+    G: Gate,
+    requires error { asked.error ≤ amount_limit }
+    requires budget { asked.budget ≤ budget_limit }
+    ensures settled { IfOk result (GivesSettled (problem_solved file.now) asked.error asked.budget asked.certified) }
+    ensures links { MayFail (problem_solved file.now) (IsPhaseByAuto (problem_solved file.now) asked.error asked.budget) crew.now.nodes (D.is_honest dialer.old) (D.faults dialer.old) (D.faults dialer.new) result }
+{
+    let solved = ProblemSolved::of(alloc, file)?;
+    let problem = solved.problem();
+    let mut wiring = Wiring::between(crew, alloc, dialer, problem)?;
+    settle(crew, alloc, dialer, &mut wiring, problem, asked)
+}
+
+/// What the agents of a problem come to. They search its depth-first tree first; by DPOP they go on
+/// where nothing is too wide there.
+fn settle<R, D, G>(
+    crew: &Crew<R, G>,
+    alloc: Global,
+    dialer: &mut D,
+    wiring: &mut Wiring<D::W>,
+    problem: &Problem,
+    asked: Asked,
+) -> Result<Settled, NodeFault>
+where
+    R: Threads + Wait + Clock + RandomSource + Net + AllocGlobal + Sync,
+    D: Dialer,
+    G: Gate,
+    requires error { asked.error ≤ amount_limit }
+    requires budget { asked.budget ≤ budget_limit }
+    requires wiring { IsWiringFor (length problem.now.sizes) wiring.old }
+    ensures settled { IfOk result (GivesSettled problem.now asked.error asked.budget asked.certified) }
+    ensures links { MayFail problem.now (IsPhaseByAuto problem.now asked.error asked.budget) (nodes_in wiring.old) (IsHonestWiring D.W.told D.W.is_joined wiring.old) (D.faults dialer.old) (D.faults dialer.new) result }
+{
+    let found = find_over(crew, alloc, dialer, wiring, problem)?;
+    match widths(&found.tree, problem) {
+        None => {
+            let certified = asked.certified;
+            let chosen = choose_on(crew, alloc, dialer, wiring, problem, found, certified)?;
+            Ok(Settled::ByDpop(chosen))
+        }
+        Some(_) => {
+            let reached = reach_on(crew, alloc, dialer, wiring, problem, found, asked)?;
+            Ok(Settled::ByAdopt(reached))
+        }
+    }
+}

@@ -1,5 +1,0 @@
-use Rattle.std.proofs.Common.{sym}
-use Rattle.solve_top.proofs.agents.play_alone.Goals as goal
-
-pub returns : goal.returns
-returns g c = record { run = c.in_ok-outcome.ensures; asked = sym c.requires.plain; kept = tt }
