@@ -1,4 +1,3 @@
-pub mod PlaceLaws
 pub mod RangeLaws
 pub mod SizeLaws
 pub mod CountLaws

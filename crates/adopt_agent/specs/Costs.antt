@@ -1,17 +1,11 @@
--- The cost of an own value, where all higher neighbours are known, how a table's cells stand, and contexts that are alike or grow.
+-- The cost of an own value, where all higher neighbours are known, and contexts that are alike or grow.
 use Rattle.std.specs.Prelude.{◌≡◌, ℕ, Bool, true, false, not, ◌&&◌, ◌||◌, List, [], ◌∷◌, Option, Some, None, ◌==◌, slice_index, if◌then◌else◌}
-use Rattle.dcop_base.specs.Table.{has, product}
+use Rattle.dcop_base.specs.Table.{has}
 use Rattle.adopt_context.specs.Context.{Context, value_in}
 
 -- the cost of an own value; none where not all higher neighbours are known
 abbrev pub cost_where : Bool → List ℕ → ℕ → Option ℕ
 cost_where knows_higher costs d = if knows_higher then Some (slice_index costs d) else None
-
--- how far apart the cells of a variable's neighbouring values stand: the product of the sizes behind it, 0 where it is not in the scope
-abbrev pub stride : List ℕ → List ℕ → ℕ → ℕ
-stride [] sizes v = 0
-stride (u ∷ us) [] v = 0
-stride (u ∷ us) (s ∷ ss) v = if u == v then product ss else stride us ss v
 
 -- contexts that differ in the value of one variable at most
 abbrev pub Differ : Context → Context → ℕ → Type 0

@@ -1,5 +1,5 @@
 -- How the parts of a DPOP agent's work make up its steps.
-use Rattle.std.proofs.Common.{◌≡◌, ℕ, Bool, true, false, cond, not, ◌&&◌, nat_le, List, [], Option, Some, None, is_some, refl, sym, ap, ap₂, subst, ◌∙◌}
+use Rattle.std.proofs.Common.{◌≡◌, ℕ, Bool, true, false, cond, ◌&&◌, nat_le, List, [], Option, Some, None, is_some, refl, sym, ap, ap₂, subst, ◌∙◌}
 use Rattle.std.specs.Borrow.{Bor}
 use Rattle.std.specs.Option.{option_copied}
 use Rattle.std.specs.List.{list_all}
@@ -19,7 +19,7 @@ use Rattle.dpop_agent.specs.declared.stage.Stage.TheVariants.{Ended}
 use Rattle.dpop_agent.specs.Stage.{phase_at, view_at, working}
 use Rattle.dpop_agent.specs.Keeping.{keeping}
 use Rattle.dcop_base.specs.Limits.{joined_limit}
-use Rattle.dpop_agent.specs.Joint.{IsJoint, IsJointWhereMay}
+use Rattle.dpop_agent.specs.Joint.{IsUtilWhereMay}
 use Rattle.dpop_agent.specs.Sound.{IsSound}
 use Rattle.dpop_agent.specs.Deed.{Gives, parcels_up}
 use Rattle.dpop_agent.proofs.ParcelLaws.{values_sent}
@@ -53,6 +53,37 @@ last_two true false c d e h = absurd (false≢true h)
 last_two true true false d e h = absurd (false≢true h)
 last_two true true true false e h = absurd (false≢true h)
 last_two true true true true false h = absurd (false≢true h)
+
+-- what five tests say together, after the first four or the first three have passed
+pub fifth_says : (a b c d e x : Bool) → a ≡ true → b ≡ true → c ≡ true → d ≡ true → x ≡ e → x ≡ (a && b && c && d && e)
+fifth_says true true true true e x p q r s is = is
+fifth_says false b c d e x p q r s is = absurd (false≢true p)
+fifth_says true false c d e x p q r s is = absurd (false≢true q)
+fifth_says true true false d e x p q r s is = absurd (false≢true r)
+fifth_says true true true false e x p q r s is = absurd (false≢true s)
+
+pub fourth_fails : (a b c d e x : Bool) → a ≡ true → b ≡ true → c ≡ true → x ≡ d → x ≡ false → x ≡ (a && b && c && d && e)
+fourth_fails true true true true e x p q r is fails = absurd (false≢true (sym fails ∙ is))
+fourth_fails true true true false e x p q r is fails = is
+fourth_fails false b c d e x p q r is fails = absurd (false≢true p)
+fourth_fails true false c d e x p q r is fails = absurd (false≢true q)
+fourth_fails true true false d e x p q r is fails = absurd (false≢true r)
+
+-- where no table was made the agent may not join
+pub may_not : (v : DpopView) (o : Option CostTable) → IsUtilWhereMay v o → ((t : CostTable) → o ≡ Some t → ⊥) → can_join v ≡ false
+may_not v None tried none = tried
+may_not v (Some t) tried none = absurd (none t refl)
+
+-- what joining gives an agent that may not join: nothing
+pub joins_not : (own : Private) (place : Place) (stage : Stage) (kept now : List (Option CostTable)) (made : Option CostTable) (value : ℕ) (v : DpopView) (parcels : List (ℕ × Message))
+    → view_at own place stage kept made value ≡ v → now ≡ kept → can_join (keeping own place now) ≡ false → parcels ≡ [] → Gives (join v) v parcels
+joins_not own place stage kept now made value v parcels view same cannot none =
+    let w : DpopView = view_at own place stage kept made value in
+    let u : CostTable = util_table w in
+    let after : DpopView = record w { made = Some u } in
+    let here : can_join (keeping own place kept) ≡ false = subst (λ (es : List (Option CostTable)). can_join (keeping own place es) ≡ false) same cannot in
+    subst (λ (x : DpopView). Gives (join x) x parcels) view
+    (subst (λ (b : Bool). Gives (cond b (send_up after u (last_of place.path)) (quiet w)) w parcels) (sym here) (record { viewed = refl; sent = none }))
 
 joins_at : (own : Private) (place : Place) (stage : Stage) (kept : List (Option CostTable)) (made : Option CostTable) (value : ℕ) (t : CostTable) (parcels : List (ℕ × Message)) (parent : Option ℕ)
     → can_join (keeping own place kept) ≡ true → t ≡ util_table (keeping own place kept) → last_of place.path ≡ parent → is_some parent ≡ true → parcels ≡ parcels_up parent t
@@ -89,17 +120,13 @@ same_table t u e = ap (λ (o : Option CostTable). or_first o) e
     or_first (Some x) = x
 
 -- an agent that has joined stays sound
-pub joined_sound : (own : Private) (place : Place) (stage : Stage) (kept now : List (Option CostTable)) (before made : Option CostTable) (j m : CostTable) → IsSound own place stage kept before made → phase_at stage ≡ working → now ≡ kept
-    → IsJointWhereMay (keeping own place now) (Some j) → m ≡ util_table (keeping own place now) → IsSound own place stage kept (Some j) (Some m)
-joined_sound own place stage kept now before made j m sound phase same joint is =
-    let here : IsJointWhereMay (keeping own place kept) (Some j) = subst (λ (es : List (Option CostTable)). IsJointWhereMay (keeping own place es) (Some j)) same joint in
-    let util : m ≡ util_table (keeping own place kept) = is ∙ ap (λ (es : List (Option CostTable)). util_table (keeping own place es)) same in
+pub joined_sound : (own : Private) (place : Place) (stage : Stage) (kept now : List (Option CostTable)) (before : Option CostTable) (m : CostTable) → IsSound own place stage kept before → now ≡ kept → IsUtilWhereMay (keeping own place now) (Some m) → IsSound own place stage kept (Some m)
+joined_sound own place stage kept now before m sound same made =
+    let here : IsUtilWhereMay (keeping own place kept) (Some m) = subst (λ (es : List (Option CostTable)). IsUtilWhereMay (keeping own place es) (Some m)) same made in
     let all = (and_parts (list_all is_some kept) (nat_le (joined_cells_with (keeping own place kept) (kept_scopes (keeping own place kept))) joined_limit) here.0).0 in
     record {
       keeper = sound.keeper;
-      joint = λ t e. subst (λ (u : CostTable). IsJoint (keeping own place kept) u) (same_table j t e) here.1;
-      util = λ t e. record { is = sym (same_table m t e) ∙ util; all = all };
-      waits = λ well. sym (ap (λ (p : Phase). true && not p.ended) phase);
+      util = λ t e. record { is = sym (same_table m t e) ∙ here.1; all = all };
       ended = λ _. refl;
     }
 

@@ -1,6 +1,7 @@
 pub mod JointLaws
 pub mod SizeLaws
 pub mod SumLaws
+pub mod RowLaws
 pub mod OverLaws
 pub mod MarkLaws
 pub mod CellLaws

@@ -176,7 +176,7 @@ named_value : (o : Option ℕ) → is_some o ≡ true → o ≡ Some (or_zero o)
 named_value None h = absurd (true≢false (sym h))
 named_value (Some d) h = refl
 
-within_all : (f g : ℕ → ℕ) (xs : List ℕ) → ((u : ℕ) → has xs u ≡ true → f u < g u) → AreWithin (map g xs) (map f xs)
+pub within_all : (f g : ℕ → ℕ) (xs : List ℕ) → ((u : ℕ) → has xs u ≡ true → f u < g u) → AreWithin (map g xs) (map f xs)
 within_all f g [] each = tt
 within_all f g (x ∷ xs) each = (each x (has_first x xs), within_all f g xs (λ u h. each u (has_later x xs u h)))
 

@@ -35,7 +35,7 @@ sum_more over sizes f old t new is sum = record {
       omega (arith, at, here);
 }
 
-cost_more : (ts : List CostTable) (t : CostTable) (value : ℕ → ℕ) → cost_with (ts ++ (t ∷ [])) value ≡ cost_with ts value + cell_with t value
+pub cost_more : (ts : List CostTable) (t : CostTable) (value : ℕ → ℕ) → cost_with (ts ++ (t ∷ [])) value ≡ cost_with ts value + cell_with t value
 cost_more ts t value =
     let both = sum_by-append (λ (u : CostTable). cell_with u value) ts (t ∷ []) in
     let one : cost_with (t ∷ []) value ≡ cell_with t value + 0 = sum_by-cons (λ (u : CostTable). cell_with u value) t [] in
@@ -60,24 +60,28 @@ gained_more ts old now t new gained sum = record {
       (λ value. let e = cost_more ts t value in omega (arith, e));
 }
 
+-- the tables that pass a test, with the next one where it does
+pub filter_next : (p : CostTable → Bool) (ts : List CostTable) (k : ℕ) (t : CostTable) (b : Bool) → k < length ts → t ≡ get_or ts k t → p t ≡ b → filter p (take (k + 1) ts) ≡ filter p (take k ts) ++ cond b (t ∷ []) []
+filter_next p ts k t b lt is test =
+    filter_more p ts k t lt
+    ∙ ap (λ (u : CostTable). filter p (take k ts) ++ cond (p u) (u ∷ []) []) (sym is)
+    ∙ ap (λ (c : Bool). filter p (take k ts) ++ cond c (t ∷ []) []) test
+
 -- the next table passes a test and is added, or does not pass
 module _ (p : CostTable → Bool) (ts : List CostTable) (k : ℕ) (t old now : CostTable) (lt : k < length ts) (is : t ≡ get_or ts k t) (before : HasGained (filter p (take k ts)) old now) where
-  next_is : filter p (take (k + 1) ts) ≡ filter p (take k ts) ++ cond (p t) (t ∷ []) []
-  next_is = filter_more p ts k t lt ∙ ap (λ (u : CostTable). filter p (take k ts) ++ cond (p u) (u ∷ []) []) (sym is)
-
   pub passes : (new : CostTable) → p t ≡ true → IsSum now t new → HasGained (filter p (take (k + 1) ts)) old new
   passes new fits sum =
       subst (λ (us : List CostTable). HasGained us old new)
-      (sym (next_is ∙ ap (λ (b : Bool). filter p (take k ts) ++ cond b (t ∷ []) []) fits))
+      (sym (filter_next p ts k t true lt is fits))
       (gained_more (filter p (take k ts)) old now t new before sum)
 
   pub fails : p t ≡ false → HasGained (filter p (take (k + 1) ts)) old now
   fails differs =
       subst (λ (us : List CostTable). HasGained us old now)
-      (sym (next_is ∙ ap (λ (b : Bool). filter p (take k ts) ++ cond b (t ∷ []) []) differs ∙ append-nil (filter p (take k ts))))
+      (sym (filter_next p ts k t false lt is differs ∙ append-nil (filter p (take k ts))))
       before
 
-there_more : (kept : List (Option CostTable)) (k : ℕ) (e : Option CostTable) → k < length kept → e ≡ get_or kept k e → flat_map there (take (k + 1) kept) ≡ flat_map there (take k kept) ++ there e
+pub there_more : (kept : List (Option CostTable)) (k : ℕ) (e : Option CostTable) → k < length kept → e ≡ get_or kept k e → flat_map there (take (k + 1) kept) ≡ flat_map there (take k kept) ++ there e
 there_more kept k e lt is =
     ap (λ (es : List (Option CostTable)). flat_map there es) (take_more kept k e lt)
     ∙ flat_map-append there (take k kept) (get_or kept k e ∷ [])

@@ -1,5 +1,5 @@
 -- A child's table that is taken: it may be kept, and an agent that keeps it stays sound.
-use Rattle.std.proofs.Common.{◌≡◌, ℕ, zero, suc, ◌*◌, ◌<◌, ◌≤◌, get_or, Bool, true, false, cond, not, ◌&&◌, ◌||◌, eqb, ltb, nat_le, List, [], ◌∷◌, ◌++◌, map, length, Option, Some, None, is_some, refl, sym, ap, subst, ◌∙◌, inl, inr, arith}
+use Rattle.std.proofs.Common.{◌≡◌, ℕ, zero, suc, ◌*◌, ◌<◌, ◌≤◌, get_or, Bool, true, false, cond, ◌&&◌, ◌||◌, eqb, ltb, nat_le, List, [], ◌∷◌, ◌++◌, map, length, Option, Some, None, is_some, refl, sym, ap, subst, ◌∙◌, inl, inr, arith}
 use Rattle.std.specs.List.{filter, list_all, position, slice_get, slice_set, zip}
 use Rattle.std.specs.Cmp.Lexicographic.{pointwise}
 use Rattle.std.proofs.lemmas.Bool.{both_ways, cases_Bool, cases_lt, cond-true, eq-eqb, eqb-true, le-leb, le-ltb, lt-leb, lt-ltb, or_cases, true≢false, false≢true}
@@ -150,16 +150,13 @@ not_made own place kept None util none = refl
 not_made own place kept (Some t) util none = absurd (both_ways (list_all is_some kept) none (util t refl).all)
 
 -- an agent that keeps a table that is taken stays sound
-pub keeps_sound : (own : Private) (place : Place) (stage : Stage) (kept : List (Option CostTable)) (joined made : Option CostTable) (k : ℕ) (scope cells : List ℕ) (t : CostTable) → IsSound own place stage kept joined made
-    → (phase_at stage).failed ≡ false → IsTaken (keeping own place kept) k scope cells (Some t) → IsSound own place stage (slice_set kept k (Some t)) joined made
-keeps_sound own place stage kept joined made k scope cells t sound well taken =
+pub keeps_sound : (own : Private) (place : Place) (stage : Stage) (kept : List (Option CostTable)) (made : Option CostTable) (k : ℕ) (scope cells : List ℕ) (t : CostTable) → IsSound own place stage kept made
+    → IsTaken (keeping own place kept) k scope cells (Some t) → IsSound own place stage (slice_set kept k (Some t)) made
+keeps_sound own place stage kept made k scope cells t sound taken =
     let none = not_made own place kept made sound.util (not_all kept k (passed own place kept k scope cells taken.0).free) in
-    let idle : is_some joined ≡ false = sound.waits well ∙ ap (λ (b : Bool). b && not (phase_at stage).ended) none in
     record {
       keeper = taken_keeper own place kept sound.keeper k scope cells taken.0 t taken.1;
-      joint = λ u e. absurd (false≢true (none_not joined u idle e));
       util = λ u e. absurd (false≢true (none_not made u none e));
-      waits = sound.waits;
       ended = sound.ended;
     }
 
@@ -170,9 +167,9 @@ at_work Ended started well goes = absurd (true≢false goes)
 at_work Failed started well goes = absurd (true≢false well)
 
 -- an agent that runs and has a place open is at work
-pub open_works : (own : Private) (place : Place) (stage : Stage) (kept : List (Option CostTable)) (joined made : Option CostTable) (k : ℕ) (scope cells : List ℕ) → IsSound own place stage kept joined made → (phase_at stage).started ≡ true
+pub open_works : (own : Private) (place : Place) (stage : Stage) (kept : List (Option CostTable)) (made : Option CostTable) (k : ℕ) (scope cells : List ℕ) → IsSound own place stage kept made → (phase_at stage).started ≡ true
     → (phase_at stage).failed ≡ false → takes_util (keeping own place kept) k scope cells ≡ true → phase_at stage ≡ working
-open_works own place stage kept joined made k scope cells sound started well taken =
+open_works own place stage kept made k scope cells sound started well taken =
     let none = not_made own place kept made sound.util (not_all kept k (passed own place kept k scope cells taken).free) in
     at_work stage started well (elim (cases_Bool (phase_at stage).ended) [
       | inl ended ↦ absurd (both_ways (is_some made) none (sound.ended ended))

@@ -3,7 +3,7 @@ use Rattle.std.specs.Prelude.{◌≡◌, ℕ, ◌+◌, ◌<◌, ◌≤◌, true,
 use Rattle.dcop_base.specs.Table.{CostTable, AreWithin, product}
 use Rattle.dcop_base.specs.Values.{cell_with, cost_with}
 use Rattle.adopt_context.specs.Bounds.{cap}
-use Rattle.protocol_steps.specs.Dpop.{DpopView, own_tables, kept_tables, kept_scopes, joined_cells_with, size_of, separator}
+use Rattle.protocol_steps.specs.Dpop.{DpopView, own_tables, kept_tables, kept_scopes, joined_cells_with, size_of, separator, util_table}
 use Rattle.dcop_base.specs.Limits.{joined_limit}
 use Rattle.protocol_steps.specs.DpopJoin.{can_join}
 use Rattle.dpop_agent.specs.declared.separator.Over.{Over}
@@ -51,3 +51,8 @@ IsJoint v t = IsCostOf (over_of v) (over_sizes v) (λ value. cost_with (own_tabl
 abbrev pub IsJointWhereMay : DpopView → Option CostTable → Type 0
 IsJointWhereMay v None = can_join v ≡ false
 IsJointWhereMay v (Some t) = (can_join v ≡ true) × IsJoint v t
+
+-- the UTIL table exactly where the agent may join
+abbrev pub IsUtilWhereMay : DpopView → Option CostTable → Type 0
+IsUtilWhereMay v None = can_join v ≡ false
+IsUtilWhereMay v (Some t) = (can_join v ≡ true) × (t ≡ util_table v)

@@ -1,5 +1,6 @@
 pub mod Keeping
 pub mod Joint
+pub mod Row
 pub mod Stage
 pub mod Sound
 pub mod Deed

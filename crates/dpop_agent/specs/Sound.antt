@@ -1,5 +1,5 @@
 -- What holds of every DPOP agent.
-use Rattle.std.specs.Prelude.{◌≡◌, true, false, not, ◌&&◌, List, length, Option, Some, is_some}
+use Rattle.std.specs.Prelude.{◌≡◌, true, List, length, Option, Some, is_some}
 use Rattle.std.specs.List.{All, list_all}
 use Rattle.dcop_base.specs.Table.{CostTable}
 use Rattle.dcop_base.specs.declared.knowledge.Private.{Private}
@@ -9,7 +9,6 @@ use Rattle.protocol_steps.specs.Knowledge.{IsKnowledge}
 use Rattle.protocol_steps.specs.Placing.{IsPlaceFor}
 use Rattle.dpop_agent.specs.declared.stage.Stage.{Stage}
 use Rattle.dpop_agent.specs.Keeping.{keeping, MayKeep}
-use Rattle.dpop_agent.specs.Joint.{IsJoint}
 use Rattle.dpop_agent.specs.Stage.{phase_at}
 
 -- what an agent was made from, and the tables that it keeps: one place for each child
@@ -24,10 +23,8 @@ pub record IsMade (own : Private) (place : Place) (kept : List (Option CostTable
   pub is : t ≡ util_table (keeping own place kept)
   pub all : list_all is_some kept ≡ true
 
--- an agent with the joined table that waits for values, from joining until the value is taken, and the table that it made; one that has ended has made it
-pub record IsSound (own : Private) (place : Place) (stage : Stage) (kept : List (Option CostTable)) (joined made : Option CostTable) : Type 0 where
+-- an agent with the table that it made, where it made one; one that has ended has made it
+pub record IsSound (own : Private) (place : Place) (stage : Stage) (kept : List (Option CostTable)) (made : Option CostTable) : Type 0 where
   pub keeper : IsKeeper own place kept
-  pub joint : (t : CostTable) → joined ≡ Some t → IsJoint (keeping own place kept) t
   pub util : (t : CostTable) → made ≡ Some t → IsMade own place kept t
-  pub waits : (phase_at stage).failed ≡ false → is_some joined ≡ (is_some made && not (phase_at stage).ended)
   pub ended : (phase_at stage).ended ≡ true → is_some made ≡ true

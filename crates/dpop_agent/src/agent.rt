@@ -17,11 +17,11 @@ ghost use Rattle.dpop_agent.specs.Stage.{working};
 ghost use Rattle.dpop_agent.specs.Deed.{Gives, IsRunning};
 ghost use Rattle.dpop_agent.specs.Joint.{IsOver};
 
-use crate::child::{are_sized, table_of, util_for};
-use crate::joint::joined_of;
+use crate::best::best_of;
+use crate::child::{are_sized, is_parent, table_of, util_for};
 use crate::separator::{Over, variables_with};
-use crate::stage::Stage;
-use crate::util::{best_of, util_of};
+use crate::stage::{Stage, has_ended};
+use crate::util::util_of;
 use crate::values::values_for;
 use adopt_context::AgentContext;
 use dcop_base::{NoMemory, Private, Table, Val, VarId, position_of};
@@ -33,7 +33,8 @@ use std::marker::Model;
 /// A DPOP agent: its part in the propagation of UTIL tables and values. Contracts see its view.
 ///
 /// It keeps the tables that its children send. When it has all of them it joins them with its own
-/// tables, and keeps the joined table until it takes its value.
+/// tables and keeps the table that is projected from that; its own value it finds from the same
+/// tables when values come.
 #[derive(Debug, Drop)]
 pub struct DpopAgent {
     alloc: Global,
@@ -43,9 +44,7 @@ pub struct DpopAgent {
     stage: Stage,
     /// The table of each child, in the order of the children, where it has come.
     kept: Vec<Option<Table>>,
-    /// The joined table, from when it is made until the value is taken.
-    joined: Option<Table>,
-    /// The UTIL table, projected from the joined one.
+    /// The UTIL table, projected from the joined one, which is not kept.
     made: Option<Table>,
     value: Val,
 }
@@ -59,7 +58,7 @@ impl Model for DpopAgent {
 
     ghost view = { λ a. view_at a.own a.place a.stage a.kept.items a.made a.value };
 
-    ghost invariant = { λ a. IsSound a.own a.place a.stage a.kept.items a.joined a.made };
+    ghost invariant = { λ a. IsSound a.own a.place a.stage a.kept.items a.made };
 }
 
 impl DpopAgent {
@@ -80,7 +79,6 @@ impl DpopAgent {
             place,
             stage: Stage::Waiting,
             kept,
-            joined: None,
             made: None,
             value: Val(0),
         })
@@ -93,8 +91,7 @@ impl DpopAgent {
         self.made
     }
 
-    /// Takes the best value at these values, tells the children, and ends. Without a joined table
-    /// that waits for values it does nothing.
+    /// Takes the best value at these values, tells the children, and ends.
     fn decide(&mut self, values: &AgentContext) -> Result<Vec<Parcel>, NoMemory>
         requires working { self.old.phase ≡ working }
         requires made { is_some self.old.made ≡ true }
@@ -104,23 +101,10 @@ impl DpopAgent {
         ensures own { (self.new.own ≡ self.old.own) × (self.new.place ≡ self.old.place) }
         ensures gives { IfOk result (λ ps. Gives (decide self.old values.now) self.new ps.items) }
     {
-        let (Some(joined), Some(made)) = (&self.joined, &self.made) else {
-            return Ok(Vec::new(self.alloc));
-        };
         let kept = self.kept.as_slice();
-        let above = made.scope.as_slice();
-        let best = best_of(
-            self.alloc,
-            &self.own,
-            &self.place,
-            kept,
-            joined,
-            above,
-            values,
-        )?;
+        let best = best_of(self.alloc, &self.own, &self.place, kept, values)?;
         let children = self.place.children.as_slice();
         let parcels = values_for(self.alloc, children, kept, self.own.me, best, values)?;
-        self.joined = None;
         self.value = best;
         self.stage = Stage::Ended;
         Ok(parcels)
@@ -136,12 +120,10 @@ impl DpopAgent {
         ensures gives { IfOk result (λ ps. Gives (join self.old) self.new ps.items) }
     {
         let kept = self.kept.as_slice();
-        let Some(joined) = joined_of(self.alloc, &self.own, &self.place, kept, known)? else {
+        let Some(made) = util_of(self.alloc, &self.own, &self.place, kept, known)? else {
             return Ok(Vec::new(self.alloc));
         };
-        let made = util_of(self.alloc, &self.own, &self.place, kept, &joined)?;
         let parcels = util_for(self.alloc, self.place.path.as_slice(), &made)?;
-        self.joined = Some(joined);
         self.made = Some(made);
         if self.place.path.as_slice().last().is_none() {
             return self.decide(&AgentContext::new(self.alloc));
@@ -192,10 +174,13 @@ impl DpopAgent {
         ensures within { result ≡ true → AreWithin (map (size_of self.now) (separator self.now))
             (map (valued values.now) (separator self.now)) }
     {
-        let (Some(_), Some(made)) = (&self.joined, &self.made) else {
+        let Some(made) = &self.made else {
             return false;
         };
-        if self.place.path.as_slice().last() != Some(&from) {
+        if has_ended(self.stage) {
+            return false;
+        }
+        if !is_parent(self.place.path.as_slice(), from) {
             return false;
         }
         are_sized(&self.place, values.pairs()) && values.names_all(&made.scope)

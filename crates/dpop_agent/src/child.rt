@@ -5,7 +5,7 @@ ghost use Rattle.std.specs.List.{filter, list_all, zip};
 ghost use Rattle.std.specs.Cmp.Lexicographic.{pointwise};
 ghost use Rattle.dcop_base.specs.Limits.{joined_limit};
 ghost use Rattle.dcop_base.specs.Table.{has, product};
-ghost use Rattle.adopt_context.specs.Context.{value_in};
+ghost use Rattle.adopt_context.specs.Context.{is_value, value_in};
 ghost use Rattle.protocol_steps.specs.declared.message.Message.TheVariants.{Util};
 ghost use Rattle.protocol_steps.specs.Agent.{last_of};
 ghost use Rattle.protocol_steps.specs.Dpop.{joined_cells_with, kept_scopes, size_of};
@@ -41,6 +41,16 @@ pub(crate) fn util_for(alloc: Global, path: &[VarId], made: &Table) -> Result<Ve
         })?;
     }
     Ok(parcels)
+}
+
+/// Whether a variable is the agent's parent: the last one of its path.
+pub(crate) fn is_parent(path: &[VarId], var: VarId) -> bool
+    ensures { result ≡ is_value (last_of path.now) var }
+{
+    match path.last() {
+        Some(parent) => *parent == var,
+        None => false,
+    }
 }
 
 /// Whether a value is below the size of a variable of the path; also where it is another variable.

@@ -37,7 +37,7 @@ fn stands_from_the_end(path: &[VarId], var: VarId) -> bool
 }
 
 /// Whether these variables are the agent's and otherwise only those of its path.
-fn are_above(scope: &[VarId], me: VarId, path: &[VarId]) -> bool
+pub(crate) fn are_above(scope: &[VarId], me: VarId, path: &[VarId]) -> bool
     ensures { result ≡ list_all (λ u. u == me || has path.now u) scope.now }
 {
     scope.iter().all(|var| is_above(*var, me, path))

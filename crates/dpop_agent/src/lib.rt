@@ -7,6 +7,7 @@
 #![tactic(auto)]
 
 mod agent;
+mod best;
 mod child;
 mod joint;
 mod kept;

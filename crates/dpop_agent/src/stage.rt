@@ -1,5 +1,8 @@
 //! Where an agent stands.
 
+ghost use Rattle.std.specs.Prelude.{◌≡◌};
+ghost use Rattle.dpop_agent.specs.Stage.{phase_at};
+
 /// Where an agent stands.
 #[derive(Clone, Copy, Debug)]
 pub(crate) enum Stage {
@@ -11,4 +14,11 @@ pub(crate) enum Stage {
     Ended,
     /// Memory was wanted and not had.
     Failed,
+}
+
+/// Whether an agent that stands there has taken its value.
+pub(crate) fn has_ended(stage: Stage) -> bool
+    ensures { result ≡ (phase_at stage).ended }
+{
+    matches!(stage, Stage::Ended)
 }

@@ -9,11 +9,20 @@ ghost use Rattle.protocol_steps.specs.Ranges.{IsContext};
 ghost use Rattle.protocol_steps.specs.Values.{valued, context_of};
 ghost use Rattle.protocol_steps.specs.Dpop.{there};
 
-use crate::util::value_of;
 use adopt_context::AgentContext;
 use dcop_base::{NoMemory, Table, Val, VarId};
 use protocol_steps::{Message, Parcel};
 use std::alloc::Global;
+
+/// The value that a context gives to a variable; 0 where it does not name it.
+fn value_of(var: VarId, values: &AgentContext) -> Val
+    ensures { result ≡ valued values.now var }
+{
+    match values.get(var) {
+        Some(value) => value,
+        None => Val(0),
+    }
+}
 
 /// The agent's value for its own variable, and the values that a context gives to other ones.
 fn value_with(var: VarId, me: VarId, best: Val, values: &AgentContext) -> Val

@@ -9,5 +9,5 @@ mod leasts;
 mod picking;
 mod projecting;
 
-pub use picking::pick;
+pub use picking::{lowest_of, pick};
 pub use projecting::project;

@@ -2,6 +2,7 @@
 
 ghost use Rattle.std.specs.Prelude.{◌≡◌, ℕ, ◌+◌, ◌*◌, ◌<◌, ◌≤◌, true, None, length, nat_lt, slice_index};
 ghost use Rattle.std.specs.List.{All, remove, insert};
+ghost use Rattle.dcop_base.specs.Limits.{size_limit};
 ghost use Rattle.dcop_base.specs.Table.{has, product, cell_place, table_fault, AreWithin};
 ghost use Rattle.cost_table.specs.Cells.{place_in};
 ghost use Rattle.util_project.specs.Projection.{IsLowestLeast, cell_at_value, size_in};
@@ -23,6 +24,16 @@ pub fn pick(table: &Table, var: VarId, values: &[Val]) -> Val
         var,
         values,
     )
+}
+
+/// The lowest value at which these costs, one for each value, are least.
+pub fn lowest_of(costs: &[u64]) -> Val
+    requires some { 1 ≤ length costs.now }
+    requires few { length costs.now ≤ size_limit }
+    ensures { IsLowestLeast (λ d. slice_index costs.now d) (length costs.now) result }
+{
+    let size = costs.len() as u16;
+    lowest(costs, 0, 1, size)
 }
 
 /// The lowest value at which a cell of the table of these parts is least.

@@ -1,13 +1,21 @@
-use Rattle.std.proofs.Common.{ℕ, ◌<◌, List, Option, sym, ap, subst, ◌∙◌}
+use Rattle.std.proofs.Common.{ℕ, ◌<◌, List, Option, is_some, sym, ap, subst, ◌∙◌}
 use Rattle.std.specs.List.{All, flat_map}
 use Rattle.dcop_base.specs.Table.{CostTable}
 use Rattle.dcop_base.specs.Limits.{variable_limit, size_limit}
 use Rattle.protocol_steps.specs.Values.{valued}
-use Rattle.protocol_steps.specs.Dpop.{there, best_value}
+use Rattle.protocol_steps.specs.Dpop.{DpopView, there, best_value}
 use Rattle.dpop_agent.specs.Keeping.{keeping}
+use Rattle.dpop_agent.specs.Row.{AreBelowSizes}
 use Rattle.dpop_agent.proofs.OverLaws.{kept_below, best_small}
 use Rattle.dpop_agent.proofs.AgentLaws.{decided}
 use Rattle.dpop_agent.proofs.agent.DpopAgent.decide.Goals as goal
+
+pub best_of-requires-clause-within : goal.best_of-requires-clause-within
+best_of-requires-clause-within c =
+    let a = c.self.inside in
+    let value : ℕ → ℕ = valued c.args.values.now in
+    let here : AreBelowSizes (keeping a.own a.place a.kept.items) value = subst (λ (v : DpopView). AreBelowSizes v value) (sym c.self.view_is) c.requires.within in
+    subst (λ (es : List (Option CostTable)). AreBelowSizes (keeping a.own a.place es) value) (sym c.as_slice-kept.ensures.value) here
 
 pub values_for-requires-clause-scopes : goal.values_for-requires-clause-scopes
 values_for-requires-clause-scopes c =
@@ -26,3 +34,10 @@ returns-clause-gives c =
     let a = c.self.inside in
     decided a.own a.place a.stage a.kept.items c.as_slice-kept.result.now a.made a.value c.args.self.now c.args.values.now c.in_ok-best.best c.as_slice-children.result.now c.in_ok-parcels.parcels.items
     c.self.view_is c.requires.working c.as_slice-kept.ensures.value c.as_slice-children.ensures c.in_ok-best.ensures c.in_ok-parcels.ensures
+
+pub invariant_of-self : goal.invariant_of-self
+invariant_of-self c = record {
+  keeper = c.self.invariant.keeper;
+  util = c.self.invariant.util;
+  ended = λ _. ap (λ (v : DpopView). is_some v.made) c.self.view_is ∙ c.requires.made;
+}

@@ -39,10 +39,9 @@ invariant_of-self c =
     let cells = c.args.cells.now in
     let t = c.in-Some-2.table in
     let now = c.as_slice-kept.result.now in
-    let well = ap (λ (v : DpopView). v.phase.failed) c.self.view_is ∙ c.requires.running.well in
     let taken = subst (λ (es : List (Option CostTable)). IsTaken (keeping a.own a.place es) k scope cells (Some t)) c.as_slice-kept.ensures.value
     (subst (λ (o : Option CostTable). IsTaken (keeping a.own a.place now) k scope cells o) c.in-Some-2.is c.in_ok-table.ensures) in
-    keeps_sound a.own a.place a.stage a.kept.items a.joined a.made k scope cells t c.self.invariant well taken
+    keeps_sound a.own a.place a.stage a.kept.items a.made k scope cells t c.self.invariant taken
 
 pub join-requires : goal.join-requires
 join-requires c =
@@ -58,7 +57,7 @@ join-requires c =
     (subst (λ (o : Option CostTable). IsTaken (keeping a.own a.place now) k scope cells o) c.in-Some-2.is c.in_ok-table.ensures) in
     let vars = subst (λ (es : List (Option CostTable)). c.in_ok-over.over.vars.items ≡ separator_with (keeping a.own a.place es) (scope ∷ kept_scopes (keeping a.own a.place es)) ++ (a.own.me ∷ [])) c.as_slice-kept.ensures.value c.in_ok-over.ensures.vars in
     record {
-      working = open_works a.own a.place a.stage a.kept.items a.joined a.made k scope cells c.self.invariant started well taken.0;
+      working = open_works a.own a.place a.stage a.kept.items a.made k scope cells c.self.invariant started well taken.0;
       known = known_after a.own a.place a.stage a.kept.items a.made a.value k scope cells t c.in_ok-over.over taken vars c.in_ok-over.ensures.sizes;
     }
 

@@ -2,7 +2,7 @@ use Rattle.std.proofs.Common.{◌≡◌, ℕ, ◌+◌, ◌*◌, ◌<◌, ◌≤�
 use Rattle.std.specs.List.{All}
 use Rattle.dcop_base.specs.Limits.{amount_limit}
 use Rattle.adopt_context.specs.Bounds.{cap}
-use Rattle.adopt_agent.proofs.costs.add_cells.Given as goal
+use Rattle.own_costs.proofs.adding.add_cells.Given as goal
 
 abbrev pub invariant-loop-d : goal.invariant-loop-d
 invariant-loop-d l = record {

@@ -5,7 +5,7 @@ use Rattle.std.proofs.lemmas.List.{drop_more}
 use Rattle.dcop_base.specs.Table.{product, AreWithin, cell_place, has, has_repeat, table_fault}
 use Rattle.dcop_base.specs.Values.{with_own}
 use Rattle.dcop_base.proofs.TableLaws.{parts-of, cell_place-lt}
-use Rattle.adopt_agent.specs.Costs.{stride}
+use Rattle.own_costs.specs.Stride.{stride}
 
 -- the place of the values of a scope is a cell's
 pub place_lt : (f : ℕ → ℕ) (scope sizes cells : List ℕ) → table_fault scope sizes cells ≡ None → AreWithin sizes (map f scope) → cell_place sizes (map f scope) < length cells

@@ -3,9 +3,9 @@ use Rattle.dcop_base.specs.Table.{CostTable, cell_place}
 use Rattle.dcop_base.specs.Values.{cell_with, with_own}
 use Rattle.adopt_context.specs.Bounds.{cap}
 use Rattle.protocol_steps.specs.Values.{valued}
-use Rattle.adopt_agent.specs.Costs.{stride}
-use Rattle.adopt_agent.proofs.PlaceLaws.{place_lt, place_by_stride}
-use Rattle.adopt_agent.proofs.costs.add_table.Goals as goal
+use Rattle.own_costs.specs.Stride.{stride}
+use Rattle.own_costs.proofs.PlaceLaws.{place_lt, place_by_stride}
+use Rattle.own_costs.proofs.adding.add_table.Goals as goal
 
 pub add_cells-requires-clause-within : goal.add_cells-requires-clause-within
 add_cells-requires-clause-within c = λ d lt.

@@ -1,6 +1,6 @@
 use Rattle.std.proofs.Common.{◌≡◌, drop}
-use Rattle.adopt_agent.specs.Costs.{stride}
-use Rattle.adopt_agent.proofs.costs.stride_of.Given as goal
+use Rattle.own_costs.specs.Stride.{stride}
+use Rattle.own_costs.proofs.adding.stride_of.Given as goal
 
 abbrev pub invariant-loop-k : goal.invariant-loop-k
 invariant-loop-k l =

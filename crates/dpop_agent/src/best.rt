@@ -1,0 +1,90 @@
+//! The value that an agent takes.
+
+ghost use Rattle.std.specs.Prelude.{◌≡◌, ◌==◌, ◌||◌, ◌≤◌, true, length, replicate, IfOk};
+ghost use Rattle.std.specs.List.{All, filter, flat_map, list_all};
+ghost use Rattle.dcop_base.specs.Limits.{amount_limit};
+ghost use Rattle.dcop_base.specs.Table.{has};
+ghost use Rattle.protocol_steps.specs.Values.{valued};
+ghost use Rattle.protocol_steps.specs.Dpop.{best_value, there};
+ghost use Rattle.dpop_agent.specs.Keeping.{keeping};
+ghost use Rattle.dpop_agent.specs.Row.{AreBelowSizes, HasCells, HasRisen};
+ghost use Rattle.dpop_agent.specs.Sound.{IsKeeper};
+
+use crate::joint::are_above;
+use adopt_context::AgentContext;
+use dcop_base::{NoMemory, Private, Table, Val, VarId};
+use own_costs::add_table;
+use pseudotree::Place;
+use std::alloc::Global;
+use util_project::lowest_of;
+
+/// The lowest own value of least joined cost at the separator's values: the costs of all own values
+/// are added up from the agent's own tables and the kept ones.
+pub(crate) fn best_of(
+    alloc: Global,
+    own: &Private,
+    place: &Place,
+    kept: &[Option<Table>],
+    values: &AgentContext,
+) -> Result<Val, NoMemory>
+    requires keeper { IsKeeper own.now place.now kept.now }
+    requires within { AreBelowSizes (keeping own.now place.now kept.now) (valued values.now) }
+    ensures { IfOk result (λ best. best
+        ≡ best_value (keeping own.now place.now kept.now) (valued values.now)) }
+{
+    let mut costs = vec![in alloc; 0; usize::from(own.size)]?;
+    Ok(best_by(costs.as_mut_slice(), own, place, kept, values))
+}
+
+/// The same, by a row of zeros, one for each own value.
+fn best_by(
+    costs: &mut [u64],
+    own: &Private,
+    place: &Place,
+    kept: &[Option<Table>],
+    values: &AgentContext,
+) -> Val
+    requires keeper { IsKeeper own.now place.now kept.now }
+    requires within { AreBelowSizes (keeping own.now place.now kept.now) (valued values.now) }
+    requires zeros { costs.old ≡ replicate own.now.size 0 }
+    ensures { result ≡ best_value (keeping own.now place.now kept.now) (valued values.now) }
+{
+    let tables = own.tables.as_slice();
+    let path = place.path.as_slice();
+    add_own(costs, tables, own.me, path, values);
+    add_kept(costs, kept, own.me, values);
+    lowest_of(costs)
+}
+
+/// Adds to each cost the cells of the tables that name the agent and otherwise only variables of its
+/// path.
+fn add_own(costs: &mut [u64], tables: &[Table], me: VarId, path: &[VarId], values: &AgentContext)
+    requires some { 1 ≤ length costs.old }
+    requires small { All (λ c. c ≤ amount_limit) costs.old }
+    requires cells { All (λ t. list_all (λ u. u == me || has path.now u) t.scope ≡ true
+        → HasCells me (valued values.now) (length costs.old) t) tables.now }
+    ensures { HasRisen me (valued values.now)
+        (filter (λ t. list_all (λ u. u == me || has path.now u) t.scope) tables.now)
+        costs.old costs.new }
+{
+    for table in tables {
+        if are_above(table.scope.as_slice(), me, path) {
+            add_table(costs, table, me, values);
+        }
+    }
+}
+
+/// Adds to each cost the cells of the kept tables.
+fn add_kept(costs: &mut [u64], kept: &[Option<Table>], me: VarId, values: &AgentContext)
+    requires some { 1 ≤ length costs.old }
+    requires small { All (λ c. c ≤ amount_limit) costs.old }
+    requires cells { All (HasCells me (valued values.now) (length costs.old))
+        (flat_map there kept.now) }
+    ensures { HasRisen me (valued values.now) (flat_map there kept.now) costs.old costs.new }
+{
+    for entry in kept {
+        if let Some(table) = entry {
+            add_table(costs, table, me, values);
+        }
+    }
+}
