@@ -4,9 +4,9 @@
 usage: bench/gate.py [WORDS..]
 
 Runs `rt ci` with these words at the top of the repository, on Linux, and looks each second and a half at the processes
-that prove, build or run something there, adding up what each has used. What `rt ci` kept from earlier runs it does not
-do again: from nothing are `rt ci --anew` and a machine that has kept nothing. What other runs of `rt` on the machine
-do meanwhile counts too, so there should be none.
+that prove, build or run something for it, adding up what each has used. What `rt ci` kept from earlier runs it does not
+do again: from nothing are `rt ci --anew` and a machine that has kept nothing. Processes that `rt ci` did not start do not
+count.
 
 Prints a line for each crate, in the order of crates.txt, with three numbers: its proof with the building of its library
 or program, its tests, and its wrong bodies, with how many these are. A process that ends between two looks is counted
@@ -24,6 +24,28 @@ TICKS = os.sysconf("SC_CLK_TCK")
 PAUSE = 1.5
 # What stands in the name of a folder in which `rt` tries a wrong body.
 EDITED = "rt-edit-"
+
+
+def parents():
+    """The parent of each process."""
+    found = {}
+    for process in pathlib.Path("/proc").iterdir():
+        if process.name.isdigit():
+            try:
+                found[process.name] = (process / "stat").read_text().rpartition(")")[2].split()[1]
+            except OSError:
+                pass
+    return found
+
+
+def descend_from(gate, parent_of):
+    """The processes that the gate started, or that such a one started."""
+    started = {str(gate.pid)}
+    waiting = set(parent_of) - started
+    while grown := {process for process in waiting if parent_of[process] in started}:
+        started |= grown
+        waiting -= grown
+    return started
 
 
 def looked_at(process):
@@ -46,8 +68,8 @@ def sampled(gate):
     """The seconds of each process that was seen while the gate ran, with what it did."""
     seen = {}
     while gate.poll() is None:
-        for process in pathlib.Path("/proc").iterdir():
-            found = looked_at(process) if process.name.isdigit() else None
+        for process in descend_from(gate, parents()):
+            found = looked_at(pathlib.Path("/proc") / process)
             if found:
                 key, what, seconds = found
                 seen[key] = (what, seconds)
