@@ -125,7 +125,7 @@ fn keep_one(
     Ok(Table {
         scope: VarList::from_vec(scope),
         sizes: SizeList::from_vec(sizes),
-        cells: CellList::from_vec(kept),
+        cells: CellList::shared(alloc, kept)?,
     })
 }
 

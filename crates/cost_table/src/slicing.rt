@@ -53,7 +53,7 @@ fn slice_of(
     Ok(Table {
         scope: VarList::from_vec(scope),
         sizes: SizeList::from_vec(sizes),
-        cells: CellList::from_vec(kept),
+        cells: CellList::shared(alloc, kept)?,
     })
 }
 

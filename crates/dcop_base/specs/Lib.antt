@@ -11,3 +11,4 @@ pub mod Totals
 pub mod Made
 pub mod Values
 pub mod Place
+pub mod Cells

@@ -5,6 +5,7 @@
 //! [`cost_of`] is what an assignment costs, and [`private`] what one agent knows of a problem.
 #![tactic(auto)]
 
+mod cells;
 mod cost;
 mod fault;
 mod joint;
@@ -21,6 +22,7 @@ mod sequence;
 mod size;
 mod table;
 
+pub use cells::CellList;
 pub use cost::cost_of;
 pub use knowledge::Private;
 pub use limit::{
@@ -35,6 +37,6 @@ pub use part::{acquaintance, private};
 pub use place::place_of;
 pub use problem::{Problem, ProblemFault, problem_is_whole};
 pub use scope::{position_of, repeats, sizes_of, stands_in};
-pub use sequence::{Bytes, CellList, PairList, Sequence, SizeList, TableList, ValList, VarList};
+pub use sequence::{Bytes, PairList, Sequence, SizeList, TableList, ValList, VarList};
 pub use size::{have_zero, product_of};
 pub use table::{Table, TableFault};

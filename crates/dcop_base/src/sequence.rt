@@ -78,9 +78,6 @@ pub type ValList = Sequence<Val>;
 /// Domain sizes: how many values a variable has.
 pub type SizeList = Sequence<u16>;
 
-/// Cells of cost tables.
-pub type CellList = Sequence<u64>;
-
 /// Cost tables.
 pub type TableList = Sequence<Table>;
 

@@ -5,11 +5,12 @@ ghost use Rattle.std.specs.List.{list_any, All};
 ghost use Rattle.dcop_base.specs.Limits.{amount_limit};
 ghost use Rattle.dcop_base.specs.Table.{CostTable, product, table_fault, IsTableOfParts, AreWithin, values_at, cell_at, cell_place};
 
+use crate::cells::CellList;
 use crate::limit::CAP;
 use crate::number::{Val, VarId};
 use crate::place::place_of;
 use crate::scope::repeats;
-use crate::sequence::{CellList, SizeList, VarList};
+use crate::sequence::{SizeList, VarList};
 use crate::size::{have_zero, product_of};
 use std::alloc::AllocError;
 use std::marker::Model;

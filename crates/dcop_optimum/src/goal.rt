@@ -57,7 +57,7 @@ fn turned_table(alloc: Global, table: &Table) -> Result<Table, NoMemory>
     Ok(Table {
         scope: VarList::from_vec(scope),
         sizes: SizeList::from_vec(sizes),
-        cells: CellList::from_vec(cells),
+        cells: CellList::shared(alloc, cells)?,
     })
 }
 

@@ -14,6 +14,7 @@ mod inbox;
 mod lawful;
 mod link;
 mod outcome;
+mod queue;
 mod replaying;
 mod seat;
 mod start;

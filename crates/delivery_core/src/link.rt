@@ -4,10 +4,10 @@ ghost use Rattle.std.specs.Prelude.{◌≡◌, ◌++◌, [], ◌∷◌, take, dr
 ghost use Rattle.std.specs.List.{last_or};
 ghost use Rattle.delivery_core.specs.Inboxes.{with_letter, without_next, with_last};
 
+use crate::queue::Queue;
 use dcop_base::{NoMemory, VarId};
 use protocol_steps::Letter;
 use std::alloc::Global;
-use std::collections::VecDeque;
 use std::marker::Model;
 
 /// What one sender sent to an agent: the last letter that was taken, and the letters that wait.
@@ -15,7 +15,7 @@ use std::marker::Model;
 pub(crate) struct Link {
     from: VarId,
     taken: Option<Letter>,
-    waiting: VecDeque<Letter>,
+    waiting: Queue,
 }
 
 impl Model for Link {
@@ -23,7 +23,7 @@ impl Model for Link {
 
     ghost Value = { LinkView };
 
-    ghost view = { λ l. record { from = l.from; taken = l.taken; waiting = l.waiting.items } };
+    ghost view = { λ l. record { from = l.from; taken = l.taken; waiting = l.waiting } };
 }
 
 impl Link {
@@ -36,7 +36,7 @@ impl Link {
         Link {
             from,
             taken: None,
-            waiting: VecDeque::new(alloc),
+            waiting: Queue::new(alloc),
         }
     }
 
@@ -58,8 +58,7 @@ impl Link {
     pub(crate) fn add(&mut self, letter: Letter) -> Result<(), NoMemory>
         ensures { OnOk result (self.new ≡ with_letter letter self.old) }
     {
-        self.waiting.push_back(letter)?;
-        Ok(())
+        self.waiting.push(letter)
     }
 
     /// Takes off the next letters, and puts them behind those of the batch.
@@ -68,7 +67,7 @@ impl Link {
         ensures rest { OnOk result (self.new ≡ without_next count self.old) }
     {
         for _ in 0..count {
-            if let Some(letter) = self.waiting.pop_front() {
+            if let Some(letter) = self.waiting.pop() {
                 batch.push(letter)?;
             }
         }
@@ -87,7 +86,7 @@ impl Link {
         ensures { MatchOption result (last_or self.now.taken self.now.waiting ≡ None)
             (λ l. last_or self.now.taken self.now.waiting ≡ Some l.now) }
     {
-        match self.waiting.back() {
+        match self.waiting.last() {
             Some(letter) => Some(letter),
             None => self.taken.as_ref(),
         }

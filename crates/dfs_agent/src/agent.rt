@@ -241,6 +241,20 @@ impl TokenAgent {
     }
 
     /// Starts: the root opens with the empty path.
+    fn open(&mut self) -> Result<Option<Parcel>, NoMemory>
+        requires { IsNew self.old }
+        ensures own { self.new.own ≡ self.old.own }
+        ensures gives { IfOk result (Gives (token_start self.old) self.new) }
+    {
+        self.stage = Stage::Closed;
+        if self.own.me != VarId(0) {
+            return Ok(None);
+        }
+        self.path = VarList::from_vec(Vec::new(self.alloc));
+        self.look()
+    }
+
+    /// Starts, and gives what is sent.
     fn begin(&mut self) -> Result<Vec<Parcel>, NoMemory>
         requires { IsNew self.old }
         ensures own { self.new.own ≡ self.old.own }
@@ -248,12 +262,8 @@ impl TokenAgent {
         ensures sent { IfOk result (λ ps. ps.items ≡ (token_start self.old).sends) }
     {
         let mut parcels = Vec::new(self.alloc);
-        self.stage = Stage::Closed;
-        if self.own.me == VarId(0) {
-            self.path = VarList::from_vec(Vec::new(self.alloc));
-            if let Some(parcel) = self.look()? {
-                parcels.push(parcel)?;
-            }
+        if let Some(parcel) = self.open()? {
+            parcels.push(parcel)?;
         }
         Ok(parcels)
     }

@@ -24,7 +24,7 @@ use crate::stage::{Stage, has_ended};
 use crate::util::util_of;
 use crate::values::values_for;
 use adopt_context::AgentContext;
-use dcop_base::{NoMemory, Private, Table, Val, VarId, position_of};
+use dcop_base::{CellList, NoMemory, Private, Table, Val, VarId, position_of};
 use protocol_steps::{Batch, Letter, Machine, Message, Outbox, Parcel, Standing};
 use pseudotree::Place;
 use std::alloc::Global;
@@ -136,7 +136,7 @@ impl DpopAgent {
         &mut self,
         from: VarId,
         scope: &[VarId],
-        cells: &[u64],
+        cells: &CellList,
     ) -> Result<Vec<Parcel>, NoMemory>
         requires running { IsRunning self.old }
         requires range { AreCells cells.now }
@@ -211,7 +211,7 @@ impl DpopAgent {
     {
         match &letter.message {
             Message::Util { scope, cells } => {
-                self.take_util(letter.from, scope.as_slice(), cells.as_slice())
+                self.take_util(letter.from, scope.as_slice(), cells)
             }
             Message::ValueAll { values } => self.take_values(letter.from, values),
             _ => Ok(Vec::new(self.alloc)),

@@ -36,7 +36,7 @@ pub(crate) fn util_for(alloc: Global, path: &[VarId], made: &Table) -> Result<Ve
             to: *parent,
             message: Message::Util {
                 scope: VarList::from_vec(Vec::from_slice(alloc, made.scope.as_slice())?),
-                cells: CellList::from_vec(Vec::from_slice(alloc, made.cells.as_slice())?),
+                cells: made.cells.clone()?,
             },
         })?;
     }
@@ -166,7 +166,7 @@ pub(crate) fn table_of(
     kept: &[Option<Table>],
     child: usize,
     scope: &[VarId],
-    cells: &[u64],
+    cells: &CellList,
     over: &[u16],
 ) -> Result<Option<Table>, NoMemory>
     requires keeper { IsKeeper own.now place.now kept.now }
@@ -184,7 +184,7 @@ pub(crate) fn table_of(
         child,
         scope,
         sizes.as_slice(),
-        cells,
+        cells.as_slice(),
         over,
     )? {
         return Ok(None);
@@ -192,6 +192,6 @@ pub(crate) fn table_of(
     Ok(Some(Table {
         scope: VarList::from_vec(Vec::from_slice(alloc, scope)?),
         sizes: SizeList::from_vec(sizes),
-        cells: CellList::from_vec(Vec::from_slice(alloc, cells)?),
+        cells: cells.clone()?,
     }))
 }

@@ -80,5 +80,5 @@ fn draw_cells(
     for _ in 0..count {
         cells.push(words.next_word() % (top + 1))?;
     }
-    Ok(CellList::from_vec(cells))
+    CellList::shared(alloc, cells)
 }

@@ -138,7 +138,7 @@ fn are_same_variables(some: &VarList, others: &VarList) -> bool
 fn are_same_cells(some: &CellList, others: &CellList) -> bool
     ensures { (result ≡ true) ↔ (some.now ≡ others.now) }
 {
-    some == others
+    some.as_slice() == others.as_slice()
 }
 
 fn is_same_context(one: &AgentContext, other: &AgentContext) -> bool

@@ -60,10 +60,11 @@ fn table_with(
     if let Some(kind) = fault_of(draft, sizes.as_slice(), &summary) {
         return Err(LineEnd::Fault(kind));
     }
+    let shared = CellList::shared(alloc, cells)?;
     let table = Table {
         scope: VarList::from_vec(scope),
         sizes,
-        cells: CellList::from_vec(cells),
+        cells: shared,
     };
     Ok((table, summary))
 }

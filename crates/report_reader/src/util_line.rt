@@ -1,6 +1,6 @@
 //! The lines of UTIL tables.
 
-ghost use Rattle.std.specs.Prelude.{◌≡◌, ◌<◌, ◌≤◌, ◌-◌, ◌^◌, ◌==◌, ℕ, List, true, false, Some, None, length, position, MatchOption, IfOk, IfSome};
+ghost use Rattle.std.specs.Prelude.{◌≡◌, ◌<◌, ◌≤◌, ◌-◌, ◌^◌, ◌==◌, ℕ, List, true, false, Some, None, length, map, position, slice_index, MatchOption, IfOk, IfSome};
 ghost use Rattle.std.specs.List.{All, list_all, before_first};
 ghost use Rattle.std.specs.Option.{option_map};
 ghost use Rattle.std.specs.Str.{bytes_eq};
@@ -192,8 +192,7 @@ fn counted(
     let Some(count) = count_of(text) else {
         return Err(LineEnd::Fault(ReportKind::BadNumber));
     };
-    let own = sizes_of(alloc, sizes, scope.as_slice())?;
-    if !is_product(count, own.as_slice()) {
+    if !fill(alloc, sizes, scope.as_slice(), count)? {
         return Err(LineEnd::Fault(ReportKind::CellCount));
     }
     let cells = cells_of(alloc, text, count)?;
@@ -203,6 +202,17 @@ fn counted(
         scope: VarList::from_vec(scope),
         cells,
     })
+}
+
+/// Whether so many cells fill a table with this scope.
+fn fill(alloc: Global, sizes: &[u16], scope: &[VarId], count: usize) -> Result<bool, NoMemory>
+    requires within { All (λ v. v < length sizes.now) scope.now }
+    requires few { count < 2 ^ 64 - 1 }
+    ensures { IfOk result (λ full. full
+        ≡ count == product (map (λ v. slice_index sizes.now v) scope.now)) }
+{
+    let own = sizes_of(alloc, sizes, scope)?;
+    Ok(is_product(count, own.as_slice()))
 }
 
 /// Whether a number is the product of the sizes.

@@ -63,10 +63,7 @@ pub fn cells_of(alloc: Global, var: VarId, tables: &[Option<Table>]) -> Result<C
     ensures { IfOk result (λ cells. cells ≡ cells_on (slice_get tables.now var)) }
 {
     match tables.get(var.0 as usize) {
-        Some(Some(table)) => {
-            let cells = Vec::from_slice(alloc, table.cells.as_slice())?;
-            Ok(CellList::from_vec(cells))
-        }
+        Some(Some(table)) => Ok(table.cells.clone()?),
         _ => Ok(CellList::from_vec(Vec::new(alloc))),
     }
 }

@@ -14,7 +14,7 @@ use crate::number::next_number;
 use crate::scope::scope_of;
 use crate::tuple::cells_of;
 use dcop_base::{
-    CellList, MAX_CELLS, MAX_SCOPE, NoMemory, SizeList, VarId, VarList, product_of, sizes_of,
+    MAX_CELLS, MAX_SCOPE, NoMemory, Sequence, SizeList, VarId, VarList, product_of, sizes_of,
 };
 use problem_text::LineEnd;
 use std::alloc::Global;
@@ -27,7 +27,7 @@ pub struct Function {
     pub after: usize,
     pub scope: VarList,
     pub sizes: SizeList,
-    pub cells: CellList,
+    pub cells: Sequence<u64>,
 }
 
 impl Model for Function {
@@ -171,13 +171,13 @@ fn function_with(
             after,
             scope: VarList::from_vec(vec![in alloc; VarId(0)]?),
             sizes: SizeList::from_vec(vec![in alloc; size]?),
-            cells: CellList::from_vec(vec![in alloc; cells[0]; usize::from(size)]?),
+            cells: Sequence::from_vec(vec![in alloc; cells[0]; usize::from(size)]?),
         });
     }
     Ok(Function {
         after,
         scope: VarList::from_vec(scope),
         sizes: own,
-        cells: CellList::from_vec(cells),
+        cells: Sequence::from_vec(cells),
     })
 }

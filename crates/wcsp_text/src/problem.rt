@@ -57,14 +57,14 @@ fn tables_of(
     let mut afters = Vec::with_capacity(alloc, functions.len())?;
     for function in functions {
         afters.push(function.after)?;
-        tables.push(table_of(function, top, hard))?;
+        tables.push(table_of(alloc, function, top, hard)?)?;
     }
     Ok(Tables { tables, afters })
 }
 
 /// The table of a function. It keeps the memory of the function's cells.
-fn table_of(function: Function, top: u64, hard: u64) -> Table
-    ensures { result ≡ capped_table top hard function.table }
+fn table_of(alloc: Global, function: Function, top: u64, hard: u64) -> Result<Table, NoMemory>
+    ensures { IfOk result (λ t. t ≡ capped_table top hard function.table) }
 {
     let Function {
         after: _,
@@ -74,11 +74,12 @@ fn table_of(function: Function, top: u64, hard: u64) -> Table
     } = function;
     let mut cells = cells.into_vec();
     raise(cells.as_mut_slice(), top, hard);
-    Table {
+    let cells = CellList::shared(alloc, cells)?;
+    Ok(Table {
         scope,
         sizes,
-        cells: CellList::from_vec(cells),
-    }
+        cells,
+    })
 }
 
 /// A fault of a problem as a fault of the text.

@@ -11,6 +11,6 @@ invariant_of-result c =
     let t = c.table.inside in
     let scope : c.from_vec.result ≡ t.scope = c.from_vec.ensures ∙ c.in_ok-scope.ensures.items ∙ c.as_slice.ensures in
     let sizes : c.from_vec-2.result ≡ t.sizes = c.from_vec-2.ensures ∙ c.in_ok-sizes.ensures.items ∙ c.as_slice-2.ensures in
-    let cells : c.from_vec-3.result ≡ map (λ cell. greatest t.cells - cell) t.cells =
-    c.from_vec-3.ensures ∙ c.in_ok-cells.ensures ∙ ap (λ top. map (λ cell. top - cell) c.as_slice-cells.result.now) c.greatest_of.ensures ∙ ap (λ cells. map (λ cell. greatest cells - cell) cells) c.as_slice-cells.ensures in
+    let cells : c.in_ok-shared.field-0 ≡ map (λ cell. greatest t.cells - cell) t.cells =
+    c.in_ok-shared.ensures ∙ c.in_ok-cells.ensures ∙ ap (λ top. map (λ cell. top - cell) c.as_slice-cells.result.now) c.greatest_of.ensures ∙ ap (λ cells. map (λ cell. greatest cells - cell) cells) c.as_slice-cells.ensures in
     rw (scope, sizes, cells) (turned_fault t.scope t.sizes t.cells c.table.invariant)

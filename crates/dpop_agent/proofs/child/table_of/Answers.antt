@@ -7,11 +7,12 @@ use Rattle.dpop_agent.proofs.child.table_of.Goals as goal
 
 pub invariant_of-result : goal.invariant_of-result
 invariant_of-result c =
-    let taken = sym c.in_ok-takes.ensures ∙ c.if-not-branch.false in
+    let found = sym c.in_ok-takes.ensures ∙ c.if-not-branch.false in
+    let taken = rw c.as_slice-2.ensures at found in
     let scope = c.from_vec.ensures ∙ c.in_ok-from_slice.ensures.items in
     let sizes = c.from_vec-2.ensures ∙ c.in_ok-sizes.ensures in
-    let cells = c.from_vec-3.ensures ∙ c.in_ok-from_slice-2.ensures.items in
-    ap (λ (vs : List ℕ). table_fault vs c.from_vec-2.result c.from_vec-3.result) scope
-    ∙ ap (λ (ss : List ℕ). table_fault c.args.scope.now ss c.from_vec-3.result) sizes
+    let cells = c.in_ok-clone.ensures.cases in
+    ap (λ (vs : List ℕ). table_fault vs c.from_vec-2.result c.in_ok-clone.field-0) scope
+    ∙ ap (λ (ss : List ℕ). table_fault c.args.scope.now ss c.in_ok-clone.field-0) sizes
     ∙ ap (λ (cs : List ℕ). table_fault c.args.scope.now (map (size_of (keeping c.args.own.now c.args.place.now [])) c.args.scope.now) cs) cells
     ∙ taken_faultless c.args.own.now c.args.place.now c.args.kept.now c.requires.keeper c.args.child c.args.scope.now c.args.cells.now taken c.requires.range

@@ -24,7 +24,7 @@ invariant_of-result c =
     let place = c.place_in-place.result in
     let parts = parts-of scope sizes c.args.cells.now c.requires.whole in
     let lt : place < length sizes = omega (arith, c.place_in-place.ensures, place_in-lt scope c.args.var c.requires.stands, parts.sized) in
-    rw (c.from_vec.ensures, c.from_vec-2.ensures, c.from_vec-3.ensures, c.in_ok-scope.ensures, c.in_ok-sizes.ensures)
+    rw (c.from_vec.ensures, c.from_vec-2.ensures, c.in_ok-shared.ensures, c.in_ok-scope.ensures, c.in_ok-sizes.ensures)
     (projection-of scope sizes c.args.cells.now c.args.var place c.in_ok-kept.kept.items c.place_in-place.ensures lt c.requires.whole c.in_ok-kept.ensures).whole
 
 pub returns : goal.returns
@@ -34,5 +34,5 @@ returns c =
     let place = c.place_in-place.result in
     let parts = parts-of scope sizes c.args.cells.now c.requires.whole in
     let lt : place < length sizes = omega (arith, c.place_in-place.ensures, place_in-lt scope c.args.var c.requires.stands, parts.sized) in
-    rw (c.from_vec.ensures, c.from_vec-2.ensures, c.from_vec-3.ensures, c.in_ok-scope.ensures, c.in_ok-sizes.ensures)
+    rw (c.from_vec.ensures, c.from_vec-2.ensures, c.in_ok-shared.ensures, c.in_ok-scope.ensures, c.in_ok-sizes.ensures)
     (projection-of scope sizes c.args.cells.now c.args.var place c.in_ok-kept.kept.items c.place_in-place.ensures lt c.requires.whole c.in_ok-kept.ensures)

@@ -4,7 +4,7 @@ use Rattle.delivery_core.proofs.link.Link.take_off.Given as goal
 abbrev pub invariant-loop : goal.invariant-loop
 invariant-loop l = record {
   batch : l.batch.items ≡ l.initial.batch.items ++ take l.counter l.fn.self.waiting;
-  rest : l.self-inside.waiting.items ≡ drop l.counter l.fn.self.waiting;
+  rest : l.self-inside.waiting ≡ drop l.counter l.fn.self.waiting;
   from : l.self-inside.from ≡ l.fn.self.from;
   taken : l.self-inside.taken ≡ l.fn.self.taken;
 }
