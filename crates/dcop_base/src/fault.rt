@@ -4,7 +4,7 @@ ghost use Rattle.std.specs.Prelude.{◌≡◌, ℕ, ◌+◌, ◌<◌, ◌≤◌,
 ghost use Rattle.std.specs.List.{All, list_any, position};
 ghost use Rattle.std.specs.Cmp.Lexicographic.{pointwise};
 ghost use Rattle.dcop_base.specs.Limits.{amount_limit, cell_limit, cost_limit};
-ghost use Rattle.dcop_base.specs.Table.{CostTable, IsTable, greatest};
+ghost use Rattle.dcop_base.specs.Table.{CostTable, greatest};
 ghost use Rattle.dcop_base.specs.Faults.{cell_count, greatest_sum, is_bad_size, cells_fault, next_fault, tables_fault, problem_fault};
 ghost use Rattle.dcop_base.specs.Totals.{AreTotals};
 
@@ -28,8 +28,7 @@ struct Totals {
 /// The first thing that is wrong with sizes and tables, in the order in which a problem is
 /// refused. It is never want of memory.
 pub(crate) fn fault_of(sizes: &[u16], tables: &[Table]) -> Option<ProblemFault>
-    ensures fault { result ≡ problem_fault sizes.now tables.now }
-    ensures whole { result ≡ None → All IsTable tables.now }
+    ensures { result ≡ problem_fault sizes.now tables.now }
 {
     if sizes.is_empty() {
         return Some(ProblemFault::NoVariables);
@@ -54,8 +53,7 @@ fn bad_size(sizes: &[u16]) -> Option<usize>
 
 /// The first fault of the tables.
 fn tables_fault_of(sizes: &[u16], tables: &[Table]) -> Option<ProblemFault>
-    ensures fault { result ≡ tables_fault sizes.now [] tables.now }
-    ensures whole { result ≡ None → All IsTable tables.now }
+    ensures { result ≡ tables_fault sizes.now [] tables.now }
 {
     let mut before = Totals {
         tables: 0,

@@ -1,6 +1,9 @@
 //! Problems: variables with finite domains, cost tables over them, and joints.
 
-ghost use Rattle.std.specs.Prelude.{◌≡◌, ℕ};
+ghost use Rattle.std.specs.Prelude.{◌≡◌, ℕ, None, IfOk};
+ghost use Rattle.std.specs.List.{All};
+ghost use Rattle.dcop_base.specs.Faults.{problem_fault};
+ghost use Rattle.dcop_base.specs.Table.{IsTable};
 ghost use Rattle.dcop_base.specs.Whole.{IsProblem};
 
 use crate::fault::fault_of;
@@ -9,6 +12,7 @@ use crate::limit::{MAX_CELLS, MAX_COST, MAX_SCOPE, MAX_SIZE, MAX_VARIABLES};
 use crate::memory::NoMemory;
 use crate::number::VarId;
 use crate::sequence::{PairList, SizeList, TableList};
+use crate::table::Table;
 use std::alloc::{AllocError, Global};
 use std::marker::Model;
 
@@ -90,7 +94,7 @@ impl Model for Problem {
 }
 
 impl Problem {
-    ghost use Rattle.dcop_base.specs.Made.{MakesProblem};
+    ghost use Rattle.dcop_base.specs.Made.{MakesProblem, IsProblemOf};
 
     /// The problem of these sizes and tables, with the joints that make its graph connected.
     ///
@@ -108,12 +112,40 @@ impl Problem {
         if let Some(fault) = fault_of(sizes.as_slice(), tables.as_slice()) {
             return Err(fault);
         }
+        Ok(Problem::of_faultless(alloc, sizes, tables)?)
+    }
+
+    /// The problem of sizes and tables with which nothing is wrong, with the joints that make its
+    /// graph connected. [`Problem::new`] is the same for those of which that is not known: it looks at
+    /// each cell.
+    ///
+    /// # Errors
+    ///
+    /// [`NoMemory`] where memory was wanted and not had. Sizes and tables are gone then too.
+    pub fn of_faultless(
+        alloc: Global,
+        sizes: SizeList,
+        tables: TableList,
+    ) -> Result<Problem, NoMemory>
+        requires { problem_fault sizes tables ≡ None }
+        ensures { IfOk result (IsProblemOf sizes tables) }
+    {
+        tables_are_whole(tables.as_slice());
         let joints = joints_of(alloc, sizes.as_slice().len(), tables.as_slice())?;
         Ok(Problem {
             sizes,
             tables,
             joints,
         })
+    }
+}
+
+/// Every table is whole, so this does nothing.
+fn tables_are_whole(tables: &[Table])
+    ensures { All IsTable tables.now }
+{
+    for table in tables {
+        let _ = table.scope.as_slice();
     }
 }
 

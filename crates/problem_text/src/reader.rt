@@ -19,7 +19,7 @@ use crate::table_line::table_of;
 use crate::variable::variable_of;
 use crate::word::{is_word, next_word};
 use crate::word_line::next_line;
-use dcop_base::{NoMemory, Problem, ProblemFault, SizeList, TableList};
+use dcop_base::{NoMemory, Problem, SizeList, TableList};
 use std::alloc::Global;
 
 /// What a line does to the draft.
@@ -161,21 +161,18 @@ fn file_of(alloc: Global, draft: Draft) -> Result<ProblemFile, NoMemory>
         cells: _,
         sum: _,
     } = draft;
-    match Problem::new(
+    let problem = Problem::of_faultless(
         alloc,
         SizeList::from_vec(sizes),
         TableList::from_vec(tables),
-    ) {
-        Ok(problem) => Ok(ProblemFile {
-            version,
-            goal,
-            names,
-            labels: LabelList::from_vec(labels),
-            problem,
-        }),
-        Err(ProblemFault::NoMemory) => Err(NoMemory),
-        Err(_) => unreachable!(),
-    }
+    )?;
+    Ok(ProblemFile {
+        version,
+        goal,
+        names,
+        labels: LabelList::from_vec(labels),
+        problem,
+    })
 }
 
 /// Reads a problem text up to its line `end`. What stands behind that line is not looked at.

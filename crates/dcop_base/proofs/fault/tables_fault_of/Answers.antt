@@ -1,6 +1,5 @@
-use Rattle.std.proofs.Common.{◌≡◌, ℕ, ◌+◌, List, None, length, take, sym, ap, ◌∙◌, subst, arith}
-use Rattle.std.proofs.lemmas.List.Elements.{All-more}
-use Rattle.dcop_base.specs.Table.{CostTable, IsTable, greatest}
+use Rattle.std.proofs.Common.{◌≡◌, ℕ, ◌+◌, List, None, length, take, sym, ap, ◌∙◌, arith}
+use Rattle.dcop_base.specs.Table.{CostTable, greatest}
 use Rattle.dcop_base.specs.Faults.{next_fault}
 use Rattle.dcop_base.proofs.FaultLaws.{next-none, faults-more, totals-more}
 use Rattle.dcop_base.proofs.fault.tables_fault_of.Goals as goal
@@ -23,6 +22,5 @@ loop-table-preserved c =
       totals = totals-more tables k t before c.totals_with-before.result c.loop-table-test.true c.table-item.is invariant.totals c.totals_with-before.ensures.tables cells sum;
       cells = omega (arith, next.cells, invariant.totals.cells, cells);
       sum = omega (arith, next.sums, invariant.totals.sum, sum);
-      whole = All-more IsTable tables k t c.loop-table-test.true invariant.whole (subst IsTable c.table-item.is (subst IsTable c.table.view_is c.table.invariant));
       rest = sym (faults-more sizes tables k t c.loop-table-test.true c.table-item.is none) ∙ invariant.rest;
     }

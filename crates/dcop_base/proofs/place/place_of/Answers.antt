@@ -1,5 +1,4 @@
-use Rattle.std.proofs.Common.{ℕ, ◌<◌, ◌+◌, ◌*◌, List, refl, ◌∙◌, arith}
-use Rattle.dcop_base.specs.Place.{AreDigits}
+use Rattle.std.proofs.Common.{refl, ◌∙◌, arith}
 use Rattle.dcop_base.proofs.PlaceLaws.{told_next, told_below}
 use Rattle.dcop_base.proofs.place.place_of.Goals as goal
 

@@ -1,33 +1,5 @@
-use Rattle.std.proofs.Common.{◌≡◌, None, length, refl, sym}
-use Rattle.std.specs.List.{All}
-use Rattle.dcop_base.specs.Table.{IsTable}
-use Rattle.dcop_base.specs.Faults.{problem_fault}
-use Rattle.dcop_base.specs.Graph.{AreJoints}
-use Rattle.dcop_base.proofs.JointLaws.{IsConnected-joints}
-use Rattle.dcop_base.proofs.ProblemLaws.{IsProblem-faultless, scopes-faultless}
+use Rattle.std.proofs.Common.{sym}
 use Rattle.dcop_base.proofs.problem.Problem.new.Goals as goal
 
-pub joints_of-requires-clause-within : goal.joints_of-requires-clause-within
-joints_of-requires-clause-within c =
-    let none : problem_fault c.args.sizes c.args.tables ≡ None = rw (← c.as_slice.ensures, ← c.as_slice-2.ensures) (sym c.in_default.ensures.fault) in
-    let whole : All IsTable c.args.tables = rw (← c.as_slice-2.ensures) (c.in_default.ensures.whole refl) in
-    rw (c.as_slice-3.ensures, c.as_slice-4.ensures) (scopes-faultless c.args.sizes c.args.tables none whole)
-
-pub invariant_of-result : goal.invariant_of-result
-invariant_of-result c =
-    let none : problem_fault c.args.sizes c.args.tables ≡ None = rw (← c.as_slice.ensures, ← c.as_slice-2.ensures) (sym c.in_default.ensures.fault) in
-    let whole : All IsTable c.args.tables = rw (← c.as_slice-2.ensures) (c.in_default.ensures.whole refl) in
-    let joints : AreJoints (length c.args.sizes) c.args.tables c.in_ok-joints.joints = rw (← c.as_slice-3.ensures, ← c.as_slice-4.ensures) c.in_ok-joints.ensures in
-    IsProblem-faultless c.args.sizes c.args.tables c.in_ok-joints.joints none whole joints
-
-pub returns : goal.returns
-returns c =
-    let none : problem_fault c.args.sizes c.args.tables ≡ None = rw (← c.as_slice.ensures, ← c.as_slice-2.ensures) (sym c.in_default.ensures.fault) in
-    let joints : AreJoints (length c.args.sizes) c.args.tables c.in_ok-joints.joints = rw (← c.as_slice-3.ensures, ← c.as_slice-4.ensures) c.in_ok-joints.ensures in
-    record {
-      faultless = none;
-      same_sizes = refl;
-      same_tables = refl;
-      joints = joints;
-      connected = IsConnected-joints (record { sizes = c.args.sizes; tables = c.args.tables; joints = c.in_ok-joints.joints }) joints;
-    }
+pub of_faultless-requires : goal.of_faultless-requires
+of_faultless-requires c = rw (← c.as_slice.ensures, ← c.as_slice-2.ensures) (sym c.in_default.ensures)
