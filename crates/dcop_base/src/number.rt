@@ -7,7 +7,7 @@ use crate::limit::CAP;
 use std::marker::Model;
 
 /// A variable's number, counted from 0 in order of declaration. Agent `i` owns variable `i`.
-#[derive(Clone, Copy, Debug, PartialEq, Eq, PartialOrd, Ord, Hash)]
+#[derive(Clone, Copy, Debug, Default, PartialEq, Eq, PartialOrd, Ord, Hash)]
 pub struct VarId(pub u32);
 
 impl Model for VarId {

@@ -46,9 +46,9 @@ pub fn sizes_of(alloc: Global, sizes: &[u16], vars: &[VarId]) -> Result<SizeList
     requires { All (λ v. v < length sizes.now) vars.now }
     ensures { IfOk result (λ own. own ≡ map (λ v. slice_index sizes.now v) vars.now) }
 {
-    let mut own = Vec::with_capacity(alloc, vars.len())?;
+    let mut own = SizeList::new(alloc);
     for var in vars {
         own.push(sizes[var.0 as usize])?;
     }
-    Ok(SizeList::from_vec(own))
+    Ok(own)
 }

@@ -7,6 +7,7 @@ ghost use Rattle.std.specs.Hash.{items_Alike};
 
 use crate::number::{Val, VarId};
 use crate::table::Table;
+use short_lists::ShortList;
 use std::hash::{Hash, Hasher};
 use std::marker::Model;
 
@@ -70,13 +71,13 @@ impl<T: Hash> Hash for Sequence<T> {
 }
 
 /// Variables.
-pub type VarList = Sequence<VarId>;
+pub type VarList = ShortList<VarId>;
 
 /// Values.
 pub type ValList = Sequence<Val>;
 
 /// Domain sizes: how many values a variable has.
-pub type SizeList = Sequence<u16>;
+pub type SizeList = ShortList<u16>;
 
 /// Cost tables.
 pub type TableList = Sequence<Table>;

@@ -7,7 +7,7 @@ ghost use Rattle.dcop_base.specs.Graph.{neighbours as neighbours_of};
 
 use crate::neighbours::neighbour_rows;
 use crate::tables::table_rows;
-use dcop_base::{NoMemory, Private, Problem, Sequence, VarId, sizes_of};
+use dcop_base::{NoMemory, Private, Problem, Sequence, VarId, VarList, sizes_of};
 use std::alloc::Global;
 use std::mem;
 
@@ -56,14 +56,14 @@ fn acquaintance_with(
     Ok(Private {
         me,
         size: sizes[me.0 as usize],
-        neighbours: Sequence::from_vec(neighbours),
+        neighbours: VarList::from_vec(neighbours),
         neighbour_sizes,
         tables: Sequence::from_vec(Vec::new(alloc)),
     })
 }
 
-/// Gives each agent the tables that name its variable, in the problem's order. Each table is copied
-/// once for each variable of its scope.
+/// Gives each agent the tables that name its variable, in the problem's order. The cells of a table that
+/// is shared are not copied.
 ///
 /// # Errors
 ///
@@ -81,7 +81,7 @@ pub fn add_tables(alloc: Global, problem: &Problem, known: &mut [Private]) -> Re
 
 /// What each agent knows, in the variables' order: its size, its neighbours by tables and joints
 /// with their sizes, and the tables that name its variable. Takes time as [`acquaintances`] and for
-/// the copied cells.
+/// the cells of tables that are not shared.
 ///
 /// # Errors
 ///
