@@ -2,7 +2,7 @@
 use Rattle.std.proofs.Common.{◌≡◌, ℕ, zero, suc, ◌+◌, ◌-◌, ◌<◌, Bool, true, false, not, cond, ◌&&◌, ◌||◌, eqb, List, [], ◌∷◌, ◌++◌, length, get_or, reverse, Option, Some, None, Result, Ok, Err, IfErr, refl, sym, ap, subst, ◌∙◌, inl, inr, arith}
 use Rattle.std.specs.List.{slice_get, list_any, count_by}
 use Rattle.std.specs.Option.{is_none}
-use Rattle.std.proofs.lemmas.Bool.{cases_Bool, cases_lt, cases_order, and_parts, eq-eqb, true≢false}
+use Rattle.std.proofs.lemmas.Bool.{cases_Bool, cases_lt, cases_order, and_parts, and_from, eq-eqb, ne_eqb, true≢false}
 use Rattle.std.proofs.lemmas.Option.{same_Some, none-some}
 use Rattle.std.proofs.lemmas.List.{reverse-append, reverse-reverse, length-reverse, get_or_past}
 use Rattle.std.proofs.lemmas.List.FromFn.{fill_by_all}
@@ -12,10 +12,10 @@ use Rattle.dcop_base.specs.Problem.{Dcop}
 use Rattle.dcop_base.specs.Graph.{share_table, are_joined, are_neighbours}
 use Rattle.pseudotree.specs.Tree.{path_of, parent_of, is_above, IsTree}
 use Rattle.pseudotree.specs.Pseudotree.{are_in_line}
-use Rattle.pseudotree.specs.Fault.{parent_at, parents_of, root_count, IsClimb, AreParents, IsFirstFault}
+use Rattle.pseudotree.specs.Fault.{parent_at, parents_of, root_count, IsClimb, AreParents, IsFirstFault, IsSplit, IsLeastSplit}
 use Rattle.pseudotree.specs.Climb.{AreKnown, ArePaths, IsSplitFault}
 use Rattle.pseudotree.specs.Marks.{AreShort, MarkTogether, mark_at, are_together}
-use Rattle.pseudotree.specs.Splits.{NoneApart}
+use Rattle.pseudotree.specs.Splits.{AreApart, NoneApart, IsFirstApart}
 use Rattle.pseudotree.specs.declared.fault.TreeFault.{TreeFault}
 use Rattle.pseudotree.specs.declared.fault.TreeFault.TheVariants.{Roots, Loop, Pair, NoMemory}
 use Rattle.pseudotree.proofs.ClimbLaws.{IsClimb-same, climb_short}
@@ -172,7 +172,7 @@ together_turned p u v =
     (λ j. or_turned (eqb j.0 u && eqb j.1 v) (eqb j.0 v && eqb j.1 u)))
 
 -- where no marked pair is apart, all neighbours are ancestor and descendant
-pub in_line_from : (p : Dcop) (paths : List (List ℕ)) (marks : List Bool) → length paths ≡ length p.sizes → MarkTogether p marks → NoneApart paths marks
+pub in_line_from : (p : Dcop) (paths : List (List ℕ)) (marks : List ℕ) → length paths ≡ length p.sizes → MarkTogether p marks → NoneApart paths marks
     → (u v : ℕ) → u < length p.sizes → v < length p.sizes → are_neighbours p u v ≡ true → are_in_line paths u v ≡ true
 in_line_from p paths marks count m none u v lu lv h =
     let parts = and_parts (not (eqb u v)) (are_together p u v) h in
@@ -196,6 +196,38 @@ in_line_from p paths marks count m none u v lu lv h =
                   apart = apart;
                 }))
           ]
+
+-- the least marked pair that is apart is the least split
+pub least_split : (p : Dcop) (paths : List (List ℕ)) (marks : List ℕ) → length paths ≡ length p.sizes → MarkTogether p marks
+    → (pair : ℕ × ℕ) → IsFirstApart paths marks pair → IsLeastSplit p paths pair.0 pair.1
+least_split p paths marks count m pair first = record {
+  split = split_of pair.0 pair.1 first.second.apart;
+  lower = λ u v s. first.first u v (apart_of u v s);
+  higher = λ v s. first.second.first v (apart_of pair.0 v s);
+} where
+  same_mark : (u v : ℕ) → u < length paths → v < length paths → mark_at (length paths) marks u v ≡ are_together p u v
+  same_mark u v lu lv = ap (λ (n : ℕ). mark_at n marks u v) count ∙ m.marked u v (omega arith) (omega arith)
+
+  split_of : (u v : ℕ) → AreApart paths marks u v → IsSplit p paths u v
+  split_of u v a =
+      let ordered = a.ordered in
+      let within = a.within in record {
+        ordered = ordered;
+        within = omega arith;
+        neighbours = and_from (not (eqb u v)) (are_together p u v) (ap not (ne_eqb u v (λ (e : u ≡ v). omega arith))) (sym (same_mark u v (omega arith) within) ∙ a.marked);
+        apart = a.apart;
+      }
+
+  apart_of : (u v : ℕ) → IsSplit p paths u v → AreApart paths marks u v
+  apart_of u v s =
+      let ordered = s.ordered in
+      let within = s.within in
+      let parts = and_parts (not (eqb u v)) (are_together p u v) s.neighbours in record {
+        ordered = ordered;
+        within = omega arith;
+        marked = same_mark u v (omega arith) (omega arith) ∙ parts.1;
+        apart = s.apart;
+      }
 
 -- a split of the paths of a tree with these parents is the first fault
 pub split_fault : (p : Dcop) (parents : List (Option ℕ)) (paths : List (List ℕ)) → IsTree paths → parents ≡ parents_of paths → (e : TreeFault) → IsSplitFault p paths e → IsFirstFault p parents e

@@ -54,12 +54,12 @@ fn tree_of(alloc: Global, problem: &Problem, paths: Vec<VarList>) -> Result<Tree
 {
     let mut marks = marks_together(alloc, problem)?;
     let lists = paths.as_slice();
-    if let Some((one, other)) = first_apart(lists, marks.as_slice()) {
+    if let Some((one, other)) = first_apart(lists, &marks) {
         return Err(TreeFault::Pair { one, other });
     }
-    let lower = lower_of_all(alloc, lists, marks.as_slice())?;
-    gather(alloc, marks.as_mut_slice(), lists)?;
-    let separators = marked_of_paths(alloc, lists, marks.as_slice())?;
+    let lower = lower_of_all(alloc, lists, &marks)?;
+    gather(alloc, &mut marks, lists)?;
+    let separators = marked_of_paths(alloc, lists, &marks)?;
     let children = all_children(alloc, lists)?;
     let preorder = preorder_of(alloc, lists, children.as_slice())?;
     Ok(Tree {
