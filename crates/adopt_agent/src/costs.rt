@@ -25,7 +25,7 @@ pub(crate) fn are_same(pairs: &[(VarId, Val)], others: &[(VarId, Val)]) -> bool
 pub(crate) fn copy_of(alloc: Global, vars: &[VarId]) -> Result<VarList, NoMemory>
     ensures { IfOk result (λ list. list ≡ vars.now) }
 {
-    Ok(VarList::from_vec(Vec::from_slice(alloc, vars)?))
+    Ok(VarList::from_slice(alloc, vars)?)
 }
 
 /// Whether a variable is the agent's own, or one that is known.
@@ -51,13 +51,13 @@ pub(crate) fn higher_of(
 ) -> Result<VarList, NoMemory>
     ensures { IfOk result (λ higher. higher ≡ filter (has path.now) neighbours.now) }
 {
-    let mut higher = Vec::new(alloc);
+    let mut higher = VarList::new(alloc);
     for var in neighbours {
         if stands_in(path, *var) {
             higher.push(*var)?;
         }
     }
-    Ok(VarList::from_vec(higher))
+    Ok(higher)
 }
 
 /// Whether two pairs name the same variable, with the same value or none of these variables.

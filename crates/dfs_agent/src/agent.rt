@@ -70,7 +70,7 @@ impl TokenAgent {
             alloc,
             own,
             stage: Stage::Waiting,
-            path: VarList::from_vec(Vec::new(alloc)),
+            path: VarList::new(alloc),
             kept: Vec::new(alloc),
         })
     }
@@ -131,7 +131,7 @@ impl TokenAgent {
         let children = children_of(self.alloc, kept)?;
         let lower = lower_of(self.alloc, self.own.neighbours.as_slice(), path)?;
         let parcel = done_for(self.alloc, self.own.me, path, kept)?;
-        let path = mem::replace(&mut self.path, VarList::from_vec(Vec::new(self.alloc)));
+        let path = mem::replace(&mut self.path, VarList::new(self.alloc));
         let place = place_of(self.alloc, self.own.me, path, children, lower);
         self.stage = Stage::Ended { place };
         Ok(parcel)
@@ -250,7 +250,7 @@ impl TokenAgent {
         if self.own.me != VarId(0) {
             return Ok(None);
         }
-        self.path = VarList::from_vec(Vec::new(self.alloc));
+        self.path = VarList::new(self.alloc);
         self.look()
     }
 

@@ -73,11 +73,11 @@ pub(crate) fn first_outside(vars: &[VarId], path: &[VarId], kept: &[VarList]) ->
 pub(crate) fn outside(alloc: Global, vars: &[VarId], path: &[VarId]) -> Result<VarList, NoMemory>
     ensures { IfOk result (λ rest. rest ≡ filter (λ u. not (has path.now u)) vars.now) }
 {
-    let mut rest = Vec::new(alloc);
+    let mut rest = VarList::new(alloc);
     for var in vars {
         if !is_above(path, *var) {
             rest.push(*var)?;
         }
     }
-    Ok(VarList::from_vec(rest))
+    Ok(rest)
 }

@@ -30,13 +30,13 @@ pub(crate) fn count_of(lists: &[VarList]) -> usize
 pub(crate) fn children_of(alloc: Global, kept: &[VarList]) -> Result<VarList, NoMemory>
     ensures { IfOk result (λ children. children ≡ flat_map (λ subtree. take 1 subtree) kept.now) }
 {
-    let mut children = Vec::with_capacity(alloc, kept.len())?;
+    let mut children = VarList::new(alloc);
     for subtree in kept {
         if let Some(child) = subtree.as_slice().first() {
             children.push(*child)?;
         }
     }
-    Ok(VarList::from_vec(children))
+    Ok(children)
 }
 
 /// The agent, and then the subtrees of its children.
@@ -57,7 +57,7 @@ fn subtree_of(alloc: Global, me: VarId, kept: &[VarList]) -> Result<VarList, NoM
 pub(crate) fn copy_of(alloc: Global, vars: &[VarId]) -> Result<VarList, NoMemory>
     ensures { IfOk result (λ list. list ≡ vars.now) }
 {
-    Ok(VarList::from_vec(Vec::from_slice(alloc, vars)?))
+    Ok(VarList::from_slice(alloc, vars)?)
 }
 
 /// The place of an agent whose subtree is searched, without the sizes of its path.
@@ -79,7 +79,7 @@ pub(crate) fn place_of(
     Place {
         me,
         path,
-        path_sizes: SizeList::from_vec(Vec::new(alloc)),
+        path_sizes: SizeList::new(alloc),
         children,
         lower,
     }

@@ -49,5 +49,5 @@ fn write_sizes(list: &mut [u16], sizes: &[u16], vars: &[VarId])
 fn copy_of(alloc: Global, vars: &[VarId]) -> Result<VarList, NoMemory>
     ensures { IfOk result (λ list. list ≡ vars.now) }
 {
-    Ok(VarList::from_vec(Vec::from_slice(alloc, vars)?))
+    Ok(VarList::from_slice(alloc, vars)?)
 }

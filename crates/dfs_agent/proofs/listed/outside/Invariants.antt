@@ -4,4 +4,4 @@ use Rattle.dcop_base.specs.Table.{has}
 use Rattle.dfs_agent.proofs.listed.outside.Given as goal
 
 abbrev pub invariant-loop-var : goal.invariant-loop-var
-invariant-loop-var l = l.rest.items ≡ filter (λ u. not (has l.path u)) (take l.var-index l.vars)
+invariant-loop-var l = l.rest ≡ filter (λ u. not (has l.path u)) (take l.var-index l.vars)

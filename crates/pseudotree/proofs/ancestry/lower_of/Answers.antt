@@ -1,4 +1,4 @@
-use Rattle.std.proofs.Common.{◌≡◌, ℕ, ◌∙◌, sym, ap, length, Vec, Global, arith}
+use Rattle.std.proofs.Common.{◌≡◌, ◌∙◌, sym, length, arith}
 use Rattle.std.specs.List.{filter, range_with_len}
 use Rattle.std.proofs.lemmas.Bool.{and_from, and_right}
 use Rattle.pseudotree.specs.Tree.{is_above}
@@ -12,24 +12,24 @@ pub loop-index-preserved : goal.loop-index-preserved
 loop-index-preserved c =
     let next = c.in-Some.ensures in
     let within = next.within in
-    let before : c.loop-index.lower.items ≡ filter (is_marked_lower c.args.paths.now c.args.marks.now c.args.var) (range_with_len 0 c.in-Some.index) =
+    let before : c.loop-index.lower ≡ filter (is_marked_lower c.args.paths.now c.args.marks.now c.args.var) (range_with_len 0 c.in-Some.index) =
     c.loop-index.invariant.1 ∙ lower_free c.args.paths.now c.args.marks.now c.args.var c.loop-index.begin c.in-Some.index next.after next.before in (
       omega arith,
       elim c.if-is_above.branch [
         | then-is_above+in_ok-push w ↦
-            filter_keeps (is_marked_lower c.args.paths.now c.args.marks.now c.args.var) c.in-Some.index c.loop-index.lower.items c.if-is_above.lower.items before
+            filter_keeps (is_marked_lower c.args.paths.now c.args.marks.now c.args.var) c.in-Some.index c.loop-index.lower c.if-is_above.lower before
             (and_from (mark_at (length c.args.paths.now) c.args.marks.now c.args.var c.in-Some.index) (is_above c.args.paths.now c.args.var c.in-Some.index) next.marked
             (sym c.is_above.ensures ∙ w.if-is_above.true))
-            (ap (λ (v : Vec ℕ Global). v.items) w.lower-is ∙ w.in_ok-push.ensures.items)
+            (w.lower-is ∙ w.in_ok-push.ensures)
         | else-is_above w ↦
-            filter_skips (is_marked_lower c.args.paths.now c.args.marks.now c.args.var) c.in-Some.index c.loop-index.lower.items c.if-is_above.lower.items before
+            filter_skips (is_marked_lower c.args.paths.now c.args.marks.now c.args.var) c.in-Some.index c.loop-index.lower c.if-is_above.lower before
             (and_right (mark_at (length c.args.paths.now) c.args.marks.now c.args.var c.in-Some.index) (is_above c.args.paths.now c.args.var c.in-Some.index)
             (sym c.is_above.ensures ∙ w.if-is_above.false))
-            (ap (λ (v : Vec ℕ Global). v.items) w.lower-is)
+            w.lower-is
       ],
     )
 
 pub returns : goal.returns
 returns c =
-    c.from_vec.ensures ∙ c.loop-index.invariant.1
+    c.loop-index.invariant.1
     ∙ lower_free c.args.paths.now c.args.marks.now c.args.var c.loop-index.begin (length c.args.paths.now) c.loop-index.invariant.0 c.in_default.ensures
