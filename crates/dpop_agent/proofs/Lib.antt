@@ -11,3 +11,4 @@ pub mod RangeLaws
 pub mod BatchLaws
 pub mod RemakeLaws
 pub mod TakeLaws
+pub mod EndLaws

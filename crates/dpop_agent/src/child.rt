@@ -1,10 +1,10 @@
 //! What comes from a child, and from and to the parent.
 
-ghost use Rattle.std.specs.Prelude.{◌≡◌, ◌<◌, ◌≤◌, [], ◌∷◌, ◌++◌, ◌&&◌, ◌==◌, length, map, nat_eq, nat_le, Option, IfOk, slice_get};
+ghost use Rattle.std.specs.Prelude.{◌≡◌, false, ◌<◌, ◌≤◌, [], ◌∷◌, ◌++◌, ◌&&◌, ◌==◌, length, map, nat_eq, nat_le, Option, IfOk, slice_get};
 ghost use Rattle.std.specs.List.{filter, list_all, zip};
 ghost use Rattle.std.specs.Cmp.Lexicographic.{pointwise};
 ghost use Rattle.dcop_base.specs.Limits.{joined_limit};
-ghost use Rattle.dcop_base.specs.Table.{has, product};
+ghost use Rattle.dcop_base.specs.Table.{has, has_repeat, product};
 ghost use Rattle.adopt_context.specs.Context.{is_value, value_in};
 ghost use Rattle.protocol_steps.specs.declared.message.Message.TheVariants.{Util};
 ghost use Rattle.protocol_steps.specs.Agent.{last_of};
@@ -16,8 +16,8 @@ ghost use Rattle.dpop_agent.specs.Keeping.{keeping};
 ghost use Rattle.dpop_agent.specs.Sound.{IsKeeper};
 ghost use Rattle.dpop_agent.specs.Deed.{IsTaken, parcels_up};
 
+use crate::ancestors::size_from_the_end;
 use crate::separator::sizes_of;
-use adopt_context::size_beside;
 use cost_table::cells_of;
 use dcop_base::{CellList, NoMemory, Private, SizeList, Table, Val, VarId, VarList, stands_in};
 use protocol_steps::{Message, Parcel};
@@ -55,11 +55,12 @@ pub(crate) fn is_parent(path: &[VarId], var: VarId) -> bool
 
 /// Whether a value is below the size of a variable of the path; also where it is another variable.
 fn is_sized(place: &Place, var: VarId, value: Val) -> bool
-    requires { length place.now.path_sizes ≡ length place.now.path }
+    requires apart { has_repeat place.now.path ≡ false }
+    requires sized { length place.now.path_sizes ≡ length place.now.path }
     ensures { result ≡ is_below_size
         (value_in (zip place.now.path place.now.path_sizes) var) value }
 {
-    match size_beside(place.path.as_slice(), place.path_sizes.as_slice(), var) {
+    match size_from_the_end(place.path.as_slice(), place.path_sizes.as_slice(), var) {
         Some(size) => value.0 < size,
         None => true,
     }
@@ -67,7 +68,8 @@ fn is_sized(place: &Place, var: VarId, value: Val) -> bool
 
 /// Whether each variable of the path has a value below its size.
 pub(crate) fn are_sized(place: &Place, pairs: &[(VarId, Val)]) -> bool
-    requires { length place.now.path_sizes ≡ length place.now.path }
+    requires apart { has_repeat place.now.path ≡ false }
+    requires sized { length place.now.path_sizes ≡ length place.now.path }
     ensures { result ≡ list_all (λ p. is_below_size
         (value_in (zip place.now.path place.now.path_sizes) p.0) p.1) pairs.now }
 {

@@ -1,0 +1,25 @@
+//! The variables above an agent, sought from the end of its path: most that are sought stand there.
+
+ghost use Rattle.std.specs.Prelude.{◌≡◌, false, length};
+ghost use Rattle.std.specs.List.{zip};
+ghost use Rattle.dcop_base.specs.Table.{has_repeat};
+ghost use Rattle.adopt_context.specs.Context.{value_in};
+
+use dcop_base::VarId;
+
+/// The size that stands beside a variable, at the same place of the second list; `None` exactly
+/// where the variable is none of these distinct ones.
+pub(crate) fn size_from_the_end(path: &[VarId], sizes: &[u16], var: VarId) -> Option<u16>
+    requires apart { has_repeat path.now ≡ false }
+    requires sized { length sizes.now ≡ length path.now }
+    ensures { result ≡ value_in (zip path.now sizes.now) var }
+{
+    let mut left = path.len();
+    while left > 0 {
+        left -= 1;
+        if path[left] == var {
+            return Some(sizes[left]);
+        }
+    }
+    None
+}
