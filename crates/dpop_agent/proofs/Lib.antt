@@ -12,3 +12,4 @@ pub mod BatchLaws
 pub mod RemakeLaws
 pub mod TakeLaws
 pub mod EndLaws
+pub mod OrderLaws

@@ -16,10 +16,10 @@ ghost use Rattle.dpop_agent.specs.Keeping.{keeping};
 ghost use Rattle.dpop_agent.specs.Sound.{IsKeeper};
 ghost use Rattle.dpop_agent.specs.Deed.{IsTaken, parcels_up};
 
-use crate::ancestors::size_from_the_end;
+use crate::ancestors::{size_from_the_end, stand_in_order};
 use crate::separator::sizes_of;
 use cost_table::cells_of;
-use dcop_base::{CellList, NoMemory, Private, SizeList, Table, Val, VarId, VarList, stands_in};
+use dcop_base::{CellList, NoMemory, Private, SizeList, Table, Val, VarId, VarList};
 use protocol_steps::{Message, Parcel};
 use pseudotree::{MAX_JOINED_CELLS, Place};
 use std::alloc::Global;
@@ -76,19 +76,6 @@ pub(crate) fn are_sized(place: &Place, pairs: &[(VarId, Val)]) -> bool
     pairs.iter().all(|pair| is_sized(place, pair.0, pair.1))
 }
 
-/// Those of these variables that stand in a scope.
-fn named_in(alloc: Global, path: &[VarId], scope: &[VarId]) -> Result<Vec<VarId>, NoMemory>
-    ensures { IfOk result (λ vars. vars.items ≡ filter (has scope.now) path.now) }
-{
-    let mut vars = Vec::new(alloc);
-    for var in path {
-        if stands_in(scope, *var) {
-            vars.push(*var)?;
-        }
-    }
-    Ok(vars)
-}
-
 /// Whether there is a place for a child's table, and none is kept there yet.
 fn is_open(kept: &[Option<Table>], child: usize) -> bool
     ensures { result ≡ is_open (slice_get kept.now child) }
@@ -100,13 +87,16 @@ fn is_open(kept: &[Option<Table>], child: usize) -> bool
 }
 
 /// Whether a scope consists of variables of the path, from the root down, and then the agent.
-fn is_in_order(alloc: Global, me: VarId, path: &[VarId], scope: &[VarId]) -> Result<bool, NoMemory>
-    ensures { IfOk result (λ holds. holds
-        ≡ pointwise nat_eq scope.now (filter (has scope.now) path.now ++ (me ∷ []))) }
+fn is_in_order(me: VarId, path: &[VarId], scope: &[VarId]) -> bool
+    requires apart { has_repeat path.now ≡ false }
+    requires without { has path.now me ≡ false }
+    ensures { result
+        ≡ pointwise nat_eq scope.now (filter (has scope.now) path.now ++ (me ∷ [])) }
 {
-    let mut due = named_in(alloc, path, scope)?;
-    due.push(me)?;
-    Ok(scope == due.as_slice())
+    match scope.split_last() {
+        Some((last, above)) => *last == me && stand_in_order(path, above),
+        None => false,
+    }
 }
 
 /// Whether a table of these sizes has so many cells.
@@ -130,7 +120,6 @@ fn is_narrow(sizes: &[u16]) -> bool
 /// Whether the child at this place may send a table of this scope, of these sizes, with these cells,
 /// where the joined table has the sizes `over` if the scope counts as kept.
 fn takes(
-    alloc: Global,
     own: &Private,
     place: &Place,
     kept: &[Option<Table>],
@@ -139,24 +128,25 @@ fn takes(
     sizes: &[u16],
     cells: &[u64],
     over: &[u16],
-) -> Result<bool, NoMemory>
+) -> bool
+    requires path { IsPathOf own.now.me place.now.path place.now.path_sizes }
     requires sizes { sizes.now ≡ map (size_of (keeping own.now place.now [])) scope.now }
     requires few { length cells.now ≤ joined_limit }
     requires over { product over.now ≡ joined_cells_with (keeping own.now place.now kept.now)
         (scope.now ∷ kept_scopes (keeping own.now place.now kept.now)) }
-    ensures { IfOk result (λ holds. holds
-        ≡ takes_util (keeping own.now place.now kept.now) child scope.now cells.now) }
+    ensures { result
+        ≡ takes_util (keeping own.now place.now kept.now) child scope.now cells.now }
 {
     if !is_open(kept, child) {
-        return Ok(false);
+        return false;
     }
-    if !is_in_order(alloc, own.me, place.path.as_slice(), scope)? {
-        return Ok(false);
+    if !is_in_order(own.me, place.path.as_slice(), scope) {
+        return false;
     }
     if !are_cells_of(sizes, cells.len()) {
-        return Ok(false);
+        return false;
     }
-    Ok(is_narrow(over))
+    is_narrow(over)
 }
 
 /// The table that a child sends with this scope and these cells, where it is taken. The joined table
@@ -179,7 +169,6 @@ pub(crate) fn table_of(
 {
     let sizes = sizes_of(alloc, own, place, scope)?;
     if !takes(
-        alloc,
         own,
         place,
         kept,
@@ -188,7 +177,7 @@ pub(crate) fn table_of(
         sizes.as_slice(),
         cells.as_slice(),
         over,
-    )? {
+    ) {
         return Ok(None);
     }
     Ok(Some(Table {
