@@ -1,5 +1,5 @@
 -- A DPOP agent by what it was made from and the tables that it keeps.
-use Rattle.std.specs.Prelude.{◌≡◌, List, [], ◌∷◌, ◌++◌, map, Option, Some, None}
+use Rattle.std.specs.Prelude.{◌≡◌, ℕ, true, false, List, [], ◌∷◌, ◌++◌, map, Option, Some, None}
 use Rattle.std.specs.List.{filter}
 use Rattle.dcop_base.specs.Table.{CostTable, has}
 use Rattle.dcop_base.specs.declared.knowledge.Private.{Private}
@@ -20,3 +20,7 @@ pub record IsChildTable (own : Private) (place : Place) (t : CostTable) : Type 0
 abbrev pub MayKeep : Private → Place → Option CostTable → Type 0
 MayKeep own place None = Unit {0}
 MayKeep own place (Some t) = IsChildTable own place t
+
+-- none of these variables below an agent stands in its path
+abbrev pub AreApart : List ℕ → List ℕ → Type 0
+AreApart lower path = (u : ℕ) → has lower u ≡ true → has path u ≡ false
