@@ -13,3 +13,4 @@ pub mod RemakeLaws
 pub mod TakeLaws
 pub mod EndLaws
 pub mod OrderLaws
+pub mod NearLaws

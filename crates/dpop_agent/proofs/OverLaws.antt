@@ -67,10 +67,10 @@ product_end f (x ∷ xs) m = let rest = product_end f xs m in ap (λ (k : ℕ). 
     turned : (a b c : ℕ) → a * (b * c) ≡ b * (a * c)
     turned a b c = grind arith
 
-has_first : (x : ℕ) (xs : List ℕ) → has (x ∷ xs) x ≡ true
+pub has_first : (x : ℕ) (xs : List ℕ) → has (x ∷ xs) x ≡ true
 has_first x xs = or_left (eqb x x) (has xs x) (eq-eqb x x refl)
 
-has_later : (x : ℕ) (xs : List ℕ) (u : ℕ) → has xs u ≡ true → has (x ∷ xs) u ≡ true
+pub has_later : (x : ℕ) (xs : List ℕ) (u : ℕ) → has xs u ≡ true → has (x ∷ xs) u ≡ true
 has_later x xs u h = or_right (eqb x u) (has xs u) h
 
 -- what holds of each number that stands in a list
@@ -132,7 +132,7 @@ each_zipped R (v ∷ vs) (s ∷ ss) z u h = elim (or_cases (eqb v u) (has vs u) 
   | inr later ↦ each_zipped R vs ss z.1 u later
 ]
 
-all_where : (q : ℕ → Bool) (xs : List ℕ) (u : ℕ) → list_all q xs ≡ true → has xs u ≡ true → q u ≡ true
+pub all_where : (q : ℕ → Bool) (xs : List ℕ) (u : ℕ) → list_all q xs ≡ true → has xs u ≡ true → q u ≡ true
 all_where q [] u all h = absurd (true≢false (sym h))
 all_where q (x ∷ xs) u all h =
     let parts = and_parts (q x) (list_all q xs) all in
