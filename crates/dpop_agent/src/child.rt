@@ -30,16 +30,17 @@ pub(crate) fn util_for(alloc: Global, path: &[VarId], made: &Table) -> Result<Ve
     requires cells { AreCells made.now.cells }
     ensures { IfOk result (λ parcels. parcels.items ≡ parcels_up (last_of path.now) made.now) }
 {
-    let mut parcels = Vec::new(alloc);
-    if let Some(parent) = path.last() {
-        parcels.push(Parcel {
-            to: *parent,
-            message: Message::Util {
-                scope: VarList::from_vec(Vec::from_slice(alloc, made.scope.as_slice())?),
-                cells: made.cells.clone()?,
-            },
-        })?;
-    }
+    let Some(parent) = path.last() else {
+        return Ok(Vec::new(alloc));
+    };
+    let mut parcels = Vec::with_capacity(alloc, 1)?;
+    parcels.push(Parcel {
+        to: *parent,
+        message: Message::Util {
+            scope: VarList::from_vec(Vec::from_slice(alloc, made.scope.as_slice())?),
+            cells: made.cells.clone()?,
+        },
+    })?;
     Ok(parcels)
 }
 
