@@ -11,3 +11,6 @@ pub mod RangeLaws
 pub mod BatchLaws
 pub mod RemakeLaws
 pub mod TakeLaws
+pub mod EndLaws
+pub mod OrderLaws
+pub mod NearLaws

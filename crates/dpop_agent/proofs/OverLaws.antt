@@ -1,5 +1,5 @@
 -- The variables of an agent's joined table: distinct, of known sizes, and those of all tables that are added.
-use Rattle.std.proofs.Common.{◌≡◌, ℕ, ◌-◌, ◌*◌, ◌<◌, ◌≤◌, Bool, true, false, ◌||◌, eqb, ltb, List, [], ◌∷◌, ◌++◌, map, length, get_or, replicate, Option, Some, None, is_some, refl, sym, ap, subst, ◌∙◌, inl, inr, arith}
+use Rattle.std.proofs.Common.{◌≡◌, ℕ, ◌-◌, ◌*◌, ◌<◌, ◌≤◌, Bool, true, false, not, ◌||◌, eqb, ltb, List, [], ◌∷◌, ◌++◌, map, length, get_or, replicate, Option, Some, None, is_some, refl, sym, ap, subst, ◌∙◌, inl, inr, arith}
 use Rattle.std.specs.List.{All, AllZip, filter, flat_map, list_all, list_any, zip}
 use Rattle.std.proofs.lemmas.Bool.{cases_Bool, cond-true, cond-false, cond_both, eqb-true, eq-eqb, and_parts, or_cases, or_parts, or_left, or_right, both_ways, true≢false, ltb-true}
 use Rattle.std.proofs.lemmas.List.{length-map, get_or-map, get_or-replicate}
@@ -20,8 +20,9 @@ use Rattle.adopt_context.specs.Context.{Context, value_in, names_all, or_zero}
 use Rattle.protocol_steps.specs.DpopStep.{is_below_size}
 use Rattle.protocol_steps.specs.Values.{valued}
 use Rattle.protocol_steps.specs.Dpop.{DpopView, there, joined_cost, best_value, size_of, separator, kept_scopes, joined_cells_with}
+use Rattle.protocol_steps.specs.Placing.{IsPlaceFor}
 use Rattle.protocol_steps.specs.Knowledge.{IsSize, known_sizes}
-use Rattle.dpop_agent.specs.Keeping.{keeping, IsChildTable, MayKeep}
+use Rattle.dpop_agent.specs.Keeping.{AreApart, keeping, IsChildTable, MayKeep}
 use Rattle.dpop_agent.specs.Joint.{IsCostOf, IsZeroOver, IsZeroWhereNarrow, over_of, over_sizes}
 use Rattle.dpop_agent.specs.Sound.{IsKeeper}
 
@@ -66,10 +67,10 @@ product_end f (x ∷ xs) m = let rest = product_end f xs m in ap (λ (k : ℕ). 
     turned : (a b c : ℕ) → a * (b * c) ≡ b * (a * c)
     turned a b c = grind arith
 
-has_first : (x : ℕ) (xs : List ℕ) → has (x ∷ xs) x ≡ true
+pub has_first : (x : ℕ) (xs : List ℕ) → has (x ∷ xs) x ≡ true
 has_first x xs = or_left (eqb x x) (has xs x) (eq-eqb x x refl)
 
-has_later : (x : ℕ) (xs : List ℕ) (u : ℕ) → has xs u ≡ true → has (x ∷ xs) u ≡ true
+pub has_later : (x : ℕ) (xs : List ℕ) (u : ℕ) → has xs u ≡ true → has (x ∷ xs) u ≡ true
 has_later x xs u h = or_right (eqb x u) (has xs u) h
 
 -- what holds of each number that stands in a list
@@ -131,7 +132,7 @@ each_zipped R (v ∷ vs) (s ∷ ss) z u h = elim (or_cases (eqb v u) (has vs u) 
   | inr later ↦ each_zipped R vs ss z.1 u later
 ]
 
-all_where : (q : ℕ → Bool) (xs : List ℕ) (u : ℕ) → list_all q xs ≡ true → has xs u ≡ true → q u ≡ true
+pub all_where : (q : ℕ → Bool) (xs : List ℕ) (u : ℕ) → list_all q xs ≡ true → has xs u ≡ true → q u ≡ true
 all_where q [] u all h = absurd (true≢false (sym h))
 all_where q (x ∷ xs) u all h =
     let parts = and_parts (q x) (list_all q xs) all in
@@ -139,6 +140,14 @@ all_where q (x ∷ xs) u all h =
       | inl here ↦ subst (λ (w : ℕ). q w ≡ true) (eqb-true x u here) parts.0
       | inr later ↦ all_where q xs u parts.1 later
     ]
+
+-- none of the lower neighbours stands in the path
+pub lower_apart : (own : Private) (place : Place) → IsPlaceFor own place → AreApart place.lower place.path
+lower_apart own place placed u lower = placed.split u (had_of (λ u. has own.neighbours u ≡ true) place.lower u placed.lower.1 lower) ∙ ap not lower
+
+pub apart_still : (own : Private) (place : Place) → IsPlaceFor own place → (lower path : List ℕ) → lower ≡ place.lower → path ≡ place.path → AreApart lower path
+apart_still own place placed lower path same_lower same_path u h =
+    ap (λ (vs : List ℕ). has vs u) same_path ∙ lower_apart own place placed u (sym (ap (λ (vs : List ℕ). has vs u) same_lower) ∙ h)
 
 pub map_same : (f g : ℕ → ℕ) (xs : List ℕ) → ((u : ℕ) → has xs u ≡ true → f u ≡ g u) → map f xs ≡ map g xs
 map_same f g [] same = refl

@@ -1,11 +1,11 @@
 -- A DPOP agent by what it was made from and the tables that it keeps.
-use Rattle.std.specs.Prelude.{◌≡◌, List, [], ◌∷◌, ◌++◌, map, Option, Some, None}
-use Rattle.std.specs.List.{filter}
+use Rattle.std.specs.Prelude.{◌≡◌, ℕ, ◌||◌, true, false, List, [], ◌∷◌, ◌++◌, map, Option, Some, None}
+use Rattle.std.specs.List.{filter, flat_map, list_any}
 use Rattle.dcop_base.specs.Table.{CostTable, has}
 use Rattle.dcop_base.specs.declared.knowledge.Private.{Private}
 use Rattle.pseudotree.specs.declared.agent.Place.{Place}
 use Rattle.protocol_steps.specs.Agent.{not_started}
-use Rattle.protocol_steps.specs.Dpop.{DpopView, size_of}
+use Rattle.protocol_steps.specs.Dpop.{DpopView, size_of, there}
 
 -- an agent that keeps these tables of its children
 abbrev pub keeping : Private → Place → List (Option CostTable) → DpopView
@@ -20,3 +20,11 @@ pub record IsChildTable (own : Private) (place : Place) (t : CostTable) : Type 0
 abbrev pub MayKeep : Private → Place → Option CostTable → Type 0
 MayKeep own place None = Unit {0}
 MayKeep own place (Some t) = IsChildTable own place t
+
+-- none of these variables below an agent stands in its path
+abbrev pub AreApart : List ℕ → List ℕ → Type 0
+AreApart lower path = (u : ℕ) → has lower u ≡ true → has path u ≡ false
+
+-- the variables of a list that are neighbours or stand in this scope or one that is kept
+abbrev pub near_in : Private → List (Option CostTable) → List ℕ → List ℕ → List ℕ
+near_in own kept scope path = filter (λ u. has own.neighbours u || list_any (λ vars. has vars u) (scope ∷ map (λ t. t.scope) (flat_map there kept))) path

@@ -312,7 +312,7 @@ impl Machine for DpopAgent {
 fn empty_places(alloc: Global, count: usize) -> Result<Vec<Option<Table>>, NoMemory>
     ensures { IfOk result (λ places. places.items ≡ replicate count None) }
 {
-    let mut places = Vec::new(alloc);
+    let mut places = Vec::with_capacity(alloc, count)?;
     for place in 0..count {
         places.push(None)?;
     }

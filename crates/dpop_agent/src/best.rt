@@ -6,11 +6,11 @@ ghost use Rattle.dcop_base.specs.Limits.{amount_limit};
 ghost use Rattle.dcop_base.specs.Table.{has};
 ghost use Rattle.protocol_steps.specs.Values.{valued};
 ghost use Rattle.protocol_steps.specs.Dpop.{best_value, there};
-ghost use Rattle.dpop_agent.specs.Keeping.{keeping};
+ghost use Rattle.dpop_agent.specs.Keeping.{AreApart, keeping};
 ghost use Rattle.dpop_agent.specs.Row.{AreBelowSizes, HasCells, HasRisen};
 ghost use Rattle.dpop_agent.specs.Sound.{IsKeeper};
 
-use crate::joint::are_above;
+use crate::ancestors::are_above;
 use adopt_context::AgentContext;
 use dcop_base::{NoMemory, Private, Table, Val, VarId};
 use own_costs::add_table;
@@ -51,14 +51,23 @@ fn best_by(
 {
     let tables = own.tables.as_slice();
     let path = place.path.as_slice();
-    add_own(costs, tables, own.me, path, values);
+    let lower = place.lower.as_slice();
+    add_own(costs, tables, own.me, path, lower, values);
     add_kept(costs, kept, own.me, values);
     lowest_of(costs)
 }
 
 /// Adds to each cost the cells of the tables that name the agent and otherwise only variables of its
 /// path.
-fn add_own(costs: &mut [u64], tables: &[Table], me: VarId, path: &[VarId], values: &AgentContext)
+fn add_own(
+    costs: &mut [u64],
+    tables: &[Table],
+    me: VarId,
+    path: &[VarId],
+    lower: &[VarId],
+    values: &AgentContext,
+)
+    requires apart { AreApart lower.now path.now }
     requires some { 1 ≤ length costs.old }
     requires small { All (λ c. c ≤ amount_limit) costs.old }
     requires cells { All (λ t. list_all (λ u. u == me || has path.now u) t.scope ≡ true
@@ -68,7 +77,7 @@ fn add_own(costs: &mut [u64], tables: &[Table], me: VarId, path: &[VarId], value
         costs.old costs.new }
 {
     for table in tables {
-        if are_above(table.scope.as_slice(), me, path) {
+        if are_above(table.scope.as_slice(), me, path, lower) {
             add_table(costs, table, me, values);
         }
     }

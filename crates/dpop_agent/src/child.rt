@@ -1,10 +1,10 @@
 //! What comes from a child, and from and to the parent.
 
-ghost use Rattle.std.specs.Prelude.{◌≡◌, ◌<◌, ◌≤◌, [], ◌∷◌, ◌++◌, ◌&&◌, ◌==◌, length, map, nat_eq, nat_le, Option, IfOk, slice_get};
+ghost use Rattle.std.specs.Prelude.{◌≡◌, false, ◌<◌, ◌≤◌, [], ◌∷◌, ◌++◌, ◌&&◌, ◌==◌, length, map, nat_eq, nat_le, Option, IfOk, slice_get};
 ghost use Rattle.std.specs.List.{filter, list_all, zip};
 ghost use Rattle.std.specs.Cmp.Lexicographic.{pointwise};
 ghost use Rattle.dcop_base.specs.Limits.{joined_limit};
-ghost use Rattle.dcop_base.specs.Table.{has, product};
+ghost use Rattle.dcop_base.specs.Table.{has, has_repeat, product};
 ghost use Rattle.adopt_context.specs.Context.{is_value, value_in};
 ghost use Rattle.protocol_steps.specs.declared.message.Message.TheVariants.{Util};
 ghost use Rattle.protocol_steps.specs.Agent.{last_of};
@@ -16,10 +16,10 @@ ghost use Rattle.dpop_agent.specs.Keeping.{keeping};
 ghost use Rattle.dpop_agent.specs.Sound.{IsKeeper};
 ghost use Rattle.dpop_agent.specs.Deed.{IsTaken, parcels_up};
 
+use crate::ancestors::{size_from_the_end, stand_in_order};
 use crate::separator::sizes_of;
-use adopt_context::size_beside;
 use cost_table::cells_of;
-use dcop_base::{CellList, NoMemory, Private, SizeList, Table, Val, VarId, VarList, stands_in};
+use dcop_base::{CellList, NoMemory, Private, SizeList, Table, Val, VarId, VarList};
 use protocol_steps::{Message, Parcel};
 use pseudotree::{MAX_JOINED_CELLS, Place};
 use std::alloc::Global;
@@ -30,16 +30,17 @@ pub(crate) fn util_for(alloc: Global, path: &[VarId], made: &Table) -> Result<Ve
     requires cells { AreCells made.now.cells }
     ensures { IfOk result (λ parcels. parcels.items ≡ parcels_up (last_of path.now) made.now) }
 {
-    let mut parcels = Vec::new(alloc);
-    if let Some(parent) = path.last() {
-        parcels.push(Parcel {
-            to: *parent,
-            message: Message::Util {
-                scope: VarList::from_vec(Vec::from_slice(alloc, made.scope.as_slice())?),
-                cells: made.cells.clone()?,
-            },
-        })?;
-    }
+    let Some(parent) = path.last() else {
+        return Ok(Vec::new(alloc));
+    };
+    let mut parcels = Vec::with_capacity(alloc, 1)?;
+    parcels.push(Parcel {
+        to: *parent,
+        message: Message::Util {
+            scope: VarList::from_vec(Vec::from_slice(alloc, made.scope.as_slice())?),
+            cells: made.cells.clone()?,
+        },
+    })?;
     Ok(parcels)
 }
 
@@ -55,11 +56,12 @@ pub(crate) fn is_parent(path: &[VarId], var: VarId) -> bool
 
 /// Whether a value is below the size of a variable of the path; also where it is another variable.
 fn is_sized(place: &Place, var: VarId, value: Val) -> bool
-    requires { length place.now.path_sizes ≡ length place.now.path }
+    requires apart { has_repeat place.now.path ≡ false }
+    requires sized { length place.now.path_sizes ≡ length place.now.path }
     ensures { result ≡ is_below_size
         (value_in (zip place.now.path place.now.path_sizes) var) value }
 {
-    match size_beside(place.path.as_slice(), place.path_sizes.as_slice(), var) {
+    match size_from_the_end(place.path.as_slice(), place.path_sizes.as_slice(), var) {
         Some(size) => value.0 < size,
         None => true,
     }
@@ -67,24 +69,12 @@ fn is_sized(place: &Place, var: VarId, value: Val) -> bool
 
 /// Whether each variable of the path has a value below its size.
 pub(crate) fn are_sized(place: &Place, pairs: &[(VarId, Val)]) -> bool
-    requires { length place.now.path_sizes ≡ length place.now.path }
+    requires apart { has_repeat place.now.path ≡ false }
+    requires sized { length place.now.path_sizes ≡ length place.now.path }
     ensures { result ≡ list_all (λ p. is_below_size
         (value_in (zip place.now.path place.now.path_sizes) p.0) p.1) pairs.now }
 {
     pairs.iter().all(|pair| is_sized(place, pair.0, pair.1))
-}
-
-/// Those of these variables that stand in a scope.
-fn named_in(alloc: Global, path: &[VarId], scope: &[VarId]) -> Result<Vec<VarId>, NoMemory>
-    ensures { IfOk result (λ vars. vars.items ≡ filter (has scope.now) path.now) }
-{
-    let mut vars = Vec::new(alloc);
-    for var in path {
-        if stands_in(scope, *var) {
-            vars.push(*var)?;
-        }
-    }
-    Ok(vars)
 }
 
 /// Whether there is a place for a child's table, and none is kept there yet.
@@ -98,13 +88,16 @@ fn is_open(kept: &[Option<Table>], child: usize) -> bool
 }
 
 /// Whether a scope consists of variables of the path, from the root down, and then the agent.
-fn is_in_order(alloc: Global, me: VarId, path: &[VarId], scope: &[VarId]) -> Result<bool, NoMemory>
-    ensures { IfOk result (λ holds. holds
-        ≡ pointwise nat_eq scope.now (filter (has scope.now) path.now ++ (me ∷ []))) }
+fn is_in_order(me: VarId, path: &[VarId], scope: &[VarId]) -> bool
+    requires apart { has_repeat path.now ≡ false }
+    requires without { has path.now me ≡ false }
+    ensures { result
+        ≡ pointwise nat_eq scope.now (filter (has scope.now) path.now ++ (me ∷ [])) }
 {
-    let mut due = named_in(alloc, path, scope)?;
-    due.push(me)?;
-    Ok(scope == due.as_slice())
+    match scope.split_last() {
+        Some((last, above)) => *last == me && stand_in_order(path, above),
+        None => false,
+    }
 }
 
 /// Whether a table of these sizes has so many cells.
@@ -128,7 +121,6 @@ fn is_narrow(sizes: &[u16]) -> bool
 /// Whether the child at this place may send a table of this scope, of these sizes, with these cells,
 /// where the joined table has the sizes `over` if the scope counts as kept.
 fn takes(
-    alloc: Global,
     own: &Private,
     place: &Place,
     kept: &[Option<Table>],
@@ -137,24 +129,25 @@ fn takes(
     sizes: &[u16],
     cells: &[u64],
     over: &[u16],
-) -> Result<bool, NoMemory>
+) -> bool
+    requires path { IsPathOf own.now.me place.now.path place.now.path_sizes }
     requires sizes { sizes.now ≡ map (size_of (keeping own.now place.now [])) scope.now }
     requires few { length cells.now ≤ joined_limit }
     requires over { product over.now ≡ joined_cells_with (keeping own.now place.now kept.now)
         (scope.now ∷ kept_scopes (keeping own.now place.now kept.now)) }
-    ensures { IfOk result (λ holds. holds
-        ≡ takes_util (keeping own.now place.now kept.now) child scope.now cells.now) }
+    ensures { result
+        ≡ takes_util (keeping own.now place.now kept.now) child scope.now cells.now }
 {
     if !is_open(kept, child) {
-        return Ok(false);
+        return false;
     }
-    if !is_in_order(alloc, own.me, place.path.as_slice(), scope)? {
-        return Ok(false);
+    if !is_in_order(own.me, place.path.as_slice(), scope) {
+        return false;
     }
     if !are_cells_of(sizes, cells.len()) {
-        return Ok(false);
+        return false;
     }
-    Ok(is_narrow(over))
+    is_narrow(over)
 }
 
 /// The table that a child sends with this scope and these cells, where it is taken. The joined table
@@ -177,7 +170,6 @@ pub(crate) fn table_of(
 {
     let sizes = sizes_of(alloc, own, place, scope)?;
     if !takes(
-        alloc,
         own,
         place,
         kept,
@@ -186,7 +178,7 @@ pub(crate) fn table_of(
         sizes.as_slice(),
         cells.as_slice(),
         over,
-    )? {
+    ) {
         return Ok(None);
     }
     Ok(Some(Table {

@@ -5,10 +5,11 @@ ghost use Rattle.std.specs.List.{All, list_all, filter, flat_map};
 ghost use Rattle.dcop_base.specs.Table.{has, has_repeat};
 ghost use Rattle.protocol_steps.specs.Dpop.{there};
 ghost use Rattle.util_join.specs.Join.{LiesIn};
-ghost use Rattle.dpop_agent.specs.Keeping.{keeping};
+ghost use Rattle.dpop_agent.specs.Keeping.{AreApart, keeping};
 ghost use Rattle.dpop_agent.specs.Joint.{HasGained, IsOver, IsZeroOver, IsZeroWhereNarrow, IsJointWhereMay};
 ghost use Rattle.dpop_agent.specs.Sound.{IsKeeper};
 
+use crate::ancestors::are_above;
 use crate::kept::are_all_there;
 use crate::separator::{Over, variables_with};
 use dcop_base::{NoMemory, Private, SizeList, Table, VarId, VarList};
@@ -16,42 +17,22 @@ use pseudotree::Place;
 use std::alloc::Global;
 use util_join::{JoinFault, Joined};
 
-/// Whether the variable is the agent's or one of its path.
-fn is_above(var: VarId, me: VarId, path: &[VarId]) -> bool
-    ensures { result ≡ (var == me || has path.now var) }
-{
-    var == me || stands_from_the_end(path, var)
-}
-
-/// Whether the variable stands in the path, sought from its end on: most neighbours stand there.
-fn stands_from_the_end(path: &[VarId], var: VarId) -> bool
-    ensures { result ≡ has path.now var }
-{
-    let Some((last, path)) = path.split_last() else {
-        return false;
-    };
-    if *last == var {
-        return true;
-    }
-    stands_from_the_end(path, var)
-}
-
-/// Whether these variables are the agent's and otherwise only those of its path.
-pub(crate) fn are_above(scope: &[VarId], me: VarId, path: &[VarId]) -> bool
-    ensures { result ≡ list_all (λ u. u == me || has path.now u) scope.now }
-{
-    scope.iter().all(|var| is_above(*var, me, path))
-}
-
 /// Adds the tables that name the agent and otherwise only variables of its path.
-pub(crate) fn add_own(joined: &mut Joined, tables: &[Table], me: VarId, path: &[VarId])
-    requires { All (λ t. list_all (λ u. u == me || has path.now u) t.scope ≡ true
+pub(crate) fn add_own(
+    joined: &mut Joined,
+    tables: &[Table],
+    me: VarId,
+    path: &[VarId],
+    lower: &[VarId],
+)
+    requires apart { AreApart lower.now path.now }
+    requires lie { All (λ t. list_all (λ u. u == me || has path.now u) t.scope ≡ true
         → LiesIn joined.old.scope joined.old.sizes t) tables.now }
     ensures { HasGained (filter (λ t. list_all (λ u. u == me || has path.now u) t.scope) tables.now)
         joined.old joined.new }
 {
     for table in tables {
-        if are_above(table.scope.as_slice(), me, path) {
+        if are_above(table.scope.as_slice(), me, path, lower) {
             joined.add(table);
         }
     }
@@ -142,6 +123,7 @@ pub(crate) fn joined_of(
         own.tables.as_slice(),
         own.me,
         place.path.as_slice(),
+        place.lower.as_slice(),
     );
     add_kept(&mut joined, kept);
     Ok(Some(joined.table()))

@@ -7,6 +7,7 @@
 #![tactic(auto)]
 
 mod agent;
+mod ancestors;
 mod best;
 mod child;
 mod joint;

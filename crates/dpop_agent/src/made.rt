@@ -98,6 +98,7 @@ fn joined_with(
         own.tables.as_slice(),
         own.me,
         place.path.as_slice(),
+        place.lower.as_slice(),
     );
     add_sent(&mut joined, children, kept);
     Ok(joined.table())

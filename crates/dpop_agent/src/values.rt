@@ -96,7 +96,7 @@ pub(crate) fn values_for(
         )) (there kept.1))
         (zip children.now kept.now)) }
 {
-    let mut parcels = Vec::new(alloc);
+    let mut parcels = Vec::with_capacity(alloc, children.len())?;
     for (k, entry) in kept.iter().enumerate() {
         if let Some(table) = entry {
             let scope = table.scope.as_slice();

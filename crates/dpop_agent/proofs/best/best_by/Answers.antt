@@ -5,8 +5,13 @@ use Rattle.protocol_steps.specs.Values.{valued}
 use Rattle.protocol_steps.specs.Dpop.{DpopView, own_tables}
 use Rattle.dpop_agent.specs.Keeping.{keeping}
 use Rattle.dpop_agent.specs.Row.{HasRisen}
+use Rattle.dpop_agent.proofs.OverLaws.{apart_still}
 use Rattle.dpop_agent.proofs.RowLaws.{kept_cells, own_cells, row_best, zeros_long, zeros_small}
 use Rattle.dpop_agent.proofs.best.best_by.Goals as goal
+
+pub add_own-requires-clause-apart : goal.add_own-requires-clause-apart
+add_own-requires-clause-apart c =
+    apart_still c.args.own.now c.args.place.now c.requires.keeper.placed c.as_slice-lower.result.now c.as_slice-path.result.now c.as_slice-lower.ensures c.as_slice-path.ensures
 
 pub add_own-requires-clause-some : goal.add_own-requires-clause-some
 add_own-requires-clause-some c =

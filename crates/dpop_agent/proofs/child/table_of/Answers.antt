@@ -7,7 +7,7 @@ use Rattle.dpop_agent.proofs.child.table_of.Goals as goal
 
 pub invariant_of-result : goal.invariant_of-result
 invariant_of-result c =
-    let found = sym c.in_ok-takes.ensures ∙ c.if-not-branch.false in
+    let found = sym c.takes.ensures ∙ c.if-not-takes.false in
     let taken = rw c.as_slice-2.ensures at found in
     let scope = c.from_vec.ensures ∙ c.in_ok-from_slice.ensures.items in
     let sizes = c.from_vec-2.ensures ∙ c.in_ok-sizes.ensures in

@@ -19,7 +19,7 @@ add-requires c =
     let scope = c.as_slice.ensures ∙ ap (λ (t : CostTable). t.scope) c.table.view_is in
     let test : p t ≡ true = ap (λ (vs : List ℕ). list_all above vs) (sym scope) ∙ sym c.are_above.ensures ∙ c.if-are_above.true in
     lies_still (filter p (take k tables)) old c.loop-table.joined t c.loop-table.invariant
-    (next_has (λ t. p t ≡ true → LiesIn old.scope old.sizes t) tables k t c.loop-table-test.true c.table-item.is c.requires test)
+    (next_has (λ t. p t ≡ true → LiesIn old.scope old.sizes t) tables k t c.loop-table-test.true c.table-item.is c.requires.lie test)
 
 pub loop-table-preserved : goal.loop-table-preserved
 loop-table-preserved c =

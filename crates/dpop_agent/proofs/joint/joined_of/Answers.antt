@@ -7,11 +7,14 @@ use Rattle.protocol_steps.specs.Dpop.{DpopView, own_tables, kept_tables, kept_sc
 use Rattle.dpop_agent.specs.Keeping.{keeping}
 use Rattle.dpop_agent.specs.Joint.{HasGained, IsJoint, IsZeroWhereNarrow, over_of, over_sizes}
 use Rattle.dpop_agent.proofs.SumLaws.{both_added}
-use Rattle.dpop_agent.proofs.OverLaws.{own_may, kept_may}
+use Rattle.dpop_agent.proofs.OverLaws.{apart_still, own_may, kept_may}
 use Rattle.dpop_agent.proofs.joint.joined_of.Goals as goal
 
-pub add_own-requires : goal.add_own-requires
-add_own-requires c =
+pub add_own-requires-clause-apart : goal.add_own-requires-clause-apart
+add_own-requires-clause-apart c = apart_still c.args.own.now c.args.place.now c.requires.keeper.placed c.as_slice-3.result.now c.as_slice-2.result.now c.as_slice-3.ensures c.as_slice-2.ensures
+
+pub add_own-requires-clause-lie : goal.add_own-requires-clause-lie
+add_own-requires-clause-lie c =
     let own = c.args.own.now in
     let place = c.args.place.now in
     let kept = c.args.kept.now in

@@ -7,7 +7,7 @@ use Rattle.protocol_steps.specs.Dpop.{DpopView, own_tables, kept_tables, size_of
 use Rattle.dpop_agent.specs.Joint.{HasGained, IsJoint, IsZeroOver, over_of, over_sizes}
 use Rattle.dpop_agent.specs.Remade.{sent_of, with_sent}
 use Rattle.dpop_agent.proofs.SumLaws.{both_added}
-use Rattle.dpop_agent.proofs.OverLaws.{kept_may, over_apart, over_positive, own_may, zero_some}
+use Rattle.dpop_agent.proofs.OverLaws.{apart_still, kept_may, over_apart, over_positive, own_may, zero_some}
 use Rattle.dpop_agent.proofs.RemakeLaws.{named_in_all, over_sent, sent_keeper}
 use Rattle.dpop_agent.proofs.made.joined_with.Goals as goal
 
@@ -38,8 +38,11 @@ zeros_over-requires-clause-positive c =
     let sizes = c.in_ok-over.ensures.sizes ∙ ap (λ (vs : List ℕ). map (size_of v) vs) over in
     subst (λ (ss : List ℕ). All (λ s. 1 ≤ s) ss) (sym sizes) (over_positive own place sent (sent_keeper own place kept c.requires))
 
-pub add_own-requires : goal.add_own-requires
-add_own-requires c =
+pub add_own-requires-clause-apart : goal.add_own-requires-clause-apart
+add_own-requires-clause-apart c = apart_still c.args.own.now c.args.place.now c.requires.placed c.as_slice-4.result.now c.as_slice-3.result.now c.as_slice-4.ensures c.as_slice-3.ensures
+
+pub add_own-requires-clause-lie : goal.add_own-requires-clause-lie
+add_own-requires-clause-lie c =
     let own = c.args.own.now in
     let place = c.args.place.now in
     let kept = c.args.kept.now in

@@ -1,0 +1,96 @@
+//! The variables above an agent, sought from the end of its path: most that are sought stand there.
+
+ghost use Rattle.std.specs.Prelude.{◌≡◌, ◌==◌, ◌||◌, false, length, nat_eq};
+ghost use Rattle.std.specs.List.{filter, list_all, zip};
+ghost use Rattle.std.specs.Cmp.Lexicographic.{pointwise};
+ghost use Rattle.dcop_base.specs.Table.{has, has_repeat};
+ghost use Rattle.adopt_context.specs.Context.{value_in};
+ghost use Rattle.dpop_agent.specs.Keeping.{AreApart};
+
+use dcop_base::{VarId, stands_in};
+
+/// The size that stands beside a variable, at the same place of the second list; `None` exactly
+/// where the variable is none of these distinct ones.
+pub(crate) fn size_from_the_end(path: &[VarId], sizes: &[u16], var: VarId) -> Option<u16>
+    requires apart { has_repeat path.now ≡ false }
+    requires sized { length sizes.now ≡ length path.now }
+    ensures { result ≡ value_in (zip path.now sizes.now) var }
+{
+    let mut left = path.len();
+    while left > 0 {
+        left -= 1;
+        if path[left] == var {
+            return Some(sizes[left]);
+        }
+    }
+    None
+}
+
+/// Whether these variables stand in a path of distinct ones, in the path's order. Both lists are gone
+/// through from their ends, no farther than up to the first one of the variables.
+pub(crate) fn stand_in_order(path: &[VarId], vars: &[VarId]) -> bool
+    requires { has_repeat path.now ≡ false }
+    ensures { result ≡ pointwise nat_eq vars.now (filter (has vars.now) path.now) }
+{
+    let Some((last, before)) = vars.split_last() else {
+        return true;
+    };
+    let Some((lowest, above)) = path.split_last() else {
+        return false;
+    };
+    if *lowest == *last {
+        return stand_in_order(above, before);
+    }
+    stand_in_order(above, vars)
+}
+
+/// Whether these variables are the agent's and otherwise only those of its path.
+pub(crate) fn are_above(scope: &[VarId], me: VarId, path: &[VarId], lower: &[VarId]) -> bool
+    requires { AreApart lower.now path.now }
+    ensures { result ≡ list_all (λ u. u == me || has path.now u) scope.now }
+{
+    scope.iter().all(|var| is_above(*var, me, path, lower))
+}
+
+/// Whether the variable is the agent's or one of its path. A neighbour that is none of the path is
+/// one of the lower ones, and is sought there first where they are fewer.
+fn is_above(var: VarId, me: VarId, path: &[VarId], lower: &[VarId]) -> bool
+    requires { AreApart lower.now path.now }
+    ensures { result ≡ (var == me || has path.now var) }
+{
+    if var == me {
+        return true;
+    }
+    if lower.len() < path.len() && stands_in(lower, var) {
+        return false;
+    }
+    stands_from_the_end(path, var)
+}
+
+/// Whether the variable stands among these, sought from their end on.
+fn stands_from_the_end(vars: &[VarId], var: VarId) -> bool
+    ensures { result ≡ has vars.now var }
+{
+    let Some((last, before)) = vars.split_last() else {
+        return false;
+    };
+    if *last == var {
+        return true;
+    }
+    stands_from_the_end(before, var)
+}
+
+/// Whether these variables are the agent's and otherwise only those of a short list.
+pub(crate) fn are_mine_or_among(scope: &[VarId], me: VarId, vars: &[VarId]) -> bool
+    ensures { result ≡ list_all (λ u. u == me || has vars.now u) scope.now }
+{
+    scope.iter().all(|var| *var == me || stands_in(vars, *var))
+}
+
+/// Whether each of these variables stands in one of two lists.
+pub(crate) fn are_in_either(vars: &[VarId], first: &[VarId], second: &[VarId]) -> bool
+    ensures { result ≡ list_all (λ u. has first.now u || has second.now u) vars.now }
+{
+    vars.iter()
+        .all(|var| stands_in(first, *var) || stands_in(second, *var))
+}
