@@ -37,7 +37,7 @@ pub(crate) fn util_for(alloc: Global, path: &[VarId], made: &Table) -> Result<Ve
     parcels.push(Parcel {
         to: *parent,
         message: Message::Util {
-            scope: VarList::from_vec(Vec::from_slice(alloc, made.scope.as_slice())?),
+            scope: VarList::from_slice(alloc, made.scope.as_slice())?,
             cells: made.cells.clone()?,
         },
     })?;
@@ -182,7 +182,7 @@ pub(crate) fn table_of(
         return Ok(None);
     }
     Ok(Some(Table {
-        scope: VarList::from_vec(Vec::from_slice(alloc, scope)?),
+        scope: VarList::from_slice(alloc, scope)?,
         sizes: SizeList::from_vec(sizes),
         cells: cells.clone()?,
     }))
