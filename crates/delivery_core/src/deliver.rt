@@ -45,11 +45,13 @@ pub(crate) fn post(
     Ok(())
 }
 
-/// The agent of a lawful event takes its batch, steps and sends.
+/// The agent of a lawful event takes its batch, steps and sends. The batch lies in the room of
+/// `letters`.
 pub(crate) fn act(
     alloc: Global,
     seats: &mut [Seat],
     arrivals: &mut Arrivals,
+    letters: &mut Vec<Letter>,
     event: &Event,
 ) -> Result<(), NoMemory>
     requires network { (p : Dcop) × (net : Network) × Shows p net seats.old }
@@ -57,7 +59,7 @@ pub(crate) fn act(
     ensures { OnOk result (Moves seats.old event.now seats.new) }
 {
     let agent = event.agent;
-    let out = seats[agent.0 as usize].react(alloc, event.takes.as_slice())?;
+    let out = seats[agent.0 as usize].react(alloc, event.takes.as_slice(), letters)?;
     post(seats, arrivals, agent, out)
 }
 

@@ -94,20 +94,20 @@ fn gather_one(links: &mut [Link], next: Take, batch: &mut Vec<Letter>) -> Result
     Ok(())
 }
 
-/// Takes off the letters of all takes, one take after another.
+/// Takes off the letters of all takes, one take after another, in place of what the batch held.
 pub(crate) fn gather(
-    alloc: Global,
     links: &mut [Link],
     takes: &[Take],
-) -> Result<Vec<Letter>, NoMemory>
-    ensures batch { IfOk result (λ batch. batch.items ≡ letters_by links.old takes.now) }
+    batch: &mut Vec<Letter>,
+) -> Result<(), NoMemory>
+    ensures batch { OnOk result (batch.new.items ≡ letters_by links.old takes.now) }
     ensures rest { OnOk result (links.new ≡ fold take_off links.old takes.now) }
 {
-    let mut batch = Vec::new(alloc);
+    batch.clear();
     for take in takes {
-        gather_one(links, *take, &mut batch)?;
+        gather_one(links, *take, batch)?;
     }
-    Ok(batch)
+    Ok(())
 }
 
 /// Keeps a letter that was taken as the last one of this sender.
@@ -126,11 +126,11 @@ fn sender_of(letter: &Letter) -> VarId
     letter.from
 }
 
-/// Keeps letters that were taken, of each sender the last one.
-pub(crate) fn keep_all(links: &mut [Link], letters: Vec<Letter>)
-    ensures { links.new ≡ fold keep_last links.old letters.items }
+/// Keeps letters that were taken, of each sender the last one, and leaves their room.
+pub(crate) fn keep_all(links: &mut [Link], letters: &mut Vec<Letter>)
+    ensures { links.new ≡ fold keep_last links.old letters.old.items }
 {
-    for letter in letters {
+    for letter in letters.drain(..) {
         let from = sender_of(&letter);
         keep_one(links, from, letter);
     }

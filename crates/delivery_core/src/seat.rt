@@ -16,6 +16,7 @@ use dcop_edge::Gate;
 use protocol_steps::{Letter, Outbox, Take};
 use std::alloc::Global;
 use std::marker::Model;
+use std::mem;
 
 /// An agent, and what it was sent, by sender.
 #[derive(Drop)]
@@ -93,8 +94,14 @@ impl Seat {
         Ok(out)
     }
 
-    /// One activation of the agent on what these takes say, and gives what it sends.
-    pub(crate) fn react(&mut self, alloc: Global, takes: &[Take]) -> Result<Outbox, NoMemory>
+    /// One activation of the agent on what these takes say, and gives what it sends. Its batch lies in
+    /// the room of `letters`.
+    pub(crate) fn react(
+        &mut self,
+        alloc: Global,
+        takes: &[Take],
+        letters: &mut Vec<Letter>,
+    ) -> Result<Outbox, NoMemory>
         requires ready { MayReact self.old.view }
         requires batch { IsBatch self.old.view (letters_by self.old.inbox takes.now) }
         ensures after { OnOk result (self.new ≡ seat_after self.old takes.now) }
@@ -102,11 +109,12 @@ impl Seat {
         ensures receivers { IfOk result (λ out. All (IsToNeighbour self.old.view) out) }
     {
         self.idle = false;
-        let letters = inbox::gather(alloc, self.links.as_mut_slice(), takes)?;
-        let batch = Sequence::from_vec(letters);
+        inbox::gather(self.links.as_mut_slice(), takes, letters)?;
+        let batch = Sequence::from_vec(mem::replace(letters, Vec::new(alloc)));
         let mut out = Sequence::from_vec(Vec::new(alloc));
         self.agent.react(&batch, &mut out)?;
-        inbox::keep_all(self.links.as_mut_slice(), batch.into_vec());
+        *letters = batch.into_vec();
+        inbox::keep_all(self.links.as_mut_slice(), letters);
         Ok(out)
     }
 

@@ -19,7 +19,7 @@ use crate::seat::Seat;
 use crate::start::{Start, make, start_all};
 use dcop_base::{MAX_VARIABLES, NoMemory, Problem, Table, Val, VarId};
 use dcop_edge::Gate;
-use protocol_steps::{Event, EventFault, Message, Standing, Take};
+use protocol_steps::{Event, EventFault, Letter, Message, Standing, Take};
 use pseudotree::Place;
 use std::alloc::Global;
 use std::marker::Model;
@@ -30,6 +30,8 @@ pub struct CoreState {
     pub(crate) seats: Vec<Seat>,
     pub(crate) delivered: u64,
     arrivals: Arrivals,
+    // The room of each turn's batch.
+    letters: Vec<Letter>,
 }
 
 impl Model for CoreState {
@@ -66,6 +68,7 @@ impl CoreState {
             seats,
             delivered: 0,
             arrivals,
+            letters: Vec::new(alloc),
         })
     }
 
@@ -199,7 +202,13 @@ impl CoreState {
         requires lawful { core_fault self.old.seats event.now ≡ None }
         ensures { OnOk result (Advances self.old event.now self.new) }
     {
-        act(alloc, self.seats.as_mut_slice(), &mut self.arrivals, event)?;
+        act(
+            alloc,
+            self.seats.as_mut_slice(),
+            &mut self.arrivals,
+            &mut self.letters,
+            event,
+        )?;
         let taken = count_of(event.takes.as_slice());
         self.delivered = self.delivered.saturating_add(taken);
         Ok(())
