@@ -136,11 +136,11 @@ pub(crate) fn keep_all(links: &mut [Link], letters: &mut Vec<Letter>)
     }
 }
 
-/// A take of each link on which something waits.
-pub(crate) fn takes_of(alloc: Global, links: &[Link]) -> Result<Vec<Take>, NoMemory>
-    ensures { IfOk result (λ takes. takes.items ≡ inbox_takes links.now) }
+/// A take of each link on which something waits, in place of what the list held.
+pub(crate) fn list_takes(links: &[Link], takes: &mut Vec<Take>) -> Result<(), NoMemory>
+    ensures { OnOk result (takes.new.items ≡ inbox_takes links.now) }
 {
-    let mut takes = Vec::new(alloc);
+    takes.clear();
     for link in links {
         let count = link.count();
         if count != 0 {
@@ -150,5 +150,5 @@ pub(crate) fn takes_of(alloc: Global, links: &[Link]) -> Result<Vec<Take>, NoMem
             })?;
         }
     }
-    Ok(takes)
+    Ok(())
 }

@@ -118,23 +118,25 @@ impl Seat {
         Ok(out)
     }
 
-    /// What the agent takes in its turn: what is pending, at most 64 messages of each sender. It passes
-    /// the gate first, unless it has ended, or nothing came for it since it was last found idle.
-    pub(crate) fn takes<G: Gate>(
+    /// What the agent takes in its turn, in place of what the list held: what is pending, at most 64
+    /// messages of each sender. It passes the gate first, unless it has ended, or nothing came for it
+    /// since it was last found idle.
+    pub(crate) fn list_takes<G: Gate>(
         &mut self,
-        alloc: Global,
         gate: &G,
         me: VarId,
-    ) -> Result<Vec<Take>, NoMemory>
+        takes: &mut Vec<Take>,
+    ) -> Result<(), NoMemory>
         ensures same { self.new ≡ self.old }
-        ensures takes { IfOk result (λ takes. takes.items ≡ seat_takes self.old) }
+        ensures takes { OnOk result (takes.new.items ≡ seat_takes self.old) }
     {
         if self.idle || self.agent.ended() {
-            return Ok(Vec::new(alloc));
+            takes.clear();
+            return Ok(());
         }
         gate.pass(me);
-        let takes = inbox::takes_of(alloc, self.links.as_slice())?;
+        inbox::list_takes(self.links.as_slice(), takes)?;
         self.idle = takes.is_empty();
-        Ok(takes)
+        Ok(())
     }
 }
