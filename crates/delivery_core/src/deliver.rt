@@ -11,7 +11,7 @@ ghost use Rattle.delivery_core.specs.Shown.{Shows, Moves};
 use crate::arrivals::Arrivals;
 use crate::seat::Seat;
 use dcop_base::{NoMemory, VarId};
-use protocol_steps::{Event, Letter, Outbox, Parcel, Take};
+use protocol_steps::{Letter, Outbox, Parcel, Take};
 use std::alloc::Global;
 
 /// A parcel comes to its receiver, and is told.
@@ -45,19 +45,21 @@ pub(crate) fn post(
     Ok(())
 }
 
-/// The agent of a lawful event takes its batch, steps and sends.
+/// An agent takes its batch by lawful takes, steps and sends. The batch lies in the room of
+/// `letters`.
 pub(crate) fn act(
     alloc: Global,
     seats: &mut [Seat],
     arrivals: &mut Arrivals,
-    event: &Event,
+    letters: &mut Vec<Letter>,
+    agent: VarId,
+    takes: &[Take],
 ) -> Result<(), NoMemory>
     requires network { (p : Dcop) × (net : Network) × Shows p net seats.old }
-    requires lawful { core_fault seats.old event.now ≡ None }
-    ensures { OnOk result (Moves seats.old event.now seats.new) }
+    requires lawful { core_fault seats.old (record { agent = agent; takes = takes.now }) ≡ None }
+    ensures { OnOk result (Moves seats.old (record { agent = agent; takes = takes.now }) seats.new) }
 {
-    let agent = event.agent;
-    let out = seats[agent.0 as usize].react(alloc, event.takes.as_slice())?;
+    let out = seats[agent.0 as usize].react(alloc, takes, letters)?;
     post(seats, arrivals, agent, out)
 }
 

@@ -94,20 +94,20 @@ fn gather_one(links: &mut [Link], next: Take, batch: &mut Vec<Letter>) -> Result
     Ok(())
 }
 
-/// Takes off the letters of all takes, one take after another.
+/// Takes off the letters of all takes, one take after another, in place of what the batch held.
 pub(crate) fn gather(
-    alloc: Global,
     links: &mut [Link],
     takes: &[Take],
-) -> Result<Vec<Letter>, NoMemory>
-    ensures batch { IfOk result (λ batch. batch.items ≡ letters_by links.old takes.now) }
+    batch: &mut Vec<Letter>,
+) -> Result<(), NoMemory>
+    ensures batch { OnOk result (batch.new.items ≡ letters_by links.old takes.now) }
     ensures rest { OnOk result (links.new ≡ fold take_off links.old takes.now) }
 {
-    let mut batch = Vec::new(alloc);
+    batch.clear();
     for take in takes {
-        gather_one(links, *take, &mut batch)?;
+        gather_one(links, *take, batch)?;
     }
-    Ok(batch)
+    Ok(())
 }
 
 /// Keeps a letter that was taken as the last one of this sender.
@@ -126,21 +126,21 @@ fn sender_of(letter: &Letter) -> VarId
     letter.from
 }
 
-/// Keeps letters that were taken, of each sender the last one.
-pub(crate) fn keep_all(links: &mut [Link], letters: Vec<Letter>)
-    ensures { links.new ≡ fold keep_last links.old letters.items }
+/// Keeps letters that were taken, of each sender the last one, and leaves their room.
+pub(crate) fn keep_all(links: &mut [Link], letters: &mut Vec<Letter>)
+    ensures { links.new ≡ fold keep_last links.old letters.old.items }
 {
-    for letter in letters {
+    for letter in letters.drain(..) {
         let from = sender_of(&letter);
         keep_one(links, from, letter);
     }
 }
 
-/// A take of each link on which something waits.
-pub(crate) fn takes_of(alloc: Global, links: &[Link]) -> Result<Vec<Take>, NoMemory>
-    ensures { IfOk result (λ takes. takes.items ≡ inbox_takes links.now) }
+/// A take of each link on which something waits, in place of what the list held.
+pub(crate) fn list_takes(links: &[Link], takes: &mut Vec<Take>) -> Result<(), NoMemory>
+    ensures { OnOk result (takes.new.items ≡ inbox_takes links.now) }
 {
-    let mut takes = Vec::new(alloc);
+    takes.clear();
     for link in links {
         let count = link.count();
         if count != 0 {
@@ -150,5 +150,5 @@ pub(crate) fn takes_of(alloc: Global, links: &[Link]) -> Result<Vec<Take>, NoMem
             })?;
         }
     }
-    Ok(takes)
+    Ok(())
 }

@@ -16,6 +16,7 @@ use dcop_edge::Gate;
 use protocol_steps::{Letter, Outbox, Take};
 use std::alloc::Global;
 use std::marker::Model;
+use std::mem;
 
 /// An agent, and what it was sent, by sender.
 #[derive(Drop)]
@@ -93,8 +94,14 @@ impl Seat {
         Ok(out)
     }
 
-    /// One activation of the agent on what these takes say, and gives what it sends.
-    pub(crate) fn react(&mut self, alloc: Global, takes: &[Take]) -> Result<Outbox, NoMemory>
+    /// One activation of the agent on what these takes say, and gives what it sends. Its batch lies in
+    /// the room of `letters`.
+    pub(crate) fn react(
+        &mut self,
+        alloc: Global,
+        takes: &[Take],
+        letters: &mut Vec<Letter>,
+    ) -> Result<Outbox, NoMemory>
         requires ready { MayReact self.old.view }
         requires batch { IsBatch self.old.view (letters_by self.old.inbox takes.now) }
         ensures after { OnOk result (self.new ≡ seat_after self.old takes.now) }
@@ -102,31 +109,34 @@ impl Seat {
         ensures receivers { IfOk result (λ out. All (IsToNeighbour self.old.view) out) }
     {
         self.idle = false;
-        let letters = inbox::gather(alloc, self.links.as_mut_slice(), takes)?;
-        let batch = Sequence::from_vec(letters);
+        inbox::gather(self.links.as_mut_slice(), takes, letters)?;
+        let batch = Sequence::from_vec(mem::replace(letters, Vec::new(alloc)));
         let mut out = Sequence::from_vec(Vec::new(alloc));
         self.agent.react(&batch, &mut out)?;
-        inbox::keep_all(self.links.as_mut_slice(), batch.into_vec());
+        *letters = batch.into_vec();
+        inbox::keep_all(self.links.as_mut_slice(), letters);
         Ok(out)
     }
 
-    /// What the agent takes in its turn: what is pending, at most 64 messages of each sender. It passes
-    /// the gate first, unless it has ended, or nothing came for it since it was last found idle.
-    pub(crate) fn takes<G: Gate>(
+    /// What the agent takes in its turn, in place of what the list held: what is pending, at most 64
+    /// messages of each sender. It passes the gate first, unless it has ended, or nothing came for it
+    /// since it was last found idle.
+    pub(crate) fn list_takes<G: Gate>(
         &mut self,
-        alloc: Global,
         gate: &G,
         me: VarId,
-    ) -> Result<Vec<Take>, NoMemory>
+        takes: &mut Vec<Take>,
+    ) -> Result<(), NoMemory>
         ensures same { self.new ≡ self.old }
-        ensures takes { IfOk result (λ takes. takes.items ≡ seat_takes self.old) }
+        ensures takes { OnOk result (takes.new.items ≡ seat_takes self.old) }
     {
         if self.idle || self.agent.ended() {
-            return Ok(Vec::new(alloc));
+            takes.clear();
+            return Ok(());
         }
         gate.pass(me);
-        let takes = inbox::takes_of(alloc, self.links.as_slice())?;
+        inbox::list_takes(self.links.as_slice(), takes)?;
         self.idle = takes.is_empty();
-        Ok(takes)
+        Ok(())
     }
 }

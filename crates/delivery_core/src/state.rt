@@ -19,7 +19,7 @@ use crate::seat::Seat;
 use crate::start::{Start, make, start_all};
 use dcop_base::{MAX_VARIABLES, NoMemory, Problem, Table, Val, VarId};
 use dcop_edge::Gate;
-use protocol_steps::{Event, EventFault, Message, Standing, Take};
+use protocol_steps::{Event, EventFault, Letter, Message, Standing, Take};
 use pseudotree::Place;
 use std::alloc::Global;
 use std::marker::Model;
@@ -30,6 +30,8 @@ pub struct CoreState {
     pub(crate) seats: Vec<Seat>,
     pub(crate) delivered: u64,
     arrivals: Arrivals,
+    // The room of each turn's batch.
+    letters: Vec<Letter>,
 }
 
 impl Model for CoreState {
@@ -66,6 +68,7 @@ impl CoreState {
             seats,
             delivered: 0,
             arrivals,
+            letters: Vec::new(alloc),
         })
     }
 
@@ -159,48 +162,56 @@ impl CoreState {
         self.seats.len()
     }
 
-    /// The next agent to whom something came since [`CoreState::takes`] looked at it last, from this one
-    /// on. It is a hint: no clause says that none is left out.
+    /// The next agent to whom something came since [`CoreState::list_takes`] looked at it last, from this
+    /// one on. It is a hint: no clause says that none is left out.
     pub fn next_called(&self, from: usize) -> Option<usize>
         ensures { IfSome result (λ me. (from ≤ me) × (me < length self.now.seats)) }
     {
         self.arrivals.next(from, self.seats.len())
     }
 
-    /// What an agent takes in its turn: of each sender what waits, at most 64 messages; nothing where it
-    /// has ended. Where it has not and something may wait for it, it passes the gate first.
+    /// What an agent takes in its turn, in place of what the list held: of each sender what waits, at
+    /// most 64 messages; nothing where it has ended. Where it has not and something may wait for it, it
+    /// passes the gate first.
     ///
     /// # Errors
     ///
     /// [`NoMemory`] where memory was wanted and not had.
-    pub fn takes<G: Gate>(
+    pub fn list_takes<G: Gate>(
         &mut self,
-        alloc: Global,
         gate: &G,
         me: VarId,
-    ) -> Result<Vec<Take>, NoMemory>
+        takes: &mut Vec<Take>,
+    ) -> Result<(), NoMemory>
         requires { me < length self.old.seats }
         ensures same { self.new ≡ self.old }
-        ensures takes { IfOk result (λ takes. (d : SeatView) →
-            takes.items ≡ seat_takes (slice_index_or self.old.seats me d)) }
+        ensures takes { OnOk result ((d : SeatView) →
+            takes.new.items ≡ seat_takes (slice_index_or self.old.seats me d)) }
     {
         self.arrivals.forget(me.0 as usize);
-        self.seats[me.0 as usize].takes(alloc, gate, me)
+        self.seats[me.0 as usize].list_takes(gate, me, takes)
     }
 
-    /// Plays a lawful event: its agent takes, steps and sends. [`CoreState::happen`] is the same for one
-    /// of which that is not known.
+    /// Plays a lawful event, that of an agent with these takes: it takes, steps and sends.
+    /// [`CoreState::happen`] is the same for one of which that is not known.
     ///
     /// # Errors
     ///
     /// [`NoMemory`] where memory was wanted and not had. The state is then of no more use.
-    pub fn follow(&mut self, alloc: Global, event: &Event) -> Result<(), NoMemory>
+    pub fn follow(&mut self, alloc: Global, agent: VarId, takes: &[Take]) -> Result<(), NoMemory>
         requires core { IsSomeCore self.old }
-        requires lawful { core_fault self.old.seats event.now ≡ None }
-        ensures { OnOk result (Advances self.old event.now self.new) }
+        requires lawful { core_fault self.old.seats (record { agent = agent; takes = takes.now }) ≡ None }
+        ensures { OnOk result (Advances self.old (record { agent = agent; takes = takes.now }) self.new) }
     {
-        act(alloc, self.seats.as_mut_slice(), &mut self.arrivals, event)?;
-        let taken = count_of(event.takes.as_slice());
+        act(
+            alloc,
+            self.seats.as_mut_slice(),
+            &mut self.arrivals,
+            &mut self.letters,
+            agent,
+            takes,
+        )?;
+        let taken = count_of(takes);
         self.delivered = self.delivered.saturating_add(taken);
         Ok(())
     }
@@ -219,7 +230,7 @@ impl CoreState {
         if let Some(fault) = fault_of(self.seats.as_slice(), event) {
             return Ok(Some(fault));
         }
-        self.follow(alloc, event)?;
+        self.follow(alloc, event.agent, event.takes.as_slice())?;
         Ok(None)
     }
 }

@@ -15,7 +15,7 @@ use Rattle.delivery_core.specs.State.{CoreView}
 use Rattle.delivery_core.specs.NetworkState.{most_counted}
 use Rattle.delivery_turns.specs.Turns.{turn, turns, round, after, stops, PlaysTo, IsPlayed}
 use Rattle.delivery_core.specs.Shown.{IsCore}
-use Rattle.delivery_turns.specs.CoreTurns.{Leads, TakesTurn, Turned, PlaysRound, Playing, is_over}
+use Rattle.delivery_turns.specs.CoreTurns.{Leads, Turned, PlaysRound, Playing, is_over}
 use Rattle.delivery_core.proofs.RunLaws.{is_state}
 
 -- runs one after another
@@ -30,41 +30,43 @@ leads_join p net mid end es fs s t a b = record {
   more = let all = length-append es fs in let x = a.more in let y = b.more in omega (arith, all, x, y);
 }
 
-pub turned_none : (p : Dcop) (net : Network) (before : List Event) (s : CoreView) → IsCore p net s → Turned p net before 0 s before
-turned_none p net before s core =
-    let size : length net.views ≡ length p.sizes - 0 = ap (λ (vs : List View). length vs) (sym core.shows.views) ∙ length-map s.seats (λ x. x.view) ∙ core.shows.size ∙ omega arith in
-    record {
-      es = [];
-      mid = net;
-      leads = record { ran = refl; is = refl; core = core; more = omega arith };
-      joined = sym (append-nil before);
-      left = ap (λ (n : ℕ). turns net (range_with_len 0 n)) size;
-    }
+pub turned_none : (p : Dcop) (net : Network) (s : CoreView) → IsCore p net s → (h : Turned p net 0 s) × ([] ≡ h.es)
+turned_none p net s core =
+    let size : length net.views ≡ length p.sizes - 0 = ap (λ (vs : List View). length vs) (sym core.shows.views) ∙ length-map s.seats (λ x. x.view) ∙ core.shows.size ∙ omega arith in (
+      record {
+        es = [];
+        mid = net;
+        leads = record { ran = refl; is = refl; core = core; more = omega arith };
+        left = ap (λ (n : ℕ). turns net (range_with_len 0 n)) size;
+      },
+      refl,
+    )
 
-pub turned_next : (p : Dcop) (net : Network) (before : List Event) (k : ℕ) (s t : CoreView) (events new : List Event) → Turned p net before k s events → TakesTurn k s events t new → k < length p.sizes
-    → Turned p net before (k + 1) t new
-turned_next p net before k s t events new h takes lt =
-    let one = takes p h.mid h.leads.core in
+-- the turn of the next agent
+pub turned_next : (p : Dcop) (net : Network) (k : ℕ) (s t : CoreView) → (h : Turned p net k s) → (mid : Network) → Leads p h.mid (turn h.mid k) mid t → k < length p.sizes
+    → (now : Turned p net (k + 1) t) × (h.es ++ turn h.mid k ≡ now.es)
+turned_next p net k s t h mid leads lt =
     let fs : List Event = turn h.mid k in
     let rest : List ℕ = range_with_len (k + 1) (length p.sizes - (k + 1)) in
-    let cut : length p.sizes - k ≡ suc (length p.sizes - (k + 1)) = omega (arith, lt) in
-    record {
-      es = h.es ++ fs;
-      mid = one.0;
-      leads = leads_join p net h.mid one.0 h.es fs s t h.leads one.1;
-      joined = one.2 ∙ ap (λ (es : List Event). es ++ fs) h.joined ∙ append_assoc before h.es fs;
-      left = h.left
-          ∙ ap (λ (n : ℕ). h.es ++ turns h.mid (range_with_len k n)) cut
-          ∙ ap (λ (n : Network). h.es ++ (fs ++ turns n rest)) one.1.is
-          ∙ sym (append_assoc h.es fs (turns one.0 rest));
-    }
+    let cut : length p.sizes - k ≡ suc (length p.sizes - (k + 1)) = omega (arith, lt) in (
+      record {
+        es = h.es ++ fs;
+        mid = mid;
+        leads = leads_join p net h.mid mid h.es fs s t h.leads leads;
+        left = h.left
+            ∙ ap (λ (n : ℕ). h.es ++ turns h.mid (range_with_len k n)) cut
+            ∙ ap (λ (n : Network). h.es ++ (fs ++ turns n rest)) leads.is
+            ∙ sym (append_assoc h.es fs (turns mid rest));
+      },
+      refl,
+    )
 
-pub turned_all : (p : Dcop) (net : Network) (before : List Event) (k : ℕ) (s : CoreView) (events : List Event) → Turned p net before k s events → length p.sizes ≤ k
-    → (mid : Network) × Leads p net (round net) mid s × (events ≡ before ++ round net)
-turned_all p net before k s events h le =
+-- the turns of all agents
+pub turned_all : (p : Dcop) (net : Network) (k : ℕ) (s : CoreView) → (h : Turned p net k s) → length p.sizes ≤ k → (mid : Network) × Leads p net (round net) mid s × (h.es ≡ round net)
+turned_all p net k s h le =
     let none : length p.sizes - k ≡ 0 = omega (arith, le) in
     let all : round net ≡ h.es = h.left ∙ ap (λ (n : ℕ). h.es ++ turns h.mid (range_with_len k n)) none ∙ append-nil h.es in
-    (h.mid, subst (λ (es : List Event). Leads p net es h.mid s) (sym all) h.leads, h.joined ∙ ap (λ (es : List Event). before ++ es) (sym all))
+    (h.mid, subst (λ (es : List Event). Leads p net es h.mid s) (sym all) h.leads, sym all)
 
 capped : (b d m : ℕ) → b ≤ m → nat_le b (min d m) ≡ nat_le b d
 capped b d m le = elim (cases_lt d b) [

@@ -1,7 +1,7 @@
 -- Rounds of many turns: turn by turn, and round by round until playing stops.
-use Rattle.std.proofs.Common.{◌≡◌, ◌≢◌, ℕ, ◌+◌, ◌*◌, ◌<◌, ◌≤◌, true, false, ◌||◌, nat_le, eqb, List, [], ◌∷◌, ◌++◌, length, min, refl, sym, ap, subst, ◌∙◌, inl, inr, arith}
-use Rattle.std.proofs.lemmas.Bool.{cases_eq, leb-false, or_parts}
-use Rattle.std.proofs.lemmas.List.{append-nil, append_assoc, length-append, length-map}
+use Rattle.std.proofs.Common.{◌≡◌, ◌≢◌, ℕ, ◌+◌, ◌*◌, ◌<◌, ◌≤◌, Bool, true, false, ◌&&◌, ◌||◌, ◌==◌, nat_le, eqb, List, [], ◌∷◌, ◌++◌, length, refl, sym, ap, subst, ◌∙◌, inl, inr, arith}
+use Rattle.std.proofs.lemmas.Bool.{cases_eq, eqb-true, eqb-false, leb-false, or_parts}
+use Rattle.std.proofs.lemmas.List.{length-append, length-map}
 use Rattle.std.proofs.lemmas.Nat.{mul-le}
 use Rattle.dcop_base.specs.Limits.{variable_limit}
 use Rattle.dcop_base.specs.Problem.{Dcop}
@@ -10,20 +10,21 @@ use Rattle.protocol_steps.specs.declared.event.Take.{Take}
 use Rattle.protocol_steps.specs.declared.run_end.RunEnd.{RunEnd}
 use Rattle.protocol_steps.specs.View.{View}
 use Rattle.protocol_steps.specs.Network.{Network}
-use Rattle.protocol_steps.specs.Effect.{pending, has_ended, deliveries}
+use Rattle.protocol_steps.specs.Effect.{has_ended, deliveries}
 use Rattle.protocol_steps.specs.Run.{journal}
 use Rattle.protocol_steps.specs.RunEnds.{IsRunEnd}
-use Rattle.protocol_steps.specs.Rounds.{most_events, taken_in, IsRound, AreRounds}
+use Rattle.protocol_steps.specs.Rounds.{most_events, IsRound, AreRounds}
 use Rattle.delivery_core.specs.State.{CoreView}
 use Rattle.delivery_core.specs.NetworkState.{most_counted}
-use Rattle.delivery_turns.specs.Turns.{turn_takes, turn, after, round, stops}
+use Rattle.delivery_turns.specs.Turns.{turn_takes, event_with, turn, after, round, stops}
 use Rattle.delivery_core.specs.Shown.{IsCore}
-use Rattle.delivery_turns.specs.CoreTurns.{Leads, TakesTurn, PlaysRound, is_over}
-use Rattle.delivery_turns.specs.Sprints.{agent_share, turn_share, Turning, TakesTurns, Sprinting, PlaysSprint, Sprinted}
+use Rattle.delivery_turns.specs.CoreTurns.{Leads, TakesTurn, Turned, is_over}
+use Rattle.delivery_turns.specs.Sprints.{agent_share, turn_share, none_of, TakesAll, Turning, TakesTurns, Sprinting, PlaysSprint, Sprinted}
 use Rattle.delivery_turns.proofs.DeliveredLaws.{Delivers, turn-few, round-few}
 use Rattle.delivery_turns.proofs.RoundLaws.{journal-append, taken-append, event-one, turn-other, few-one, round-serves}
 use Rattle.delivery_turns.proofs.StopLaws.{stopped-how}
-use Rattle.delivery_turns.proofs.PlayLaws.{leads_join, over_is, stops_still, empty_by}
+use Rattle.delivery_turns.proofs.PlayLaws.{leads_join, turned_next, over_is, stops_still, empty_by}
+use Rattle.delivery_turns.proofs.TurnLaws.{none_with, still_more}
 
 -- as many agents as variables, and as many desks as agents
 core_views : (p : Dcop) (net : Network) (s : CoreView) → IsCore p net s → length net.views ≡ length p.sizes
@@ -32,110 +33,171 @@ core_views p net s core = ap (λ (vs : List View). length vs) (sym core.shows.vi
 core_desks : (p : Dcop) (net : Network) (s : CoreView) → IsCore p net s → length net.desks ≡ length net.views
 core_desks p net s core = core.shows.desks ∙ sym (length-map s.seats (λ x. x.view)) ∙ ap (λ (vs : List View). length vs) core.shows.views
 
-pub turning_none : (p : Dcop) (net : Network) (before : List Event) (s : CoreView) → IsCore p net s → Turning p net before 0 s before
-turning_none p net before s core = record {
-  es = [];
-  mid = net;
-  leads = record { ran = refl; is = refl; core = core; more = omega arith };
-  joined = sym (append-nil before);
-  few = λ i. omega arith;
-  none = λ i le. refl;
-  counted = omega arith;
-}
+and_true : (b : Bool) → (b && true) ≡ b
+and_true true = refl
+and_true false = refl
+
+and_false : (b : Bool) → (b && false) ≡ false
+and_false true = refl
+and_false false = refl
+
+-- whether there is no event yet, one turn later
+still_on : (still : Bool) (es fs all : List Event) (k : ℕ) (ts : List Take) → still ≡ none_of es → fs ≡ event_with k ts → es ++ fs ≡ all → (still && (length ts == 0)) ≡ none_of all
+still_on still es fs all k ts so with joined =
+    ap (λ (b : Bool). still && b) (sym (none_with k ts) ∙ ap none_of (sym with))
+    ∙ still_more still es fs so
+    ∙ ap none_of joined
+
+-- the turn of the next agent of a round
+pub all_next : (p : Dcop) (net : Network) (k : ℕ) (s t : CoreView) (ts : List Take) (still : Bool) → (h : Turned p net k s) × (still ≡ none_of h.es) → TakesTurn k s t ts → k < length p.sizes
+    → (now : Turned p net (k + 1) t) × ((still && (length ts == 0)) ≡ none_of now.es)
+all_next p net k s t ts still h takes lt =
+    let one = takes p h.0.mid h.0.leads.core in
+    let now = turned_next p net k s t h.0 one.0 one.1 lt in
+    (now.0, still_on still h.0.es (turn h.0.mid k) now.0.es k ts h.1 one.2 now.1)
+
+pub turning_none : (p : Dcop) (net : Network) (s : CoreView) → IsCore p net s → (h : Turning p net 0 s) × (true ≡ none_of h.es)
+turning_none p net s core = (
+  record {
+    es = [];
+    mid = net;
+    leads = record { ran = refl; is = refl; core = core; more = omega arith };
+    few = λ i. omega arith;
+    none = λ i le. refl;
+    counted = omega arith;
+  },
+  refl,
+)
 
 -- the next agents are passed over
-pub turning_past : (p : Dcop) (net : Network) (before : List Event) (from k : ℕ) (s : CoreView) (events : List Event) → from ≤ k → Turning p net before from s events → Turning p net before k s events
-turning_past p net before from k s events le h = record {
-  es = h.es;
-  mid = h.mid;
-  leads = h.leads;
-  joined = h.joined;
-  few = h.few;
-  none = λ i past. h.none i (omega (arith, le, past));
-  counted = let c = h.counted in omega (arith, c, le);
-}
+turning_past : (p : Dcop) (net : Network) (from k : ℕ) (s : CoreView) → from ≤ k → (h : Turning p net from s) → (now : Turning p net k s) × (h.es ≡ now.es)
+turning_past p net from k s le h = (
+  record {
+    es = h.es;
+    mid = h.mid;
+    leads = h.leads;
+    few = h.few;
+    none = λ i past. h.none i (omega (arith, le, past));
+    counted = let c = h.counted in omega (arith, c, le);
+  },
+  refl,
+)
 
 -- the turn of one agent
-pub turning_next : (p : Dcop) (net : Network) (before : List Event) (k : ℕ) (s t : CoreView) (events new : List Event) → length p.sizes ≤ 1000 → Turning p net before k s events → TakesTurn k s events t new
-    → Turning p net before (k + 1) t new
-turning_next p net before k s t events new few h takes =
-    let one = takes p h.mid h.leads.core in
+turning_one : (p : Dcop) (net : Network) (k : ℕ) (s t : CoreView) → length p.sizes ≤ 1000 → (h : Turning p net k s) → (mid : Network) → Leads p h.mid (turn h.mid k) mid t
+    → (now : Turning p net (k + 1) t) × (h.es ++ turn h.mid k ≡ now.es)
+turning_one p net k s t few h mid leads =
     let fs : List Event = turn h.mid k in
     let sum : (i : ℕ) → length (journal i (h.es ++ fs)) ≡ length (journal i h.es) + length (journal i fs) =
     λ i. ap (λ (js : List (List Take)). length js) (journal-append i h.es fs) ∙ length-append (journal i h.es) (journal i fs) in
-    let other : (i : ℕ) → k ≢ i → length (journal i fs) ≡ 0 = λ i ne. ap (λ (js : List (List Take)). length js) (turn-other h.mid k i ne) in
-    record {
-      es = h.es ++ fs;
-      mid = one.0;
-      leads = leads_join p net h.mid one.0 h.es fs s t h.leads one.1;
-      joined = one.2 ∙ ap (λ (es : List Event). es ++ fs) h.joined ∙ append_assoc before h.es fs;
-      few = λ i. elim (cases_eq k i) [
-        | inl same ↦
-            let all = sum i in
-            let none = h.none i (omega (arith, same)) in
-            let own : length (journal i fs) ≤ 1 = event-one k i (turn_takes h.mid k) (eqb (length (turn_takes h.mid k)) 0) in
-            omega (arith, all, none, own)
-        | inr ne ↦ let all = sum i in let none = other i ne in let few = h.few i in omega (arith, all, none, few)
-      ];
-      none = λ i past. let all = sum i in let none = other i (λ e. omega (arith, e, past)) in let before = h.none i (omega (arith, past)) in omega (arith, all, none, before);
-      counted =
-          let own : Delivers (64 * length h.mid.views) h.mid one.0 = subst (λ (n : Network). Delivers (64 * length h.mid.views) h.mid n) one.1.is (turn-few h.mid k) in
-          let views = core_views p h.mid s h.leads.core in
-          let c = h.counted in
-          omega (arith, own.0, views, few, c);
-    }
+    let other : (i : ℕ) → k ≢ i → length (journal i fs) ≡ 0 = λ i ne. ap (λ (js : List (List Take)). length js) (turn-other h.mid k i ne) in (
+      record {
+        es = h.es ++ fs;
+        mid = mid;
+        leads = leads_join p net h.mid mid h.es fs s t h.leads leads;
+        few = λ i. elim (cases_eq k i) [
+          | inl same ↦
+              let all = sum i in
+              let none = h.none i (omega (arith, same)) in
+              let own : length (journal i fs) ≤ 1 = event-one k i (turn_takes h.mid k) (eqb (length (turn_takes h.mid k)) 0) in
+              omega (arith, all, none, own)
+          | inr ne ↦ let all = sum i in let none = other i ne in let few = h.few i in omega (arith, all, none, few)
+        ];
+        none = λ i past. let all = sum i in let none = other i (λ e. omega (arith, e, past)) in let before = h.none i (omega (arith, past)) in omega (arith, all, none, before);
+        counted =
+            let own : Delivers (64 * length h.mid.views) h.mid mid = subst (λ (n : Network). Delivers (64 * length h.mid.views) h.mid n) leads.is (turn-few h.mid k) in
+            let views = core_views p h.mid s h.leads.core in
+            let c = h.counted in
+            omega (arith, own.0, views, few, c);
+      },
+      refl,
+    )
 
-pub turning_all : (p : Dcop) (net : Network) (before : List Event) (k : ℕ) (s : CoreView) (events : List Event) → k ≤ 1000 → Turning p net before k s events
-    → (es : List Event) × (mid : Network) × Leads p net es mid s × (events ≡ before ++ es) × ((i : ℕ) → length (journal i es) ≤ 1) × (deliveries mid ≤ deliveries net + turn_share)
-turning_all p net before k s events le h = (h.es, h.mid, h.leads, h.joined, h.few, let c = h.counted in omega (arith, c, le))
+-- agents are passed over, and the next one takes its turn
+pub turning_next : (p : Dcop) (net : Network) (from k : ℕ) (s t : CoreView) (ts : List Take) (still : Bool) → length p.sizes ≤ 1000 → from ≤ k → (h : Turning p net from s) × (still ≡ none_of h.es) → TakesTurn k s t ts
+    → (now : Turning p net (k + 1) t) × ((still && (length ts == 0)) ≡ none_of now.es)
+turning_next p net from k s t ts still few le h takes =
+    let past = turning_past p net from k s le h.0 in
+    let one = takes p past.0.mid past.0.leads.core in
+    let now = turning_one p net k s t few past.0 one.0 one.1 in
+    (now.0, still_on still past.0.es (turn past.0.mid k) now.0.es k ts (h.1 ∙ ap none_of past.1) one.2 now.1)
+
+pub turning_all : (p : Dcop) (net : Network) (k : ℕ) (s : CoreView) (still : Bool) → k ≤ 1000 → (h : Turning p net k s) × (still ≡ none_of h.es)
+    → (es : List Event) × (mid : Network) × Leads p net es mid s × (still ≡ none_of es) × ((i : ℕ) → length (journal i es) ≤ 1) × (deliveries mid ≤ deliveries net + turn_share)
+turning_all p net k s still le h = (h.0.es, h.0.mid, h.0.leads, h.1, h.0.few, let c = h.0.counted in omega (arith, c, le))
 
 -- the first turn, of all agents
-pub sprint_first : (p : Dcop) (net : Network) (s t : CoreView) (before events : List Event) → before ≡ [] → length p.sizes ≤ 1000 → IsCore p net s → PlaysRound s before t events → Sprinting p net 1 t events
-sprint_first p net s t before events empty few core plays =
+pub sprint_first : (p : Dcop) (net : Network) (s t : CoreView) (still : Bool) → length p.sizes ≤ 1000 → IsCore p net s → TakesAll s t still → (h : Sprinting p net 1 t) × (still ≡ none_of h.events)
+sprint_first p net s t still few core plays =
     let one = plays p net core in
-    let is : round net ≡ events = sym (one.2 ∙ ap (λ (es : List Event). es ++ round net) empty) in
-    let n : ℕ = length net.views in
-    record {
-      mid = one.0;
-      leads = subst (λ (es : List Event). Leads p net es one.0 t) is one.1;
-      few = λ i. subst (λ (es : List Event). length (journal i es) ≤ 1) is (few-one net i 0 n);
-      served = λ i j. subst (λ (es : List Event). min 64 (length (pending net i j)) ≤ taken_in i j es) is (round-serves net i j (core_desks p net s core));
-      counted =
-          let own : Delivers ((64 * n) * n) net one.0 = subst (λ (m : Network). Delivers ((64 * n) * n) net m) one.1.is (round-few n net refl) in
-          let views = core_views p net s core in
-          let wide : (64 * n) * n ≤ agent_share * variable_limit = mul-le (64 * n) n agent_share variable_limit (omega (arith, views, few)) (omega (arith, views, few)) in
-          omega (arith, own.0, wide);
-      still = λ none. ap (λ (es : List Event). length es) is ∙ none;
-    }
+    let n : ℕ = length net.views in (
+      record {
+        events = round net;
+        mid = one.0;
+        leads = one.1;
+        few = λ i. few-one net i 0 n;
+        served = λ i j. round-serves net i j (core_desks p net s core);
+        counted =
+            let own : Delivers ((64 * n) * n) net one.0 = subst (λ (m : Network). Delivers ((64 * n) * n) net m) one.1.is (round-few n net refl) in
+            let views = core_views p net s core in
+            let wide : (64 * n) * n ≤ agent_share * variable_limit = mul-le (64 * n) n agent_share variable_limit (omega (arith, views, few)) (omega (arith, views, few)) in
+            omega (arith, own.0, wide);
+        still = λ none. none;
+      },
+      one.2,
+    )
 
 -- a later turn
-pub sprint_next : (p : Dcop) (net : Network) (k : ℕ) (s t : CoreView) (events new : List Event) → Sprinting p net k s events → TakesTurns s events t new → Sprinting p net (k + 1) t new
-sprint_next p net k s t events new h takes =
+pub sprint_next : (p : Dcop) (net : Network) (k : ℕ) (s t : CoreView) (still none : Bool) → (h : Sprinting p net k s) × (still ≡ none_of h.events) → TakesTurns s t none
+    → (now : Sprinting p net (k + 1) t) × ((still && none) ≡ none_of now.events)
+sprint_next p net k s t still none from takes =
+    let h = from.0 in
+    let events : List Event = h.events in
     let one = takes p h.mid h.leads.core in
-    let es : List Event = one.0 in
-    let is : events ++ es ≡ new = sym one.3 in
-    record {
-      mid = one.1;
-      leads = subst (λ (fs : List Event). Leads p net fs one.1 t) is (leads_join p net h.mid one.1 events es s t h.leads one.2);
-      few = λ i. subst (λ (fs : List Event). length (journal i fs) ≤ k + 1) is
-          (let all = ap (λ (js : List (List Take)). length js) (journal-append i events es) ∙ length-append (journal i events) (journal i es) in
-          let old = h.few i in let own = one.4 i in omega (arith, all, old, own));
-      served = λ i j. subst (λ (fs : List Event). min 64 (length (pending net i j)) ≤ taken_in i j fs) is
-          (let all = taken-append i j events es in let old = h.served i j in omega (arith, all, old));
-      counted = let c = h.counted in let own = one.5 in omega (arith, c, own);
-      still = λ none. h.still (let all = ap (λ (fs : List Event). length fs) is in let sum = length-append events es in omega (arith, all, sum, none));
-    }
+    let es : List Event = one.0 in (
+      record {
+        events = events ++ es;
+        mid = one.1;
+        leads = leads_join p net h.mid one.1 events es s t h.leads one.2;
+        few = λ i.
+            let all = ap (λ (js : List (List Take)). length js) (journal-append i events es) ∙ length-append (journal i events) (journal i es) in
+            let old = h.few i in let own = one.4 i in omega (arith, all, old, own);
+        served = λ i j. let all = taken-append i j events es in let old = h.served i j in omega (arith, all, old);
+        counted = let c = h.counted in let own = one.5 in omega (arith, c, own);
+        still = λ none. h.still (let sum = length-append events es in omega (arith, sum, none));
+      },
+      ap (λ (b : Bool). still && b) one.3 ∙ still_more still events es from.1,
+    )
+
+-- a turn with some event
+pub sprint_some : (p : Dcop) (net : Network) (k : ℕ) (s t : CoreView) (still none : Bool) → none ≡ false → (h : Sprinting p net k s) × (still ≡ none_of h.events) → TakesTurns s t none
+    → (now : Sprinting p net (k + 1) t) × (false ≡ none_of now.events)
+sprint_some p net k s t still none some from takes =
+    let now = sprint_next p net k s t still none from takes in
+    (now.0, sym (ap (λ (b : Bool). still && b) some ∙ and_false still) ∙ now.1)
 
 -- so many turns are a round
-pub sprint_all : (p : Dcop) (net : Network) (k : ℕ) (s : CoreView) (events : List Event) → k ≤ most_events → Sprinting p net k s events → Sprinting p net most_events s events
-sprint_all p net k s events le h = record {
-  mid = h.mid;
-  leads = h.leads;
-  few = λ i. let few = h.few i in omega (arith, few, le);
-  served = h.served;
-  counted = let c = h.counted in omega (arith, c, le);
-  still = h.still;
-}
+pub sprint_all : (p : Dcop) (net : Network) (k : ℕ) (s : CoreView) (still : Bool) → k ≤ most_events → (h : Sprinting p net k s) × (still ≡ none_of h.events) → (now : Sprinting p net most_events s) × (still ≡ none_of now.events)
+sprint_all p net k s still le from =
+    let h = from.0 in (
+      record {
+        events = h.events;
+        mid = h.mid;
+        leads = h.leads;
+        few = λ i. let few = h.few i in omega (arith, few, le);
+        served = h.served;
+        counted = let c = h.counted in omega (arith, c, le);
+        still = h.still;
+      },
+      from.1,
+    )
+
+-- and so they are with one more that has no event
+pub sprint_end : (p : Dcop) (net : Network) (k : ℕ) (s t : CoreView) (still none : Bool) → none ≡ true → k + 1 ≤ most_events → (h : Sprinting p net k s) × (still ≡ none_of h.events) → TakesTurns s t none
+    → (now : Sprinting p net most_events t) × (still ≡ none_of now.events)
+sprint_end p net k s t still none is le from takes =
+    let next = sprint_next p net k s t still none from takes in
+    sprint_all p net (k + 1) t still le (next.0, sym (ap (λ (b : Bool). still && b) is ∙ and_true still) ∙ next.1)
 
 -- rounds, and one more behind them
 rounds_snoc : (budget : ℕ) (net mid end : Network) (pieces : List (List Event)) (es : List Event) → AreRounds budget net pieces mid → deliveries mid < budget → IsRound mid es end → AreRounds budget net (pieces ++ es ∷ []) end
@@ -146,10 +208,13 @@ pub sprinted_none : (p : Dcop) (budget : ℕ) (first : Network) (s : CoreView) �
 sprinted_none p budget first s core = record { pieces = []; mid = first; are = refl; core = core; spent = omega arith; counted = omega arith }
 
 -- a round was played, with some event
-pub sprinted_next : (p : Dcop) (budget : ℕ) (first : Network) (k : ℕ) (s t : CoreView) (events : List Event) → budget ≤ most_counted → Sprinted p budget first k s → is_over budget s ≡ false → PlaysSprint s t events
-    → length events ≢ 0 → Sprinted p budget first (k + 1) t
-sprinted_next p budget first k s t events le h over plays some =
-    let one = plays p h.mid h.core in
+pub sprinted_next : (p : Dcop) (budget : ℕ) (first : Network) (k : ℕ) (s t : CoreView) (still : Bool) → budget ≤ most_counted → Sprinted p budget first k s → is_over budget s ≡ false → PlaysSprint s t still
+    → still ≡ false → Sprinted p budget first (k + 1) t
+sprinted_next p budget first k s t still le h over plays moved =
+    let played = plays p h.mid h.core in
+    let one = played.0 in
+    let events : List Event = one.events in
+    let some : length events ≢ 0 = eqb-false (length events) 0 (sym played.1 ∙ moved) in
     let on : (has_ended h.mid || nat_le budget (deliveries h.mid)) ≡ false = sym (over_is p budget h.mid s le h.core) ∙ over in
     let below : deliveries h.mid < budget = leb-false budget (deliveries h.mid) (or_parts (has_ended h.mid) (nat_le budget (deliveries h.mid)) on).1 in
     let is_round : IsRound h.mid events one.mid = record { leads = one.leads.ran; few = one.few; served = λ i j runs. one.served i j } in
@@ -170,11 +235,13 @@ sprints_stop p budget first k s h stop =
     (h.pieces, h.mid, how.0, h.are, how.1, h.core, h.counted)
 
 -- a round had no event
-pub sprints_still : (p : Dcop) (budget : ℕ) (first : Network) (k : ℕ) (s t : CoreView) (events : List Event) → Sprinted p budget first k s → PlaysSprint s t events → length events ≡ 0
+pub sprints_still : (p : Dcop) (budget : ℕ) (first : Network) (k : ℕ) (s t : CoreView) (still : Bool) → Sprinted p budget first k s → PlaysSprint s t still → still ≡ true
     → (pieces : List (List Event)) × (end : Network) × (how : RunEnd) × AreRounds budget first pieces end × IsRunEnd budget end how × IsCore p end t × (deliveries end ≤ deliveries first + budget + most_events * turn_share)
-sprints_still p budget first k s t events h plays none =
-    let one = plays p h.mid h.core in
-    let same : one.mid ≡ h.mid = sym one.leads.is ∙ ap (λ (es : List Event). after h.mid es) (empty_by events none) in
+sprints_still p budget first k s t still h plays is =
+    let played = plays p h.mid h.core in
+    let one = played.0 in
+    let none : length one.events ≡ 0 = eqb-true (length one.events) 0 (sym played.1 ∙ is) in
+    let same : one.mid ≡ h.mid = sym one.leads.is ∙ ap (λ (es : List Event). after h.mid es) (empty_by one.events none) in
     let now : IsCore p h.mid t = subst (λ (n : Network). IsCore p n t) same one.leads.core in
     sprints_stop p budget first k t (record { pieces = h.pieces; mid = h.mid; are = h.are; core = now; spent = h.spent; counted = h.counted })
     (stops_still budget h.mid (empty_by (round h.mid) (one.still none)))

@@ -1,9 +1,9 @@
 -- A turn: what the code takes of an inbox is what the turn takes in the network, and its event is lawful.
-use Rattle.std.proofs.Common.{◌≡◌, ℕ, zero, suc, ◌+◌, ◌<◌, ◌≤◌, Bool, true, false, cond, ◌==◌, nat_le, if◌then◌else◌, List, [], ◌∷◌, ◌++◌, length, min, Option, Some, None, refl, sym, ap, subst, ◌∙◌, inl, inr, arith}
+use Rattle.std.proofs.Common.{◌≡◌, ℕ, zero, suc, ◌+◌, ◌<◌, ◌≤◌, Bool, true, false, cond, ◌==◌, ◌&&◌, nat_le, if◌then◌else◌, List, [], ◌∷◌, ◌++◌, length, min, Option, Some, None, refl, sym, ap, subst, ◌∙◌, inl, inr, arith}
 use Rattle.std.specs.List.{slice_get, filter, flat_map, range_with_len, list_any, Contains}
 use Rattle.std.proofs.lemmas.Bool.{false≢true, cases_eq, ne_eqb, eq-eqb, eqb-false, le-ltb, le-leb, lt-leb, or_parts}
 use Rattle.std.proofs.lemmas.Option.{slice_get_within}
-use Rattle.std.proofs.lemmas.List.{length-map}
+use Rattle.std.proofs.lemmas.List.{append-nil, length-map}
 use Rattle.std.proofs.lemmas.List.Sums.{sum_by-cons}
 use Rattle.dcop_base.specs.Problem.{Dcop}
 use Rattle.dcop_base.specs.Graph.{neighbours, are_neighbours}
@@ -173,6 +173,10 @@ module _ (p : Dcop) (net : Network) (seats : List SeatView) (s : Shows p net sea
       ∙ ap (λ (o : Option View). flat_map (λ j. take_some j (length (pending_at net i j o))) (range_with_len 0 (length p.sizes))) (sym (view_there p net seats s i (Some x) here))
       ∙ ap (λ (n : ℕ). flat_map (λ j. take_some j (length (pending net i j))) (range_with_len 0 n)) (sym size)
 
+  -- its event is the one with what the agent takes
+  pub turn_by : turn net i ≡ event_with i (seat_takes x)
+  turn_by = ap (λ (ts : List Take). event_with i ts) (sym turn_same)
+
   module _ (some : (length (seat_takes x) == 0) ≡ false) where
     opened : (ended_of x.view ≡ false) × (seat_takes x ≡ inbox_takes x.inbox)
     opened = open_by (ended_of x.view) (inbox_takes x.inbox) some
@@ -195,7 +199,7 @@ module _ (p : Dcop) (net : Network) (seats : List SeatView) (s : Shows p net sea
         ∙ fine.short
 
     turn_is : turn net i ≡ e ∷ []
-    turn_is = ap (λ (ts : List Take). event_with i ts) (sym turn_same) ∙ ap (λ (b : Bool). if b then [] else e ∷ []) some
+    turn_is = turn_by ∙ ap (λ (b : Bool). if b then [] else e ∷ []) some
 
     counted_more : deliveries net + 1 ≤ deliveries (effect net e)
     counted_more =
@@ -215,12 +219,33 @@ module _ (p : Dcop) (net : Network) (seats : List SeatView) (s : Shows p net sea
       },
     )
 
-    pub turn_adds : (before : List Event) → before ++ e ∷ [] ≡ before ++ turn net i
-    turn_adds before = ap (λ (es : List Event). before ++ es) (sym turn_is)
-
   -- where nothing is pending the turn is empty
   pub turn_none : (length (seat_takes x) == 0) ≡ true → turn net i ≡ []
-  turn_none none = ap (λ (ts : List Take). event_with i ts) (sym turn_same) ∙ ap (λ (b : Bool). if b then [] else record { agent = i; takes = seat_takes x } ∷ []) none
+  turn_none none = turn_by ∙ ap (λ (b : Bool). if b then [] else record { agent = i; takes = seat_takes x } ∷ []) none
 
 pub none_leads : (p : Dcop) (net : Network) (es : List Event) (s : CoreView) → IsCore p net s → es ≡ [] → (mid : Network) × Leads p net es mid s
 none_leads p net es s core none = subst (λ (fs : List Event). (mid : Network) × Leads p net fs mid s) (sym none) (net, record { ran = refl; is = refl; core = core; more = omega arith })
+
+-- a turn has an event where something is taken
+some_event : (i : ℕ) (ts : List Take) (b : Bool) → (length {A = Event} (if b then [] else (record { agent = i; takes = ts } ∷ [])) == 0) ≡ b
+some_event i ts true = refl
+some_event i ts false = refl
+
+pub none_with : (i : ℕ) (ts : List Take) → (length (event_with i ts) == 0) ≡ (length ts == 0)
+none_with i ts = some_event i ts (length ts == 0)
+
+-- nothing is added where nothing is taken, and else the event
+pub added_none : (before es : List Event) (i : ℕ) (ts : List Take) → es ≡ event_with i ts → (length ts == 0) ≡ true → before ≡ before ++ es
+added_none before es i ts with none =
+    sym (ap (λ (fs : List Event). before ++ fs) (with ∙ ap (λ (b : Bool). if b then [] else (record { agent = i; takes = ts } ∷ [])) none) ∙ append-nil before)
+
+pub added_one : (before es : List Event) (i : ℕ) (ts : List Take) → es ≡ event_with i ts → (length ts == 0) ≡ false → before ++ (record { agent = i; takes = ts } ∷ []) ≡ before ++ es
+added_one before es i ts with some =
+    sym (ap (λ (fs : List Event). before ++ fs) (with ∙ ap (λ (b : Bool). if b then [] else (record { agent = i; takes = ts } ∷ [])) some))
+
+-- so far there was no event, and now there is none
+pub still_more : (still : Bool) (es fs : List Event) → still ≡ (length es == 0) → (still && (length fs == 0)) ≡ (length (es ++ fs) == 0)
+still_more still [] fs so = ap (λ (b : Bool). b && (length fs == 0)) so
+still_more still (x ∷ es) fs so =
+    ap (λ (b : Bool). b && (length fs == 0)) (so ∙ ne_eqb (length (x ∷ es)) 0 (λ h. omega (arith, h)))
+    ∙ sym (ne_eqb (length ((x ∷ es) ++ fs)) 0 (λ h. omega (arith, h)))

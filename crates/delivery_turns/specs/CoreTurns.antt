@@ -2,13 +2,14 @@
 use Rattle.std.specs.Prelude.{◌≡◌, ℕ, ◌+◌, ◌-◌, ◌≤◌, Bool, ◌||◌, nat_le, List, ◌++◌, length, Some}
 use Rattle.std.specs.List.{flat_map, list_all, range_with_len}
 use Rattle.dcop_base.specs.Problem.{Dcop}
+use Rattle.protocol_steps.specs.declared.event.Take.{Take}
 use Rattle.protocol_steps.specs.declared.event.Event.{Event}
 use Rattle.protocol_steps.specs.View.{ended_of}
 use Rattle.protocol_steps.specs.Network.{Network}
 use Rattle.protocol_steps.specs.Effect.{deliveries}
 use Rattle.protocol_steps.specs.Run.{run}
 use Rattle.delivery_core.specs.State.{CoreView, views_of}
-use Rattle.delivery_turns.specs.Turns.{turn, turns, round, after, PlaysTo, IsPlayed}
+use Rattle.delivery_turns.specs.Turns.{event_with, turn, turns, round, after, PlaysTo, IsPlayed}
 use Rattle.delivery_core.specs.Shown.{IsCore}
 
 -- events that lead from one network state to a core state, each of which takes something
@@ -18,16 +19,19 @@ pub record Leads (p : Dcop) (net : Network) (es : List Event) (mid : Network) (s
   pub core : IsCore p mid s
   pub more : deliveries net + length es ≤ deliveries mid
 
--- the turn of agent k, from some core state and some events to others
-abbrev pub TakesTurn : ℕ → CoreView → List Event → CoreView → List Event → Type 0
-TakesTurn k old before new events = (p : Dcop) (net : Network) → IsCore p net old → (mid : Network) × Leads p net (turn net k) mid new × (events ≡ before ++ turn net k)
+-- the turn of agent k, which takes these, leads from one core state to another
+abbrev pub TakesTurn : ℕ → CoreView → CoreView → List Take → Type 0
+TakesTurn k old new ts = (p : Dcop) (net : Network) → IsCore p net old → (mid : Network) × Leads p net (turn net k) mid new × (turn net k ≡ event_with k ts)
 
--- the turns of the first k agents of a round, and those that are left
-pub record Turned (p : Dcop) (net : Network) (before : List Event) (k : ℕ) (s : CoreView) (events : List Event) : Type 0 where
+-- the turn of agent k, from some core state and some events to others
+abbrev pub AddsTurn : ℕ → CoreView → List Event → CoreView → List Event → Type 0
+AddsTurn k old before new events = (p : Dcop) (net : Network) → IsCore p net old → (mid : Network) × Leads p net (turn net k) mid new × (events ≡ before ++ turn net k)
+
+-- the events of the turns of the first k agents of a round, and those turns that are left
+pub record Turned (p : Dcop) (net : Network) (k : ℕ) (s : CoreView) : Type 0 where
   pub es : List Event
   pub mid : Network
   pub leads : Leads p net es mid s
-  pub joined : events ≡ before ++ es
   pub left : round net ≡ es ++ turns mid (range_with_len k (length p.sizes - k))
 
 -- a round, from some core state and some events to others

@@ -1,5 +1,5 @@
 -- Rounds of many turns over the agents of a core state.
-use Rattle.std.specs.Prelude.{◌≡◌, ℕ, ◌+◌, ◌*◌, ◌≤◌, List, ◌++◌, length, min}
+use Rattle.std.specs.Prelude.{◌≡◌, ℕ, ◌+◌, ◌*◌, ◌≤◌, Bool, ◌==◌, List, length, min}
 use Rattle.dcop_base.specs.Limits.{variable_limit}
 use Rattle.dcop_base.specs.Problem.{Dcop}
 use Rattle.protocol_steps.specs.declared.event.Event.{Event}
@@ -21,24 +21,32 @@ agent_share = link_share * variable_limit
 abbrev pub turn_share : ℕ
 turn_share = agent_share * variable_limit
 
+-- whether there are no events
+abbrev pub none_of : List Event → Bool
+none_of es = length es == 0
+
+-- the turns of all agents lead from one core state to another; still: without an event
+abbrev pub TakesAll : CoreView → CoreView → Bool → Type 0
+TakesAll old new still = (p : Dcop) (net : Network) → IsCore p net old → (mid : Network) × Leads p net (round net) mid new × (still ≡ none_of (round net))
+
 -- turns of some agents, all below this one, each at most once, lead from a network to a core state
-pub record Turning (p : Dcop) (net : Network) (before : List Event) (from : ℕ) (s : CoreView) (events : List Event) : Type 0 where
+pub record Turning (p : Dcop) (net : Network) (from : ℕ) (s : CoreView) : Type 0 where
   pub es : List Event
   pub mid : Network
   pub leads : Leads p net es mid s
-  pub joined : events ≡ before ++ es
   pub few : (i : ℕ) → length (journal i es) ≤ 1
   pub none : (i : ℕ) → from ≤ i → length (journal i es) ≡ 0
   pub counted : deliveries mid ≤ deliveries net + from * agent_share
 
--- turns of some agents, each at most once, lead from one core state to another
-abbrev pub TakesTurns : CoreView → List Event → CoreView → List Event → Type 0
-TakesTurns old before new events =
+-- turns of some agents, each at most once, lead from one core state to another; still: without an event
+abbrev pub TakesTurns : CoreView → CoreView → Bool → Type 0
+TakesTurns old new still =
     (p : Dcop) (net : Network) → IsCore p net old
-    → (es : List Event) × (mid : Network) × Leads p net es mid new × (events ≡ before ++ es) × ((i : ℕ) → length (journal i es) ≤ 1) × (deliveries mid ≤ deliveries net + turn_share)
+    → (es : List Event) × (mid : Network) × Leads p net es mid new × (still ≡ none_of es) × ((i : ℕ) → length (journal i es) ≤ 1) × (deliveries mid ≤ deliveries net + turn_share)
 
 -- turns so far, so many of each agent at most: the first was of all agents, so of each link at least 64 messages were taken, where so many were pending before; and without an event nothing is pending
-pub record Sprinting (p : Dcop) (net : Network) (k : ℕ) (s : CoreView) (events : List Event) : Type 0 where
+pub record Sprinting (p : Dcop) (net : Network) (k : ℕ) (s : CoreView) : Type 0 where
+  pub events : List Event
   pub mid : Network
   pub leads : Leads p net events mid s
   pub few : (i : ℕ) → length (journal i events) ≤ k
@@ -46,9 +54,9 @@ pub record Sprinting (p : Dcop) (net : Network) (k : ℕ) (s : CoreView) (events
   pub counted : deliveries mid ≤ deliveries net + k * turn_share
   pub still : length events ≡ 0 → length (round net) ≡ 0
 
--- a round of at most 32 turns, from one core state to another
-abbrev pub PlaysSprint : CoreView → CoreView → List Event → Type 0
-PlaysSprint old new events = (p : Dcop) (net : Network) → IsCore p net old → Sprinting p net most_events new events
+-- a round of at most 32 turns leads from one core state to another; still: without an event
+abbrev pub PlaysSprint : CoreView → CoreView → Bool → Type 0
+PlaysSprint old new still = (p : Dcop) (net : Network) → IsCore p net old → (h : Sprinting p net most_events new) × (still ≡ none_of h.events)
 
 -- rounds so far
 pub record Sprinted (p : Dcop) (budget : ℕ) (first : Network) (k : ℕ) (s : CoreView) : Type 0 where

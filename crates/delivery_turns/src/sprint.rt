@@ -1,18 +1,18 @@
 //! Playing in rounds of many turns.
 
-ghost use Rattle.std.specs.Prelude.{◌≡◌, ◌<◌, ◌≤◌, [], length, IfOk, OnOk};
+ghost use Rattle.std.specs.Prelude.{◌≡◌, ◌≤◌, length, IfOk, OnOk};
 ghost use Rattle.dcop_base.specs.Limits.{variable_limit, budget_limit};
 ghost use Rattle.protocol_steps.specs.Outcomes.{HaveRun};
 ghost use Rattle.protocol_steps.specs.Rounds.{most_events};
 ghost use Rattle.delivery_core.specs.Agents.{IsStartFor, agents_of};
 ghost use Rattle.delivery_core.specs.Shown.{IsSomeCore};
-ghost use Rattle.delivery_turns.specs.Sprints.{TakesTurns, PlaysSprint, PlaysSprints};
+ghost use Rattle.delivery_turns.specs.Sprints.{TakesAll, TakesTurns, PlaysSprint, PlaysSprints};
 
-use crate::turn::{is_over, play_round, take_turn};
+use crate::turn::{is_over, take_turn};
 use dcop_base::{NoMemory, Problem, problem_is_whole};
 use dcop_edge::Gate;
 use delivery_core::{CoreState, Start, outcome_of};
-use protocol_steps::{Event, Outcome};
+use protocol_steps::{Outcome, Take};
 use std::alloc::Global;
 
 /// How many turns a round has at most.
@@ -23,48 +23,69 @@ pub fn turns_agree()
     ensures { MOST_TURNS ≡ most_events }
 {}
 
+/// A turn of all agents, in ascending order. Tells whether it took nothing. `takes` is room for what
+/// one agent takes.
+fn play_all<G: Gate>(
+    alloc: Global,
+    gate: &G,
+    state: &mut CoreState,
+    takes: &mut Vec<Take>,
+) -> Result<bool, NoMemory>
+    requires core { IsSomeCore state.old }
+    requires few { length state.old.seats ≤ variable_limit }
+    ensures { IfOk result (TakesAll state.old state.new) }
+{
+    let mut still = true;
+    for me in 0..state.count() {
+        take_turn(alloc, gate, state, me, takes)?;
+        still &= takes.is_empty();
+    }
+    Ok(still)
+}
+
 /// A turn of those agents to whom something came since they were looked at last, in ascending order:
-/// also of one to whom an agent before it in this turn sends something.
+/// also of one to whom an agent before it in this turn sends something. Tells whether it took
+/// nothing.
 fn play_turn<G: Gate>(
     alloc: Global,
     gate: &G,
     state: &mut CoreState,
-    events: &mut Vec<Event>,
-) -> Result<(), NoMemory>
+    takes: &mut Vec<Take>,
+) -> Result<bool, NoMemory>
     requires core { IsSomeCore state.old }
     requires few { length state.old.seats ≤ variable_limit }
-    ensures { OnOk result (TakesTurns state.old events.old.items state.new events.new.items) }
+    ensures { IfOk result (TakesTurns state.old state.new) }
 {
+    let mut still = true;
     let mut from = 0;
     while let Some(me) = state.next_called(from) {
-        take_turn(alloc, gate, state, me, events)?;
+        take_turn(alloc, gate, state, me, takes)?;
+        still &= takes.is_empty();
         from = me + 1;
     }
-    Ok(())
+    Ok(still)
 }
 
 /// A round: a turn of all agents, and then turns of those to whom something came, until one takes
-/// nothing, at most 32 turns in all.
+/// nothing, at most 32 turns in all. Tells whether none of them took anything.
 fn play_sprint<G: Gate>(
     alloc: Global,
     gate: &G,
     state: &mut CoreState,
-    events: &mut Vec<Event>,
-) -> Result<(), NoMemory>
+    takes: &mut Vec<Take>,
+) -> Result<bool, NoMemory>
     requires core { IsSomeCore state.old }
     requires few { length state.old.seats ≤ variable_limit }
-    requires none { events.old.items ≡ [] }
-    ensures { OnOk result (PlaysSprint state.old state.new events.new.items) }
+    ensures { IfOk result (PlaysSprint state.old state.new) }
 {
-    play_round(alloc, gate, state, events)?;
+    let mut still = play_all(alloc, gate, state, takes)?;
     for _ in 1..MOST_TURNS {
-        let before = events.len();
-        play_turn(alloc, gate, state, events)?;
-        if events.len() == before {
-            return Ok(());
+        if play_turn(alloc, gate, state, takes)? {
+            return Ok(still);
         }
+        still = false;
     }
-    Ok(())
+    Ok(still)
 }
 
 /// Plays rounds until playing stops.
@@ -79,14 +100,12 @@ fn play_sprints<G: Gate>(
     requires budget { budget ≤ budget_limit }
     ensures { OnOk result (PlaysSprints budget state.old state.new) }
 {
-    let mut events = Vec::new(alloc);
+    let mut takes = Vec::new(alloc);
     for _ in 0..budget {
         if is_over(state, budget) {
             return Ok(());
         }
-        events.clear();
-        play_sprint(alloc, gate, state, &mut events)?;
-        if events.is_empty() {
+        if play_sprint(alloc, gate, state, &mut takes)? {
             return Ok(());
         }
     }
@@ -101,7 +120,7 @@ fn play_sprints<G: Gate>(
 /// looked at last; a round ends with a turn that takes nothing, or with its 32nd. Playing stops where,
 /// after the start or a round, all have ended, the deliveries are at least `budget`, which is at most
 /// 10,000,000, or the round had no event. An agent passes the gate where it is looked at and something
-/// may wait for it. No event is kept beyond its round.
+/// may wait for it. No event is kept.
 ///
 /// So a run with one worker of `agent_workers` goes, on the same agents: without cells and links.
 ///

@@ -5,12 +5,12 @@ ghost use Rattle.dcop_base.specs.Limits.{variable_limit};
 ghost use Rattle.delivery_core.specs.Agents.{IsStartFor, network_of};
 ghost use Rattle.delivery_turns.specs.Turns.{IsPlayed};
 ghost use Rattle.delivery_core.specs.Shown.{IsSomeCore};
-ghost use Rattle.delivery_turns.specs.CoreTurns.{is_over, TakesTurn, PlaysRound, PlaysOut};
+ghost use Rattle.delivery_turns.specs.CoreTurns.{is_over, TakesTurn, AddsTurn, PlaysRound, PlaysOut};
 
 use dcop_base::{NoMemory, Problem, Sequence, VarId};
 use dcop_edge::{Gate, OpenGate};
 use delivery_core::{CoreState, Start};
-use protocol_steps::{Event, EventList};
+use protocol_steps::{Event, EventList, Take};
 use std::alloc::Global;
 
 /// What was played.
@@ -22,8 +22,29 @@ pub struct Played {
     pub events: EventList,
 }
 
-/// The turn of one agent: it takes what is pending, and the event is added.
+/// The turn of one agent: it takes what is pending, and that stands in `takes`, in place of what the
+/// list held.
 pub(crate) fn take_turn<G: Gate>(
+    alloc: Global,
+    gate: &G,
+    state: &mut CoreState,
+    me: usize,
+    takes: &mut Vec<Take>,
+) -> Result<(), NoMemory>
+    requires core { IsSomeCore state.old }
+    requires inside { me < length state.old.seats }
+    requires few { length state.old.seats ≤ variable_limit }
+    ensures { OnOk result (TakesTurn me state.old state.new takes.new.items) }
+{
+    state.list_takes(gate, VarId(me as u32), takes)?;
+    if takes.is_empty() {
+        return Ok(());
+    }
+    state.follow(alloc, VarId(me as u32), takes.as_slice())
+}
+
+/// The turn of one agent: it takes what is pending, and the event is added.
+fn add_turn<G: Gate>(
     alloc: Global,
     gate: &G,
     state: &mut CoreState,
@@ -33,23 +54,22 @@ pub(crate) fn take_turn<G: Gate>(
     requires core { IsSomeCore state.old }
     requires inside { me < length state.old.seats }
     requires few { length state.old.seats ≤ variable_limit }
-    ensures { OnOk result (TakesTurn me state.old events.old.items state.new events.new.items) }
+    ensures { OnOk result (AddsTurn me state.old events.old.items state.new events.new.items) }
 {
-    let takes = state.takes(alloc, gate, VarId(me as u32))?;
+    let mut takes = Vec::new(alloc);
+    take_turn(alloc, gate, state, me, &mut takes)?;
     if takes.is_empty() {
         return Ok(());
     }
-    let event = Event {
+    events.push(Event {
         agent: VarId(me as u32),
         takes: Sequence::from_vec(takes),
-    };
-    state.follow(alloc, &event)?;
-    events.push(event)?;
+    })?;
     Ok(())
 }
 
 /// A round: the turns of all agents in ascending order.
-pub(crate) fn play_round<G: Gate>(
+fn play_round<G: Gate>(
     alloc: Global,
     gate: &G,
     state: &mut CoreState,
@@ -60,7 +80,7 @@ pub(crate) fn play_round<G: Gate>(
     ensures { OnOk result (PlaysRound state.old events.old.items state.new events.new.items) }
 {
     for me in 0..state.count() {
-        take_turn(alloc, gate, state, me, events)?;
+        add_turn(alloc, gate, state, me, events)?;
     }
     Ok(())
 }

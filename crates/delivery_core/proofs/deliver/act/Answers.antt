@@ -1,8 +1,8 @@
-use Rattle.std.proofs.Common.{◌≡◌, ℕ, ◌<◌, List, get_or, refl, subst, sym, ap, ◌∙◌}
+use Rattle.std.proofs.Common.{◌≡◌, ℕ, ◌<◌, refl, subst, sym, ap, ◌∙◌}
 use Rattle.std.specs.List.{All}
 use Rattle.std.proofs.lemmas.List.{length-set}
 use Rattle.protocol_steps.specs.declared.message.Message.{Message}
-use Rattle.protocol_steps.specs.declared.event.Take.{Take}
+use Rattle.protocol_steps.specs.declared.event.Event.{Event}
 use Rattle.protocol_steps.specs.Machine.{MayReact, IsBatch, IsToNeighbour}
 use Rattle.delivery_core.specs.State.{SeatView}
 use Rattle.delivery_core.specs.Inboxes.{letters_by}
@@ -13,35 +13,36 @@ use Rattle.delivery_core.proofs.deliver.act.Goals as goal
 
 pub react-requires-clause-ready : goal.react-requires-clause-ready
 react-requires-clause-ready c =
+    let e : Event = record { agent = c.args.agent; takes = c.args.takes.now } in
     let n = c.requires.network in
-    let h = seated c.args.seats.now c.args.event.now c.requires.lawful in
-    let is = read_seat c.args.seats.now c.args.event.now h c.agent.inside.0 c.index-seats-agent.result c.agent.view_is in
-    subst (λ (y : SeatView). MayReact y.view) (sym is) (may_react n.0 n.1 c.args.seats.now n.2 c.args.event.now h.seat h.here h.fine)
+    let h = seated c.args.seats.now e c.requires.lawful in
+    let is = read_seat c.args.seats.now e h c.agent.inside.0 c.index-seats-agent.result c.agent.view_is in
+    subst (λ (y : SeatView). MayReact y.view) (sym is) (may_react n.0 n.1 c.args.seats.now n.2 e h.seat h.here h.fine)
 
 pub react-requires-clause-batch : goal.react-requires-clause-batch
 react-requires-clause-batch c =
+    let e : Event = record { agent = c.args.agent; takes = c.args.takes.now } in
     let n = c.requires.network in
-    let h = seated c.args.seats.now c.args.event.now c.requires.lawful in
-    let is = read_seat c.args.seats.now c.args.event.now h c.agent.inside.0 c.index-seats-agent.result c.agent.view_is in
-    let same : c.args.event.now.takes ≡ c.as_slice.result.now = sym c.as_slice.ensures in
-    subst (λ (ts : List Take). IsBatch (get_or c.args.seats.now c.agent.inside.0 c.index-seats-agent.result).view (letters_by (get_or c.args.seats.now c.agent.inside.0 c.index-seats-agent.result).inbox ts)) same
-    (subst (λ (y : SeatView). IsBatch y.view (letters_by y.inbox c.args.event.now.takes)) (sym is) (is_batch n.0 n.1 c.args.seats.now n.2 c.args.event.now h.seat h.here h.fine))
+    let h = seated c.args.seats.now e c.requires.lawful in
+    let is = read_seat c.args.seats.now e h c.agent.inside.0 c.index-seats-agent.result c.agent.view_is in
+    subst (λ (y : SeatView). IsBatch y.view (letters_by y.inbox c.args.takes.now)) (sym is) (is_batch n.0 n.1 c.args.seats.now n.2 e h.seat h.here h.fine)
 
 pub post-requires : goal.post-requires
 post-requires c =
+    let e : Event = record { agent = c.args.agent; takes = c.args.takes.now } in
     let n = c.requires.network in
-    let h = seated c.args.seats.now c.args.event.now c.requires.lawful in
-    let is = read_seat c.args.seats.now c.args.event.now h c.agent.inside.0 c.index-seats-agent.result c.agent.view_is in
+    let h = seated c.args.seats.now e c.requires.lawful in
+    let is = read_seat c.args.seats.now e h c.agent.inside.0 c.index-seats-agent.result c.agent.view_is in
     let reach = subst (λ (y : SeatView). All (IsToNeighbour y.view) c.in_ok-out.out) is c.in_ok-out.ensures.receivers in
     subst (λ (m : ℕ). All (λ (q : ℕ × Message). q.0 < m) c.in_ok-out.out) (sym (length-set c.args.seats.now c.agent.inside.0 c.react.new.self))
-    (all_below n.0 n.1 c.args.seats.now n.2 c.args.event.now h.seat h.here h.fine c.in_ok-out.out reach)
+    (all_below n.0 n.1 c.args.seats.now n.2 e h.seat h.here h.fine c.in_ok-out.out reach)
 
 pub returns : goal.returns
 returns c =
-    let h = seated c.args.seats.now c.args.event.now c.requires.lawful in
-    let is = read_seat c.args.seats.now c.args.event.now h c.agent.inside.0 c.index-seats-agent.result c.agent.view_is in
-    let same : c.as_slice.result.now ≡ c.args.event.now.takes = c.as_slice.ensures in
+    let e : Event = record { agent = c.args.agent; takes = c.args.takes.now } in
+    let h = seated c.args.seats.now e c.requires.lawful in
+    let is = read_seat c.args.seats.now e h c.agent.inside.0 c.index-seats-agent.result c.agent.view_is in
     let reach = subst (λ (y : SeatView). All (IsToNeighbour y.view) c.in_ok-out.out) is c.in_ok-out.ensures.receivers in
-    let after : c.react.new.self ≡ seat_after h.seat c.args.event.now.takes = c.in_ok-out.ensures.after ∙ ap (λ (y : SeatView). seat_after y c.as_slice.result.now) is ∙ ap (λ (ts : List Take). seat_after h.seat ts) same in
-    let sends : c.in_ok-out.out ≡ seat_sends h.seat c.args.event.now.takes = c.in_ok-out.ensures.sends ∙ ap (λ (y : SeatView). seat_sends y c.as_slice.result.now) is ∙ ap (λ (ts : List Take). seat_sends h.seat ts) same in
-    on_ok c.post.result c.post.ensures (λ new. moved c.args.seats.now c.args.event.now h c.agent.inside.0 c.args.event.now.agent c.react.new.self c.in_ok-out.out c.post.new.seats c.agent.view_is refl after sends reach new)
+    let after : c.react.new.self ≡ seat_after h.seat c.args.takes.now = c.in_ok-out.ensures.after ∙ ap (λ (y : SeatView). seat_after y c.args.takes.now) is in
+    let sends : c.in_ok-out.out ≡ seat_sends h.seat c.args.takes.now = c.in_ok-out.ensures.sends ∙ ap (λ (y : SeatView). seat_sends y c.args.takes.now) is in
+    on_ok c.post.result c.post.ensures (λ new. moved c.args.seats.now e h c.agent.inside.0 c.args.agent c.react.new.self c.in_ok-out.out c.post.new.seats c.agent.view_is refl after sends reach new)

@@ -1,5 +1,5 @@
 use Rattle.std.proofs.Common.{◌≤◌, length, arith}
-use Rattle.delivery_turns.proofs.SprintLaws.{sprint_first, sprint_next, sprint_all}
+use Rattle.delivery_turns.proofs.SprintLaws.{sprint_first, sprint_some, sprint_end, sprint_all}
 use Rattle.delivery_turns.proofs.sprint.play_sprint.Goals as goal
 
 pub loop-init : goal.loop-init
@@ -7,36 +7,35 @@ loop-init g c = (
   λ p net core.
       let size = core.shows.size in
       let few : length p.sizes ≤ 1000 = let few = c.requires.few in omega (arith, size, few) in
-      sprint_first p net c.args.state.now c.play_round.new.state c.args.events.now.items c.play_round.new.events.items c.requires.none few core c.in_ok-play_round.ensures,
+      sprint_first p net c.args.state.now c.play_all.new.state c.in_ok-still.still few core c.in_ok-still.ensures,
   omega arith,
 )
 
 pub play_turn-requires-clause-core : goal.play_turn-requires-clause-core
 play_turn-requires-clause-core g c κs within =
     let n = c.requires.core in
-    let h = c.loop.invariant.0 n.0 n.1 n.2 in
+    let h = (c.loop.invariant.0 n.0 n.1 n.2).0 in
     (n.0, h.mid, h.leads.core)
 
 pub play_turn-requires-clause-few : goal.play_turn-requires-clause-few
 play_turn-requires-clause-few g c κs within =
     let n = c.requires.core in
-    let h = c.loop.invariant.0 n.0 n.1 n.2 in
+    let h = (c.loop.invariant.0 n.0 n.1 n.2).0 in
     let old = n.2.shows.size in
     let now = h.leads.core.shows.size in
     let few = c.requires.few in
     omega (arith, old, now, few)
 
-pub returns-then-len-before : goal.returns-then-len-before
-returns-then-len-before g c = λ p net core.
+pub returns-then-branch : goal.returns-then-branch
+returns-then-branch g c = λ p net core.
     let lt = c.loop-test.true in
-    sprint_all p net _ c.play_turn.new.state c.play_turn.new.events.items (omega (arith, lt))
-    (sprint_next p net c.loop.counter c.loop.state c.play_turn.new.state c.loop.events.items c.play_turn.new.events.items (c.loop.invariant.0 p net core) c.in_ok-play_turn.ensures)
+    sprint_end p net c.loop.counter c.loop.state c.play_turn.new.state c.loop.still c.in_ok-play_turn.field-0 c.if-branch.true (omega (arith, lt)) (c.loop.invariant.0 p net core) c.in_ok-play_turn.ensures
 
 pub loop-preserved : goal.loop-preserved
 loop-preserved g c = (
-  λ p net core. sprint_next p net c.loop.counter c.loop.state c.play_turn.new.state c.loop.events.items c.play_turn.new.events.items (c.loop.invariant.0 p net core) c.in_ok-play_turn.ensures,
+  λ p net core. sprint_some p net c.loop.counter c.loop.state c.play_turn.new.state c.loop.still c.in_ok-play_turn.field-0 c.if-branch.false (c.loop.invariant.0 p net core) c.in_ok-play_turn.ensures,
   let lt = c.loop-test.true in omega (arith, lt),
 )
 
 pub returns : goal.returns
-returns g c = λ p net core. sprint_all p net c.loop.counter c.loop.state c.loop.events.items c.loop.invariant.1 (c.loop.invariant.0 p net core)
+returns g c = λ p net core. sprint_all p net c.loop.counter c.loop.state c.loop.still c.loop.invariant.1 (c.loop.invariant.0 p net core)

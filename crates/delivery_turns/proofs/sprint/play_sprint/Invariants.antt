@@ -1,10 +1,10 @@
-use Rattle.std.proofs.Common.{◌≤◌}
+use Rattle.std.proofs.Common.{◌≡◌, ◌≤◌}
 use Rattle.dcop_base.specs.Problem.{Dcop}
 use Rattle.protocol_steps.specs.Network.{Network}
 use Rattle.protocol_steps.specs.Rounds.{most_events}
 use Rattle.delivery_core.specs.Shown.{IsCore}
-use Rattle.delivery_turns.specs.Sprints.{Sprinting}
+use Rattle.delivery_turns.specs.Sprints.{none_of, Sprinting}
 use Rattle.delivery_turns.proofs.sprint.play_sprint.Given as goal
 
 abbrev pub invariant-loop : goal.invariant-loop
-invariant-loop g l = ((p : Dcop) (net : Network) → IsCore p net l.fn.state → Sprinting p net l.counter l.state l.events.items) × (l.counter ≤ most_events)
+invariant-loop g l = ((p : Dcop) (net : Network) → IsCore p net l.fn.state → (h : Sprinting p net l.counter l.state) × (l.still ≡ none_of h.events)) × (l.counter ≤ most_events)

@@ -1,5 +1,4 @@
-use Rattle.std.proofs.Common.{◌≡◌, ◌≤◌, length, vec_len, sym, ◌∙◌, arith}
-use Rattle.std.proofs.lemmas.Bool.{eqb-true, eqb-false}
+use Rattle.std.proofs.Common.{◌≤◌, sym, ◌∙◌, arith}
 use Rattle.delivery_core.specs.NetworkState.{most_counted}
 use Rattle.delivery_turns.proofs.PlayLaws.{over_is, stops_over, stops_spent}
 use Rattle.delivery_turns.proofs.SprintLaws.{sprinted_none, sprinted_next, sprints_stop, sprints_still}
@@ -30,16 +29,14 @@ play_sprint-requires-clause-few g c κs within =
     let few = c.requires.few in
     omega (arith, old, now, few)
 
-pub returns-then-is_empty : goal.returns-then-is_empty
-returns-then-is_empty g c = λ p first core.
-    let none : length c.play_sprint.new.events.items ≡ 0 = sym c.play_sprint.new.events.ok.0 ∙ eqb-true (vec_len c.play_sprint.new.events) 0 (sym c.if-is_empty.ensures) in
-    sprints_still p c.args.budget first c.loop.counter c.loop.state c.play_sprint.new.state c.play_sprint.new.events.items (c.loop.invariant p first core) c.in_ok-play_sprint.ensures none
+pub returns-then-branch : goal.returns-then-branch
+returns-then-branch g c = λ p first core.
+    sprints_still p c.args.budget first c.loop.counter c.loop.state c.play_sprint.new.state c.in_ok-play_sprint.field-0 (c.loop.invariant p first core) c.in_ok-play_sprint.ensures c.if-branch.true
 
 pub loop-preserved : goal.loop-preserved
 loop-preserved g c = λ p first core.
     let fits : c.args.budget ≤ most_counted = omega arith in
-    let some : length c.play_sprint.new.events.items ≡ 0 → ⊥ = λ none. eqb-false (vec_len c.play_sprint.new.events) 0 (sym c.if-is_empty.ensures) (c.play_sprint.new.events.ok.0 ∙ none) in
-    sprinted_next p c.args.budget first c.loop.counter c.loop.state c.play_sprint.new.state c.play_sprint.new.events.items fits (c.loop.invariant p first core) (sym c.is_over.ensures ∙ c.if-is_over.false) c.in_ok-play_sprint.ensures some
+    sprinted_next p c.args.budget first c.loop.counter c.loop.state c.play_sprint.new.state c.in_ok-play_sprint.field-0 fits (c.loop.invariant p first core) (sym c.is_over.ensures ∙ c.if-is_over.false) c.in_ok-play_sprint.ensures c.if-branch.false
 
 pub returns : goal.returns
 returns g c = λ p first core.

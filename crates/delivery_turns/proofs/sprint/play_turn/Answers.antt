@@ -1,20 +1,20 @@
-use Rattle.std.proofs.Common.{◌≤◌, length, arith}
-use Rattle.delivery_turns.proofs.SprintLaws.{turning_none, turning_past, turning_next, turning_all}
+use Rattle.std.proofs.Common.{◌≡◌, ◌≤◌, ◌==◌, ◌&&◌, length, ap, arith, ◌∙◌}
+use Rattle.delivery_turns.proofs.SprintLaws.{turning_none, turning_next, turning_all}
 use Rattle.delivery_turns.proofs.sprint.play_turn.Goals as goal
 
 pub loop-me-init : goal.loop-me-init
-loop-me-init g c = (λ p net core. turning_none p net c.args.events.now.items c.args.state.now core, omega arith)
+loop-me-init g c = (λ p net core. turning_none p net c.args.state.now core, omega arith)
 
 pub take_turn-requires-clause-core : goal.take_turn-requires-clause-core
 take_turn-requires-clause-core g c κs within =
     let n = c.requires.core in
-    let h = c.loop-me.invariant.0 n.0 n.1 n.2 in
+    let h = (c.loop-me.invariant.0 n.0 n.1 n.2).0 in
     (n.0, h.mid, h.leads.core)
 
 pub take_turn-requires-clause-few : goal.take_turn-requires-clause-few
 take_turn-requires-clause-few g c κs within =
     let n = c.requires.core in
-    let h = c.loop-me.invariant.0 n.0 n.1 n.2 in
+    let h = (c.loop-me.invariant.0 n.0 n.1 n.2).0 in
     let old = n.2.shows.size in
     let now = h.leads.core.shows.size in
     let few = c.requires.few in
@@ -23,7 +23,7 @@ take_turn-requires-clause-few g c κs within =
 pub overflow_add-from : goal.overflow_add-from
 overflow_add-from g c =
     let n = c.requires.core in
-    let h = c.loop-me.invariant.0 n.0 n.1 n.2 in
+    let h = (c.loop-me.invariant.0 n.0 n.1 n.2).0 in
     let old = n.2.shows.size in
     let now = h.leads.core.shows.size in
     let few = c.requires.few in
@@ -33,7 +33,7 @@ overflow_add-from g c =
 pub loop-me-smaller : goal.loop-me-smaller
 loop-me-smaller g c =
     let n = c.requires.core in
-    let h = c.loop-me.invariant.0 n.0 n.1 n.2 in
+    let h = (c.loop-me.invariant.0 n.0 n.1 n.2).0 in
     let old = n.2.shows.size in
     let now = h.leads.core.shows.size in
     let from = c.in-Some.ensures.0 in
@@ -46,10 +46,12 @@ loop-me-preserved g c = (
       let h = c.loop-me.invariant.0 p net core in
       let old = core.shows.size in
       let few : length p.sizes ≤ 1000 = let few = c.requires.few in omega (arith, old, few) in
-      turning_next p net c.args.events.now.items c.in-Some.me c.loop-me.state c.take_turn.new.state c.loop-me.events.items c.take_turn.new.events.items few
-      (turning_past p net c.args.events.now.items c.loop-me.from c.in-Some.me c.loop-me.state c.loop-me.events.items c.in-Some.ensures.0 h) c.in_ok-take_turn.ensures,
+      let takes = c.take_turn.new.takes in
+      let none : c.is_empty-still.result ≡ (length takes.items == 0) = c.is_empty-still.ensures ∙ ap (λ n. n == 0) takes.ok.0 in
+      let now = turning_next p net c.loop-me.from c.in-Some.me c.loop-me.state c.take_turn.new.state takes.items c.loop-me.still few c.in-Some.ensures.0 h c.in_ok-take_turn.ensures in
+      (now.0, ap (λ b. c.loop-me.still && b) none ∙ now.1),
   let n = c.requires.core in
-      let h = c.loop-me.invariant.0 n.0 n.1 n.2 in
+      let h = (c.loop-me.invariant.0 n.0 n.1 n.2).0 in
       let old = n.2.shows.size in
       let now = h.leads.core.shows.size in
       let inside = c.in-Some.ensures.1 in
@@ -60,4 +62,4 @@ pub returns : goal.returns
 returns g c = λ p net core.
     let few = c.requires.few in
     let from = c.loop-me.invariant.1 in
-    turning_all p net c.args.events.now.items c.loop-me.from c.loop-me.state c.loop-me.events.items (omega (arith, few, from)) (c.loop-me.invariant.0 p net core)
+    turning_all p net c.loop-me.from c.loop-me.state c.loop-me.still (omega (arith, few, from)) (c.loop-me.invariant.0 p net core)

@@ -1,3 +1,4 @@
+use Rattle.std.proofs.Common.{◌≡◌, ◌++◌}
 use Rattle.dcop_base.specs.Problem.{Dcop}
 use Rattle.protocol_steps.specs.Network.{Network}
 use Rattle.delivery_core.specs.Shown.{IsCore}
@@ -5,4 +6,4 @@ use Rattle.delivery_turns.specs.CoreTurns.{Turned}
 use Rattle.delivery_turns.proofs.turn.play_round.Given as goal
 
 abbrev pub invariant-loop-me : goal.invariant-loop-me
-invariant-loop-me g l = (p : Dcop) (net : Network) → IsCore p net l.initial.state → Turned p net l.initial.events.items l.me l.state l.events.items
+invariant-loop-me g l = (p : Dcop) (net : Network) → IsCore p net l.initial.state → (h : Turned p net l.me l.state) × (l.events.items ≡ l.initial.events.items ++ h.es)

@@ -1,5 +1,4 @@
-use Rattle.std.proofs.Common.{◌≡◌, ℕ, ◌+◌, List, [], ◌∷◌, ◌++◌, take, drop, refl, sym, ap, ◌∙◌, append_assoc}
-use Rattle.protocol_steps.specs.declared.message.Message.{Message}
+use Rattle.std.proofs.Common.{[], ◌∷◌, ◌++◌, take, sym, ap, ◌∙◌, append_assoc}
 use Rattle.delivery_core.proofs.LinkLaws.{one_more, no_more}
 use Rattle.delivery_core.proofs.link.Link.take_off.Goals as goal
 use Rattle.delivery_core.proofs.link.Link.take_off.Goals.{in-Some+in_ok-push, in_default}

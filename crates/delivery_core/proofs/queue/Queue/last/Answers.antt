@@ -1,4 +1,4 @@
-use Rattle.std.proofs.Common.{ℕ, List, Option, ◌≡◌, ◌<◌, ◌-◌, length, deque_len, Some, subst, get_or, refl}
+use Rattle.std.proofs.Common.{ℕ, List, ◌≡◌, ◌<◌, ◌-◌, length, deque_len, Some, subst, get_or, refl}
 use Rattle.std.specs.List.{last_or}
 use Rattle.protocol_steps.specs.declared.message.Message.{Message}
 use Rattle.delivery_core.proofs.LinkLaws.{last_queued}

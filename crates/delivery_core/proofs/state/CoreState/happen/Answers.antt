@@ -1,4 +1,8 @@
-use Rattle.std.proofs.Common.{List, sym, ap, subst, ◌∙◌}
+use Rattle.std.proofs.Common.{◌≡◌, List, None, sym, ap, subst, ◌∙◌}
+use Rattle.protocol_steps.specs.declared.event.Take.{Take}
+use Rattle.protocol_steps.specs.declared.event.Event.{Event}
+use Rattle.protocol_steps.specs.Effect.{effect}
+use Rattle.protocol_steps.specs.Run.{event_fault}
 use Rattle.delivery_core.specs.State.{SeatView, CoreView}
 use Rattle.delivery_core.specs.SeatEvents.{core_fault}
 use Rattle.delivery_core.specs.Shown.{IsCore}
@@ -12,3 +16,8 @@ returns-in-Some c = λ p net core.
     ∙ ap (λ (xs : List SeatView). core_fault xs c.args.event.now) (sym c.as_slice.ensures.value)
     ∙ sym c.fault_of.ensures
     ∙ c.in-Some.is
+
+pub returns : goal.returns
+returns c = λ p net core.
+    let with : List Take → Event = λ ts. record { agent = c.args.event.now.agent; takes = ts } in
+    subst (λ (ts : List Take). (event_fault net (with ts) ≡ None) × IsCore p (effect net (with ts)) c.follow.new.self) c.as_slice-2.ensures (c.in_ok-follow.ensures p net core)

@@ -1,0 +1,10 @@
+use Rattle.std.proofs.Common.{◌≡◌}
+use Rattle.dcop_base.specs.Problem.{Dcop}
+use Rattle.protocol_steps.specs.Network.{Network}
+use Rattle.delivery_core.specs.Shown.{IsCore}
+use Rattle.delivery_turns.specs.CoreTurns.{Turned}
+use Rattle.delivery_turns.specs.Sprints.{none_of}
+use Rattle.delivery_turns.proofs.sprint.play_all.Given as goal
+
+abbrev pub invariant-loop-me : goal.invariant-loop-me
+invariant-loop-me g l = (p : Dcop) (net : Network) → IsCore p net l.initial.state → (h : Turned p net l.me l.state) × (l.still ≡ none_of h.es)
