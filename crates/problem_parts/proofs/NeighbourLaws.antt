@@ -3,19 +3,17 @@ use Rattle.std.proofs.Common.{◌≡◌, ℕ, ◌<◌, ◌≤◌, ◌==◌, ◌&
 use Rattle.std.specs.List.{All, Contains, range_with_len}
 use Rattle.std.specs.List.Sorted.{IsStrictlyIncreasing}
 use Rattle.std.proofs.lemmas.Bool.{cases_eq, eq-eqb, ne_eqb, or_left, or_right, false≢true, eqb-true}
-use Rattle.std.proofs.lemmas.List.{ext_get_or, get_or-replicate, length-replicate, length-map}
+use Rattle.std.proofs.lemmas.List.{ext_get_or, get_or-replicate, length-replicate}
 use Rattle.std.proofs.lemmas.List.Elements.{All-head, All-tail, All-contains, filter_passes}
 use Rattle.std.proofs.lemmas.List.Kept.{IsStrictlyIncreasing-filter}
 use Rattle.std.proofs.lemmas.List.FromFn.{length-map-range_with_len, get_or-map-range_with_len}
 use Rattle.dcop_base.specs.Table.{CostTable, has}
 use Rattle.dcop_base.specs.Problem.{Dcop}
 use Rattle.dcop_base.specs.Whole.{IsProblem}
-use Rattle.std.specs.declared.vec.Vec.{Vec}
-use Rattle.std.specs.declared.alloc.Global.{Global}
 use Rattle.dcop_base.specs.Graph.{share_table, are_joined, are_neighbours, neighbours}
 use Rattle.dcop_base.proofs.FirstLaws.{Contains-cases, Contains-head, Contains-tail, Contains-none, Contains-filter, Contains-range, IsStrictlyIncreasing-range}
 use Rattle.dcop_base.proofs.UniqueLaws.{same_from_elements}
-use Rattle.problem_parts.specs.Rows.{rows_in, AreAscending, Adds}
+use Rattle.problem_parts.specs.Rows.{AreAscending, Adds}
 use Rattle.problem_parts.proofs.RowLaws.{adds_more}
 
 pub from_has : (xs : List ℕ) (v : ℕ) → has xs v ≡ true → Contains xs v
@@ -115,16 +113,13 @@ none_ascend rows n e u lt =
     let in_all : u < n = subst (λ (m : ℕ). u < m) (ap (λ (xs : List (List ℕ)). length xs) e ∙ length-replicate n []) lt in
     subst (λ (xs : List ℕ). IsStrictlyIncreasing xs) (sym (ap (λ (xs : List (List ℕ)). get_or xs u []) e ∙ get_or-replicate n u [] [] in_all)) (λ k h. absurd (omega (arith, h)))
 
-pub none_size : (rows : List (Vec ℕ Global)) (n : ℕ) → rows_in rows ≡ replicate n [] → length rows ≡ n
-none_size rows n e = sym (length-map rows (λ (r : Vec ℕ Global). r.items)) ∙ ap (λ (xs : List (List ℕ)). length xs) e ∙ length-replicate n []
+pub none_size : (rows : List (List ℕ)) (n : ℕ) → rows ≡ replicate n [] → length rows ≡ n
+none_size rows n e = ap (λ (xs : List (List ℕ)). length xs) e ∙ length-replicate n []
 
 -- both the tables' pairs and the joints' are in the lists
-pub rows_are : (p : Dcop) (none mid rows : List (Vec ℕ Global)) (ts : List CostTable) (js : List (ℕ × ℕ)) → IsProblem p → rows_in none ≡ replicate (length p.sizes) [] → length mid ≡ length none → length rows ≡ length mid → ts ≡ p.tables → js ≡ p.joints
-    → Adds (share_table ts) (rows_in none) (rows_in mid) → Adds (are_joined js) (rows_in mid) (rows_in rows) → rows_in rows ≡ map (neighbours p) (range_with_len 0 (length p.sizes))
+pub rows_are : (p : Dcop) (none mid rows : List (List ℕ)) (ts : List CostTable) (js : List (ℕ × ℕ)) → IsProblem p → none ≡ replicate (length p.sizes) [] → length mid ≡ length none → length rows ≡ length mid → ts ≡ p.tables → js ≡ p.joints
+    → Adds (share_table ts) none mid → Adds (are_joined js) mid rows → rows ≡ map (neighbours p) (range_with_len 0 (length p.sizes))
 rows_are p none mid rows ts js whole empty size_mid size tables joints first second =
-    all_neighbours p (rows_in none) (rows_in mid) (rows_in rows) empty (sizes mid none size_mid) (sizes rows none (size ∙ size_mid))
+    all_neighbours p none mid rows empty size_mid (size ∙ size_mid)
     (scopes_within p (length p.sizes) p.tables whole refl refl) (joints_within p (length p.sizes) p.joints whole refl refl)
-    (subst (λ (xs : List CostTable). Adds (share_table xs) (rows_in none) (rows_in mid)) tables first) (subst (λ (xs : List (ℕ × ℕ)). Adds (are_joined xs) (rows_in mid) (rows_in rows)) joints second)
-  where
-    sizes : (xs ys : List (Vec ℕ Global)) → length xs ≡ length ys → length (rows_in xs) ≡ length (rows_in ys)
-    sizes xs ys e = length-map xs (λ (r : Vec ℕ Global). r.items) ∙ e ∙ sym (length-map ys (λ (r : Vec ℕ Global). r.items))
+    (subst (λ (xs : List CostTable). Adds (share_table xs) none mid) tables first) (subst (λ (xs : List (ℕ × ℕ)). Adds (are_joined xs) mid rows) joints second)

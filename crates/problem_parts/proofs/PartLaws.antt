@@ -4,7 +4,7 @@ use Rattle.std.specs.List.{filter, range_with_len}
 use Rattle.std.specs.declared.vec.Vec.{Vec}
 use Rattle.std.specs.declared.alloc.Global.{Global}
 use Rattle.std.proofs.lemmas.Bool.{cases_order}
-use Rattle.std.proofs.lemmas.List.{ext_get_or, length-map, length-set, get_or-map, get_or-set_same, get_or-set_other}
+use Rattle.std.proofs.lemmas.List.{ext_get_or, length-set, get_or-map, get_or-set_same, get_or-set_other}
 use Rattle.std.proofs.lemmas.List.FromFn.{length-map-range_with_len, get_or-map-range_with_len}
 use Rattle.dcop_base.specs.Table.{CostTable, has}
 use Rattle.dcop_base.specs.Problem.{Dcop}
@@ -13,17 +13,16 @@ use Rattle.dcop_base.specs.Knowledge.{private_of, acquaintance_of}
 use Rattle.dcop_base.specs.declared.knowledge.Private.{Private}
 use Rattle.problem_parts.specs.Rows.{rows_in}
 
--- a row that is taken out of rows
+-- a list that is taken out of rows
 pub row_is : {T : Type 0} (all rows : List (Vec T Global)) (k : ℕ) (row : Vec T Global) → k < length all → ((d : Vec T Global) → row ≡ get_or rows k d) → ((d : Vec T Global) → get_or rows k d ≡ get_or all k d)
     → row.items ≡ get_or (rows_in all) k []
 row_is {T} all rows k row lt out still = ap (λ (r : Vec T Global). r.items) (out row ∙ still row) ∙ sym (get_or-map (λ (r : Vec T Global). r.items) all k row [] lt)
 
-pub neighbours_row : (p : Dcop) (all rows : List (Vec ℕ Global)) (k : ℕ) (row : Vec ℕ Global) → rows_in all ≡ map (neighbours p) (range_with_len 0 (length p.sizes)) → k < length p.sizes
-    → ((d : Vec ℕ Global) → row ≡ get_or rows k d) → ((d : Vec ℕ Global) → get_or rows k d ≡ get_or all k d) → row.items ≡ neighbours p k
+-- a list of neighbours that is taken out of rows
+pub neighbours_row : (p : Dcop) (all rows : List (List ℕ)) (k : ℕ) (row : List ℕ) → all ≡ map (neighbours p) (range_with_len 0 (length p.sizes)) → k < length p.sizes
+    → ((d : List ℕ) → row ≡ get_or rows k d) → ((d : List ℕ) → get_or rows k d ≡ get_or all k d) → row ≡ neighbours p k
 neighbours_row p all rows k row are lt out still =
-    let size : length all ≡ length p.sizes = sym (length-map all (λ (r : Vec ℕ Global). r.items)) ∙ ap (λ (xs : List (List ℕ)). length xs) are ∙ length-map-range_with_len (neighbours p) 0 (length p.sizes) in
-    row_is all rows k row (subst (λ (n : ℕ). k < n) (sym size) lt) out still
-    ∙ ap (λ (xs : List (List ℕ)). get_or xs k []) are ∙ get_or-map-range_with_len (neighbours p) 0 (length p.sizes) k k [] lt (omega arith)
+    out [] ∙ still [] ∙ ap (λ (xs : List (List ℕ)). get_or xs k []) are ∙ get_or-map-range_with_len (neighbours p) 0 (length p.sizes) k k [] lt (omega arith)
 
 -- what an agent knows, with these tables
 abbrev pub with_tables : Private → List CostTable → Private
@@ -78,5 +77,5 @@ tables_end p me known h all =
     let inside : i < length p.sizes = subst (λ (n : ℕ). i < n) h.size lt in
     h.done i (private_of p 0) (omega (arith, lt, all)) inside ∙ sym (get_or-map-range_with_len (private_of p) 0 (length p.sizes) i i (private_of p 0) inside (omega arith)))
 
-pub rows_size : (p : Dcop) (rows : List (Vec ℕ Global)) → rows_in rows ≡ map (neighbours p) (range_with_len 0 (length p.sizes)) → length rows ≡ length p.sizes
-rows_size p rows are = sym (length-map rows (λ (r : Vec ℕ Global). r.items)) ∙ ap (λ (xs : List (List ℕ)). length xs) are ∙ length-map-range_with_len (neighbours p) 0 (length p.sizes)
+pub rows_size : (p : Dcop) (rows : List (List ℕ)) → rows ≡ map (neighbours p) (range_with_len 0 (length p.sizes)) → length rows ≡ length p.sizes
+rows_size p rows are = ap (λ (xs : List (List ℕ)). length xs) are ∙ length-map-range_with_len (neighbours p) 0 (length p.sizes)

@@ -2,14 +2,12 @@
 use Rattle.std.proofs.Common.{◌≡◌, ℕ, ◌+◌, ◌<◌, ◌==◌, ◌&&◌, ◌||◌, not, Bool, false, List, [], ◌∷◌, length, set, take, get_or, slice_index_or, refl, sym, ap, subst, ◌∙◌, inl, inr}
 use Rattle.std.specs.List.{All}
 use Rattle.std.specs.List.Sorted.{IsStrictlyIncreasing}
-use Rattle.std.specs.declared.vec.Vec.{Vec}
-use Rattle.std.specs.declared.alloc.Global.{Global}
 use Rattle.std.proofs.lemmas.Bool.{cases_eq, eq-eqb, ne_eqb, and_left, and_right, true≢false}
-use Rattle.std.proofs.lemmas.List.{length-map, length-set, map-set, get_or-map, get_or-set_same, get_or-set_other}
+use Rattle.std.proofs.lemmas.List.{get_or_default, length-set, get_or-set_same, get_or-set_other}
 use Rattle.std.proofs.lemmas.List.Folds.{list_any_more}
 use Rattle.dcop_base.specs.Table.{CostTable, has}
 use Rattle.dcop_base.specs.Graph.{share_table, are_joined}
-use Rattle.problem_parts.specs.Rows.{rows_in, names, AreAscending, Adds}
+use Rattle.problem_parts.specs.Rows.{names, AreAscending, Adds}
 
 nothing : (a b : Bool) → a ≡ (a || (b && false))
 nothing Bool.true b = refl
@@ -128,41 +126,34 @@ apart Bool.true Bool.false Bool.false = refl
 apart Bool.false b c = refl
 
 -- the list of one more variable of a scope
-pub scope_more : (scope : List ℕ) (k me : ℕ) (old : List (List ℕ)) (rows : List (Vec ℕ Global)) (d row : Vec ℕ Global) → k < length scope → me ≡ get_or scope k me → me < length rows → length rows ≡ length old
-    → Adds (λ u v. has (take k scope) u && has scope v) old (rows_in rows) → IsStrictlyIncreasing row.items
-    → ((v : ℕ) → has row.items v ≡ (has (get_or rows me d).items v || (not (me == v) && has scope v)))
-    → Adds (λ u v. has (take (k + 1) scope) u && has scope v) old (rows_in (set rows me row))
+pub scope_more : (scope : List ℕ) (k me : ℕ) (old rows : List (List ℕ)) (d row : List ℕ) → k < length scope → me ≡ get_or scope k me → me < length rows → length rows ≡ length old
+    → Adds (λ u v. has (take k scope) u && has scope v) old rows → IsStrictlyIncreasing row
+    → ((v : ℕ) → has row v ≡ (has (get_or rows me d) v || (not (me == v) && has scope v)))
+    → Adds (λ u v. has (take (k + 1) scope) u && has scope v) old (set rows me row)
 scope_more scope k me old rows d row lt e inside size adds up grown =
-    subst (λ (rs : List (List ℕ)). Adds (λ u v. has (take (k + 1) scope) u && has scope v) old rs) (sym (map-set (λ (r : Vec ℕ Global). r.items) rows me row))
-    (row_more (λ u v. has (take k scope) u && has scope v) (λ u v. has (take (k + 1) scope) u && has scope v) (has scope) me old (rows_in rows) row.items
-    (subst (λ (n : ℕ). me < n) (sym (length-map rows (λ (r : Vec ℕ Global). r.items))) inside) (length-map rows (λ (r : Vec ℕ Global). r.items) ∙ size) adds up
-    (λ v. grown v ∙ ap (λ (ys : List ℕ). has ys v || (not (me == v) && has scope v)) (sym (get_or-map (λ (r : Vec ℕ Global). r.items) rows me d [] inside)))
-    (λ u v. ap (λ (b : Bool). b && has scope v) (list_any_more (λ (y : ℕ). y == u) scope k me lt ∙ ap (λ (y : ℕ). has (take k scope) u || y == u) (sym e)) ∙ apart (has (take k scope) u) (me == u) (has scope v)))
+    row_more (λ u v. has (take k scope) u && has scope v) (λ u v. has (take (k + 1) scope) u && has scope v) (has scope) me old rows row inside size adds up
+    (λ v. grown v ∙ ap (λ (ys : List ℕ). has ys v || (not (me == v) && has scope v)) (get_or_default rows me d [] inside))
+    (λ u v. ap (λ (b : Bool). b && has scope v) (list_any_more (λ (y : ℕ). y == u) scope k me lt ∙ ap (λ (y : ℕ). has (take k scope) u || y == u) (sym e)) ∙ apart (has (take k scope) u) (me == u) (has scope v))
 
 -- a list of lists that ascend
-pub row_ascends : (rows : List (Vec ℕ Global)) (me : ℕ) (d : Vec ℕ Global) → me < length rows → AreAscending (rows_in rows) → IsStrictlyIncreasing (get_or rows me d).items
-row_ascends rows me d lt up =
-    subst (λ (xs : List ℕ). IsStrictlyIncreasing xs) (get_or-map (λ (r : Vec ℕ Global). r.items) rows me d [] lt)
-    (up me (subst (λ (n : ℕ). me < n) (sym (length-map rows (λ (r : Vec ℕ Global). r.items))) lt))
+pub row_ascends : (rows : List (List ℕ)) (me : ℕ) (d : List ℕ) → me < length rows → AreAscending rows → IsStrictlyIncreasing (get_or rows me d)
+row_ascends rows me d lt up = subst (λ (xs : List ℕ). IsStrictlyIncreasing xs) (get_or_default rows me [] d lt) (up me lt)
 
 -- an item of a list of small numbers
 pub item_below : (n : ℕ) (xs : List ℕ) (k x y : ℕ) → All (λ v. v < n) xs → k < length xs → x ≡ get_or xs k x → y ≡ x → y < n
 item_below n xs k x y within lt e same = subst (λ (z : ℕ). z < n) (sym (same ∙ e)) (within k x lt)
 
-sizes_of_rows : (mid old : List (Vec ℕ Global)) → length mid ≡ length old → length (rows_in mid) ≡ length (rows_in old)
-sizes_of_rows mid old size = length-map mid (λ (r : Vec ℕ Global). r.items) ∙ size ∙ sym (length-map old (λ (r : Vec ℕ Global). r.items))
-
 -- one more table
-pub scopes_more : (ts : List CostTable) (k : ℕ) (t : CostTable) (s : List ℕ) (old mid new : List (Vec ℕ Global)) → k < length ts → t ≡ get_or ts k t → s ≡ t.scope → length mid ≡ length old
-    → Adds (share_table (take k ts)) (rows_in old) (rows_in mid) → Adds (λ u v. has s u && has s v) (rows_in mid) (rows_in new) → Adds (share_table (take (k + 1) ts)) (rows_in old) (rows_in new)
+pub scopes_more : (ts : List CostTable) (k : ℕ) (t : CostTable) (s : List ℕ) (old mid new : List (List ℕ)) → k < length ts → t ≡ get_or ts k t → s ≡ t.scope → length mid ≡ length old
+    → Adds (share_table (take k ts)) old mid → Adds (λ u v. has s u && has s v) mid new → Adds (share_table (take (k + 1) ts)) old new
 scopes_more ts k t s old mid new lt e same size first second =
-    adds_more (share_table (take k ts)) (λ u v. has t.scope u && has t.scope v) (share_table (take (k + 1) ts)) (rows_in old) (rows_in mid) (rows_in new) (sizes_of_rows mid old size)
-    (share_more ts k t lt e) first (subst (λ (xs : List ℕ). Adds (λ u v. has xs u && has xs v) (rows_in mid) (rows_in new)) same second)
+    adds_more (share_table (take k ts)) (λ u v. has t.scope u && has t.scope v) (share_table (take (k + 1) ts)) old mid new size
+    (share_more ts k t lt e) first (subst (λ (xs : List ℕ). Adds (λ u v. has xs u && has xs v) mid new) same second)
 
 -- one more joint
-pub joints_more : (js : List (ℕ × ℕ)) (k : ℕ) (j : ℕ × ℕ) (old mid new : List (Vec ℕ Global)) → k < length js → j ≡ get_or js k j → length mid ≡ length old
-    → Adds (are_joined (take k js)) (rows_in old) (rows_in mid) → Adds (λ u v. has (j.0 ∷ j.1 ∷ []) u && has (j.0 ∷ j.1 ∷ []) v) (rows_in mid) (rows_in new)
-    → Adds (are_joined (take (k + 1) js)) (rows_in old) (rows_in new)
+pub joints_more : (js : List (ℕ × ℕ)) (k : ℕ) (j : ℕ × ℕ) (old mid new : List (List ℕ)) → k < length js → j ≡ get_or js k j → length mid ≡ length old
+    → Adds (are_joined (take k js)) old mid → Adds (λ u v. has (j.0 ∷ j.1 ∷ []) u && has (j.0 ∷ j.1 ∷ []) v) mid new
+    → Adds (are_joined (take (k + 1) js)) old new
 joints_more js k j old mid new lt e size first second =
-    adds_more (are_joined (take k js)) (λ u v. has (j.0 ∷ j.1 ∷ []) u && has (j.0 ∷ j.1 ∷ []) v) (are_joined (take (k + 1) js)) (rows_in old) (rows_in mid) (rows_in new) (sizes_of_rows mid old size)
+    adds_more (are_joined (take k js)) (λ u v. has (j.0 ∷ j.1 ∷ []) u && has (j.0 ∷ j.1 ∷ []) v) (are_joined (take (k + 1) js)) old mid new size
     (joined_more js k j lt e) first second

@@ -24,20 +24,20 @@ pub fn acquaintances(alloc: Global, problem: &Problem) -> Result<Vec<Private>, N
     let mut rows = neighbour_rows(alloc, problem)?;
     let mut known = Vec::with_capacity(alloc, rows.len())?;
     for me in 0..problem.sizes.as_slice().len() {
-        let neighbours = take_row(alloc, &mut rows, me);
+        let neighbours = take_row(&mut rows, me, VarList::new(alloc));
         known.push(acquaintance_with(alloc, problem, VarId(me as u32), neighbours)?)?;
     }
     Ok(known)
 }
 
-/// One of some lists, which leaves an empty one in its place.
-fn take_row<T: Drop>(alloc: Global, rows: &mut Vec<Vec<T>>, place: usize) -> Vec<T>
+/// One of some rows, which leaves another one in its place.
+fn take_row<R>(rows: &mut Vec<R>, place: usize, other: R) -> R
     requires { place < length rows.old.items }
     ensures row { (d : _) → result ≡ slice_index_or rows.old.items place d }
     ensures rest { (k : _) (d : _) → place < k → slice_index_or rows.new.items k d ≡ slice_index_or rows.old.items k d }
     ensures size { length rows.new.items ≡ length rows.old.items }
 {
-    mem::replace(&mut rows[place], Vec::new(alloc))
+    mem::replace(&mut rows[place], other)
 }
 
 /// What the agent of a variable with these neighbours knows that looks at no cost.
@@ -45,10 +45,10 @@ fn acquaintance_with(
     alloc: Global,
     problem: &Problem,
     me: VarId,
-    neighbours: Vec<VarId>,
+    neighbours: VarList,
 ) -> Result<Private, NoMemory>
     requires inside { me < length problem.now.sizes }
-    requires neighbours { neighbours.items ≡ neighbours_of problem.now me }
+    requires neighbours { neighbours ≡ neighbours_of problem.now me }
     ensures { IfOk result (λ own. own ≡ acquaintance_of problem.now me) }
 {
     let sizes = problem.sizes.as_slice();
@@ -56,7 +56,7 @@ fn acquaintance_with(
     Ok(Private {
         me,
         size: sizes[me.0 as usize],
-        neighbours: VarList::from_vec(neighbours),
+        neighbours,
         neighbour_sizes,
         tables: Sequence::from_vec(Vec::new(alloc)),
     })
@@ -74,7 +74,7 @@ pub fn add_tables(alloc: Global, problem: &Problem, known: &mut [Private]) -> Re
 {
     let mut rows = table_rows(alloc, problem)?;
     for me in 0..known.len() {
-        known[me].tables = Sequence::from_vec(take_row(alloc, &mut rows, me));
+        known[me].tables = Sequence::from_vec(take_row(&mut rows, me, Vec::new(alloc)));
     }
     Ok(())
 }

@@ -1,6 +1,7 @@
 //! The list.
 
-ghost use Rattle.std.specs.Prelude.{◌≡◌, ◌++◌, [], ◌∷◌, IfOk, OnOk};
+ghost use Rattle.std.specs.Prelude.{◌≡◌, ◌≤◌, ◌++◌, [], ◌∷◌, length, IfOk, OnOk};
+ghost use Rattle.std.specs.List.{insert};
 ghost use Rattle.std.specs.Cmp.Lexicographic.{pointwise, lists_per, lists_equiv};
 ghost use Rattle.std.specs.Hash as fed;
 ghost use Rattle.std.specs.Hash.{items_Alike};
@@ -64,6 +65,19 @@ impl<T: MadeWith<Global> + Drop> ShortList<T> {
         ensures { OnOk result (self.new ≡ self.old ++ item ∷ []) }
     {
         self.items.push(item)?;
+        Ok(())
+    }
+
+    /// Puts an item at a place, before those that stood from there on.
+    ///
+    /// # Errors
+    ///
+    /// [`AllocError`] where memory was wanted and not had. It is not wanted for the first four items.
+    pub fn insert(&mut self, place: usize, item: T) -> Result<(), AllocError>
+        requires { place ≤ length self.old }
+        ensures { OnOk result (self.new ≡ insert self.old place item) }
+    {
+        self.items.insert(place, item)?;
         Ok(())
     }
 }

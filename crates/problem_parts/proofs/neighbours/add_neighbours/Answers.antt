@@ -1,6 +1,5 @@
 use Rattle.std.proofs.Common.{length, ap, ◌∙◌}
 use Rattle.dcop_base.specs.Problem.{Dcop}
-use Rattle.problem_parts.specs.Rows.{rows_in}
 use Rattle.problem_parts.proofs.NeighbourLaws.{scopes_within, joints_within, none_ascend, none_size, rows_are}
 use Rattle.problem_parts.proofs.neighbours.add_neighbours.Goals as goal
 
@@ -9,7 +8,7 @@ add_scopes-requires-clause-within c =
     scopes_within c.args.problem.now (length c.args.rows.now) _ c.problem_is_whole.ensures (c.as_slice.ensures ∙ ap (λ (p : Dcop). p.tables) c.problem.view_is) (none_size c.args.rows.now (length c.args.problem.now.sizes) c.requires)
 
 pub add_scopes-requires-clause-ascend : goal.add_scopes-requires-clause-ascend
-add_scopes-requires-clause-ascend c = none_ascend (rows_in c.args.rows.now) (length c.args.problem.now.sizes) c.requires
+add_scopes-requires-clause-ascend c = none_ascend c.args.rows.now (length c.args.problem.now.sizes) c.requires
 
 pub add_joints-requires-clause-within : goal.add_joints-requires-clause-within
 add_joints-requires-clause-within c =

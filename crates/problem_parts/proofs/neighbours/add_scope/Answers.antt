@@ -1,6 +1,5 @@
 use Rattle.std.proofs.Common.{◌≡◌, ◌<◌, ℕ, length, get_or, sym, subst, ◌∙◌, arith}
-use Rattle.std.proofs.lemmas.List.{length-map, length-set}
-use Rattle.problem_parts.specs.Rows.{rows_in}
+use Rattle.std.proofs.lemmas.List.{length-set}
 use Rattle.problem_parts.proofs.RowLaws.{row_ascends, item_below, scope_more}
 use Rattle.problem_parts.proofs.neighbours.add_scope.Goals as goal
 
@@ -19,8 +18,8 @@ loop-me-preserved c =
     let below = item_below (length c.args.rows.now) scope c.loop-me.me-index c.me-item.result c.me.inside.0 c.requires.within lt c.me-item.is c.me.view_is in
     let size = c.loop-me.invariant.size in
     record {
-      added = scope_more scope c.loop-me.me-index c.me.inside.0 (rows_in c.args.rows.now) c.loop-me.rows c.index-rows-me.result c.add_others.new.row lt
+      added = scope_more scope c.loop-me.me-index c.me.inside.0 c.args.rows.now c.loop-me.rows c.index-rows-me.result c.add_others.new.row lt
           (subst (λ (x : ℕ). x ≡ get_or scope c.loop-me.me-index x) (sym c.me.view_is) c.me-item.is) (omega (arith, below, size))
-          (size ∙ sym (length-map c.args.rows.now (λ r. r.items))) c.loop-me.invariant.added c.in_ok-add_others.ensures.ascend c.in_ok-add_others.ensures.added;
+          size c.loop-me.invariant.added c.in_ok-add_others.ensures.ascend c.in_ok-add_others.ensures.added;
       size = length-set c.loop-me.rows c.me.inside.0 c.add_others.new.row ∙ size;
     }

@@ -10,4 +10,4 @@ sizes_of-requires c =
     let p = c.args.problem.now in
     let size : length c.as_slice-sizes.result.now ≡ length p.sizes = ap (λ (xs : List ℕ). length xs) (c.as_slice-sizes.ensures ∙ ap (λ (q : Dcop). q.sizes) c.problem.view_is) in
     subst (λ (n : ℕ). All (λ v. v < n) c.as_slice.result.now) (sym size)
-    (subst (λ (vars : List ℕ). All (λ v. v < length p.sizes) vars) (sym (c.as_slice.ensures.value ∙ c.requires.neighbours)) (All-filter-range (are_neighbours p c.args.me) (length p.sizes)))
+    (subst (λ (vars : List ℕ). All (λ v. v < length p.sizes) vars) (sym (c.as_slice.ensures ∙ c.requires.neighbours)) (All-filter-range (are_neighbours p c.args.me) (length p.sizes)))
