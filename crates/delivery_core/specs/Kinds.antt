@@ -7,4 +7,4 @@ use Rattle.delivery_core.specs.declared.agent.Kind.TheVariants.{Token, Dpop, Ado
 abbrev pub view_of : Kind → View
 view_of (Token a) = TokenKind a
 view_of (Dpop a) = DpopKind a
-view_of (Adopt a) = AdoptKind a
+view_of (Adopt a) = AdoptKind a.value

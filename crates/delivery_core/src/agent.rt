@@ -20,12 +20,13 @@ use pseudotree::Place;
 use std::alloc::Global;
 use std::marker::Model;
 
-/// The kinds of agents.
+/// The kinds of agents. An ADOPT agent is the largest by far, so it lies in a box, and leaves those of
+/// the other kinds closer together.
 #[derive(Drop)]
 pub(crate) enum Kind {
     Token(TokenAgent),
     Dpop(DpopAgent),
-    Adopt(AdoptAgent),
+    Adopt(Box<AdoptAgent>),
 }
 
 /// An agent of any kind. Contracts see its view.
@@ -82,7 +83,7 @@ impl Agent {
     {
         let agent = AdoptAgent::new(alloc, own, place, error)?;
         Ok(Agent {
-            kind: Kind::Adopt(agent),
+            kind: Kind::Adopt(Box::new(alloc, agent)?),
         })
     }
 
