@@ -5,9 +5,9 @@ ghost use Rattle.dcop_base.specs.Limits.{variable_limit};
 ghost use Rattle.pseudotree.specs.Tree.{path_of, parent_of, IsTree};
 ghost use Rattle.pseudotree.specs.Preorder.{subtree, preorder_of};
 ghost use Rattle.pseudotree.specs.Parts.{AreChildren, AreClosed};
-ghost use Rattle.pseudotree.specs.Rows.{rows_in, AreRows};
+ghost use Rattle.pseudotree.specs.Rows.{AreRows};
 
-use crate::rows::{empty_rows, lists_of, push_at};
+use crate::rows::{empty_rows, push_at};
 use dcop_base::{MAX_VARIABLES, NoMemory, VarId, VarList};
 use std::alloc::Global;
 
@@ -19,15 +19,15 @@ pub(crate) fn all_children(alloc: Global, paths: &[VarList]) -> Result<Vec<VarLi
 {
     let mut rows = empty_rows(alloc, paths.len())?;
     push_children(rows.as_mut_slice(), paths)?;
-    lists_of(alloc, rows)
+    Ok(rows)
 }
 
 /// Adds each variable to the row of its parent.
-fn push_children(rows: &mut [Vec<VarId>], paths: &[VarList]) -> Result<(), NoMemory>
+fn push_children(rows: &mut [VarList], paths: &[VarList]) -> Result<(), NoMemory>
     requires few { length paths.now ≤ variable_limit }
     requires tree { IsTree paths.now }
-    requires empty { rows_in rows.old ≡ replicate (length paths.now) [] }
-    ensures added { OnOk result (AreRows (parent_of paths.now) (length paths.now) (rows_in rows.new)) }
+    requires empty { rows.old ≡ replicate (length paths.now) [] }
+    ensures added { OnOk result (AreRows (parent_of paths.now) (length paths.now) rows.new) }
     ensures size { length rows.new ≡ length rows.old }
 {
     for index in 0..paths.len() {

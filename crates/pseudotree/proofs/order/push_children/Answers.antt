@@ -1,7 +1,7 @@
-use Rattle.std.proofs.Common.{◌≡◌, ℕ, ◌+◌, ◌-◌, ◌<◌, ◌∙◌, sym, ap, subst, refl, List, Some, None, Vec, Global, length}
+use Rattle.std.proofs.Common.{◌≡◌, ℕ, ◌+◌, ◌-◌, ◌<◌, ◌∙◌, sym, ap, subst, refl, List, Some, None, length}
 use Rattle.std.specs.List.{slice_get}
 use Rattle.pseudotree.specs.Tree.{path_of, parent_of}
-use Rattle.pseudotree.specs.Rows.{rows_in, AreRows}
+use Rattle.pseudotree.specs.Rows.{AreRows}
 use Rattle.pseudotree.proofs.TreeLaws.{path_read}
 use Rattle.pseudotree.proofs.RowLaws.{rows_long, rows_push, rows_skip}
 use Rattle.pseudotree.proofs.order.push_children.Goals as goal
@@ -25,18 +25,18 @@ loop-index-preserved c =
       | in-Some+in_ok-push_at w ↦
           let parent : parent_of c.args.paths.now c.loop-index.index ≡ Some w.in-Some.parent.now =
           sym (w.in-Some.ensures.value ∙ ap (λ (xs : List ℕ). slice_get xs (length xs - 1)) path) in (
-            ap (λ (rows : List (Vec ℕ Global)). length rows) w.rows-is ∙ w.push_at.ensures.size ∙ c.loop-index.invariant.0,
+            ap (λ (rows : List (List ℕ)). length rows) w.rows-is ∙ w.push_at.ensures.size ∙ c.loop-index.invariant.0,
             subst (λ (rows : List (List ℕ)). AreRows (parent_of c.args.paths.now) (c.loop-index.index + 1) rows)
-                (sym (ap (λ (rows : List (Vec ℕ Global)). rows_in rows) w.rows-is ∙ w.in_ok-push_at.ensures.added))
-                (rows_push (parent_of c.args.paths.now) c.loop-index.index w.parent.inside.0 (rows_in c.loop-index.rows)
+                (sym (w.rows-is ∙ w.in_ok-push_at.ensures.added))
+                (rows_push (parent_of c.args.paths.now) c.loop-index.index w.parent.inside.0 c.loop-index.rows
                 (parent ∙ ap (λ (x : ℕ). Some x) (sym w.parent.view_is)) c.loop-index.invariant.1),
           )
       | in_default w ↦
           let none : parent_of c.args.paths.now c.loop-index.index ≡ None =
           sym (w.in_default.ensures.value ∙ ap (λ (xs : List ℕ). slice_get xs (length xs - 1)) path) in (
-            ap (λ (rows : List (Vec ℕ Global)). length rows) w.rows-is ∙ c.loop-index.invariant.0,
+            ap (λ (rows : List (List ℕ)). length rows) w.rows-is ∙ c.loop-index.invariant.0,
             subst (λ (rows : List (List ℕ)). AreRows (parent_of c.args.paths.now) (c.loop-index.index + 1) rows)
-                (sym (ap (λ (rows : List (Vec ℕ Global)). rows_in rows) w.rows-is))
-                (rows_skip (parent_of c.args.paths.now) c.loop-index.index (rows_in c.loop-index.rows) none c.loop-index.invariant.1),
+                (sym w.rows-is)
+                (rows_skip (parent_of c.args.paths.now) c.loop-index.index c.loop-index.rows none c.loop-index.invariant.1),
           )
     ]

@@ -1,6 +1,5 @@
 use Rattle.std.proofs.Common.{◌≡◌, [], replicate}
-use Rattle.pseudotree.specs.Rows.{rows_in}
 use Rattle.pseudotree.proofs.rows.empty_rows.Given as goal
 
 abbrev pub invariant-loop : goal.invariant-loop
-invariant-loop l = rows_in l.rows.items ≡ replicate l.counter []
+invariant-loop l = l.rows.items ≡ replicate l.counter []
