@@ -230,7 +230,7 @@ stands_more (Some s ∷ es) (suc k) t u lt free = ap (λ (b : Bool). has s.scope
 
 -- the variables of the joined table where a table's scope counted as kept are those where it is kept
 pub known_after : (own : Private) (place : Place) (stage : Stage) (kept : List (Option CostTable)) (made : Option CostTable) (value k : ℕ) (scope cells : List ℕ) (t : CostTable) (over : Over) → IsTaken (keeping own place kept) k scope cells (Some t)
-    → over.vars.items ≡ separator_with (keeping own place kept) (scope ∷ kept_scopes (keeping own place kept)) ++ (own.me ∷ []) → over.sizes.items ≡ map (size_of (keeping own place [])) over.vars.items
+    → over.vars ≡ separator_with (keeping own place kept) (scope ∷ kept_scopes (keeping own place kept)) ++ (own.me ∷ []) → over.sizes ≡ map (size_of (keeping own place [])) over.vars
     → IsOver (view_at own place stage (slice_set kept k (Some t)) made value) over
 known_after own place stage kept made value k scope cells t over taken vars sizes =
     let free = (passed own place kept k scope cells taken.0).free in

@@ -30,8 +30,8 @@ over_sizes v = map (size_of v) (over_of v)
 
 -- these variables are those of an agent's joined table, each with its size
 pub record IsOver (v : DpopView) (over : Over) : Type 0 where
-  pub vars : over.vars.items ≡ over_of v
-  pub sizes : over.sizes.items ≡ map (size_of v) over.vars.items
+  pub vars : over.vars ≡ over_of v
+  pub sizes : over.sizes ≡ map (size_of v) over.vars
 
 -- a joined table of zeros over these variables exactly where it is not too wide
 abbrev pub IsZeroOver : List ℕ → List ℕ → Option CostTable → Type 0

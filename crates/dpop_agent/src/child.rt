@@ -19,7 +19,7 @@ ghost use Rattle.dpop_agent.specs.Deed.{IsTaken, parcels_up};
 use crate::ancestors::{size_from_the_end, stand_in_order};
 use crate::separator::sizes_of;
 use cost_table::cells_of;
-use dcop_base::{CellList, NoMemory, Private, SizeList, Table, Val, VarId, VarList};
+use dcop_base::{CellList, NoMemory, Private, Table, Val, VarId, VarList};
 use protocol_steps::{Message, Parcel};
 use pseudotree::{MAX_JOINED_CELLS, Place};
 use std::alloc::Global;
@@ -183,7 +183,7 @@ pub(crate) fn table_of(
     }
     Ok(Some(Table {
         scope: VarList::from_slice(alloc, scope)?,
-        sizes: SizeList::from_vec(sizes),
+        sizes,
         cells: cells.clone()?,
     }))
 }

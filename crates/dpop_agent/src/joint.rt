@@ -12,7 +12,7 @@ ghost use Rattle.dpop_agent.specs.Sound.{IsKeeper};
 use crate::ancestors::are_above;
 use crate::kept::are_all_there;
 use crate::separator::{Over, variables_with};
-use dcop_base::{NoMemory, Private, SizeList, Table, VarId, VarList};
+use dcop_base::{NoMemory, Private, Table, VarId};
 use pseudotree::Place;
 use std::alloc::Global;
 use util_join::{JoinFault, Joined};
@@ -52,13 +52,12 @@ fn add_kept(joined: &mut Joined, kept: &[Option<Table>])
 
 /// A joined table of zeros over these variables; `None` exactly where it is too wide.
 pub(crate) fn zeros_over(alloc: Global, over: Over) -> Result<Option<Joined>, NoMemory>
-    requires distinct { has_repeat over.vars.items ≡ false }
-    requires sized { length over.sizes.items ≡ length over.vars.items }
-    requires positive { All (λ s. 1 ≤ s) over.sizes.items }
-    ensures { IfOk result (IsZeroOver over.vars.items over.sizes.items) }
+    requires distinct { has_repeat over.vars ≡ false }
+    requires sized { length over.sizes ≡ length over.vars }
+    requires positive { All (λ s. 1 ≤ s) over.sizes }
+    ensures { IfOk result (IsZeroOver over.vars over.sizes) }
 {
-    let scope = VarList::from_vec(over.vars);
-    match Joined::new(alloc, scope, SizeList::from_vec(over.sizes)) {
+    match Joined::new(alloc, over.vars, over.sizes) {
         Ok(joined) => Ok(Some(joined)),
         Err(JoinFault::TooWide { .. }) => Ok(None),
         Err(JoinFault::NoMemory) => Err(NoMemory),

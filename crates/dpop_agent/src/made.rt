@@ -1,6 +1,6 @@
 //! Tables that are made anew for an agent whose children's tables are kept.
 
-ghost use Rattle.std.specs.Prelude.{◌≡◌, ◌+◌, ◌<◌, ◌≤◌, [], length, map, IfOk};
+ghost use Rattle.std.specs.Prelude.{◌≡◌, ◌+◌, ◌++◌, ◌<◌, ◌≤◌, [], length, map, IfOk, OnOk};
 ghost use Rattle.std.specs.List.{All, concat, flat_map};
 ghost use Rattle.protocol_steps.specs.Dpop.{kept_scopes, there};
 ghost use Rattle.util_join.specs.Join.{LiesIn};
@@ -10,7 +10,7 @@ ghost use Rattle.dpop_agent.specs.Remade.{IsRemade, MayRemake, joined_count, sen
 use crate::joint::{add_own, zeros_over};
 use crate::separator::variables_with;
 use crate::steps::Steps;
-use dcop_base::{NoMemory, Private, Table, VarId};
+use dcop_base::{NoMemory, Private, Table, VarId, VarList};
 use pseudotree::Place;
 use std::alloc::Global;
 use std::sync::ledger::Ledger;
@@ -105,22 +105,28 @@ fn joined_with(
 }
 
 /// The variables of the tables that these children sent, one scope after the other.
-fn named_by(
-    alloc: Global,
-    children: &[VarId],
-    kept: &[Option<Made>],
-) -> Result<Vec<VarId>, NoMemory>
+fn named_by(alloc: Global, children: &[VarId], kept: &[Option<Made>]) -> Result<VarList, NoMemory>
     requires { All (λ c. c < length kept.now) children.now }
-    ensures { IfOk result (λ vars. vars.items
+    ensures { IfOk result (λ vars. vars
         ≡ concat (map (λ t. t.scope) (flat_map there (sent_of kept.now children.now)))) }
 {
-    let mut vars = Vec::new(alloc);
+    let mut vars = VarList::new(alloc);
     for child in children {
         if let Some(made) = &kept[child.0 as usize] {
-            vars.extend_from_slice(made.sent.scope.as_slice())?;
+            append(&mut vars, made.sent.scope.as_slice())?;
         }
     }
     Ok(vars)
+}
+
+/// Adds these variables at the end of a list.
+fn append(vars: &mut VarList, more: &[VarId]) -> Result<(), NoMemory>
+    ensures { OnOk result (vars.new ≡ vars.old ++ more.now) }
+{
+    for var in more {
+        vars.push(*var)?;
+    }
+    Ok(())
 }
 
 /// Adds the tables that these children sent.

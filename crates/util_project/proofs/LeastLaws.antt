@@ -150,11 +150,17 @@ leasts-of-runs sizes cells k kept blocks size inner h counts es given =
     }
 
 -- the projection of a table by a variable
-pub projection-of : (scope sizes cells : List ℕ) (var place : ℕ) (kept : List ℕ) → place ≡ place_in scope var → place < length sizes → table_fault scope sizes cells ≡ None → AreLeastsAt sizes cells place kept → IsProjection (record { scope = scope; sizes = sizes; cells = cells }) var (record { scope = remove scope place; sizes = remove sizes place; cells = kept })
-projection-of scope sizes cells var place kept ep lt e at = record {
+projected : (scope sizes cells : List ℕ) (var place : ℕ) (kept : List ℕ) → place ≡ place_in scope var → place < length sizes → table_fault scope sizes cells ≡ None → AreLeastsAt sizes cells place kept → IsProjection (record { scope = scope; sizes = sizes; cells = cells }) var (record { scope = remove scope place; sizes = remove sizes place; cells = kept })
+projected scope sizes cells var place kept ep lt e at = record {
   same_scope = ap (λ (n : ℕ). remove scope n) ep;
   same_sizes = ap (λ (n : ℕ). remove sizes n) ep;
   whole = slice-parts scope sizes cells place kept lt e at.count at.within;
   cells = λ others w. subst (λ (n : ℕ). IsLeast (λ d. get_or cells (cell_place sizes (insert others n d)) 0) (get_or sizes n 0) (get_or kept (cell_place (remove sizes place) others) 0)) ep
       (at.each others (subst (λ (n : ℕ). AreWithin (remove sizes n) others) (sym ep) w));
 }
+
+-- the projection of a table by a variable, of which the parts are these
+pub projection-of : (scope sizes cells : List ℕ) (var place : ℕ) (kept vs ss cs : List ℕ) → place ≡ place_in scope var → place < length sizes → table_fault scope sizes cells ≡ None → AreLeastsAt sizes cells place kept
+    → vs ≡ remove scope place → ss ≡ remove sizes place → cs ≡ kept
+    → IsProjection (record { scope = scope; sizes = sizes; cells = cells }) var (record { scope = vs; sizes = ss; cells = cs })
+projection-of scope sizes cells var place kept vs ss cs ep lt e at same_scope same_sizes same_cells = rw (same_scope, same_sizes, same_cells) (projected scope sizes cells var place kept ep lt e at)

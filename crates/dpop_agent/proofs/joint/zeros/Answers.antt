@@ -16,7 +16,7 @@ zeros_over-requires-clause-distinct c =
 pub zeros_over-requires-clause-sized : goal.zeros_over-requires-clause-sized
 zeros_over-requires-clause-sized c =
     let v : DpopView = keeping c.args.own.now c.args.place.now c.args.kept.now in
-    ap length c.in_ok-over.ensures.sizes ∙ length-map c.in_ok-over.over.vars.items (size_of v)
+    ap length c.in_ok-over.ensures.sizes ∙ length-map c.in_ok-over.over.vars (size_of v)
 
 pub zeros_over-requires-clause-positive : goal.zeros_over-requires-clause-positive
 zeros_over-requires-clause-positive c =
@@ -30,7 +30,7 @@ returns c =
     let place = c.args.place.now in
     let kept = c.args.kept.now in
     let v : DpopView = keeping own place kept in
-    let over = c.in_ok-over.over.vars.items in
-    let sizes = c.in_ok-over.over.sizes.items in
+    let over = c.in_ok-over.over.vars in
+    let sizes = c.in_ok-over.over.sizes in
     IfOk-weaker c.zeros_over.result (IsZeroOver over sizes) (IsZeroWhereNarrow v)
     (λ zero is. zero_where_narrow own place kept c.requires.keeper over zero c.in_ok-over.ensures.vars (subst (λ (ss : List ℕ). IsZeroOver over ss zero) c.in_ok-over.ensures.sizes is)) c.zeros_over.ensures

@@ -17,14 +17,14 @@ zeros_over-requires-clause-distinct c =
     let place = c.args.place.now in
     let kept = c.args.kept.now in
     let sent = sent_of kept place.children in
-    let named = c.as_slice.ensures.value ∙ c.in_ok-named.ensures ∙ ap (λ (us : List ℕ). named_in_all (sent_of kept us)) c.as_slice-children.ensures in
-    let over = over_sent own place kept c.as_slice.result.now c.in_ok-over.over.vars.items named c.in_ok-over.ensures.vars in
+    let named = c.as_slice.ensures ∙ c.in_ok-named.ensures ∙ ap (λ (us : List ℕ). named_in_all (sent_of kept us)) c.as_slice-children.ensures in
+    let over = over_sent own place kept c.as_slice.result.now c.in_ok-over.over.vars named c.in_ok-over.ensures.vars in
     ap has_repeat over ∙ over_apart own place sent (sent_keeper own place kept c.requires)
 
 pub zeros_over-requires-clause-sized : goal.zeros_over-requires-clause-sized
 zeros_over-requires-clause-sized c =
     let v : DpopView = with_sent c.args.own.now c.args.place.now c.args.kept.now in
-    ap length c.in_ok-over.ensures.sizes ∙ length-map c.in_ok-over.over.vars.items (size_of v)
+    ap length c.in_ok-over.ensures.sizes ∙ length-map c.in_ok-over.over.vars (size_of v)
 
 pub zeros_over-requires-clause-positive : goal.zeros_over-requires-clause-positive
 zeros_over-requires-clause-positive c =
@@ -33,8 +33,8 @@ zeros_over-requires-clause-positive c =
     let kept = c.args.kept.now in
     let sent = sent_of kept place.children in
     let v : DpopView = with_sent own place kept in
-    let named = c.as_slice.ensures.value ∙ c.in_ok-named.ensures ∙ ap (λ (us : List ℕ). named_in_all (sent_of kept us)) c.as_slice-children.ensures in
-    let over = over_sent own place kept c.as_slice.result.now c.in_ok-over.over.vars.items named c.in_ok-over.ensures.vars in
+    let named = c.as_slice.ensures ∙ c.in_ok-named.ensures ∙ ap (λ (us : List ℕ). named_in_all (sent_of kept us)) c.as_slice-children.ensures in
+    let over = over_sent own place kept c.as_slice.result.now c.in_ok-over.over.vars named c.in_ok-over.ensures.vars in
     let sizes = c.in_ok-over.ensures.sizes ∙ ap (λ (vs : List ℕ). map (size_of v) vs) over in
     subst (λ (ss : List ℕ). All (λ s. 1 ≤ s) ss) (sym sizes) (over_positive own place sent (sent_keeper own place kept c.requires))
 
@@ -49,11 +49,11 @@ add_own-requires-clause-lie c =
     let sent = sent_of kept place.children in
     let v : DpopView = with_sent own place kept in
     let keeper = sent_keeper own place kept c.requires in
-    let named = c.as_slice.ensures.value ∙ c.in_ok-named.ensures ∙ ap (λ (us : List ℕ). named_in_all (sent_of kept us)) c.as_slice-children.ensures in
-    let over = over_sent own place kept c.as_slice.result.now c.in_ok-over.over.vars.items named c.in_ok-over.ensures.vars in
-    let made = subst (λ (o : Option CostTable). IsZeroOver c.in_ok-over.over.vars.items c.in_ok-over.over.sizes.items o) c.in-Some.is c.in_ok-joined.ensures in
-    let all = subst (λ (ss : List ℕ). IsZeroOver c.in_ok-over.over.vars.items ss (Some c.in-Some.joined)) c.in_ok-over.ensures.sizes made in
-    let zero = zero_some own place sent keeper c.in_ok-over.over.vars.items c.in-Some.joined over all in
+    let named = c.as_slice.ensures ∙ c.in_ok-named.ensures ∙ ap (λ (us : List ℕ). named_in_all (sent_of kept us)) c.as_slice-children.ensures in
+    let over = over_sent own place kept c.as_slice.result.now c.in_ok-over.over.vars named c.in_ok-over.ensures.vars in
+    let made = subst (λ (o : Option CostTable). IsZeroOver c.in_ok-over.over.vars c.in_ok-over.over.sizes o) c.in-Some.is c.in_ok-joined.ensures in
+    let all = subst (λ (ss : List ℕ). IsZeroOver c.in_ok-over.over.vars ss (Some c.in-Some.joined)) c.in_ok-over.ensures.sizes made in
+    let zero = zero_some own place sent keeper c.in_ok-over.over.vars c.in-Some.joined over all in
     own_may own place sent keeper (λ value. 0) c.in-Some.joined c.as_slice-2.result.now c.as_slice-3.result.now zero c.as_slice-2.ensures c.as_slice-3.ensures
 
 pub add_sent-requires-clause-lie : goal.add_sent-requires-clause-lie
@@ -64,11 +64,11 @@ add_sent-requires-clause-lie c =
     let sent = sent_of kept place.children in
     let v : DpopView = with_sent own place kept in
     let keeper = sent_keeper own place kept c.requires in
-    let named = c.as_slice.ensures.value ∙ c.in_ok-named.ensures ∙ ap (λ (us : List ℕ). named_in_all (sent_of kept us)) c.as_slice-children.ensures in
-    let over = over_sent own place kept c.as_slice.result.now c.in_ok-over.over.vars.items named c.in_ok-over.ensures.vars in
-    let made = subst (λ (o : Option CostTable). IsZeroOver c.in_ok-over.over.vars.items c.in_ok-over.over.sizes.items o) c.in-Some.is c.in_ok-joined.ensures in
-    let all = subst (λ (ss : List ℕ). IsZeroOver c.in_ok-over.over.vars.items ss (Some c.in-Some.joined)) c.in_ok-over.ensures.sizes made in
-    let zero = zero_some own place sent keeper c.in_ok-over.over.vars.items c.in-Some.joined over all in
+    let named = c.as_slice.ensures ∙ c.in_ok-named.ensures ∙ ap (λ (us : List ℕ). named_in_all (sent_of kept us)) c.as_slice-children.ensures in
+    let over = over_sent own place kept c.as_slice.result.now c.in_ok-over.over.vars named c.in_ok-over.ensures.vars in
+    let made = subst (λ (o : Option CostTable). IsZeroOver c.in_ok-over.over.vars c.in_ok-over.over.sizes o) c.in-Some.is c.in_ok-joined.ensures in
+    let all = subst (λ (ss : List ℕ). IsZeroOver c.in_ok-over.over.vars ss (Some c.in-Some.joined)) c.in_ok-over.ensures.sizes made in
+    let zero = zero_some own place sent keeper c.in_ok-over.over.vars c.in-Some.joined over all in
     let now = c.add_own.new.joined in
     subst (λ (us : List ℕ). All (LiesIn now.scope now.sizes) (flat_map there (sent_of kept us))) (sym c.as_slice-children.ensures)
     (kept_may own place sent keeper (λ value. 0) c.in-Some.joined now zero c.add_own.ensures.same_scope c.add_own.ensures.same_sizes)
@@ -81,11 +81,11 @@ returns c =
     let sent = sent_of kept place.children in
     let v : DpopView = with_sent own place kept in
     let keeper = sent_keeper own place kept c.requires in
-    let named = c.as_slice.ensures.value ∙ c.in_ok-named.ensures ∙ ap (λ (us : List ℕ). named_in_all (sent_of kept us)) c.as_slice-children.ensures in
-    let over = over_sent own place kept c.as_slice.result.now c.in_ok-over.over.vars.items named c.in_ok-over.ensures.vars in
-    let made = subst (λ (o : Option CostTable). IsZeroOver c.in_ok-over.over.vars.items c.in_ok-over.over.sizes.items o) c.in-Some.is c.in_ok-joined.ensures in
-    let all = subst (λ (ss : List ℕ). IsZeroOver c.in_ok-over.over.vars.items ss (Some c.in-Some.joined)) c.in_ok-over.ensures.sizes made in
-    let zero = zero_some own place sent keeper c.in_ok-over.over.vars.items c.in-Some.joined over all in
+    let named = c.as_slice.ensures ∙ c.in_ok-named.ensures ∙ ap (λ (us : List ℕ). named_in_all (sent_of kept us)) c.as_slice-children.ensures in
+    let over = over_sent own place kept c.as_slice.result.now c.in_ok-over.over.vars named c.in_ok-over.ensures.vars in
+    let made = subst (λ (o : Option CostTable). IsZeroOver c.in_ok-over.over.vars c.in_ok-over.over.sizes o) c.in-Some.is c.in_ok-joined.ensures in
+    let all = subst (λ (ss : List ℕ). IsZeroOver c.in_ok-over.over.vars ss (Some c.in-Some.joined)) c.in_ok-over.ensures.sizes made in
+    let zero = zero_some own place sent keeper c.in_ok-over.over.vars c.in-Some.joined over all in
     let mine : List CostTable → List ℕ → List CostTable = λ ts vs. filter (λ (t : CostTable). list_all (λ u. u == own.me || has vs u) t.scope) ts in
     let first : HasGained (own_tables v) c.in-Some.joined c.add_own.new.joined =
     subst (λ (ts : List CostTable). HasGained ts c.in-Some.joined c.add_own.new.joined) (ap₂ mine c.as_slice-2.ensures c.as_slice-3.ensures) c.add_own.ensures in

@@ -17,8 +17,8 @@ table_of-requires-clause-over c =
     let a = c.self.inside in
     let now = c.as_slice-kept.result.now in
     let v : DpopView = keeping a.own a.place now in
-    let sizes = c.as_slice-2.ensures.value ∙ c.in_ok-over.ensures.sizes in
-    cells_with a.own a.place now (c.args.scope.now ∷ kept_scopes v) c.in_ok-over.over.vars.items c.as_slice-2.result.now c.in_ok-over.ensures.vars sizes
+    let sizes = c.as_slice-2.ensures ∙ c.in_ok-over.ensures.sizes in
+    cells_with a.own a.place now (c.args.scope.now ∷ kept_scopes v) c.in_ok-over.over.vars c.as_slice-2.result.now c.in_ok-over.ensures.vars sizes
 
 pub returns-in_default-2-clause-gives : goal.returns-in_default-2-clause-gives
 returns-in_default-2-clause-gives c =
@@ -55,7 +55,7 @@ join-requires c =
     let well = ap (λ (v : DpopView). v.phase.failed) c.self.view_is ∙ c.requires.running.well in
     let taken = subst (λ (es : List (Option CostTable)). IsTaken (keeping a.own a.place es) k scope cells (Some t)) c.as_slice-kept.ensures.value
     (subst (λ (o : Option CostTable). IsTaken (keeping a.own a.place now) k scope cells o) c.in-Some-2.is c.in_ok-table.ensures) in
-    let vars = subst (λ (es : List (Option CostTable)). c.in_ok-over.over.vars.items ≡ separator_with (keeping a.own a.place es) (scope ∷ kept_scopes (keeping a.own a.place es)) ++ (a.own.me ∷ [])) c.as_slice-kept.ensures.value c.in_ok-over.ensures.vars in
+    let vars = subst (λ (es : List (Option CostTable)). c.in_ok-over.over.vars ≡ separator_with (keeping a.own a.place es) (scope ∷ kept_scopes (keeping a.own a.place es)) ++ (a.own.me ∷ [])) c.as_slice-kept.ensures.value c.in_ok-over.ensures.vars in
     record {
       working = open_works a.own a.place a.stage a.kept.items a.made k scope cells c.self.invariant started well taken.0;
       known = known_after a.own a.place a.stage a.kept.items a.made a.value k scope cells t c.in_ok-over.over taken vars c.in_ok-over.ensures.sizes;
