@@ -2,11 +2,11 @@
 use Rattle.std.proofs.Common.{◌≡◌, ℕ, zero, suc, ◌+◌, ◌*◌, ◌<◌, ◌≤◌, Bool, true, false, not, cond, eqb, ltb, List, [], ◌∷◌, Some, None, length, get_or, drop, refl, sym, ap, ◌∙◌, inl, inr, arith}
 use Rattle.std.proofs.Math.Nat.{mul-le-mul_left, mul_assoc}
 use Rattle.std.specs.List.{list_any, position}
-use Rattle.std.proofs.lemmas.List.{drop_more, drop_all}
+use Rattle.std.proofs.lemmas.List.{drop_all}
 use Rattle.std.proofs.lemmas.List.Sums.{prefix_len-le-length}
 use Rattle.std.proofs.lemmas.Bool.{cases_Bool, eqb-true, eqb-false, or_parts, ltb-false, le-ltb, lt-ltb}
-use Rattle.dcop_base.specs.Table.{product, AreWithin, cell_place, has}
-use Rattle.dcop_base.proofs.TableLaws.{product-pos, product-drop}
+use Rattle.dcop_base.specs.Table.{product, has}
+use Rattle.dcop_base.proofs.TableLaws.{product-drop}
 use Rattle.cost_table.specs.Cells.{place_in}
 
 -- a product with a 0 in it

@@ -48,12 +48,13 @@ fn slice_of(
 {
     let place = place_in(scope, var);
     let kept = cells_at(alloc, sizes, cells, place, val)?;
+    let cells = CellList::shared(alloc, kept)?;
     let scope = scope_without(alloc, scope, place)?;
     let sizes = sizes_without(alloc, sizes, place)?;
     Ok(Table {
-        scope: VarList::from_vec(scope),
-        sizes: SizeList::from_vec(sizes),
-        cells: CellList::shared(alloc, kept)?,
+        scope,
+        sizes,
+        cells,
     })
 }
 
@@ -107,12 +108,16 @@ fn runs_of(
 /// # Errors
 ///
 /// [`NoMemory`] where memory was wanted and not had.
-pub fn scope_without(alloc: Global, scope: &[VarId], place: usize) -> Result<Vec<VarId>, NoMemory>
+pub fn scope_without(alloc: Global, scope: &[VarId], place: usize) -> Result<VarList, NoMemory>
     requires { place < length scope.now }
-    ensures { IfOk result (λ rest. rest.items ≡ remove scope.now place) }
+    ensures { IfOk result (λ rest. rest ≡ remove scope.now place) }
 {
-    let mut rest = Vec::from_slice(alloc, scope)?;
-    rest.remove(place);
+    let (before, _) = scope.split_at(place);
+    let mut rest = VarList::from_slice(alloc, before)?;
+    let (_, behind) = scope.split_at(place + 1);
+    for var in behind {
+        rest.push(*var)?;
+    }
     Ok(rest)
 }
 
@@ -121,11 +126,15 @@ pub fn scope_without(alloc: Global, scope: &[VarId], place: usize) -> Result<Vec
 /// # Errors
 ///
 /// [`NoMemory`] where memory was wanted and not had.
-pub fn sizes_without(alloc: Global, sizes: &[u16], place: usize) -> Result<Vec<u16>, NoMemory>
+pub fn sizes_without(alloc: Global, sizes: &[u16], place: usize) -> Result<SizeList, NoMemory>
     requires { place < length sizes.now }
-    ensures { IfOk result (λ rest. rest.items ≡ remove sizes.now place) }
+    ensures { IfOk result (λ rest. rest ≡ remove sizes.now place) }
 {
-    let mut rest = Vec::from_slice(alloc, sizes)?;
-    rest.remove(place);
+    let (before, _) = sizes.split_at(place);
+    let mut rest = SizeList::from_slice(alloc, before)?;
+    let (_, behind) = sizes.split_at(place + 1);
+    for size in behind {
+        rest.push(*size)?;
+    }
     Ok(rest)
 }

@@ -1,14 +1,14 @@
 //! The least over one variable.
 
 ghost use Rattle.std.specs.Prelude.{◌≡◌, ◌<◌, ◌≤◌, true, None, length, IfOk};
-ghost use Rattle.std.specs.List.{All, remove};
+ghost use Rattle.std.specs.List.{All};
 ghost use Rattle.dcop_base.specs.Table.{has, product, table_fault};
 ghost use Rattle.util_project.specs.Projection.{IsProjection};
 ghost use Rattle.util_project.specs.Leasts.{AreLeastsAt};
 
 use crate::leasts::least_runs;
-use cost_table::place_in;
-use dcop_base::{CellList, NoMemory, SizeList, Table, VarId, VarList, product_of};
+use cost_table::{place_in, scope_without, sizes_without};
+use dcop_base::{CellList, NoMemory, Table, VarId, product_of};
 use std::alloc::Global;
 
 /// The projection of a table by a variable of its scope: the table without the variable, of which
@@ -47,41 +47,14 @@ fn project_of(
 {
     let place = place_in(scope, var);
     let kept = leasts_at(alloc, sizes, cells, place)?;
+    let cells = CellList::shared(alloc, kept)?;
     let scope = scope_without(alloc, scope, place)?;
     let sizes = sizes_without(alloc, sizes, place)?;
     Ok(Table {
         scope,
         sizes,
-        cells: CellList::shared(alloc, kept)?,
+        cells,
     })
-}
-
-/// The scope without the variable at this place.
-fn scope_without(alloc: Global, scope: &[VarId], place: usize) -> Result<VarList, NoMemory>
-    requires { place < length scope.now }
-    ensures { IfOk result (λ rest. rest ≡ remove scope.now place) }
-{
-    let (before, _) = scope.split_at(place);
-    let mut rest = VarList::from_slice(alloc, before)?;
-    let (_, behind) = scope.split_at(place + 1);
-    for var in behind {
-        rest.push(*var)?;
-    }
-    Ok(rest)
-}
-
-/// The sizes without the one at this place.
-fn sizes_without(alloc: Global, sizes: &[u16], place: usize) -> Result<SizeList, NoMemory>
-    requires { place < length sizes.now }
-    ensures { IfOk result (λ rest. rest ≡ remove sizes.now place) }
-{
-    let (before, _) = sizes.split_at(place);
-    let mut rest = SizeList::from_slice(alloc, before)?;
-    let (_, behind) = sizes.split_at(place + 1);
-    for size in behind {
-        rest.push(*size)?;
-    }
-    Ok(rest)
 }
 
 /// The leasts of the cells of a table of these sizes over the variable at this place.

@@ -11,4 +11,4 @@ invariant_of-result c =
     let place = c.place_in-place.result in
     let parts = parts-of scope sizes c.args.cells.now c.requires.whole in
     let lt : place < length sizes = omega (arith, c.place_in-place.ensures, place_in-lt scope c.args.var c.requires.stands, parts.sized) in
-    rw (c.from_vec.ensures, c.from_vec-2.ensures, c.in_ok-shared.ensures, c.in_ok-scope.ensures, c.in_ok-sizes.ensures) (slice-parts scope sizes c.args.cells.now place c.in_ok-kept.kept.items lt c.requires.whole c.in_ok-kept.ensures.count c.in_ok-kept.ensures.within)
+    rw (c.in_ok-cells.ensures, c.in_ok-scope.ensures, c.in_ok-sizes.ensures) (slice-parts scope sizes c.args.cells.now place c.in_ok-kept.kept.items lt c.requires.whole c.in_ok-kept.ensures.count c.in_ok-kept.ensures.within)

@@ -1,4 +1,4 @@
-use Rattle.std.proofs.Common.{◌<◌, length, arith, ◌∙◌}
+use Rattle.std.proofs.Common.{◌<◌, length, arith}
 use Rattle.dcop_base.proofs.TableLaws.{parts-of}
 use Rattle.cost_table.proofs.PlaceLaws.{place_in-lt}
 use Rattle.util_project.proofs.LeastLaws.{projection-of}
@@ -24,7 +24,7 @@ invariant_of-result c =
     let place = c.place_in-place.result in
     let parts = parts-of scope sizes c.args.cells.now c.requires.whole in
     let lt : place < length sizes = omega (arith, c.place_in-place.ensures, place_in-lt scope c.args.var c.requires.stands, parts.sized) in
-    (projection-of scope sizes c.args.cells.now c.args.var place c.in_ok-kept.kept.items c.scope.inside.items.items c.in_ok-sizes.sizes c.in_ok-shared.field-0 c.place_in-place.ensures lt c.requires.whole c.in_ok-kept.ensures (c.scope.view_is ∙ c.in_ok-scope.ensures) c.in_ok-sizes.ensures c.in_ok-shared.ensures).whole
+    (projection-of scope sizes c.args.cells.now c.args.var place c.in_ok-kept.kept.items c.in_ok-scope.scope c.in_ok-sizes.sizes c.in_ok-cells.cells c.place_in-place.ensures lt c.requires.whole c.in_ok-kept.ensures c.in_ok-scope.ensures c.in_ok-sizes.ensures c.in_ok-cells.ensures).whole
 
 pub returns : goal.returns
 returns c =
@@ -33,4 +33,4 @@ returns c =
     let place = c.place_in-place.result in
     let parts = parts-of scope sizes c.args.cells.now c.requires.whole in
     let lt : place < length sizes = omega (arith, c.place_in-place.ensures, place_in-lt scope c.args.var c.requires.stands, parts.sized) in
-    projection-of scope sizes c.args.cells.now c.args.var place c.in_ok-kept.kept.items c.scope.inside.items.items c.in_ok-sizes.sizes c.in_ok-shared.field-0 c.place_in-place.ensures lt c.requires.whole c.in_ok-kept.ensures (c.scope.view_is ∙ c.in_ok-scope.ensures) c.in_ok-sizes.ensures c.in_ok-shared.ensures
+    projection-of scope sizes c.args.cells.now c.args.var place c.in_ok-kept.kept.items c.in_ok-scope.scope c.in_ok-sizes.sizes c.in_ok-cells.cells c.place_in-place.ensures lt c.requires.whole c.in_ok-kept.ensures c.in_ok-scope.ensures c.in_ok-sizes.ensures c.in_ok-cells.ensures

@@ -1,5 +1,5 @@
 use Rattle.std.proofs.Common.{◌≡◌, ◌++◌, take}
-use Rattle.util_project.proofs.projecting.scope_without.Given as goal
+use Rattle.cost_table.proofs.slicing.scope_without.Given as goal
 
 abbrev pub invariant-loop-var : goal.invariant-loop-var
 invariant-loop-var l = l.rest ≡ take l.place l.scope ++ take l.var-index l.behind
