@@ -6,4 +6,5 @@ pub mod Verdict
 pub mod Summary
 pub mod Edits
 pub mod Upgrade
+pub mod Refuses
 pub mod AnswerText

@@ -2,6 +2,7 @@
 
 ghost use Rattle.std.specs.Prelude.{◌≡◌, IfOk};
 ghost use Rattle.solve_report.specs.AnswerText.{HasText, answer_text};
+ghost use Rattle.solve_report.specs.Refuses.{IsRefusal, IsLinkRefusal};
 
 use crate::edits::write_edits;
 use crate::links::{refuse_bytes, refuse_differs, refuse_link};
@@ -173,6 +174,17 @@ pub fn text_of(alloc: Global, answer: &Answer) -> Result<Bytes, NoMemory>
         Answer::Upgraded { file } => write_problem(alloc, file),
         Answer::UpgradedWcsp { bar, file } => write_barred(alloc, *bar, file),
         Answer::Edits { answers, file } => write_edits(alloc, answers.as_slice(), file),
+        _ => refusal_text(alloc, answer),
+    }
+}
+
+/// The one line of an answer that refuses.
+fn refusal_text(alloc: Global, refusal: &Answer) -> Result<Bytes, NoMemory>
+    requires named { HasText refusal.now }
+    requires refuses { IsRefusal refusal.now }
+    ensures { IfOk result (λ text. text ≡ answer_text refusal.now) }
+{
+    match refusal {
         Answer::Words { at, kind } => refuse_words(alloc, *at, *kind),
         Answer::ProblemText {
             line,
@@ -191,6 +203,17 @@ pub fn text_of(alloc: Global, answer: &Answer) -> Result<Bytes, NoMemory>
         Answer::WideAgent { var, cells, names } => refuse_wide(alloc, names.name(*var), *cells),
         Answer::WideTotal { cells } => refuse_total(alloc, *cells),
         Answer::Read => refuse_read(alloc),
+        _ => link_refusal_text(alloc, refusal),
+    }
+}
+
+/// The one line of an answer that refuses for a link between nodes.
+fn link_refusal_text(alloc: Global, refusal: &Answer) -> Result<Bytes, NoMemory>
+    requires named { HasText refusal.now }
+    requires link { IsLinkRefusal refusal.now }
+    ensures { IfOk result (λ text. text ≡ answer_text refusal.now) }
+{
+    match refusal {
         Answer::Link => refuse_link(alloc),
         Answer::LinkDiffers {
             from,
@@ -208,5 +231,6 @@ pub fn text_of(alloc: Global, answer: &Answer) -> Result<Bytes, NoMemory>
             sent,
             taken,
         } => refuse_bytes(alloc, *round, *from_node, *to_node, *place, *sent, *taken),
+        _ => unreachable!(),
     }
 }

@@ -6,7 +6,7 @@ ghost use Rattle.std.specs.Fmt.{decimal};
 ghost use Rattle.std.specs.String.{string_bytes};
 ghost use Rattle.certificate_text.specs.declared.verdict.Verdict.TheVariants.{Yes, No};
 ghost use Rattle.solve_report.specs.Verdict.{IsNamedFault, IsNamedDifference, IsNamedVerdict};
-ghost use Rattle.solve_report.specs.Verdict.{name_in, left_right, fault_words, difference_words, verdict_text};
+ghost use Rattle.solve_report.specs.Verdict.{name_in, left_right, fault_words, scope_words, cell_words, difference_words, verdict_text};
 
 use crate::refusal::bytes_of;
 use certificate_text::{Differs, Verdict};
@@ -59,33 +59,17 @@ fn write_difference(text: &mut String, names: &Names, differs: &Differs) -> Resu
 {
     match differs {
         Differs::TreeRoots { count } => Ok(write!(text, " tree roots {count}")?),
-        Differs::TreeLoop { var } => {
-            let name = name_of(names, *var);
-            Ok(write!(text, " tree loop {name}")?)
-        }
-        Differs::TreePair { one, other } => {
-            let one = name_of(names, *one);
-            let other = name_of(names, *other);
-            Ok(write!(text, " tree pair {one} {other}")?)
-        }
-        Differs::Scope { var } => {
-            let name = name_of(names, *var);
-            Ok(write!(text, " scope {name}")?)
-        }
+        Differs::TreeLoop { var } => write_tree_loop(text, name_of(names, *var)),
+        Differs::TreePair { one, other } => write_tree_pair(text, names, *one, *other),
+        Differs::Scope { var } => write_named(text, "scope", name_of(names, *var)),
         Differs::Cell {
             var,
             cell,
             value,
             left,
             right,
-        } => {
-            let name = name_of(names, *var);
-            write_cell(text, name, *cell, *value, *left, *right)
-        }
-        Differs::TurnScope { turn, var } => {
-            let name = name_of(names, *var);
-            Ok(write!(text, " turn {turn} scope {name}")?)
-        }
+        } => write_cell(text, name_of(names, *var), *cell, *value, *left, *right),
+        Differs::TurnScope { turn, var } => write_turn_scope(text, *turn, name_of(names, *var)),
         Differs::TurnCell {
             turn,
             var,
@@ -95,8 +79,7 @@ fn write_difference(text: &mut String, names: &Names, differs: &Differs) -> Resu
             right,
         } => {
             write!(text, " turn {turn}")?;
-            let name = name_of(names, *var);
-            write_cell(text, name, *cell, *value, *left, *right)
+            write_cell(text, name_of(names, *var), *cell, *value, *left, *right)
         }
         Differs::Cost { left, right } => write_sides(text, "cost", *left, *right),
         Differs::Root { left, right } => write_sides(text, "root", *left, *right),
@@ -104,20 +87,58 @@ fn write_difference(text: &mut String, names: &Names, differs: &Differs) -> Resu
         Differs::Upper { left, right } => write_sides(text, "upper", *left, *right),
         Differs::Error { left, right } => write_sides(text, "error", *left, *right),
         Differs::Deliveries { left, right } => write_sides(text, "deliveries", *left, *right),
-        Differs::Status { ending } => {
-            let word = ending.word();
-            Ok(write!(text, " status {word}")?)
-        }
-        Differs::Event { at, fault } => {
-            write!(text, " event {at}")?;
-            write_fault(text, names, fault)
-        }
+        Differs::Status { ending } => write_named(text, "status", ending.word()),
+        Differs::Event { at, fault } => write_event(text, names, *at, fault),
         Differs::Stamp { at, left, right } => write_stamp(text, *at, *left, *right),
-        Differs::Value { var } => {
-            let name = name_of(names, *var);
-            Ok(write!(text, " value {name}")?)
-        }
+        Differs::Value { var } => write_named(text, "value", name_of(names, *var)),
     }
+}
+
+/// `tree loop` and the name of a variable.
+fn write_tree_loop(text: &mut String, name: &str) -> Result<(), NoMemory>
+    ensures { OnOk result (string_bytes text.new ≡ string_bytes text.old
+        ++ flat_map (λ word. 32 ∷ word) (codes "tree" ∷ codes "loop" ∷ name.now ∷ [])) }
+{
+    Ok(write!(text, " tree loop {name}")?)
+}
+
+/// `tree pair` and the names of two variables.
+fn write_tree_pair(
+    text: &mut String,
+    names: &Names,
+    one: VarId,
+    other: VarId,
+) -> Result<(), NoMemory>
+    requires { (one < length names.now) × (other < length names.now) }
+    ensures { OnOk result (string_bytes text.new ≡ string_bytes text.old ++ flat_map (λ word. 32 ∷ word)
+        (codes "tree" ∷ codes "pair" ∷ name_in names.now one ∷ name_in names.now other ∷ [])) }
+{
+    let one = name_of(names, one);
+    let other = name_of(names, other);
+    Ok(write!(text, " tree pair {one} {other}")?)
+}
+
+/// The number of a turn, `scope` and the name of a variable.
+fn write_turn_scope(text: &mut String, turn: u64, name: &str) -> Result<(), NoMemory>
+    ensures { OnOk result (string_bytes text.new ≡ string_bytes text.old
+        ++ flat_map (λ word. 32 ∷ word) (codes "turn" ∷ decimal turn ∷ scope_words name.now)) }
+{
+    Ok(write!(text, " turn {turn} scope {name}")?)
+}
+
+/// The number of an event, and the words of what is wrong with it.
+fn write_event(
+    text: &mut String,
+    names: &Names,
+    at: u64,
+    fault: &EventFault,
+) -> Result<(), NoMemory>
+    requires { IsNamedFault (length names.now) fault.now }
+    ensures { OnOk result (string_bytes text.new ≡ string_bytes text.old
+        ++ flat_map (λ word. 32 ∷ word) (codes "event" ∷ decimal at ∷ fault_words names.now fault.now)) }
+{
+    write!(text, " event {at}")?;
+    write_fault(text, names, fault)
 }
 
 /// The words of what is wrong with an event, each behind a space.
@@ -164,13 +185,21 @@ fn write_cell(
     right: u64,
 ) -> Result<(), NoMemory>
     ensures { OnOk result (string_bytes text.new ≡ string_bytes text.old
-        ++ flat_map (λ word. 32 ∷ word) (codes "cell" ∷ name.now ∷ decimal cell ∷ left_right (decimal value) left right)) }
+        ++ flat_map (λ word. 32 ∷ word) (cell_words name.now cell value left right)) }
 {
     let value = value.0;
     Ok(write!(
         text,
         " cell {name} {cell} {value} left {left} right {right}"
     )?)
+}
+
+/// A word, and the name behind it.
+fn write_named(text: &mut String, word: &str, name: &str) -> Result<(), NoMemory>
+    ensures { OnOk result (string_bytes text.new
+        ≡ string_bytes text.old ++ flat_map (λ word. 32 ∷ word) (word.now ∷ name.now ∷ [])) }
+{
+    Ok(write!(text, " {word} {name}")?)
 }
 
 /// A word, and the number on the left and the one on the right.
