@@ -7,7 +7,7 @@ ghost use Rattle.pseudotree.specs.Tree.{parent_of};
 ghost use Rattle.pseudotree.specs.Pseudotree.{IsPseudotreeOf, IsLinked};
 ghost use Rattle.delivery_core.specs.Agents.{IsTreeFor};
 
-use dcop_base::{CellList, Problem, Sequence, Table, Val, VarId, private};
+use dcop_base::{CellList, Problem, Sequence, SizeList, Table, Val, VarId, VarList, private};
 use delivery_core::{Start, replay};
 use protocol_steps::{Event, Message, Take};
 use pseudotree::{Tree, check_tree};
@@ -19,12 +19,12 @@ use std::test::Fail;
 pub(crate) fn paw(alloc: Global) -> Result<Problem, Fail> {
     let mut tables = Vec::new(alloc);
     for (one, other) in [(0, 1), (0, 2), (1, 2), (1, 3)] {
-        let scope = Sequence::from_vec(vec![in alloc; VarId(one), VarId(other)]?);
-        let sizes = Sequence::from_vec(vec![in alloc; 2, 2]?);
+        let scope = VarList::from_vec(vec![in alloc; VarId(one), VarId(other)]?);
+        let sizes = SizeList::from_vec(vec![in alloc; 2, 2]?);
         let cells = CellList::from_vec(vec![in alloc; 1, 2, 2, 0]?);
         tables.push(Table::new(scope, sizes, cells)?)?;
     }
-    let sizes = Sequence::from_vec(vec![in alloc; 2, 2, 2, 2]?);
+    let sizes = SizeList::from_vec(vec![in alloc; 2, 2, 2, 2]?);
     Ok(Problem::new(alloc, sizes, Sequence::from_vec(tables))?)
 }
 
