@@ -3,7 +3,7 @@
 #
 # usage: bench/dpop.sh PROGRAM
 # PROGRAM is the built program `dcop`; `rustc` builds the plain one from bench/dpop/plain.rs. For each
-# file: the best of five runs of the whole command, of reading alone, of the rest, and of what is left
+# file: the best of 25 runs, in turn with each other, of the whole command, of reading alone, of the rest, and of what is left
 # when the search for the tree is taken off too: the work on tables. A ratio is the plain program's time
 # to ours: above 1 we are faster. Both must print the same bytes.
 set -eu
@@ -38,16 +38,15 @@ write("ladder", 200, 12, rungs + rails)
 PY
 python3 - "$program" "$folder" <<'PY'
 import shutil, subprocess, sys, time
-from timing import best
+from timing import best_in_turn
 program, folder = sys.argv[1:]
 for name, what in (("tree", "tree of 1,000 variables of size 16"), ("clique", "clique of four variables of size 32"),
                    ("ladder", "ladder of 100 rungs of size 12")):
     path = f"{folder}/{name}"
-    ours, memory, answer = best([program, "solve", "--method", "dpop"], path)
-    reading, _, _ = best([program, "solve", "--method", "plain"], path, status=11)
-    search, _, _ = best([program, "tree"], path)
-    plain, plain_memory, expected = best([f"{folder}/plain"], path)
-    plain_reading, _, _ = best([f"{folder}/plain", "read"], path)
+    commands = [([program, "solve", "--method", "dpop"], 0), ([f"{folder}/plain"], 0), ([program, "solve", "--method", "plain"], 11),
+                ([f"{folder}/plain", "read"], 0), ([program, "tree"], 0)]
+    told = best_in_turn(commands, path)
+    (ours, memory, answer), (plain, plain_memory, expected), (reading, _, _), (plain_reading, _, _), (search, _, _) = told
     assert answer == expected, (answer[:200], expected[:200])
     print(f"{what}:")
     print(f"  whole command {ours:.4f} s, plain {plain:.4f} s, ratio {plain / ours:.2f}; memory {memory:.0f} and {plain_memory:.0f} MB")

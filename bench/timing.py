@@ -23,6 +23,17 @@ def best(words, path, runs=5, status=0):
     return min(times), max(peaks), out
 
 
+def best_in_turn(commands, path, runs=25):
+    """What `best` gives of each command and its wanted status, where in each round of runs each command has its turn."""
+    done = [[] for _ in commands]
+    for _ in range(runs):
+        for (words, status), before in zip(commands, done):
+            took, ended, peak, out = once(words, path)
+            assert ended == status, (words, ended, out[:200])
+            before.append((took, peak, out))
+    return [(min(took for took, _, _ in runs), max(peak for _, peak, _ in runs), runs[-1][2]) for runs in done]
+
+
 def spent(words, path, limit, short=0.2, runs=3):
     """The processor time of a command on a file in seconds, the least of some runs where it is short, and its exit status.
     The status is `None` where it was ended for having taken `limit` seconds."""
