@@ -3,12 +3,12 @@
 #
 # usage: bench/check_tree.sh
 # Proves and builds a program over `dcop_base` and `pseudotree` in a folder of its own, beside copies
-# of the two crates with what they have proved. Two problems, each of tables with one cell on two
+# of these and of those below them with what they have proved. Two problems, each of tables with one cell on two
 # variables: 999 tables on neighbours in the chain, and 4,000,000 on all pairs in turn. Prints the
 # best of five calls for each.
 set -eu
 . "$(dirname "$0")/common.sh"
-copy_crates dcop_base pseudotree
+copy_crates $(with_those_below pseudotree)
 echo 'tree_bench: dcop_base pseudotree' >> "$folder/crates.txt"
 cd "$folder"
 mkdir -p crates/tree_bench/src crates/tree_bench/proofs/chain

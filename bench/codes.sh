@@ -10,7 +10,7 @@
 # Prints the best of fifteen runs each; stops with status 1 where the two differ.
 set -eu
 . "$(dirname "$0")/common.sh"
-copy_crates dcop_base pseudotree adopt_context protocol_steps message_code wire_frames
+copy_crates $(with_those_below message_code wire_frames)
 add_crate codes/crate "bench_codes staticlib: dcop_base protocol_steps message_code wire_frames"
 make_crate bench_codes lib
 build_on bench_codes codes/harness.rs harness

@@ -12,7 +12,7 @@
 # Stops with status 1 where not all bytes came.
 set -eu
 . "$(dirname "$0")/common.sh"
-copy_crates dcop_base dcop_edge wire_edge wire_pump tcp_wire
+copy_crates $(with_those_below wire_pump tcp_wire)
 add_crate pump/program "bench_pump: dcop_base wire_edge wire_pump tcp_wire futures rtrb tokio"
 make_crate bench_pump run
 rustc -O --edition 2024 "$top/bench/pump/plain.rs" -o "$folder/plain"

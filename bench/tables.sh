@@ -11,7 +11,7 @@
 # bench/tables/harness.rs has the plain loops. Prints the best of nine runs each.
 set -eu
 . "$(dirname "$0")/common.sh"
-copy_crates dcop_base cost_table util_kernel util_join util_project
+copy_crates $(with_those_below util_join util_project)
 add_crate tables/crate "bench_tables staticlib: dcop_base util_join util_project"
 make_crate bench_tables lib
 build_on bench_tables tables/harness.rs harness
