@@ -138,7 +138,7 @@ impl TokenAgent {
     }
 
     /// Whether a token is taken.
-    fn takes_token(&self, from: VarId, path: &[VarId]) -> bool
+    fn takes_token(&self, from: VarId, path: &VarList) -> bool
         requires running { IsRunning self.now }
         requires range { AreVariables path.now }
         ensures { result ≡ takes_token self.now from path.now }
@@ -146,6 +146,7 @@ impl TokenAgent {
         if !matches!(self.stage, Stage::Closed) {
             return false;
         }
+        let path = path.as_slice();
         if path.last() != Some(&from) || path.len() > MOST_OTHERS {
             return false;
         }
@@ -153,7 +154,7 @@ impl TokenAgent {
     }
 
     /// Opens with a token's path, where the token is taken.
-    fn take_token(&mut self, from: VarId, path: &[VarId]) -> Result<Option<Parcel>, NoMemory>
+    fn take_token(&mut self, from: VarId, path: &VarList) -> Result<Option<Parcel>, NoMemory>
         requires running { IsRunning self.old }
         requires near { Contains self.old.own.neighbours from }
         requires range { AreVariables path.now }
@@ -164,25 +165,26 @@ impl TokenAgent {
         if !self.takes_token(from, path) {
             return Ok(None);
         }
-        self.path = copy_of(self.alloc, path)?;
+        self.path = copy_of(path)?;
         self.look()
     }
 
     /// Whether a child's subtree is taken.
-    fn takes_done(&self, from: VarId, visited: &[VarId]) -> bool
+    fn takes_done(&self, from: VarId, visited: &VarList) -> bool
         requires range { AreVariables visited.now }
         ensures { result ≡ takes_done self.now from visited.now }
     {
         let Stage::Open { child } = &self.stage else {
             return false;
         };
+        let visited = visited.as_slice();
         *child == from
             && visited.first() == Some(&from)
             && count_of(self.kept.as_slice()) + visited.len() <= MOST_OTHERS
     }
 
     /// Keeps a child's subtree and looks on, where the subtree is taken.
-    fn take_done(&mut self, from: VarId, visited: &[VarId]) -> Result<Option<Parcel>, NoMemory>
+    fn take_done(&mut self, from: VarId, visited: &VarList) -> Result<Option<Parcel>, NoMemory>
         requires running { IsRunning self.old }
         requires range { AreVariables visited.now }
         ensures own { self.new.own ≡ self.old.own }
@@ -193,7 +195,7 @@ impl TokenAgent {
         if !self.takes_done(from, visited) {
             return Ok(None);
         }
-        self.kept.push(copy_of(self.alloc, visited)?)?;
+        self.kept.push(copy_of(visited)?)?;
         self.look()
     }
 
@@ -207,22 +209,26 @@ impl TokenAgent {
             (Gives (token_message self.old letter.now.0 letter.now.1) self.new) }
     {
         match &letter.message {
-            Message::Token { path } => self.take_token(letter.from, path.as_slice()),
-            Message::Done { visited } => self.take_done(letter.from, visited.as_slice()),
+            Message::Token { path } => self.take_token(letter.from, path),
+            Message::Done { visited } => self.take_done(letter.from, visited),
             _ => Ok(None),
         }
     }
 
-    /// Handles all messages of a batch, in order.
+    /// Handles all messages of a batch, in order. What is sent goes into `parcels`.
     #[tactic(auto, using(crate::proofs::AgentLaws::leads_on, crate::proofs::AgentLaws::led_to))]
-    fn handle_all(&mut self, letters: &[Letter]) -> Result<Vec<Parcel>, NoMemory>
+    fn handle_all(
+        &mut self,
+        letters: &[Letter],
+        mut parcels: Vec<Parcel>,
+    ) -> Result<Vec<Parcel>, NoMemory>
         requires running { IsRunning self.old }
         requires near { All (λ l. Contains self.old.own.neighbours l.0) letters.now }
+        requires empty { parcels.items ≡ [] }
         ensures own { self.new.own ≡ self.old.own }
         ensures viewed { IfOk result (λ _. self.new ≡ (token_step self.old letters.now).view) }
         ensures sent { IfOk result (λ ps. ps.items ≡ (token_step self.old letters.now).sends) }
     {
-        let mut parcels = Vec::with_capacity(self.alloc, letters.len())?;
         for letter in letters {
             if let Some(parcel) = self.handle(letter)? {
                 parcels.push(parcel)?;
@@ -254,19 +260,28 @@ impl TokenAgent {
         self.look()
     }
 
-    /// Starts, and gives what is sent.
-    fn begin(&mut self) -> Result<Vec<Parcel>, NoMemory>
-        requires { IsNew self.old }
+    /// Starts. What is sent goes into `parcels`.
+    fn begin(&mut self, mut parcels: Vec<Parcel>) -> Result<Vec<Parcel>, NoMemory>
+        requires new { IsNew self.old }
+        requires empty { parcels.items ≡ [] }
         ensures own { self.new.own ≡ self.old.own }
         ensures viewed { IfOk result (λ _. self.new ≡ (token_start self.old).view) }
         ensures sent { IfOk result (λ ps. ps.items ≡ (token_start self.old).sends) }
     {
-        let mut parcels = Vec::new(self.alloc);
         if let Some(parcel) = self.open()? {
             parcels.push(parcel)?;
         }
         Ok(parcels)
     }
+}
+
+/// The memory of an outbox that is lent empty, for what is sent; the outbox stays empty.
+fn memory_of(alloc: Global, out: &mut Outbox) -> Vec<Parcel>
+    requires { out.old ≡ [] }
+    ensures empty { result.items ≡ [] }
+    ensures out { out.new ≡ [] }
+{
+    mem::replace(out, Outbox::from_vec(Vec::new(alloc))).into_vec()
 }
 
 impl Machine for TokenAgent {
@@ -276,7 +291,8 @@ impl Machine for TokenAgent {
         if matches!(self.stage, Stage::Failed) {
             return Err(NoMemory);
         }
-        let Ok(parcels) = self.begin() else {
+        let parcels = memory_of(self.alloc, out);
+        let Ok(parcels) = self.begin(parcels) else {
             return Err(self.fail());
         };
         *out = Outbox::from_vec(parcels);
@@ -287,7 +303,8 @@ impl Machine for TokenAgent {
         if matches!(self.stage, Stage::Failed) {
             return Err(NoMemory);
         }
-        let Ok(parcels) = self.handle_all(batch.as_slice()) else {
+        let parcels = memory_of(self.alloc, out);
+        let Ok(parcels) = self.handle_all(batch.as_slice(), parcels) else {
             return Err(self.fail());
         };
         *out = Outbox::from_vec(parcels);

@@ -50,14 +50,14 @@ fn subtree_of(alloc: Global, me: VarId, kept: &[VarList]) -> Result<VarList, NoM
     for vars in kept {
         subtree.extend_from_slice(vars.as_slice())?;
     }
-    Ok(VarList::from_vec(subtree))
+    Ok(VarList::shared(alloc, subtree)?)
 }
 
-/// A copy of these variables.
-pub(crate) fn copy_of(alloc: Global, vars: &[VarId]) -> Result<VarList, NoMemory>
+/// The same variables, in the same memory where they share it.
+pub(crate) fn copy_of(vars: &VarList) -> Result<VarList, NoMemory>
     ensures { IfOk result (λ list. list ≡ vars.now) }
 {
-    Ok(VarList::from_slice(alloc, vars)?)
+    Ok(vars.clone()?)
 }
 
 /// The place of an agent whose subtree is searched, without the sizes of its path.
@@ -99,11 +99,10 @@ pub(crate) fn token_for(
     let mut through = Vec::with_capacity(alloc, path.len() + 1)?;
     through.extend_from_slice(path)?;
     through.push(me)?;
+    let path = VarList::shared(alloc, through)?;
     Ok(Parcel {
         to: child,
-        message: Message::Token {
-            path: VarList::from_vec(through),
-        },
+        message: Message::Token { path },
     })
 }
 

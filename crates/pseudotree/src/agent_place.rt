@@ -15,11 +15,11 @@ pub fn place(alloc: Global, tree: &Tree, problem: &Problem, me: VarId) -> Result
     requires within { me < length problem.now.sizes }
     ensures { IfOk result (IsPlaceOf problem.now tree.now.paths me) }
 {
-    let path = tree.path(me).as_slice();
-    let path_sizes = sizes_of(alloc, problem.sizes.as_slice(), path)?;
+    let path = tree.path(me);
+    let path_sizes = sizes_of(alloc, problem.sizes.as_slice(), path.as_slice())?;
     Ok(Place {
         me,
-        path: copy_of(alloc, path)?,
+        path: path.clone()?,
         path_sizes,
         children: copy_of(alloc, tree.children(me).as_slice())?,
         lower: copy_of(alloc, tree.lower(me).as_slice())?,

@@ -78,5 +78,5 @@ fn path_through(alloc: Global, known: &[VarId], climb: &mut [VarId]) -> Result<V
     let mut path = Vec::with_capacity(alloc, known.len() + climb.len())?;
     path.extend_from_slice(known)?;
     path.extend_from_slice(climb)?;
-    Ok(VarList::from_vec(path))
+    Ok(VarList::shared(alloc, path)?)
 }

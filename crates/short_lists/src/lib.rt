@@ -4,6 +4,7 @@
 //! an agent's neighbours, children and separator. A [`ShortList`] has room for four in itself.
 #![tactic(auto)]
 
+mod items;
 mod list;
 
 pub use list::ShortList;

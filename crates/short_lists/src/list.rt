@@ -6,25 +6,28 @@ ghost use Rattle.std.specs.Cmp.Lexicographic.{pointwise, lists_per, lists_equiv}
 ghost use Rattle.std.specs.Hash as fed;
 ghost use Rattle.std.specs.Hash.{items_Alike};
 
-use smallvec::SmallVec;
+use crate::items::{FEW, Items, few_of, own_of};
+use arrayvec::ArrayVec;
 use std::alloc::{AllocError, Global};
 use std::default::MadeWith;
 use std::hash::{Hash, Hasher};
 use std::marker::Model;
+use std::sync::Arc;
 
 /// A list of plain values, which contracts see as the list of its items. Up to four items lie in the
-/// list itself, and more of them in memory.
+/// list itself, and more of them in memory, of the list's own or shared with its clones.
 #[derive(Debug, Drop)]
 pub struct ShortList<T> {
-    items: SmallVec<T, 4>,
+    items: Items<T>,
 }
 
 impl<T> Model for ShortList<T> {
     ghost use Rattle.std.specs.Prelude.{List};
+    ghost use Rattle.short_lists.specs.Items.{items_in};
 
     ghost Value = { List T };
 
-    ghost view = { λ l. l.items.items };
+    ghost view = { λ l. items_in l.items };
 }
 
 impl<T> ShortList<T> {
@@ -32,17 +35,21 @@ impl<T> ShortList<T> {
     pub fn as_slice(&self) -> &[T]
         ensures { result.now ≡ self.now }
     {
-        self.items.as_slice()
+        match &self.items {
+            Items::Few(items) => items.as_slice(),
+            Items::Own(items) => items.as_slice(),
+            Items::Shared(items) => items.as_slice(),
+        }
     }
 }
 
-impl<T: MadeWith<Global> + Drop> ShortList<T> {
+impl<T: MadeWith<Global> + Copy> ShortList<T> {
     /// The list of no items.
     pub fn new(alloc: Global) -> Self
         ensures { result ≡ [] }
     {
         ShortList {
-            items: SmallVec::new(alloc),
+            items: Items::Few(ArrayVec::new_in(alloc)),
         }
     }
 
@@ -51,20 +58,76 @@ impl<T: MadeWith<Global> + Drop> ShortList<T> {
     pub fn from_vec(items: Vec<T>) -> Self
         ensures { result ≡ items.items }
     {
-        ShortList {
-            items: SmallVec::from_vec(items),
+        if items.len() <= FEW {
+            let few = few_of(*items.allocator(), items.as_slice());
+            return ShortList {
+                items: Items::Few(few),
+            };
         }
+        ShortList {
+            items: Items::Own(items),
+        }
+    }
+
+    /// The list of these items, whose clones share their memory.
+    ///
+    /// # Errors
+    ///
+    /// [`AllocError`] where memory was wanted and not had. The items are gone then too.
+    pub fn shared(alloc: Global, items: Vec<T>) -> Result<Self, AllocError>
+        ensures { IfOk result (λ list. list ≡ items.items) }
+    {
+        if items.len() <= FEW {
+            return Ok(ShortList::from_vec(items));
+        }
+        Ok(ShortList {
+            items: Items::Shared(Arc::new(alloc, items)?),
+        })
+    }
+
+    /// A list of the same items.
+    ///
+    /// # Errors
+    ///
+    /// [`AllocError`] where memory was wanted and not had.
+    pub fn from_slice(alloc: Global, items: &[T]) -> Result<Self, AllocError>
+        ensures { IfOk result (λ list. list ≡ items.now) }
+    {
+        if items.len() <= FEW {
+            return Ok(ShortList {
+                items: Items::Few(few_of(alloc, items)),
+            });
+        }
+        Ok(ShortList {
+            items: Items::Own(own_of(alloc, items, 0)?),
+        })
     }
 
     /// Adds an item at the end.
     ///
     /// # Errors
     ///
-    /// [`AllocError`] where memory was wanted and not had. It is not wanted for the first four items.
+    /// [`AllocError`] where memory was wanted and not had.
     pub fn push(&mut self, item: T) -> Result<(), AllocError>
         ensures { OnOk result (self.new ≡ self.old ++ item ∷ []) }
     {
-        self.items.push(item)?;
+        match &mut self.items {
+            Items::Few(items) => {
+                if items.len() < FEW {
+                    items.push(item);
+                    return Ok(());
+                }
+                let mut own = own_of(*items.allocator(), items.as_slice(), FEW)?;
+                own.push(item)?;
+                self.items = Items::Own(own);
+            }
+            Items::Own(items) => items.push(item)?,
+            Items::Shared(items) => {
+                let mut own = own_of(*items.allocator(), items.as_slice(), FEW)?;
+                own.push(item)?;
+                self.items = Items::Own(own);
+            }
+        }
         Ok(())
     }
 
@@ -72,38 +135,43 @@ impl<T: MadeWith<Global> + Drop> ShortList<T> {
     ///
     /// # Errors
     ///
-    /// [`AllocError`] where memory was wanted and not had. It is not wanted for the first four items.
+    /// [`AllocError`] where memory was wanted and not had.
     pub fn insert(&mut self, place: usize, item: T) -> Result<(), AllocError>
         requires { place ≤ length self.old }
         ensures { OnOk result (self.new ≡ insert self.old place item) }
     {
-        self.items.insert(place, item)?;
+        match &mut self.items {
+            Items::Few(items) => {
+                if items.len() < FEW {
+                    items.insert(place, item);
+                    return Ok(());
+                }
+                let mut own = own_of(*items.allocator(), items.as_slice(), FEW)?;
+                own.insert(place, item)?;
+                self.items = Items::Own(own);
+            }
+            Items::Own(items) => items.insert(place, item)?,
+            Items::Shared(items) => {
+                let mut own = own_of(*items.allocator(), items.as_slice(), FEW)?;
+                own.insert(place, item)?;
+                self.items = Items::Own(own);
+            }
+        }
         Ok(())
-    }
-}
-
-impl<T: MadeWith<Global> + Copy> ShortList<T> {
-    /// A list of the same items.
-    ///
-    /// # Errors
-    ///
-    /// [`AllocError`] where memory was wanted and not had. It is not wanted for up to four items.
-    pub fn from_slice(alloc: Global, items: &[T]) -> Result<Self, AllocError>
-        ensures { IfOk result (λ list. list ≡ items.now) }
-    {
-        Ok(ShortList {
-            items: SmallVec::from_slice(alloc, items)?,
-        })
     }
 }
 
 impl<T: MadeWith<Global> + Copy> Clone for ShortList<T> {
     ghost is_clone = { λ list copy. copy ≡ list };
 
+    /// The same items, in the same memory where it is shared.
     fn clone(&self) -> Result<Self, AllocError> {
-        Ok(ShortList {
-            items: SmallVec::from_slice(*self.items.allocator(), self.items.as_slice())?,
-        })
+        let items = match &self.items {
+            Items::Few(items) => Items::Few(few_of(*items.allocator(), items.as_slice())),
+            Items::Own(items) => Items::Own(own_of(*items.allocator(), items.as_slice(), 0)?),
+            Items::Shared(items) => Items::Shared(Arc::try_clone(items)?),
+        };
+        Ok(ShortList { items })
     }
 }
 
