@@ -3,6 +3,7 @@ pub mod LinkLaws
 mod KindLaws
 pub mod InboxLaws
 mod DeliverLaws
+mod CalmLaws
 pub mod NearLaws
 pub mod ShownLaws
 pub mod ActLaws

@@ -9,4 +9,4 @@ pub mod Starts
 pub mod Kinds
 pub mod Shown
 pub mod PlayedOut
-pub mod Queues
+pub mod Letters

@@ -7,11 +7,12 @@ ghost use Rattle.protocol_steps.specs.Network.{Network};
 ghost use Rattle.delivery_core.specs.NetworkState.{most_counted};
 ghost use Rattle.delivery_core.specs.SeatEvents.{deliver, deliver_all, core_fault};
 ghost use Rattle.delivery_core.specs.Shown.{Shows, Moves};
+ghost use Rattle.delivery_core.specs.Takes.{KeepCalm};
 
 use crate::arrivals::Arrivals;
 use crate::seat::Seat;
 use dcop_base::{NoMemory, VarId};
-use protocol_steps::{Letter, Outbox, Parcel, Take};
+use protocol_steps::{Letter, Parcel, Take};
 use std::alloc::Global;
 
 /// A parcel comes to its receiver, and is told.
@@ -22,45 +23,50 @@ fn post_one(
     parcel: Parcel,
 ) -> Result<(), NoMemory>
     requires { parcel.0 < length seats.old }
-    ensures { OnOk result (seats.new ≡ deliver from seats.old parcel) }
+    ensures came { OnOk result (seats.new ≡ deliver from seats.old parcel) }
+    ensures calm { KeepCalm arrivals.old seats.old arrivals.new seats.new }
 {
     let Parcel { to, message } = parcel;
     arrivals.tell(to.0 as usize);
     seats[to.0 as usize].add(from, Letter { from, message })
 }
 
-/// All parcels that an agent sent come to their receivers, and are told.
+/// All parcels that an agent sent come to their receivers, and are told. Their room is left.
 pub(crate) fn post(
     seats: &mut [Seat],
     arrivals: &mut Arrivals,
     from: VarId,
-    out: Outbox,
+    parcels: &mut Vec<Parcel>,
 ) -> Result<(), NoMemory>
-    requires { All (λ p. p.0 < length seats.old) out }
-    ensures { OnOk result (seats.new ≡ deliver_all from seats.old out) }
+    requires { All (λ p. p.0 < length seats.old) parcels.old.items }
+    ensures came { OnOk result (seats.new ≡ deliver_all from seats.old parcels.old.items) }
+    ensures calm { KeepCalm arrivals.old seats.old arrivals.new seats.new }
 {
-    for parcel in out.into_vec() {
+    for parcel in parcels.drain(..) {
         post_one(seats, arrivals, from, parcel)?;
     }
     Ok(())
 }
 
 /// An agent takes its batch by lawful takes, steps and sends. The batch lies in the room of
-/// `letters`.
+/// `letters`, and what it sends in that of `parcels`.
 pub(crate) fn act(
     alloc: Global,
     seats: &mut [Seat],
     arrivals: &mut Arrivals,
     letters: &mut Vec<Letter>,
+    parcels: &mut Vec<Parcel>,
     agent: VarId,
     takes: &[Take],
 ) -> Result<(), NoMemory>
     requires network { (p : Dcop) × (net : Network) × Shows p net seats.old }
     requires lawful { core_fault seats.old (record { agent = agent; takes = takes.now }) ≡ None }
-    ensures { OnOk result (Moves seats.old (record { agent = agent; takes = takes.now }) seats.new) }
+    ensures moved { OnOk result (Moves seats.old (record { agent = agent; takes = takes.now }) seats.new) }
+    ensures calm { KeepCalm arrivals.old seats.old arrivals.new seats.new }
 {
-    let out = seats[agent.0 as usize].react(alloc, takes, letters)?;
-    post(seats, arrivals, agent, out)
+    arrivals.rouse(agent.0 as usize);
+    seats[agent.0 as usize].react(alloc, takes, letters, parcels)?;
+    post(seats, arrivals, agent, parcels)
 }
 
 /// How many messages are taken, as far as they are counted.

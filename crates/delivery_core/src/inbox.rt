@@ -111,11 +111,12 @@ pub(crate) fn gather(
 }
 
 /// Keeps a letter that was taken as the last one of this sender.
-fn keep_one(links: &mut [Link], from: VarId, letter: Letter)
-    ensures { links.new ≡ edit_link from (with_last letter) links.old }
+fn keep_one(links: &mut [Link], from: VarId, letter: Letter) -> Result<(), NoMemory>
+    ensures { OnOk result (links.new ≡ edit_link from (with_last letter) links.old) }
 {
-    if let Some(at) = place_of(links, from) {
-        links[at].keep(letter);
+    match place_of(links, from) {
+        Some(at) => links[at].keep(letter),
+        None => Ok(()),
     }
 }
 
@@ -127,13 +128,14 @@ fn sender_of(letter: &Letter) -> VarId
 }
 
 /// Keeps letters that were taken, of each sender the last one, and leaves their room.
-pub(crate) fn keep_all(links: &mut [Link], letters: &mut Vec<Letter>)
-    ensures { links.new ≡ fold keep_last links.old letters.old.items }
+pub(crate) fn keep_all(links: &mut [Link], letters: &mut Vec<Letter>) -> Result<(), NoMemory>
+    ensures { OnOk result (links.new ≡ fold keep_last links.old letters.old.items) }
 {
     for letter in letters.drain(..) {
         let from = sender_of(&letter);
-        keep_one(links, from, letter);
+        keep_one(links, from, letter)?;
     }
+    Ok(())
 }
 
 /// A take of each link on which something waits, in place of what the list held.

@@ -3,8 +3,9 @@
 //! [`replay`] runs a list of events, and refuses the first one that is not lawful. It ends in a
 //! [`CoreState`], which is the network state at the end of that run. Who has more to do at each event
 //! begins with [`CoreState::start`], and plays it by [`CoreState::happen`]. Who makes the events
-//! asks [`CoreState::list_takes`] for what an agent takes, and plays it by [`CoreState::follow`]. What
-//! the agents have come to at last, [`outcome_of`] hands on.
+//! asks [`CoreState::next_busy`] for who may take something and [`CoreState::list_takes`] for what an
+//! agent takes, and plays it by [`CoreState::follow`]. What the agents have come to at last,
+//! [`outcome_of`] hands on.
 #![tactic(auto)]
 
 mod agent;
@@ -12,9 +13,9 @@ mod arrivals;
 mod deliver;
 mod inbox;
 mod lawful;
+mod letters;
 mod link;
 mod outcome;
-mod queue;
 mod replaying;
 mod seat;
 mod start;

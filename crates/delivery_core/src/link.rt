@@ -4,7 +4,7 @@ ghost use Rattle.std.specs.Prelude.{◌≡◌, ◌++◌, [], ◌∷◌, take, dr
 ghost use Rattle.std.specs.List.{last_or};
 ghost use Rattle.delivery_core.specs.Inboxes.{with_letter, without_next, with_last};
 
-use crate::queue::Queue;
+use crate::letters::Letters;
 use dcop_base::{NoMemory, VarId};
 use protocol_steps::Letter;
 use std::alloc::Global;
@@ -13,17 +13,18 @@ use std::marker::Model;
 /// What one sender sent to an agent: the last letter that was taken, and the letters that wait.
 #[derive(Drop)]
 pub(crate) struct Link {
+    alloc: Global,
     from: VarId,
-    taken: Option<Letter>,
-    waiting: Queue,
+    letters: Letters,
 }
 
 impl Model for Link {
     ghost use Rattle.delivery_core.specs.State.{LinkView};
+    ghost use Rattle.delivery_core.specs.Letters.{taken_in, waiting_in};
 
     ghost Value = { LinkView };
 
-    ghost view = { λ l. record { from = l.from; taken = l.taken; waiting = l.waiting } };
+    ghost view = { λ l. record { from = l.from; taken = taken_in l.letters; waiting = waiting_in l.letters } };
 }
 
 impl Link {
@@ -34,9 +35,9 @@ impl Link {
         ensures { result ≡ new_link from }
     {
         Link {
+            alloc,
             from,
-            taken: None,
-            waiting: Queue::new(alloc),
+            letters: Letters::Nothing,
         }
     }
 
@@ -51,14 +52,15 @@ impl Link {
     pub(crate) fn count(&self) -> usize
         ensures { result ≡ length self.now.waiting }
     {
-        self.waiting.len()
+        self.letters.count()
     }
 
     /// A letter comes.
     pub(crate) fn add(&mut self, letter: Letter) -> Result<(), NoMemory>
         ensures { OnOk result (self.new ≡ with_letter letter self.old) }
     {
-        self.waiting.push(letter)
+        let alloc = self.alloc;
+        self.letters.add(alloc, letter)
     }
 
     /// Takes off the next letters, and puts them behind those of the batch.
@@ -67,7 +69,7 @@ impl Link {
         ensures rest { OnOk result (self.new ≡ without_next count self.old) }
     {
         for _ in 0..count {
-            if let Some(letter) = self.waiting.pop() {
+            if let Some(letter) = self.letters.pop() {
                 batch.push(letter)?;
             }
         }
@@ -75,10 +77,11 @@ impl Link {
     }
 
     /// Keeps a letter as the last one that was taken.
-    pub(crate) fn keep(&mut self, letter: Letter)
-        ensures { self.new ≡ with_last letter self.old }
+    pub(crate) fn keep(&mut self, letter: Letter) -> Result<(), NoMemory>
+        ensures { OnOk result (self.new ≡ with_last letter self.old) }
     {
-        self.taken = Some(letter);
+        let alloc = self.alloc;
+        self.letters.keep(alloc, letter)
     }
 
     /// The last letter, where one was sent.
@@ -86,9 +89,6 @@ impl Link {
         ensures { MatchOption result (last_or self.now.taken self.now.waiting ≡ None)
             (λ l. last_or self.now.taken self.now.waiting ≡ Some l.now) }
     {
-        match self.waiting.last() {
-            Some(letter) => Some(letter),
-            None => self.taken.as_ref(),
-        }
+        self.letters.last()
     }
 }

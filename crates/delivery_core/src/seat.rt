@@ -1,6 +1,6 @@
 //! One agent with what it was sent.
 
-ghost use Rattle.std.specs.Prelude.{◌≡◌, IfOk, OnOk};
+ghost use Rattle.std.specs.Prelude.{◌≡◌, OnOk};
 ghost use Rattle.std.specs.List.{All};
 ghost use Rattle.protocol_steps.specs.Step.{start_of};
 ghost use Rattle.protocol_steps.specs.Machine.{MayStart, MayReact, IsBatch, IsToNeighbour};
@@ -13,7 +13,7 @@ use crate::inbox;
 use crate::link::Link;
 use dcop_base::{NoMemory, Sequence, VarId};
 use dcop_edge::Gate;
-use protocol_steps::{Letter, Outbox, Take};
+use protocol_steps::{Letter, Parcel, Take};
 use std::alloc::Global;
 use std::marker::Model;
 use std::mem;
@@ -23,8 +23,6 @@ use std::mem;
 pub(crate) struct Seat {
     agent: Agent,
     links: Vec<Link>,
-    // Nothing waits. It may be false where nothing does.
-    idle: bool,
 }
 
 impl Model for Seat {
@@ -33,11 +31,6 @@ impl Model for Seat {
     ghost Value = { SeatView };
 
     ghost view = { λ s. record { view = s.agent; inbox = s.links.items } };
-
-    ghost use Rattle.std.specs.Prelude.{◌≡◌, true, []};
-    ghost use Rattle.delivery_core.specs.Takes.{inbox_takes};
-
-    ghost invariant = { λ s. s.idle ≡ true → inbox_takes s.links.items ≡ [] };
 }
 
 impl Seat {
@@ -45,11 +38,7 @@ impl Seat {
     pub(crate) fn new(agent: Agent, links: Vec<Link>) -> Seat
         ensures { result ≡ record { view = agent; inbox = links.items } }
     {
-        Seat {
-            agent,
-            links,
-            idle: false,
-        }
+        Seat { agent, links }
     }
 
     /// The agent.
@@ -78,65 +67,64 @@ impl Seat {
         ensures { OnOk result (self.new
             ≡ record self.old { inbox = edit_link from (with_letter letter) self.old.inbox }) }
     {
-        self.idle = false;
         inbox::add(self.links.as_mut_slice(), from, letter)
     }
 
-    /// Starts the agent, and gives what it sends.
-    pub(crate) fn begin(&mut self, alloc: Global) -> Result<Outbox, NoMemory>
+    /// Starts the agent. What it sends takes the place of what `parcels` held.
+    pub(crate) fn begin(&mut self, alloc: Global, parcels: &mut Vec<Parcel>) -> Result<(), NoMemory>
         requires { MayStart self.old.view }
         ensures view { OnOk result (self.new ≡ record self.old { view = (start_of self.old.view).view }) }
-        ensures sends { IfOk result (λ out. out ≡ (start_of self.old.view).sends) }
-        ensures receivers { IfOk result (λ out. All (IsToNeighbour self.old.view) out) }
+        ensures sends { OnOk result (parcels.new.items ≡ (start_of self.old.view).sends) }
+        ensures receivers { OnOk result (All (IsToNeighbour self.old.view) parcels.new.items) }
     {
-        let mut out = Sequence::from_vec(Vec::new(alloc));
+        parcels.clear();
+        let mut out = Sequence::from_vec(mem::replace(parcels, Vec::new(alloc)));
         self.agent.start(&mut out)?;
-        Ok(out)
+        *parcels = out.into_vec();
+        Ok(())
     }
 
-    /// One activation of the agent on what these takes say, and gives what it sends. Its batch lies in
-    /// the room of `letters`.
+    /// One activation of the agent on what these takes say. Its batch lies in the room of `letters`, and
+    /// what it sends takes the place of what `parcels` held.
     pub(crate) fn react(
         &mut self,
         alloc: Global,
         takes: &[Take],
         letters: &mut Vec<Letter>,
-    ) -> Result<Outbox, NoMemory>
+        parcels: &mut Vec<Parcel>,
+    ) -> Result<(), NoMemory>
         requires ready { MayReact self.old.view }
         requires batch { IsBatch self.old.view (letters_by self.old.inbox takes.now) }
         ensures after { OnOk result (self.new ≡ seat_after self.old takes.now) }
-        ensures sends { IfOk result (λ out. out ≡ seat_sends self.old takes.now) }
-        ensures receivers { IfOk result (λ out. All (IsToNeighbour self.old.view) out) }
+        ensures sends { OnOk result (parcels.new.items ≡ seat_sends self.old takes.now) }
+        ensures receivers { OnOk result (All (IsToNeighbour self.old.view) parcels.new.items) }
     {
-        self.idle = false;
         inbox::gather(self.links.as_mut_slice(), takes, letters)?;
         let batch = Sequence::from_vec(mem::replace(letters, Vec::new(alloc)));
-        let mut out = Sequence::from_vec(Vec::new(alloc));
+        parcels.clear();
+        let mut out = Sequence::from_vec(mem::replace(parcels, Vec::new(alloc)));
         self.agent.react(&batch, &mut out)?;
+        *parcels = out.into_vec();
         *letters = batch.into_vec();
-        inbox::keep_all(self.links.as_mut_slice(), letters);
-        Ok(out)
+        inbox::keep_all(self.links.as_mut_slice(), letters)?;
+        Ok(())
     }
 
     /// What the agent takes in its turn, in place of what the list held: what is pending, at most 64
-    /// messages of each sender. It passes the gate first, unless it has ended, or nothing came for it
-    /// since it was last found idle.
+    /// messages of each sender. It passes the gate first, unless it has ended.
     pub(crate) fn list_takes<G: Gate>(
-        &mut self,
+        &self,
         gate: &G,
         me: VarId,
         takes: &mut Vec<Take>,
     ) -> Result<(), NoMemory>
-        ensures same { self.new ≡ self.old }
-        ensures takes { OnOk result (takes.new.items ≡ seat_takes self.old) }
+        ensures { OnOk result (takes.new.items ≡ seat_takes self.now) }
     {
-        if self.idle || self.agent.ended() {
+        if self.agent.ended() {
             takes.clear();
             return Ok(());
         }
         gate.pass(me);
-        inbox::list_takes(self.links.as_slice(), takes)?;
-        self.idle = takes.is_empty();
-        Ok(())
+        inbox::list_takes(self.links.as_slice(), takes)
     }
 }

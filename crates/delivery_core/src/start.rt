@@ -11,6 +11,7 @@ ghost use Rattle.protocol_steps.specs.View.{View};
 ghost use Rattle.protocol_steps.specs.TreeAgents.{place_at};
 ghost use Rattle.delivery_core.specs.Agents.{IsTreeFor, IsStartFor, agents_of};
 ghost use Rattle.delivery_core.specs.Starts.{agent_of, knowledge_for, new_seat, Begun, Starts};
+ghost use Rattle.delivery_core.specs.Takes.{KeepCalm};
 
 use crate::agent::Agent;
 use crate::arrivals::Arrivals;
@@ -19,7 +20,7 @@ use crate::inbox::new_links;
 use crate::seat::Seat;
 use dcop_base::{MAX_VARIABLES, NoMemory, Private, Problem, VarId, problem_is_whole};
 use problem_parts::{acquaintances, privates};
-use protocol_steps::{acquaintance_is_knowledge, places_fit, private_is_knowledge};
+use protocol_steps::{Parcel, acquaintance_is_knowledge, places_fit, private_is_knowledge};
 use pseudotree::{Place, Tree, place};
 use std::alloc::Global;
 
@@ -118,34 +119,39 @@ pub(crate) fn make(alloc: Global, problem: &Problem, start: &Start) -> Result<Ve
     Ok(seats)
 }
 
-/// An agent starts, after those before it.
+/// An agent starts, after those before it. What it sends lies in the room of `parcels`.
 fn start_one(
     alloc: Global,
     seats: &mut [Seat],
     arrivals: &mut Arrivals,
+    parcels: &mut Vec<Parcel>,
     me: usize,
 ) -> Result<(), NoMemory>
     requires begun { (p : Dcop) × (made : List View) × Begun p made me seats.old }
     requires inside { me < length seats.old }
     requires few { length seats.old ≤ variable_limit }
-    ensures { OnOk result (Starts me seats.old (me + 1) seats.new) }
+    ensures started { OnOk result (Starts me seats.old (me + 1) seats.new) }
+    ensures calm { KeepCalm arrivals.old seats.old arrivals.new seats.new }
 {
-    let out = seats[me].begin(alloc)?;
-    post(seats, arrivals, VarId(me as u32), out)
+    arrivals.rouse(me);
+    seats[me].begin(alloc, parcels)?;
+    post(seats, arrivals, VarId(me as u32), parcels)
 }
 
-/// All agents start, in ascending order.
+/// All agents start, in ascending order. What each sends lies in the room of `parcels`.
 pub(crate) fn start_all(
     alloc: Global,
     seats: &mut [Seat],
     arrivals: &mut Arrivals,
+    parcels: &mut Vec<Parcel>,
 ) -> Result<(), NoMemory>
     requires begun { (p : Dcop) × (made : List View) × Begun p made 0 seats.old }
     requires few { length seats.old ≤ variable_limit }
-    ensures { OnOk result (Starts 0 seats.old (length seats.old) seats.new) }
+    ensures started { OnOk result (Starts 0 seats.old (length seats.old) seats.new) }
+    ensures calm { KeepCalm arrivals.old seats.old arrivals.new seats.new }
 {
     for me in 0..seats.len() {
-        start_one(alloc, seats, arrivals, me)?;
+        start_one(alloc, seats, arrivals, parcels, me)?;
     }
     Ok(())
 }

@@ -8,7 +8,7 @@ ghost use Rattle.protocol_steps.specs.View.{ended_of, value_of, standing_of};
 ghost use Rattle.delivery_core.specs.Agents.{IsStartFor, network_of};
 ghost use Rattle.delivery_core.specs.State.{SeatView, view_at, place_in, table_in, last_sent, count_waiting, views_of};
 ghost use Rattle.delivery_core.specs.SeatEvents.{core_fault};
-ghost use Rattle.delivery_core.specs.Takes.{seat_takes};
+ghost use Rattle.delivery_core.specs.Takes.{seat_takes, TakeNothing};
 ghost use Rattle.delivery_core.specs.Shown.{IsCore, IsSomeCore, Advances, Refuses, CountsWaiting};
 
 use crate::arrivals::Arrivals;
@@ -19,7 +19,7 @@ use crate::seat::Seat;
 use crate::start::{Start, make, start_all};
 use dcop_base::{MAX_VARIABLES, NoMemory, Problem, Table, Val, VarId};
 use dcop_edge::Gate;
-use protocol_steps::{Event, EventFault, Letter, Message, Standing, Take};
+use protocol_steps::{Event, EventFault, Letter, Message, Parcel, Standing, Take};
 use pseudotree::Place;
 use std::alloc::Global;
 use std::marker::Model;
@@ -32,6 +32,8 @@ pub struct CoreState {
     arrivals: Arrivals,
     // The room of each turn's batch.
     letters: Vec<Letter>,
+    // The room of what is sent in a turn.
+    parcels: Vec<Parcel>,
 }
 
 impl Model for CoreState {
@@ -40,6 +42,10 @@ impl Model for CoreState {
     ghost Value = { CoreView };
 
     ghost view = { λ s. record { seats = s.seats.items; delivered = s.delivered } };
+
+    ghost use Rattle.delivery_core.specs.Takes.{KnowsBusy};
+
+    ghost invariant = { λ s. KnowsBusy s.arrivals s.seats.items };
 }
 
 /// Whether these agents have ended.
@@ -63,12 +69,14 @@ impl CoreState {
     {
         let mut seats = make(alloc, problem, start)?;
         let mut arrivals = Arrivals::new(alloc, seats.len())?;
-        start_all(alloc, seats.as_mut_slice(), &mut arrivals)?;
+        let mut parcels = Vec::new(alloc);
+        start_all(alloc, seats.as_mut_slice(), &mut arrivals, &mut parcels)?;
         Ok(CoreState {
             seats,
             delivered: 0,
             arrivals,
             letters: Vec::new(alloc),
+            parcels,
         })
     }
 
@@ -170,6 +178,16 @@ impl CoreState {
         self.arrivals.next(from, self.seats.len())
     }
 
+    /// The next agent that may take something, from this one on: each that is passed over takes
+    /// nothing.
+    pub fn next_busy(&self, from: usize) -> Option<usize>
+        ensures within { IfSome result (λ me. (from ≤ me) × (me < length self.now.seats)) }
+        ensures passed { MatchOption result (TakeNothing self.now.seats from (length self.now.seats))
+            (λ me. TakeNothing self.now.seats from me) }
+    {
+        self.arrivals.next_busy(from)
+    }
+
     /// What an agent takes in its turn, in place of what the list held: of each sender what waits, at
     /// most 64 messages; nothing where it has ended. Where it has not and something may wait for it, it
     /// passes the gate first.
@@ -188,8 +206,17 @@ impl CoreState {
         ensures takes { OnOk result ((d : SeatView) →
             takes.new.items ≡ seat_takes (slice_index_or self.old.seats me d)) }
     {
-        self.arrivals.forget(me.0 as usize);
-        self.seats[me.0 as usize].list_takes(gate, me, takes)
+        let agent = me.0 as usize;
+        self.arrivals.forget(agent);
+        if self.arrivals.is_calm(agent) {
+            takes.clear();
+            return Ok(());
+        }
+        self.seats[agent].list_takes(gate, me, takes)?;
+        if takes.is_empty() {
+            self.arrivals.settle(agent);
+        }
+        Ok(())
     }
 
     /// Plays a lawful event, that of an agent with these takes: it takes, steps and sends.
@@ -208,6 +235,7 @@ impl CoreState {
             self.seats.as_mut_slice(),
             &mut self.arrivals,
             &mut self.letters,
+            &mut self.parcels,
             agent,
             takes,
         )?;

@@ -1,7 +1,7 @@
 -- Rounds of many turns: turn by turn, and round by round until playing stops.
-use Rattle.std.proofs.Common.{◌≡◌, ◌≢◌, ℕ, ◌+◌, ◌*◌, ◌<◌, ◌≤◌, Bool, true, false, ◌&&◌, ◌||◌, ◌==◌, nat_le, eqb, List, [], ◌∷◌, ◌++◌, length, refl, sym, ap, subst, ◌∙◌, inl, inr, arith}
+use Rattle.std.proofs.Common.{◌≡◌, ◌≢◌, ℕ, zero, suc, ◌+◌, ◌-◌, ◌*◌, ◌<◌, ◌≤◌, Bool, true, false, ◌&&◌, ◌||◌, ◌==◌, nat_le, eqb, List, [], ◌∷◌, ◌++◌, length, refl, sym, ap, subst, ◌∙◌, inl, inr, arith}
 use Rattle.std.proofs.lemmas.Bool.{cases_eq, eqb-true, eqb-false, leb-false, or_parts}
-use Rattle.std.proofs.lemmas.List.{length-append, length-map}
+use Rattle.std.proofs.lemmas.List.{append-nil, length-append, length-map}
 use Rattle.std.proofs.lemmas.Nat.{mul-le}
 use Rattle.dcop_base.specs.Limits.{variable_limit}
 use Rattle.dcop_base.specs.Problem.{Dcop}
@@ -16,6 +16,7 @@ use Rattle.protocol_steps.specs.RunEnds.{IsRunEnd}
 use Rattle.protocol_steps.specs.Rounds.{most_events, IsRound, AreRounds}
 use Rattle.delivery_core.specs.State.{CoreView}
 use Rattle.delivery_core.specs.NetworkState.{most_counted}
+use Rattle.delivery_core.specs.Takes.{TakeNothing}
 use Rattle.delivery_turns.specs.Turns.{turn_takes, event_with, turn, after, round, stops}
 use Rattle.delivery_core.specs.Shown.{IsCore}
 use Rattle.delivery_turns.specs.CoreTurns.{Leads, TakesTurn, Turned, is_over}
@@ -23,8 +24,8 @@ use Rattle.delivery_turns.specs.Sprints.{agent_share, turn_share, none_of, Takes
 use Rattle.delivery_turns.proofs.DeliveredLaws.{Delivers, turn-few, round-few}
 use Rattle.delivery_turns.proofs.RoundLaws.{journal-append, taken-append, event-one, turn-other, few-one, round-serves}
 use Rattle.delivery_turns.proofs.StopLaws.{stopped-how}
-use Rattle.delivery_turns.proofs.PlayLaws.{leads_join, turned_next, over_is, stops_still, empty_by}
-use Rattle.delivery_turns.proofs.TurnLaws.{none_with, still_more}
+use Rattle.delivery_turns.proofs.PlayLaws.{leads_join, turned_next, turned_all, over_is, stops_still, empty_by}
+use Rattle.delivery_turns.proofs.TurnLaws.{turn_still, none_leads, none_with, still_more}
 
 -- as many agents as variables, and as many desks as agents
 core_views : (p : Dcop) (net : Network) (s : CoreView) → IsCore p net s → length net.views ≡ length p.sizes
@@ -48,13 +49,42 @@ still_on still es fs all k ts so with joined =
     ∙ still_more still es fs so
     ∙ ap none_of joined
 
--- the turn of the next agent of a round
-pub all_next : (p : Dcop) (net : Network) (k : ℕ) (s t : CoreView) (ts : List Take) (still : Bool) → (h : Turned p net k s) × (still ≡ none_of h.es) → TakesTurn k s t ts → k < length p.sizes
-    → (now : Turned p net (k + 1) t) × ((still && (length ts == 0)) ≡ none_of now.es)
-all_next p net k s t ts still h takes lt =
-    let one = takes p h.0.mid h.0.leads.core in
-    let now = turned_next p net k s t h.0 one.0 one.1 lt in
-    (now.0, still_on still h.0.es (turn h.0.mid k) now.0.es k ts h.1 one.2 now.1)
+-- an agent that takes nothing is passed over
+past_one : (p : Dcop) (net : Network) (k : ℕ) (s : CoreView) → (h : Turned p net k s) → k < length p.sizes → turn h.mid k ≡ [] → (now : Turned p net (k + 1) s) × (h.es ≡ now.es)
+past_one p net k s h lt none =
+    let leads = none_leads p h.mid (turn h.mid k) s h.leads.core none in
+    let now = turned_next p net k s s h leads.0 leads.1 lt in
+    (now.0, sym (append-nil h.es) ∙ ap (λ (es : List Event). h.es ++ es) (sym none) ∙ now.1)
+
+-- and so are those from one place up to another
+turned_past : (p : Dcop) (net : Network) (from n to : ℕ) (s : CoreView) → from + n ≡ to → to ≤ length p.sizes → TakeNothing s.seats from to → (h : Turned p net from s) → (now : Turned p net to s) × (h.es ≡ now.es)
+turned_past p net from zero to s is le none h =
+    let same : from ≡ to = omega (arith, is) in
+    subst (λ (k : ℕ). (now : Turned p net k s) × (h.es ≡ now.es)) same (h, refl)
+turned_past p net from (suc n) to s is le none h =
+    let size = h.leads.core.shows.size in
+    let own = turn_still p h.mid s.seats h.leads.core.shows from (omega (arith, size, is, le)) (λ d. none from d (omega arith) (omega (arith, is))) in
+    let one = past_one p net from s h (omega (arith, is, le)) own in
+    let rest = turned_past p net (from + 1) n to s (omega (arith, is)) le (λ k d past lt. none k d (omega (arith, past)) lt) one.0 in
+    (rest.0, one.1 ∙ rest.1)
+
+-- agents that take nothing are passed over, and the next one takes its turn
+pub all_next : (p : Dcop) (net : Network) (from k : ℕ) (s t : CoreView) (ts : List Take) (still : Bool) → from ≤ k → k < length p.sizes → TakeNothing s.seats from k
+    → (h : Turned p net from s) × (still ≡ none_of h.es) → TakesTurn k s t ts → (now : Turned p net (k + 1) t) × ((still && (length ts == 0)) ≡ none_of now.es)
+all_next p net from k s t ts still le lt none h takes =
+    let past = turned_past p net from (k - from) k s (omega (arith, le)) (omega (arith, lt)) none h.0 in
+    let one = takes p past.0.mid past.0.leads.core in
+    let now = turned_next p net k s t past.0 one.0 one.1 lt in
+    (now.0, still_on still past.0.es (turn past.0.mid k) now.0.es k ts (h.1 ∙ ap none_of past.1) one.2 now.1)
+
+-- all that are left take nothing
+pub all_end : (p : Dcop) (net : Network) (from : ℕ) (s : CoreView) (still : Bool) → from ≤ length p.sizes → TakeNothing s.seats from (length p.sizes) → (h : Turned p net from s) × (still ≡ none_of h.es)
+    → (mid : Network) × Leads p net (round net) mid s × (still ≡ none_of (round net))
+all_end p net from s still le none h =
+    let size : ℕ = length p.sizes in
+    let past = turned_past p net from (size - from) size s (omega (arith, le)) (omega arith) none h.0 in
+    let all = turned_all p net size s past.0 (omega arith) in
+    (all.0, all.1, h.1 ∙ ap none_of (past.1 ∙ all.2))
 
 pub turning_none : (p : Dcop) (net : Network) (s : CoreView) → IsCore p net s → (h : Turning p net 0 s) × (true ≡ none_of h.es)
 turning_none p net s core = (

@@ -1,8 +1,8 @@
 -- A turn: what the code takes of an inbox is what the turn takes in the network, and its event is lawful.
 use Rattle.std.proofs.Common.{◌≡◌, ℕ, zero, suc, ◌+◌, ◌<◌, ◌≤◌, Bool, true, false, cond, ◌==◌, ◌&&◌, nat_le, if◌then◌else◌, List, [], ◌∷◌, ◌++◌, length, min, Option, Some, None, refl, sym, ap, subst, ◌∙◌, inl, inr, arith}
-use Rattle.std.specs.List.{slice_get, filter, flat_map, range_with_len, list_any, Contains}
+use Rattle.std.specs.List.{slice_get, slice_index_or, filter, flat_map, range_with_len, list_any, Contains}
 use Rattle.std.proofs.lemmas.Bool.{false≢true, cases_eq, ne_eqb, eq-eqb, eqb-false, le-ltb, le-leb, lt-leb, or_parts}
-use Rattle.std.proofs.lemmas.Option.{slice_get_within}
+use Rattle.std.proofs.lemmas.Option.{slice_get_within, get_or_from_slice_get}
 use Rattle.std.proofs.lemmas.List.{append-nil, length-map}
 use Rattle.std.proofs.lemmas.List.Sums.{sum_by-cons}
 use Rattle.dcop_base.specs.Problem.{Dcop}
@@ -24,7 +24,7 @@ use Rattle.delivery_core.specs.Takes.{take_some, inbox_takes, seat_takes}
 use Rattle.delivery_turns.specs.CoreTurns.{Leads}
 use Rattle.delivery_core.specs.Shown.{Shows, IsCore}
 use Rattle.delivery_core.proofs.NearLaws.{from_filter}
-use Rattle.delivery_core.proofs.ShownLaws.{view_there, waits_is, fault_same}
+use Rattle.delivery_core.proofs.ShownLaws.{there_is, view_there, waits_is, fault_same}
 use Rattle.delivery_core.proofs.ActLaws.{waits_of, seated}
 use Rattle.delivery_core.proofs.CountLaws.{counts, deliveries_after}
 use Rattle.protocol_steps.proofs.RunLaws.{happens_next}
@@ -222,6 +222,13 @@ module _ (p : Dcop) (net : Network) (seats : List SeatView) (s : Shows p net sea
   -- where nothing is pending the turn is empty
   pub turn_none : (length (seat_takes x) == 0) ≡ true → turn net i ≡ []
   turn_none none = turn_by ∙ ap (λ (b : Bool). if b then [] else record { agent = i; takes = seat_takes x } ∷ []) none
+
+-- an agent that takes nothing has no event
+pub turn_still : (p : Dcop) (net : Network) (seats : List SeatView) → Shows p net seats → (i : ℕ) → i < length seats → ((d : SeatView) → seat_takes (slice_index_or seats i d) ≡ []) → turn net i ≡ []
+turn_still p net seats s i lt none =
+    let x = there_is seats i lt in
+    let takes : seat_takes x.0 ≡ [] = sym (ap seat_takes (get_or_from_slice_get seats i x.0 x.0 x.1)) ∙ none x.0 in
+    turn_none p net seats s i x.0 x.1 (ap (λ (ts : List Take). length ts == 0) takes)
 
 pub none_leads : (p : Dcop) (net : Network) (es : List Event) (s : CoreView) → IsCore p net s → es ≡ [] → (mid : Network) × Leads p net es mid s
 none_leads p net es s core none = subst (λ (fs : List Event). (mid : Network) × Leads p net fs mid s) (sym none) (net, record { ran = refl; is = refl; core = core; more = omega arith })

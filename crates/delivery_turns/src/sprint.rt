@@ -23,8 +23,8 @@ pub fn turns_agree()
     ensures { MOST_TURNS ≡ most_events }
 {}
 
-/// A turn of all agents, in ascending order. Tells whether it took nothing. `takes` is room for what
-/// one agent takes.
+/// A turn of all agents, in ascending order: those known to take nothing are passed over. Tells whether
+/// it took nothing. `takes` is room for what one agent takes.
 fn play_all<G: Gate>(
     alloc: Global,
     gate: &G,
@@ -36,9 +36,11 @@ fn play_all<G: Gate>(
     ensures { IfOk result (TakesAll state.old state.new) }
 {
     let mut still = true;
-    for me in 0..state.count() {
+    let mut from = 0;
+    while let Some(me) = state.next_busy(from) {
         take_turn(alloc, gate, state, me, takes)?;
         still &= takes.is_empty();
+        from = me + 1;
     }
     Ok(still)
 }

@@ -1,9 +1,10 @@
 -- How the parts of a DPOP agent's work make up its steps.
-use Rattle.std.proofs.Common.{◌≡◌, ℕ, Bool, true, false, cond, ◌&&◌, nat_le, List, [], Option, Some, None, is_some, refl, sym, ap, ap₂, subst, ◌∙◌}
+use Rattle.std.proofs.Common.{◌≡◌, ℕ, Bool, true, false, cond, ◌&&◌, nat_le, List, [], ◌++◌, Option, Some, None, is_some, refl, sym, ap, ap₂, subst, ◌∙◌}
 use Rattle.std.specs.Borrow.{Bor}
 use Rattle.std.specs.Option.{option_copied}
 use Rattle.std.specs.List.{list_all}
 use Rattle.std.proofs.lemmas.Bool.{and_parts, false≢true}
+use Rattle.std.proofs.lemmas.List.{append-nil}
 use Rattle.dcop_base.specs.Table.{CostTable}
 use Rattle.dcop_base.specs.Values.{with_own}
 use Rattle.dcop_base.specs.declared.knowledge.Private.{Private}
@@ -24,26 +25,26 @@ use Rattle.dpop_agent.specs.Sound.{IsSound}
 use Rattle.dpop_agent.specs.Deed.{Gives, parcels_up}
 use Rattle.dpop_agent.proofs.ParcelLaws.{values_sent}
 
-decided_at : (own : Private) (place : Place) (stage : Stage) (kept : List (Option CostTable)) (made : Option CostTable) (value : ℕ) (values : Context) (best : ℕ) (parcels : List (ℕ × Message))
-    → phase_at stage ≡ working → best ≡ best_value (keeping own place kept) (valued values) → parcels ≡ values_sent (with_own own.me best (valued values)) place.children kept
-    → Gives (decide (view_at own place stage kept made value) values) (view_at own place Ended kept made best) parcels
-decided_at own place stage kept made value values best parcels phase is sends =
+decided_at : (own : Private) (place : Place) (stage : Stage) (kept : List (Option CostTable)) (made : Option CostTable) (value : ℕ) (values : Context) (best : ℕ) (before parcels : List (ℕ × Message))
+    → phase_at stage ≡ working → best ≡ best_value (keeping own place kept) (valued values) → parcels ≡ before ++ values_sent (with_own own.me best (valued values)) place.children kept
+    → Gives (decide (view_at own place stage kept made value) values) (view_at own place Ended kept made best) before parcels
+decided_at own place stage kept made value values best before parcels phase is sends =
     let ends : phase_at Ended ≡ record (phase_at stage) { ended = true } = ap (λ (p : Phase). let q : Phase = record p { ended = true } in q) (sym phase) in
     record {
       viewed = ap₂ (λ (d : ℕ) (p : Phase). let v : DpopView = record { own = own; place = place; phase = p; kept = kept; made = made; value = d } in v) is ends;
-      sent = sends ∙ ap (λ (d : ℕ). values_sent (with_own own.me d (valued values)) place.children kept) is;
+      sent = sends ∙ ap (λ (d : ℕ). before ++ values_sent (with_own own.me d (valued values)) place.children kept) is;
     }
 
 -- what an agent's decision gives
-pub decided : (own : Private) (place : Place) (stage : Stage) (kept now : List (Option CostTable)) (made : Option CostTable) (value : ℕ) (v : DpopView) (values : Context) (best : ℕ) (children : List ℕ) (parcels : List (ℕ × Message))
+pub decided : (own : Private) (place : Place) (stage : Stage) (kept now : List (Option CostTable)) (made : Option CostTable) (value : ℕ) (v : DpopView) (values : Context) (best : ℕ) (children : List ℕ) (before parcels : List (ℕ × Message))
     → view_at own place stage kept made value ≡ v → v.phase ≡ working → now ≡ kept → children ≡ place.children
-    → best ≡ best_value (keeping own place now) (valued values) → parcels ≡ values_sent (with_own own.me best (valued values)) children now
-    → Gives (decide v values) (view_at own place Ended kept made best) parcels
-decided own place stage kept now made value v values best children parcels view phase same below is sends =
-    subst (λ (w : DpopView). Gives (decide w values) (view_at own place Ended kept made best) parcels) view
-    (decided_at own place stage kept made value values best parcels (ap (λ (w : DpopView). w.phase) view ∙ phase)
+    → best ≡ best_value (keeping own place now) (valued values) → parcels ≡ before ++ values_sent (with_own own.me best (valued values)) children now
+    → Gives (decide v values) (view_at own place Ended kept made best) before parcels
+decided own place stage kept now made value v values best children before parcels view phase same below is sends =
+    subst (λ (w : DpopView). Gives (decide w values) (view_at own place Ended kept made best) before parcels) view
+    (decided_at own place stage kept made value values best before parcels (ap (λ (w : DpopView). w.phase) view ∙ phase)
     (is ∙ ap (λ (es : List (Option CostTable)). best_value (keeping own place es) (valued values)) same)
-    (sends ∙ ap₂ (λ (cs : List ℕ) (es : List (Option CostTable)). values_sent (with_own own.me best (valued values)) cs es) below same))
+    (sends ∙ ap₂ (λ (cs : List ℕ) (es : List (Option CostTable)). before ++ values_sent (with_own own.me best (valued values)) cs es) below same))
 
 -- of five tests that pass together, the last two
 pub last_two : (a b c d e : Bool) → (a && b && c && d && e) ≡ true → (d ≡ true) × (e ≡ true)
@@ -75,39 +76,39 @@ may_not v None tried none = tried
 may_not v (Some t) tried none = absurd (none t refl)
 
 -- what joining gives an agent that may not join: nothing
-pub joins_not : (own : Private) (place : Place) (stage : Stage) (kept now : List (Option CostTable)) (made : Option CostTable) (value : ℕ) (v : DpopView) (parcels : List (ℕ × Message))
-    → view_at own place stage kept made value ≡ v → now ≡ kept → can_join (keeping own place now) ≡ false → parcels ≡ [] → Gives (join v) v parcels
-joins_not own place stage kept now made value v parcels view same cannot none =
+pub joins_not : (own : Private) (place : Place) (stage : Stage) (kept now : List (Option CostTable)) (made : Option CostTable) (value : ℕ) (v : DpopView) (before parcels : List (ℕ × Message))
+    → view_at own place stage kept made value ≡ v → now ≡ kept → can_join (keeping own place now) ≡ false → parcels ≡ before → Gives (join v) v before parcels
+joins_not own place stage kept now made value v before parcels view same cannot none =
     let w : DpopView = view_at own place stage kept made value in
     let u : CostTable = util_table w in
     let after : DpopView = record w { made = Some u } in
     let here : can_join (keeping own place kept) ≡ false = subst (λ (es : List (Option CostTable)). can_join (keeping own place es) ≡ false) same cannot in
-    subst (λ (x : DpopView). Gives (join x) x parcels) view
-    (subst (λ (b : Bool). Gives (cond b (send_up after u (last_of place.path)) (quiet w)) w parcels) (sym here) (record { viewed = refl; sent = none }))
+    subst (λ (x : DpopView). Gives (join x) x before parcels) view
+    (subst (λ (b : Bool). Gives (cond b (send_up after u (last_of place.path)) (quiet w)) w before parcels) (sym here) (record { viewed = refl; sent = none ∙ sym (append-nil before) }))
 
-joins_at : (own : Private) (place : Place) (stage : Stage) (kept : List (Option CostTable)) (made : Option CostTable) (value : ℕ) (t : CostTable) (parcels : List (ℕ × Message)) (parent : Option ℕ)
-    → can_join (keeping own place kept) ≡ true → t ≡ util_table (keeping own place kept) → last_of place.path ≡ parent → is_some parent ≡ true → parcels ≡ parcels_up parent t
-    → Gives (join (view_at own place stage kept made value)) (view_at own place stage kept (Some t) value) parcels
-joins_at own place stage kept made value t parcels None can is last some sends = absurd (false≢true some)
-joins_at own place stage kept made value t parcels (Some parent) can is last some sends =
+joins_at : (own : Private) (place : Place) (stage : Stage) (kept : List (Option CostTable)) (made : Option CostTable) (value : ℕ) (t : CostTable) (before parcels : List (ℕ × Message)) (parent : Option ℕ)
+    → can_join (keeping own place kept) ≡ true → t ≡ util_table (keeping own place kept) → last_of place.path ≡ parent → is_some parent ≡ true → parcels ≡ before ++ parcels_up parent t
+    → Gives (join (view_at own place stage kept made value)) (view_at own place stage kept (Some t) value) before parcels
+joins_at own place stage kept made value t before parcels None can is last some sends = absurd (false≢true some)
+joins_at own place stage kept made value t before parcels (Some parent) can is last some sends =
     let v : DpopView = view_at own place stage kept made value in
     let u : CostTable = util_table v in
     let w : DpopView = record v { made = Some u } in
     let after : DpopView = view_at own place stage kept (Some t) value in
-    subst (λ (b : Bool). Gives (cond b (send_up w u (last_of place.path)) (quiet v)) after parcels) (sym can)
-    (subst (λ (o : Option ℕ). Gives (send_up w u o) after parcels) (sym last)
+    subst (λ (b : Bool). Gives (cond b (send_up w u (last_of place.path)) (quiet v)) after before parcels) (sym can)
+    (subst (λ (o : Option ℕ). Gives (send_up w u o) after before parcels) (sym last)
     (record {
       viewed = ap (λ (s : CostTable). view_at own place stage kept (Some s) value) is;
-      sent = sends ∙ ap (λ (s : CostTable). parcels_up (Some parent) s) is;
+      sent = sends ∙ ap (λ (s : CostTable). before ++ parcels_up (Some parent) s) is;
     }))
 
 -- what joining gives an agent with a parent
-pub joins : (own : Private) (place : Place) (stage : Stage) (kept now : List (Option CostTable)) (made : Option CostTable) (value : ℕ) (v : DpopView) (t : CostTable) (path : List ℕ) (parcels : List (ℕ × Message))
-    → view_at own place stage kept made value ≡ v → now ≡ kept → path ≡ place.path → can_join (keeping own place now) ≡ true → t ≡ util_table (keeping own place now) → is_some (last_of path) ≡ true → parcels ≡ parcels_up (last_of path) t
-    → Gives (join v) (view_at own place stage kept (Some t) value) parcels
-joins own place stage kept now made value v t path parcels view same above can is some sends =
-    subst (λ (w : DpopView). Gives (join w) (view_at own place stage kept (Some t) value) parcels) view
-    (joins_at own place stage kept made value t parcels (last_of path)
+pub joins : (own : Private) (place : Place) (stage : Stage) (kept now : List (Option CostTable)) (made : Option CostTable) (value : ℕ) (v : DpopView) (t : CostTable) (path : List ℕ) (before parcels : List (ℕ × Message))
+    → view_at own place stage kept made value ≡ v → now ≡ kept → path ≡ place.path → can_join (keeping own place now) ≡ true → t ≡ util_table (keeping own place now) → is_some (last_of path) ≡ true → parcels ≡ before ++ parcels_up (last_of path) t
+    → Gives (join v) (view_at own place stage kept (Some t) value) before parcels
+joins own place stage kept now made value v t path before parcels view same above can is some sends =
+    subst (λ (w : DpopView). Gives (join w) (view_at own place stage kept (Some t) value) before parcels) view
+    (joins_at own place stage kept made value t before parcels (last_of path)
     (subst (λ (es : List (Option CostTable)). can_join (keeping own place es) ≡ true) same can)
     (is ∙ ap (λ (es : List (Option CostTable)). util_table (keeping own place es)) same)
     (ap last_of (sym above)) some sends)
@@ -135,27 +136,28 @@ pub copied_some : {X : Type 0} (o : Option (Bor X)) → is_some (option_copied o
 copied_some None = refl
 copied_some (Some x) = refl
 
-root_at : (own : Private) (place : Place) (stage : Stage) (kept : List (Option CostTable)) (made : Option CostTable) (value : ℕ) (t : CostTable) (after : DpopView) (parcels : List (ℕ × Message)) (parent : Option ℕ)
-    → can_join (keeping own place kept) ≡ true → t ≡ util_table (keeping own place kept) → last_of place.path ≡ parent → is_some parent ≡ false
-    → Gives (decide (view_at own place stage kept (Some t) value) []) after parcels → Gives (join (view_at own place stage kept made value)) after parcels
-root_at own place stage kept made value t after parcels (Some parent) can is last none gives = absurd (false≢true (sym none))
-root_at own place stage kept made value t after parcels None can is last none gives =
+root_at : (own : Private) (place : Place) (stage : Stage) (kept : List (Option CostTable)) (made : Option CostTable) (value : ℕ) (t : CostTable) (after : DpopView) (before up parcels : List (ℕ × Message)) (parent : Option ℕ)
+    → can_join (keeping own place kept) ≡ true → t ≡ util_table (keeping own place kept) → last_of place.path ≡ parent → is_some parent ≡ false → up ≡ before ++ parcels_up parent t
+    → Gives (decide (view_at own place stage kept (Some t) value) []) after up parcels → Gives (join (view_at own place stage kept made value)) after before parcels
+root_at own place stage kept made value t after before up parcels (Some parent) can is last none rises gives = absurd (false≢true (sym none))
+root_at own place stage kept made value t after before up parcels None can is last none rises gives =
     let v : DpopView = view_at own place stage kept made value in
     let u : CostTable = util_table v in
     let w : DpopView = record v { made = Some u } in
-    subst (λ (b : Bool). Gives (cond b (send_up w u (last_of place.path)) (quiet v)) after parcels) (sym can)
-    (subst (λ (o : Option ℕ). Gives (send_up w u o) after parcels) (sym last)
-    (subst (λ (s : CostTable). Gives (decide (view_at own place stage kept (Some s) value) []) after parcels) is gives))
+    subst (λ (b : Bool). Gives (cond b (send_up w u (last_of place.path)) (quiet v)) after before parcels) (sym can)
+    (subst (λ (o : Option ℕ). Gives (send_up w u o) after before parcels) (sym last)
+    (subst (λ (s : CostTable). Gives (decide (view_at own place stage kept (Some s) value) []) after before parcels) is
+    (subst (λ (ps : List (ℕ × Message)). Gives (decide (view_at own place stage kept (Some t) value) []) after ps parcels) (rises ∙ append-nil before) gives)))
 
 -- what joining gives the root, which decides at once
-pub root_joins : (own : Private) (place : Place) (stage : Stage) (kept now : List (Option CostTable)) (made : Option CostTable) (value : ℕ) (v w : DpopView) (t : CostTable) (path : List ℕ) (values : Context) (after : DpopView) (parcels : List (ℕ × Message))
-    → view_at own place stage kept made value ≡ v → now ≡ kept → path ≡ place.path → can_join (keeping own place now) ≡ true → t ≡ util_table (keeping own place now) → is_some (last_of path) ≡ false
-    → view_at own place stage kept (Some t) value ≡ w → values ≡ [] → Gives (decide w values) after parcels → Gives (join v) after parcels
-root_joins own place stage kept now made value v w t path values after parcels view same above can is none waits empty gives =
-    subst (λ (x : DpopView). Gives (join x) after parcels) view
-    (root_at own place stage kept made value t after parcels (last_of path)
+pub root_joins : (own : Private) (place : Place) (stage : Stage) (kept now : List (Option CostTable)) (made : Option CostTable) (value : ℕ) (v w : DpopView) (t : CostTable) (path : List ℕ) (values : Context) (after : DpopView) (before up parcels : List (ℕ × Message))
+    → view_at own place stage kept made value ≡ v → now ≡ kept → path ≡ place.path → can_join (keeping own place now) ≡ true → t ≡ util_table (keeping own place now) → is_some (last_of path) ≡ false → up ≡ before ++ parcels_up (last_of path) t
+    → view_at own place stage kept (Some t) value ≡ w → values ≡ [] → Gives (decide w values) after up parcels → Gives (join v) after before parcels
+root_joins own place stage kept now made value v w t path values after before up parcels view same above can is none rises waits empty gives =
+    subst (λ (x : DpopView). Gives (join x) after before parcels) view
+    (root_at own place stage kept made value t after before up parcels (last_of path)
     (subst (λ (es : List (Option CostTable)). can_join (keeping own place es) ≡ true) same can)
     (is ∙ ap (λ (es : List (Option CostTable)). util_table (keeping own place es)) same)
-    (ap last_of (sym above)) none
-    (subst (λ (c : Context). Gives (decide (view_at own place stage kept (Some t) value) c) after parcels) empty
-    (subst (λ (x : DpopView). Gives (decide x values) after parcels) (sym waits) gives)))
+    (ap last_of (sym above)) none rises
+    (subst (λ (c : Context). Gives (decide (view_at own place stage kept (Some t) value) c) after up parcels) empty
+    (subst (λ (x : DpopView). Gives (decide x values) after up parcels) (sym waits) gives)))

@@ -1,5 +1,5 @@
 -- How the messages of a batch make up a step of a DPOP agent, and how starts and steps are those of a machine.
-use Rattle.std.proofs.Common.{◌≡◌, ℕ, ◌+◌, ◌<◌, ◌≤◌, true, false, List, ◌∷◌, ◌++◌, length, drop, get_or, refl, sym, ap, ◌∙◌}
+use Rattle.std.proofs.Common.{◌≡◌, ℕ, ◌+◌, ◌<◌, ◌≤◌, true, false, List, [], ◌∷◌, length, drop, get_or, refl, sym, ap, ◌∙◌}
 use Rattle.std.specs.List.{All, Contains, fold}
 use Rattle.std.proofs.lemmas.Bool.{true≢false}
 use Rattle.std.proofs.lemmas.List.{at_drop_more, at_drop_all}
@@ -25,13 +25,13 @@ use Rattle.dpop_agent.proofs.OverLaws.{had_of}
 pub record Leads (start : DpopView) (all : List (ℕ × Message)) (view : DpopView) (sends rest : List (ℕ × Message)) : Type 0 where
   pub leads : fold (next_letter dpop_message) (record { view = view; sends = sends }) rest ≡ dpop_step start all
 
-pub leads_on : (start : DpopView) (all : List (ℕ × Message)) (k : ℕ) (letter : ℕ × Message) (view after : DpopView) (sends more parcels : List (ℕ × Message)) → k < length all → letter ≡ get_or all k letter → Leads start all view sends (drop k all) → Gives (dpop_message view letter.0 letter.1) after parcels → more ≡ sends ++ parcels → Leads start all after more (drop (k + 1) all)
-leads_on start all k letter view after sends more parcels lt e l g m =
+pub leads_on : (start : DpopView) (all : List (ℕ × Message)) (k : ℕ) (letter : ℕ × Message) (view after : DpopView) (sends more : List (ℕ × Message)) → k < length all → letter ≡ get_or all k letter → Leads start all view sends (drop k all) → Gives (dpop_message view letter.0 letter.1) after sends more → Leads start all after more (drop (k + 1) all)
+leads_on start all k letter view after sends more lt e l g =
     let F : List (ℕ × Message) → Stepped DpopView = fold (next_letter dpop_message) (record { view = view; sends = sends }) in
     let first = sym (at_drop_more F all k letter lt) ∙ l.leads in
     let now = ap (λ x. F (x ∷ drop (k + 1) all)) e ∙ first in
     let views = ap (λ w. let s : Stepped DpopView = record { view = w; sends = more } in fold (next_letter dpop_message) s (drop (k + 1) all)) g.viewed in
-    let lists = ap (λ ps. let s : Stepped DpopView = record { view = (dpop_message view letter.0 letter.1).view; sends = ps } in fold (next_letter dpop_message) s (drop (k + 1) all)) (m ∙ ap (λ ps. sends ++ ps) g.sent) in
+    let lists = ap (λ ps. let s : Stepped DpopView = record { view = (dpop_message view letter.0 letter.1).view; sends = ps } in fold (next_letter dpop_message) s (drop (k + 1) all)) g.sent in
     record { leads = views ∙ lists ∙ now }
 
 -- when no letter is left
@@ -58,11 +58,11 @@ pub stands_beside : (v : DpopView) → IsPlaceFor v.own v.place → IsBeside (Dp
 stands_beside v placed = (placed.parent, children_near v.own.neighbours v.place.lower v.place.children placed.lower.1 placed.children.1)
 
 -- the start of a DPOP agent is that of a machine, and reaches neighbours
-pub is_start : (v w : DpopView) (ps : List (ℕ × Message)) → Gives (dpop_start v) w ps → IsStart (DpopKind v) (DpopKind w) ps
+pub is_start : (v w : DpopView) (ps : List (ℕ × Message)) → Gives (dpop_start v) w [] ps → IsStart (DpopKind v) (DpopKind w) ps
 unfolding start_of
 is_start v w ps g = record { viewed = ap (λ (x : DpopView). DpopKind x) g.viewed; sent = g.sent }
 
-pub start_reaches : (v w : DpopView) (ps : List (ℕ × Message)) → IsBeside (DpopKind v) → Gives (dpop_start v) w ps → All (IsToNeighbour (DpopKind v)) ps
+pub start_reaches : (v w : DpopView) (ps : List (ℕ × Message)) → IsBeside (DpopKind v) → Gives (dpop_start v) w [] ps → All (IsToNeighbour (DpopKind v)) ps
 unfolding start_of
 start_reaches v w ps beside g = All-same (IsToNeighbour (DpopKind v)) ps (dpop_start v).sends g.sent (parcels_go_to_neighbours.started (DpopKind v) beside).receivers
 

@@ -3,7 +3,7 @@ use Rattle.std.proofs.Common.{◌≡◌, ℕ, zero, suc, ◌*◌, ◌<◌, ◌�
 use Rattle.std.specs.List.{filter, list_all, position, slice_get, slice_set, zip}
 use Rattle.std.specs.Cmp.Lexicographic.{pointwise}
 use Rattle.std.proofs.lemmas.Bool.{both_ways, cases_Bool, cases_lt, cond-true, eq-eqb, eqb-true, le-leb, le-ltb, lt-leb, lt-ltb, or_cases, true≢false, false≢true}
-use Rattle.std.proofs.lemmas.List.{length-map, length-set}
+use Rattle.std.proofs.lemmas.List.{append-nil, length-map, length-set}
 use Rattle.std.proofs.lemmas.List.Elements.{All-map, All-set}
 use Rattle.std.proofs.lemmas.List.Folds.{list_all_at}
 use Rattle.std.proofs.lemmas.Option.{slice_get_within, get_or_from_slice_get}
@@ -183,22 +183,22 @@ is_of_parts t scope sizes cells parts =
     ∙ ap (λ (ss : List ℕ). let u : CostTable = record { scope = scope; sizes = ss; cells = t.cells } in u) parts.1
     ∙ ap (λ (cs : List ℕ). let u : CostTable = record { scope = scope; sizes = sizes; cells = cs } in u) parts.2
 
-takes_at : (own : Private) (place : Place) (stage : Stage) (kept : List (Option CostTable)) (made : Option CostTable) (value k : ℕ) (scope cells : List ℕ) (t : CostTable) (after : DpopView) (parcels : List (ℕ × Message))
-    → IsTaken (keeping own place kept) k scope cells (Some t) → Gives (join (view_at own place stage (slice_set kept k (Some t)) made value)) after parcels
-    → Gives (take_util (view_at own place stage kept made value) (Some k) scope cells) after parcels
-takes_at own place stage kept made value k scope cells t after parcels taken gives =
+takes_at : (own : Private) (place : Place) (stage : Stage) (kept : List (Option CostTable)) (made : Option CostTable) (value k : ℕ) (scope cells : List ℕ) (t : CostTable) (after : DpopView) (before parcels : List (ℕ × Message))
+    → IsTaken (keeping own place kept) k scope cells (Some t) → Gives (join (view_at own place stage (slice_set kept k (Some t)) made value)) after before parcels
+    → Gives (take_util (view_at own place stage kept made value) (Some k) scope cells) after before parcels
+takes_at own place stage kept made value k scope cells t after before parcels taken gives =
     let v : DpopView = view_at own place stage kept made value in
-    subst (λ (b : Bool). Gives (cond b (join (with_table v k scope cells)) (quiet v)) after parcels) (sym taken.0)
-    (subst (λ (u : CostTable). Gives (join (view_at own place stage (slice_set kept k (Some u)) made value)) after parcels) (is_of_parts t scope (map (size_of v) scope) cells taken.1) gives)
+    subst (λ (b : Bool). Gives (cond b (join (with_table v k scope cells)) (quiet v)) after before parcels) (sym taken.0)
+    (subst (λ (u : CostTable). Gives (join (view_at own place stage (slice_set kept k (Some u)) made value)) after before parcels) (is_of_parts t scope (map (size_of v) scope) cells taken.1) gives)
 
 -- what a child's table gives that is taken
-pub takes : (own : Private) (place : Place) (stage : Stage) (kept : List (Option CostTable)) (made : Option CostTable) (value : ℕ) (v : DpopView) (from k : ℕ) (scope cells : List ℕ) (t : CostTable) (after : DpopView) (parcels : List (ℕ × Message))
+pub takes : (own : Private) (place : Place) (stage : Stage) (kept : List (Option CostTable)) (made : Option CostTable) (value : ℕ) (v : DpopView) (from k : ℕ) (scope cells : List ℕ) (t : CostTable) (after : DpopView) (before parcels : List (ℕ × Message))
     → view_at own place stage kept made value ≡ v → position (λ c. eqb c from) place.children ≡ Some k → IsTaken (keeping own place kept) k scope cells (Some t)
-    → Gives (join (view_at own place stage (slice_set kept k (Some t)) made value)) after parcels → Gives (dpop_message v from (Util scope cells)) after parcels
-takes own place stage kept made value v from k scope cells t after parcels view found taken gives =
-    subst (λ (w : DpopView). Gives (dpop_message w from (Util scope cells)) after parcels) view
-    (subst (λ (o : Option ℕ). Gives (take_util (view_at own place stage kept made value) o scope cells) after parcels) (sym found)
-    (takes_at own place stage kept made value k scope cells t after parcels taken gives))
+    → Gives (join (view_at own place stage (slice_set kept k (Some t)) made value)) after before parcels → Gives (dpop_message v from (Util scope cells)) after before parcels
+takes own place stage kept made value v from k scope cells t after before parcels view found taken gives =
+    subst (λ (w : DpopView). Gives (dpop_message w from (Util scope cells)) after before parcels) view
+    (subst (λ (o : Option ℕ). Gives (take_util (view_at own place stage kept made value) o scope cells) after before parcels) (sym found)
+    (takes_at own place stage kept made value k scope cells t after before parcels taken gives))
 
 -- a table that is not there was not taken
 pub untaken : (v : DpopView) (k : ℕ) (scope cells : List ℕ) (o : Option CostTable) → IsTaken v k scope cells o → ((t : CostTable) → o ≡ Some t → ⊥) → takes_util v k scope cells ≡ false
@@ -206,13 +206,13 @@ untaken v k scope cells None tried none = tried
 untaken v k scope cells (Some t) tried none = absurd (none t refl)
 
 -- what a child's table gives that is not taken: nothing
-pub passes_over : (own : Private) (place : Place) (stage : Stage) (kept : List (Option CostTable)) (made : Option CostTable) (value : ℕ) (v : DpopView) (from k : ℕ) (scope cells : List ℕ) (parcels : List (ℕ × Message))
-    → view_at own place stage kept made value ≡ v → position (λ c. eqb c from) place.children ≡ Some k → takes_util (keeping own place kept) k scope cells ≡ false → parcels ≡ [] → Gives (dpop_message v from (Util scope cells)) v parcels
-passes_over own place stage kept made value v from k scope cells parcels view found not_taken none =
-    subst (λ (w : DpopView). Gives (dpop_message w from (Util scope cells)) w parcels) view
+pub passes_over : (own : Private) (place : Place) (stage : Stage) (kept : List (Option CostTable)) (made : Option CostTable) (value : ℕ) (v : DpopView) (from k : ℕ) (scope cells : List ℕ) (before parcels : List (ℕ × Message))
+    → view_at own place stage kept made value ≡ v → position (λ c. eqb c from) place.children ≡ Some k → takes_util (keeping own place kept) k scope cells ≡ false → parcels ≡ before → Gives (dpop_message v from (Util scope cells)) v before parcels
+passes_over own place stage kept made value v from k scope cells before parcels view found not_taken none =
+    subst (λ (w : DpopView). Gives (dpop_message w from (Util scope cells)) w before parcels) view
     (let w : DpopView = view_at own place stage kept made value in
-    subst (λ (o : Option ℕ). Gives (take_util w o scope cells) w parcels) (sym found)
-    (subst (λ (b : Bool). Gives (cond b (join (with_table w k scope cells)) (quiet w)) w parcels) (sym not_taken) (record { viewed = refl; sent = none })))
+    subst (λ (o : Option ℕ). Gives (take_util w o scope cells) w before parcels) (sym found)
+    (subst (λ (b : Bool). Gives (cond b (join (with_table w k scope cells)) (quiet w)) w before parcels) (sym not_taken) (record { viewed = refl; sent = none ∙ sym (append-nil before) })))
 
 -- whether a variable stands in a kept table, after one more is kept at a place that was free
 stands_more : (kept : List (Option CostTable)) (k : ℕ) (t : CostTable) (u : ℕ) → k < length kept → get_or kept k None ≡ None → stands_kept (slice_set kept k (Some t)) u ≡ (has t.scope u || stands_kept kept u)

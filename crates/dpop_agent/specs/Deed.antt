@@ -1,5 +1,5 @@
 -- What one deed of a DPOP agent gives.
-use Rattle.std.specs.Prelude.{◌≡◌, ℕ, true, false, List, [], ◌∷◌, map, Option, Some, None}
+use Rattle.std.specs.Prelude.{◌≡◌, ℕ, true, false, List, [], ◌∷◌, ◌++◌, map, Option, Some, None}
 use Rattle.protocol_steps.specs.declared.message.Message.{Message}
 use Rattle.protocol_steps.specs.Agent.{Stepped}
 use Rattle.dcop_base.specs.Table.{CostTable, IsTableOfParts}
@@ -7,10 +7,10 @@ use Rattle.protocol_steps.specs.declared.message.Message.TheVariants.{Util}
 use Rattle.protocol_steps.specs.Dpop.{DpopView, size_of}
 use Rattle.protocol_steps.specs.DpopStep.{takes_util}
 
--- the agent's view and the parcels are those of a step
-pub record Gives (s : Stepped DpopView) (view : DpopView) (parcels : List (ℕ × Message)) : Type 0 where
+-- the agent's view is that of a step, whose parcels follow those that were there before
+pub record Gives (s : Stepped DpopView) (view : DpopView) (before parcels : List (ℕ × Message)) : Type 0 where
   pub viewed : view ≡ s.view
-  pub sent : parcels ≡ s.sends
+  pub sent : parcels ≡ before ++ s.sends
 
 -- an agent that has started and has not failed
 pub record IsRunning (v : DpopView) : Type 0 where

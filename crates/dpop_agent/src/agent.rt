@@ -29,6 +29,7 @@ use protocol_steps::{Batch, Letter, Machine, Message, Outbox, Parcel, Standing};
 use pseudotree::Place;
 use std::alloc::Global;
 use std::marker::Model;
+use std::mem;
 
 /// A DPOP agent: its part in the propagation of UTIL tables and values. Contracts see its view.
 ///
@@ -92,43 +93,57 @@ impl DpopAgent {
     }
 
     /// Takes the best value at these values, tells the children, and ends.
-    fn decide(&mut self, values: &AgentContext) -> Result<Vec<Parcel>, NoMemory>
+    fn decide(
+        &mut self,
+        values: &AgentContext,
+        parcels: Vec<Parcel>,
+    ) -> Result<Vec<Parcel>, NoMemory>
         requires working { self.old.phase ≡ working }
         requires made { is_some self.old.made ≡ true }
         requires within { AreWithin (map (size_of self.old) (separator self.old))
             (map (valued values.now) (separator self.old)) }
         requires range { IsContext values.now }
         ensures own { (self.new.own ≡ self.old.own) × (self.new.place ≡ self.old.place) }
-        ensures gives { IfOk result (λ ps. Gives (decide self.old values.now) self.new ps.items) }
+        ensures gives { IfOk result (λ ps.
+            Gives (decide self.old values.now) self.new parcels.items ps.items) }
     {
         let kept = self.kept.as_slice();
         let best = best_of(self.alloc, &self.own, &self.place, kept, values)?;
         let children = self.place.children.as_slice();
-        let parcels = values_for(self.alloc, children, kept, self.own.me, best, values)?;
+        let told = values_for(
+            self.alloc,
+            children,
+            kept,
+            self.own.me,
+            best,
+            values,
+            parcels,
+        )?;
         self.value = best;
         self.stage = Stage::Ended;
-        Ok(parcels)
+        Ok(told)
     }
 
     /// Joins where all children's tables are kept and the joined table is not too wide: the table
     /// goes to the parent; the root decides. The joined table's variables may be known already.
-    fn join(&mut self, known: Option<Over>) -> Result<Vec<Parcel>, NoMemory>
+    fn join(&mut self, known: Option<Over>, parcels: Vec<Parcel>) -> Result<Vec<Parcel>, NoMemory>
         requires working { self.old.phase ≡ working }
         requires known { IfSome known (IsOver self.old) }
         ensures own { (self.new.own ≡ self.old.own) × (self.new.place ≡ self.old.place) }
         ensures running { IfOk result (λ _. IsRunning self.new) }
-        ensures gives { IfOk result (λ ps. Gives (join self.old) self.new ps.items) }
+        ensures gives { IfOk result (λ ps.
+            Gives (join self.old) self.new parcels.items ps.items) }
     {
         let kept = self.kept.as_slice();
         let Some(made) = util_of(self.alloc, &self.own, &self.place, kept, known)? else {
-            return Ok(Vec::new(self.alloc));
+            return Ok(parcels);
         };
-        let parcels = util_for(self.alloc, self.place.path.as_slice(), &made)?;
+        let sent = util_for(self.alloc, self.place.path.as_slice(), &made, parcels)?;
         self.made = Some(made);
         if self.place.path.as_slice().last().is_none() {
-            return self.decide(&AgentContext::new(self.alloc));
+            return self.decide(&AgentContext::new(self.alloc), sent);
         }
-        Ok(parcels)
+        Ok(sent)
     }
 
     /// Keeps a child's table and joins, where the table is taken.
@@ -137,16 +152,18 @@ impl DpopAgent {
         from: VarId,
         scope: &[VarId],
         cells: &CellList,
+        parcels: Vec<Parcel>,
     ) -> Result<Vec<Parcel>, NoMemory>
         requires running { IsRunning self.old }
         requires range { AreCells cells.now }
         ensures own { (self.new.own ≡ self.old.own) × (self.new.place ≡ self.old.place) }
         ensures running { IfOk result (λ _. IsRunning self.new) }
         ensures gives { IfOk result (λ ps.
-            Gives (dpop_message self.old from (Util scope.now cells.now)) self.new ps.items) }
+            Gives (dpop_message self.old from (Util scope.now cells.now)) self.new
+            parcels.items ps.items) }
     {
         let Some(child) = position_of(self.place.children.as_slice(), from) else {
-            return Ok(Vec::new(self.alloc));
+            return Ok(parcels);
         };
         let kept = self.kept.as_slice();
         let over = variables_with(self.alloc, &self.own, &self.place, kept, scope)?;
@@ -161,10 +178,10 @@ impl DpopAgent {
             over.sizes.as_slice(),
         )?
         else {
-            return Ok(Vec::new(self.alloc));
+            return Ok(parcels);
         };
         self.kept[child] = Some(table);
-        self.join(Some(over))
+        self.join(Some(over), parcels)
     }
 
     /// Whether these values are taken.
@@ -187,55 +204,62 @@ impl DpopAgent {
     }
 
     /// Decides, where the values are taken.
-    fn take_values(&mut self, from: VarId, values: &AgentContext) -> Result<Vec<Parcel>, NoMemory>
+    fn take_values(
+        &mut self,
+        from: VarId,
+        values: &AgentContext,
+        parcels: Vec<Parcel>,
+    ) -> Result<Vec<Parcel>, NoMemory>
         requires running { IsRunning self.old }
         requires range { IsContext values.now }
         ensures own { (self.new.own ≡ self.old.own) × (self.new.place ≡ self.old.place) }
         ensures running { IfOk result (λ _. IsRunning self.new) }
         ensures gives { IfOk result (λ ps.
-            Gives (dpop_message self.old from (ValueAll values.now)) self.new ps.items) }
+            Gives (dpop_message self.old from (ValueAll values.now)) self.new
+            parcels.items ps.items) }
     {
         if !self.takes_values(from, values) {
-            return Ok(Vec::new(self.alloc));
+            return Ok(parcels);
         }
-        self.decide(values)
+        self.decide(values, parcels)
     }
 
     /// Handles one message: what is not taken is passed over.
-    fn handle(&mut self, letter: &Letter) -> Result<Vec<Parcel>, NoMemory>
+    fn handle(&mut self, letter: &Letter, parcels: Vec<Parcel>) -> Result<Vec<Parcel>, NoMemory>
         requires running { IsRunning self.old }
         ensures own { (self.new.own ≡ self.old.own) × (self.new.place ≡ self.old.place) }
         ensures running { IfOk result (λ _. IsRunning self.new) }
         ensures gives { IfOk result (λ ps.
-            Gives (dpop_message self.old letter.now.0 letter.now.1) self.new ps.items) }
+            Gives (dpop_message self.old letter.now.0 letter.now.1) self.new
+            parcels.items ps.items) }
     {
         match &letter.message {
             Message::Util { scope, cells } => {
-                self.take_util(letter.from, scope.as_slice(), cells)
+                self.take_util(letter.from, scope.as_slice(), cells, parcels)
             }
-            Message::ValueAll { values } => self.take_values(letter.from, values),
-            _ => Ok(Vec::new(self.alloc)),
+            Message::ValueAll { values } => self.take_values(letter.from, values, parcels),
+            _ => Ok(parcels),
         }
     }
 
-    /// Handles all messages of a batch, in order.
+    /// Handles all messages of a batch, in order. What is sent lies in the room of `parcels`.
     #[tactic(auto, using(crate::proofs::BatchLaws::leads_on, crate::proofs::BatchLaws::led_to))]
-    fn handle_all(&mut self, letters: &[Letter]) -> Result<Vec<Parcel>, NoMemory>
-        requires { IsRunning self.old }
+    fn handle_all(
+        &mut self,
+        letters: &[Letter],
+        parcels: Vec<Parcel>,
+    ) -> Result<Vec<Parcel>, NoMemory>
+        requires running { IsRunning self.old }
+        requires empty { parcels.items ≡ [] }
         ensures own { (self.new.own ≡ self.old.own) × (self.new.place ≡ self.old.place) }
         ensures viewed { IfOk result (λ _. self.new ≡ (dpop_step self.old letters.now).view) }
         ensures sent { IfOk result (λ ps. ps.items ≡ (dpop_step self.old letters.now).sends) }
     {
-        let mut parcels = Vec::new(self.alloc);
+        let mut sent = parcels;
         for letter in letters {
-            let mut more = self.handle(letter)?;
-            if parcels.is_empty() {
-                parcels = more;
-            } else {
-                parcels.append(&mut more)?;
-            }
+            sent = self.handle(letter, sent)?;
         }
-        Ok(parcels)
+        Ok(sent)
     }
 
     /// Fails for good.
@@ -247,14 +271,15 @@ impl DpopAgent {
         NoMemory
     }
 
-    /// Starts: an agent without children joins at once.
-    fn begin(&mut self) -> Result<Vec<Parcel>, NoMemory>
+    /// Starts: an agent without children joins at once. What is sent lies in the room of `parcels`.
+    fn begin(&mut self, parcels: Vec<Parcel>) -> Result<Vec<Parcel>, NoMemory>
         requires { self.old.phase ≡ not_started }
         ensures own { (self.new.own ≡ self.old.own) × (self.new.place ≡ self.old.place) }
-        ensures gives { IfOk result (λ ps. Gives (dpop_start self.old) self.new ps.items) }
+        ensures gives { IfOk result (λ ps.
+            Gives (dpop_start self.old) self.new parcels.items ps.items) }
     {
         self.stage = Stage::Working;
-        self.join(None)
+        self.join(None, parcels)
     }
 }
 
@@ -265,7 +290,8 @@ impl Machine for DpopAgent {
         if matches!(self.stage, Stage::Failed) {
             return Err(NoMemory);
         }
-        let Ok(parcels) = self.begin() else {
+        let lent = mem::replace(out, Outbox::from_vec(Vec::new(self.alloc))).into_vec();
+        let Ok(parcels) = self.begin(lent) else {
             return Err(self.fail());
         };
         *out = Outbox::from_vec(parcels);
@@ -276,7 +302,8 @@ impl Machine for DpopAgent {
         if matches!(self.stage, Stage::Failed) {
             return Err(NoMemory);
         }
-        let Ok(parcels) = self.handle_all(batch.as_slice()) else {
+        let lent = mem::replace(out, Outbox::from_vec(Vec::new(self.alloc))).into_vec();
+        let Ok(parcels) = self.handle_all(batch.as_slice(), lent) else {
             return Err(self.fail());
         };
         *out = Outbox::from_vec(parcels);

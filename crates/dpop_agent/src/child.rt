@@ -24,24 +24,31 @@ use protocol_steps::{Message, Parcel};
 use pseudotree::{MAX_JOINED_CELLS, Place};
 use std::alloc::Global;
 
-/// UTIL for the parent, with the table that was made; the root, whose path is empty, sends none.
-pub(crate) fn util_for(alloc: Global, path: &[VarId], made: &Table) -> Result<Vec<Parcel>, NoMemory>
+/// These parcels, and UTIL for the parent, with the table that was made; the root, whose path is
+/// empty, sends none.
+pub(crate) fn util_for(
+    alloc: Global,
+    path: &[VarId],
+    made: &Table,
+    parcels: Vec<Parcel>,
+) -> Result<Vec<Parcel>, NoMemory>
     requires scope { AreVariables made.now.scope }
     requires cells { AreCells made.now.cells }
-    ensures { IfOk result (λ parcels. parcels.items ≡ parcels_up (last_of path.now) made.now) }
+    ensures { IfOk result (λ ps. ps.items
+        ≡ parcels.items ++ parcels_up (last_of path.now) made.now) }
 {
     let Some(parent) = path.last() else {
-        return Ok(Vec::new(alloc));
+        return Ok(parcels);
     };
-    let mut parcels = Vec::with_capacity(alloc, 1)?;
-    parcels.push(Parcel {
+    let mut sent = parcels;
+    sent.push(Parcel {
         to: *parent,
         message: Message::Util {
             scope: VarList::from_slice(alloc, made.scope.as_slice())?,
             cells: made.cells.clone()?,
         },
     })?;
-    Ok(parcels)
+    Ok(sent)
 }
 
 /// Whether a variable is the agent's parent: the last one of its path.

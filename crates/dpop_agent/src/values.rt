@@ -1,6 +1,6 @@
 //! The values that an agent tells its children.
 
-ghost use Rattle.std.specs.Prelude.{◌≡◌, ◌<◌, length, map, IfOk};
+ghost use Rattle.std.specs.Prelude.{◌≡◌, ◌<◌, ◌++◌, length, map, IfOk};
 ghost use Rattle.std.specs.List.{All, flat_map, zip};
 ghost use Rattle.dcop_base.specs.Limits.{size_limit, variable_limit};
 ghost use Rattle.dcop_base.specs.Values.{with_own};
@@ -75,7 +75,7 @@ fn parcel_for(
     })
 }
 
-/// VALUE for each child whose table is kept: the values of the table's scope.
+/// These parcels, and VALUE for each child whose table is kept: the values of the table's scope.
 pub(crate) fn values_for(
     alloc: Global,
     children: &[VarId],
@@ -83,25 +83,27 @@ pub(crate) fn values_for(
     me: VarId,
     best: Val,
     values: &AgentContext,
+    parcels: Vec<Parcel>,
 ) -> Result<Vec<Parcel>, NoMemory>
     requires counted { length kept.now ≡ length children.now }
     requires scopes { All (λ t. All (λ u. u < variable_limit) t.scope) (flat_map there kept.now) }
     requires best { best < size_limit }
     requires range { IsContext values.now }
-    ensures { IfOk result (λ parcels. parcels.items
-        ≡ flat_map (λ kept. map (λ t. (
+    ensures { IfOk result (λ ps. ps.items
+        ≡ parcels.items ++ flat_map (λ kept. map (λ t. (
           kept.0,
           ValueAll
               (context_of t.scope (with_own me best (valued values.now))),
         )) (there kept.1))
         (zip children.now kept.now)) }
 {
-    let mut parcels = Vec::with_capacity(alloc, children.len())?;
+    let mut told = parcels;
+    told.reserve(children.len())?;
     for (k, entry) in kept.iter().enumerate() {
         if let Some(table) = entry {
             let scope = table.scope.as_slice();
-            parcels.push(parcel_for(alloc, children[k], scope, me, best, values)?)?;
+            told.push(parcel_for(alloc, children[k], scope, me, best, values)?)?;
         }
     }
-    Ok(parcels)
+    Ok(told)
 }

@@ -33,16 +33,16 @@ post-requires c =
     let n = c.requires.network in
     let h = seated c.args.seats.now e c.requires.lawful in
     let is = read_seat c.args.seats.now e h c.agent.inside.0 c.index-seats-agent.result c.agent.view_is in
-    let reach = subst (λ (y : SeatView). All (IsToNeighbour y.view) c.in_ok-out.out) is c.in_ok-out.ensures.receivers in
-    subst (λ (m : ℕ). All (λ (q : ℕ × Message). q.0 < m) c.in_ok-out.out) (sym (length-set c.args.seats.now c.agent.inside.0 c.react.new.self))
-    (all_below n.0 n.1 c.args.seats.now n.2 e h.seat h.here h.fine c.in_ok-out.out reach)
+    let reach = subst (λ (y : SeatView). All (IsToNeighbour y.view) c.react.new.parcels.items) is c.in_ok-react.ensures.receivers in
+    subst (λ (m : ℕ). All (λ (q : ℕ × Message). q.0 < m) c.react.new.parcels.items) (sym (length-set c.args.seats.now c.agent.inside.0 c.react.new.self))
+    (all_below n.0 n.1 c.args.seats.now n.2 e h.seat h.here h.fine c.react.new.parcels.items reach)
 
-pub returns : goal.returns
-returns c =
+pub returns-clause-moved : goal.returns-clause-moved
+returns-clause-moved c =
     let e : Event = record { agent = c.args.agent; takes = c.args.takes.now } in
     let h = seated c.args.seats.now e c.requires.lawful in
     let is = read_seat c.args.seats.now e h c.agent.inside.0 c.index-seats-agent.result c.agent.view_is in
-    let reach = subst (λ (y : SeatView). All (IsToNeighbour y.view) c.in_ok-out.out) is c.in_ok-out.ensures.receivers in
-    let after : c.react.new.self ≡ seat_after h.seat c.args.takes.now = c.in_ok-out.ensures.after ∙ ap (λ (y : SeatView). seat_after y c.args.takes.now) is in
-    let sends : c.in_ok-out.out ≡ seat_sends h.seat c.args.takes.now = c.in_ok-out.ensures.sends ∙ ap (λ (y : SeatView). seat_sends y c.args.takes.now) is in
-    on_ok c.post.result c.post.ensures (λ new. moved c.args.seats.now e h c.agent.inside.0 c.args.agent c.react.new.self c.in_ok-out.out c.post.new.seats c.agent.view_is refl after sends reach new)
+    let reach = subst (λ (y : SeatView). All (IsToNeighbour y.view) c.react.new.parcels.items) is c.in_ok-react.ensures.receivers in
+    let after : c.react.new.self ≡ seat_after h.seat c.args.takes.now = c.in_ok-react.ensures.after ∙ ap (λ (y : SeatView). seat_after y c.args.takes.now) is in
+    let sends : c.react.new.parcels.items ≡ seat_sends h.seat c.args.takes.now = c.in_ok-react.ensures.sends ∙ ap (λ (y : SeatView). seat_sends y c.args.takes.now) is in
+    on_ok c.post.result c.post.ensures.came (λ new. moved c.args.seats.now e h c.agent.inside.0 c.args.agent c.react.new.self c.react.new.parcels.items c.post.new.seats c.agent.view_is refl after sends reach new)

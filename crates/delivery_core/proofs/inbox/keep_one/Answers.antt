@@ -1,4 +1,5 @@
-use Rattle.std.proofs.Common.{ap, ◌∙◌, sym}
+use Rattle.std.proofs.Common.{ap, sym, ◌∙◌}
+use Rattle.delivery_core.proofs.ListLaws.{on_ok}
 use Rattle.std.specs.List.{slice_set}
 use Rattle.delivery_core.specs.State.{LinkView}
 use Rattle.delivery_core.specs.Inboxes.{with_last}
@@ -7,8 +8,8 @@ use Rattle.delivery_core.proofs.inbox.keep_one.Goals as goal
 
 pub returns-in-Some : goal.returns-in-Some
 returns-in-Some c =
-    ap (λ (x : LinkView). slice_set c.args.links.now c.in-Some.at x) c.keep.ensures
-    ∙ edited c.args.from (with_last c.args.letter) c.args.links.now c.in-Some.at c.index-links-at.result (sym c.place_of.ensures ∙ c.in-Some.is)
+    on_ok c.keep.result c.keep.ensures (λ new. ap (λ (x : LinkView). slice_set c.args.links.now c.in-Some.at x) new
+    ∙ edited c.args.from (with_last c.args.letter) c.args.links.now c.in-Some.at c.index-links-at.result (sym c.place_of.ensures ∙ c.in-Some.is))
 
-pub returns-in_default : goal.returns-in_default
-returns-in_default c = unedited c.args.from (with_last c.args.letter) c.args.links.now (sym c.place_of.ensures ∙ c.in_default.is)
+pub returns-in-None : goal.returns-in-None
+returns-in-None c = unedited c.args.from (with_last c.args.letter) c.args.links.now (sym c.place_of.ensures ∙ c.in-None.is)

@@ -1,4 +1,4 @@
-use Rattle.std.proofs.Common.{ℕ, ◌<◌, length, List, sym, ap, subst, ◌∙◌, arith}
+use Rattle.std.proofs.Common.{ℕ, ◌<◌, length, List, ◌++◌, sym, ap, subst, ◌∙◌, arith}
 use Rattle.std.specs.List.{All}
 use Rattle.dcop_base.specs.Table.{CostTable}
 use Rattle.dcop_base.specs.Values.{with_own}
@@ -20,13 +20,13 @@ loop-k-preserved c =
     let kept = c.args.kept.now in
     let k = c.loop-k.k in
     let value = with_own c.args.me c.args.best (valued c.args.values.now) in
-    let whole = values_sent value children kept in
+    let whole = c.args.parcels.items ++ values_sent value children kept in
     let inside = c.loop-k-test.true in
     let counted = c.requires.counted in
     let lt : k < length children = omega (arith, inside, counted) in
     elim c.match-entry.branch [
       | in-Some+in_ok-parcel_for+in_ok-push w ↦
-          tell_child value children kept k c.index-kept-k.result c.loop-k.parcels.items whole lt inside c.index-kept-k.is c.loop-k.invariant w.index-children-k.result w.in-Some.table w.as_slice-scope.result.now w.in_ok-parcel_for.field-0
-          c.match-entry.parcels.items w.index-children-k.is w.in-Some.is (w.as_slice-scope.ensures ∙ ap (λ (t : CostTable). t.scope) w.table.view_is) w.in_ok-parcel_for.ensures (ap (λ v. v.items) w.parcels-is ∙ w.in_ok-push.ensures.items)
-      | in_default w ↦ tell_none value children kept k c.index-kept-k.result c.loop-k.parcels.items whole lt inside c.index-kept-k.is c.loop-k.invariant c.match-entry.parcels.items w.in_default.is (ap (λ v. v.items) w.parcels-is)
+          tell_child value children kept k c.index-kept-k.result c.loop-k.told.items whole lt inside c.index-kept-k.is c.loop-k.invariant w.index-children-k.result w.in-Some.table w.as_slice-scope.result.now w.in_ok-parcel_for.field-0
+          c.match-entry.told.items w.index-children-k.is w.in-Some.is (w.as_slice-scope.ensures ∙ ap (λ (t : CostTable). t.scope) w.table.view_is) w.in_ok-parcel_for.ensures (ap (λ v. v.items) w.told-is ∙ w.in_ok-push.ensures.items)
+      | in_default w ↦ tell_none value children kept k c.index-kept-k.result c.loop-k.told.items whole lt inside c.index-kept-k.is c.loop-k.invariant c.match-entry.told.items w.in_default.is (ap (λ v. v.items) w.told-is)
     ]

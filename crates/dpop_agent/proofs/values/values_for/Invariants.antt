@@ -6,5 +6,5 @@ use Rattle.dpop_agent.proofs.values.values_for.Given as goal
 
 abbrev pub invariant-loop-k : goal.invariant-loop-k
 invariant-loop-k l =
-    l.parcels.items ++ values_sent (with_own l.me l.best (valued l.values)) (drop l.k l.children) (drop l.k l.kept)
-    ≡ values_sent (with_own l.me l.best (valued l.values)) l.children l.kept
+    l.told.items ++ values_sent (with_own l.me l.best (valued l.values)) (drop l.k l.children) (drop l.k l.kept)
+    ≡ l.fn.parcels.items ++ values_sent (with_own l.me l.best (valued l.values)) l.children l.kept

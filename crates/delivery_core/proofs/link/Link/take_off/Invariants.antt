@@ -1,10 +1,11 @@
 use Rattle.std.proofs.Common.{◌≡◌, ◌++◌, take, drop}
+use Rattle.delivery_core.specs.Letters.{taken_in, waiting_in}
 use Rattle.delivery_core.proofs.link.Link.take_off.Given as goal
 
 abbrev pub invariant-loop : goal.invariant-loop
 invariant-loop l = record {
   batch : l.batch.items ≡ l.initial.batch.items ++ take l.counter l.fn.self.waiting;
-  rest : l.self-inside.waiting ≡ drop l.counter l.fn.self.waiting;
+  rest : waiting_in l.self-inside.letters ≡ drop l.counter l.fn.self.waiting;
   from : l.self-inside.from ≡ l.fn.self.from;
-  taken : l.self-inside.taken ≡ l.fn.self.taken;
+  taken : taken_in l.self-inside.letters ≡ l.fn.self.taken;
 }

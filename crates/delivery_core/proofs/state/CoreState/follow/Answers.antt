@@ -24,7 +24,7 @@ returns c = λ p net core.
     let after = deliveries_after p net seats here.shows e (seated seats e none) in (
       fault_same p net seats here.shows e ∙ none,
       record {
-        shows = subst (λ (xs : List SeatView). Shows p (effect net e) xs) (sym back) (c.in_ok-act.ensures p net (subst (λ (xs : List SeatView). Shows p net xs) (sym c.as_mut_slice.ensures.value) here.shows));
+        shows = subst (λ (xs : List SeatView). Shows p (effect net e) xs) (sym back) (c.in_ok-act.ensures.moved p net (subst (λ (xs : List SeatView). Shows p net xs) (sym c.as_mut_slice.ensures.value) here.shows));
         delivered = counted (deliveries net) (counts c.args.takes.now) c.self.inside.delivered c.count_of-taken.result c.saturating_add-self-inside.result most_counted
             here.delivered count c.saturating_add-self-inside.ensures
             ∙ ap (λ n. min n most_counted) (sym after);

@@ -32,8 +32,8 @@ values_for-requires-clause-best c =
 pub returns-clause-gives : goal.returns-clause-gives
 returns-clause-gives c =
     let a = c.self.inside in
-    decided a.own a.place a.stage a.kept.items c.as_slice-kept.result.now a.made a.value c.args.self.now c.args.values.now c.in_ok-best.best c.as_slice-children.result.now c.in_ok-parcels.parcels.items
-    c.self.view_is c.requires.working c.as_slice-kept.ensures.value c.as_slice-children.ensures c.in_ok-best.ensures c.in_ok-parcels.ensures
+    decided a.own a.place a.stage a.kept.items c.as_slice-kept.result.now a.made a.value c.args.self.now c.args.values.now c.in_ok-best.best c.as_slice-children.result.now c.args.parcels.items c.in_ok-told.told.items
+    c.self.view_is c.requires.working c.as_slice-kept.ensures.value c.as_slice-children.ensures c.in_ok-best.ensures c.in_ok-told.ensures
 
 pub invariant_of-self : goal.invariant_of-self
 invariant_of-self c = record {

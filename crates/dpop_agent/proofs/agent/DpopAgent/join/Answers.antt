@@ -23,7 +23,7 @@ returns-in_default-clause-gives c =
     let a = c.self.inside in
     let now = c.as_slice-kept.result.now in
     let cannot = may_not (keeping a.own a.place now) c.in_ok-made.field-0 c.in_ok-made.ensures c.in_default.not-Some in
-    joins_not a.own a.place a.stage a.kept.items now a.made a.value c.args.self.now c.new.result.items c.self.view_is c.as_slice-kept.ensures.value cannot c.new.ensures.items
+    joins_not a.own a.place a.stage a.kept.items now a.made a.value c.args.self.now c.args.parcels.items c.args.parcels.items c.self.view_is c.as_slice-kept.ensures.value cannot refl
 
 pub util_for-requires-clause-scope : goal.util_for-requires-clause-scope
 util_for-requires-clause-scope c =
@@ -64,8 +64,8 @@ returns-then-is_none-clause-gives c =
     let none = ap (λ (vs : List ℕ). is_some (last_of vs)) (c.as_slice.ensures ∙ sym c.as_slice-2.ensures) ∙ sym (ap (λ (o : Option ℕ). is_some o) last) ∙ copied_some c.last.result ∙ c.is_none.ensures ∙ ap not c.if-is_none.true in
     let w : DpopView = view_at a.own a.place a.stage a.kept.items (Some made) a.value in
     let after = c.decide-then-is_none-2.new.self in
-    IfOk-weaker c.decide-then-is_none-2.result (λ ps. Gives (decide w c.new-then-is_none.result) after ps.items) (λ ps. Gives (join c.args.self.now) after ps.items)
-    (λ ps gives. root_joins a.own a.place a.stage a.kept.items now a.made a.value c.args.self.now w made c.as_slice.result.now c.new-then-is_none.result after ps.items c.self.view_is c.as_slice-kept.ensures.value c.as_slice.ensures may.0 may.1 none refl c.new-then-is_none.ensures gives)
+    IfOk-weaker c.decide-then-is_none-2.result (λ ps. Gives (decide w c.new.result) after c.in_ok-sent.sent.items ps.items) (λ ps. Gives (join c.args.self.now) after c.args.parcels.items ps.items)
+    (λ ps gives. root_joins a.own a.place a.stage a.kept.items now a.made a.value c.args.self.now w made c.as_slice.result.now c.new.result after c.args.parcels.items c.in_ok-sent.sent.items ps.items c.self.view_is c.as_slice-kept.ensures.value c.as_slice.ensures may.0 may.1 none c.in_ok-sent.ensures refl c.new.ensures gives)
     c.decide-then-is_none-2.ensures.gives
 
 pub returns-clause-gives : goal.returns-clause-gives
@@ -75,4 +75,4 @@ returns-clause-gives c =
     let may = subst (λ (o : Option CostTable). IsUtilWhereMay (keeping a.own a.place now) o) c.in-Some.is c.in_ok-made.ensures in
     let last = c.last.ensures.value in
     let none = c.is_none.ensures in
-    joins a.own a.place a.stage a.kept.items now a.made a.value c.args.self.now c.in-Some.made c.as_slice.result.now c.in_ok-parcels.parcels.items c.self.view_is c.as_slice-kept.ensures.value c.as_slice.ensures may.0 may.1 (ap (λ (vs : List ℕ). is_some (last_of vs)) (c.as_slice.ensures ∙ sym c.as_slice-2.ensures) ∙ sym (ap (λ (o : Option ℕ). is_some o) last) ∙ copied_some c.last.result ∙ none ∙ ap not c.if-is_none.false) c.in_ok-parcels.ensures
+    joins a.own a.place a.stage a.kept.items now a.made a.value c.args.self.now c.in-Some.made c.as_slice.result.now c.args.parcels.items c.in_ok-sent.sent.items c.self.view_is c.as_slice-kept.ensures.value c.as_slice.ensures may.0 may.1 (ap (λ (vs : List ℕ). is_some (last_of vs)) (c.as_slice.ensures ∙ sym c.as_slice-2.ensures) ∙ sym (ap (λ (o : Option ℕ). is_some o) last) ∙ copied_some c.last.result ∙ none ∙ ap not c.if-is_none.false) c.in_ok-sent.ensures

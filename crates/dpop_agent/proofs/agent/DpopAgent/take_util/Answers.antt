@@ -1,4 +1,4 @@
-use Rattle.std.proofs.Common.{◌≡◌, ℕ, ◌∷◌, ◌++◌, [], List, Option, Some, eqb, sym, ap, subst, ◌∙◌}
+use Rattle.std.proofs.Common.{◌≡◌, ℕ, ◌∷◌, ◌++◌, [], List, Option, Some, eqb, refl, sym, ap, subst, ◌∙◌}
 use Rattle.std.specs.List.{position, slice_set}
 use Rattle.std.proofs.lemmas.Result.{IfOk-weaker}
 use Rattle.dcop_base.specs.Table.{CostTable}
@@ -29,7 +29,7 @@ returns-in_default-2-clause-gives c =
     let found = ap (λ (cs : List ℕ). position (λ x. eqb x c.args.from) cs) (sym c.as_slice.ensures) ∙ sym c.position_of.ensures ∙ c.in-Some.is in
     let tried = subst (λ (es : List (Option CostTable)). IsTaken (keeping a.own a.place es) k scope cells c.in_ok-table.field-0) c.as_slice-kept.ensures.value c.in_ok-table.ensures in
     let not_taken = untaken (keeping a.own a.place a.kept.items) k scope cells c.in_ok-table.field-0 tried c.in_default-2.not-Some in
-    passes_over a.own a.place a.stage a.kept.items a.made a.value c.args.self.now c.args.from k scope cells c.new-in_default-2.result.items c.self.view_is found not_taken c.new-in_default-2.ensures.items
+    passes_over a.own a.place a.stage a.kept.items a.made a.value c.args.self.now c.args.from k scope cells c.args.parcels.items c.args.parcels.items c.self.view_is found not_taken refl
 
 pub invariant_of-self : goal.invariant_of-self
 invariant_of-self c =
@@ -75,6 +75,6 @@ returns-clause-gives c =
     let found = ap (λ (cs : List ℕ). position (λ x. eqb x c.args.from) cs) (sym c.as_slice.ensures) ∙ sym c.position_of.ensures ∙ c.in-Some.is in
     let taken = subst (λ (es : List (Option CostTable)). IsTaken (keeping a.own a.place es) k scope cells (Some t)) c.as_slice-kept.ensures.value
     (subst (λ (o : Option CostTable). IsTaken (keeping a.own a.place now) k scope cells o) c.in-Some-2.is c.in_ok-table.ensures) in
-    IfOk-weaker c.join.result (λ ps. Gives (join mid) after ps.items) (λ ps. Gives (dpop_message v c.args.from (Util scope cells)) after ps.items)
-    (λ ps gives. takes a.own a.place a.stage a.kept.items a.made a.value v c.args.from k scope cells t after ps.items c.self.view_is found taken gives)
+    IfOk-weaker c.join.result (λ ps. Gives (join mid) after c.args.parcels.items ps.items) (λ ps. Gives (dpop_message v c.args.from (Util scope cells)) after c.args.parcels.items ps.items)
+    (λ ps gives. takes a.own a.place a.stage a.kept.items a.made a.value v c.args.from k scope cells t after c.args.parcels.items ps.items c.self.view_is found taken gives)
     c.join.ensures.gives

@@ -1,4 +1,4 @@
-use Rattle.std.proofs.Common.{ℕ, List, sym, subst}
+use Rattle.std.proofs.Common.{ℕ, List, [], ◌∙◌, sym, subst}
 use Rattle.protocol_steps.specs.declared.message.Message.{Message}
 use Rattle.protocol_steps.specs.Dpop.{DpopView}
 use Rattle.protocol_steps.specs.DpopStep.{dpop_start}
@@ -11,13 +11,17 @@ pub returns-clause-ok : goal.returns-clause-ok
 returns-clause-ok c =
     let old = c.args.self.now in
     let new = c.begin.new.self in
-    let gives = subst (λ (ps : List (ℕ × Message)). Gives (dpop_start old) new ps) (sym c.from_vec.ensures) c.in-Ok.ensures.gives in
-    is_start old new c.from_vec.result gives
+    let empty = c.into_vec-lent.ensures ∙ c.replace.ensures.value ∙ c.requires.empty in
+    let begun = subst (λ (ps : List (ℕ × Message)). Gives (dpop_start old) new ps c.in-Ok.parcels.items) empty c.in-Ok.ensures.gives in
+    let gives = subst (λ (ps : List (ℕ × Message)). Gives (dpop_start old) new [] ps) (sym c.from_vec-2.ensures) begun in
+    is_start old new c.from_vec-2.result gives
 
 pub returns-clause-receivers : goal.returns-clause-receivers
 returns-clause-receivers c =
     let old = c.args.self.now in
     let new = c.begin.new.self in
     let placed = subst (λ (v : DpopView). IsPlaceFor v.own v.place) c.self.view_is c.self.invariant.keeper.placed in
-    let gives = subst (λ (ps : List (ℕ × Message)). Gives (dpop_start old) new ps) (sym c.from_vec.ensures) c.in-Ok.ensures.gives in
-    start_reaches old new c.from_vec.result (stands_beside old placed) gives
+    let empty = c.into_vec-lent.ensures ∙ c.replace.ensures.value ∙ c.requires.empty in
+    let begun = subst (λ (ps : List (ℕ × Message)). Gives (dpop_start old) new ps c.in-Ok.parcels.items) empty c.in-Ok.ensures.gives in
+    let gives = subst (λ (ps : List (ℕ × Message)). Gives (dpop_start old) new [] ps) (sym c.from_vec-2.ensures) begun in
+    start_reaches old new c.from_vec-2.result (stands_beside old placed) gives

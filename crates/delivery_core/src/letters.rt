@@ -1,0 +1,129 @@
+//! The letters of a link.
+
+ghost use Rattle.std.specs.Prelude.{◌≡◌, ◌+◌, ◌++◌, [], ◌∷◌, length, IfOk, OnOk, MatchOption, Option, Some, None, option_to_list};
+ghost use Rattle.std.specs.List.{last_or};
+ghost use Rattle.delivery_core.specs.Letters.{taken_in, waiting_in};
+
+use dcop_base::NoMemory;
+use protocol_steps::Letter;
+use std::alloc::Global;
+use std::collections::VecDeque;
+use std::mem;
+
+/// The letters of a link. One letter lies in the link itself, so a link on which no more than one
+/// ever went takes no memory of its own.
+#[derive(Drop)]
+pub(crate) enum Letters {
+    /// None is there.
+    Nothing,
+    /// One letter waits, and none was taken.
+    Waiting(Letter),
+    /// One letter was taken last, and none waits.
+    Taken(Letter),
+    /// Any letters, once there were two.
+    Many(Box<Many>),
+}
+
+/// The last letter that was taken, and those that wait, in the order in which they came.
+#[derive(Drop)]
+pub(crate) struct Many {
+    taken: Option<Letter>,
+    waiting: VecDeque<Letter>,
+}
+
+impl Letters {
+    /// How many letters wait.
+    pub(crate) fn count(&self) -> usize
+        ensures { result ≡ length (waiting_in self.now) }
+    {
+        match self {
+            Letters::Nothing | Letters::Taken(_) => 0,
+            Letters::Waiting(_) => 1,
+            Letters::Many(many) => many.waiting.len(),
+        }
+    }
+
+    /// The same letters, with room for more.
+    fn into_many(self, alloc: Global) -> Result<Box<Many>, NoMemory>
+        ensures taken { IfOk result (λ many. many.value.taken ≡ taken_in self) }
+        ensures waiting { IfOk result (λ many. many.value.waiting.items ≡ waiting_in self) }
+    {
+        let mut waiting = VecDeque::new(alloc);
+        let taken = match self {
+            Letters::Nothing => None,
+            Letters::Waiting(letter) => {
+                waiting.push_back(letter)?;
+                None
+            }
+            Letters::Taken(letter) => Some(letter),
+            Letters::Many(many) => return Ok(many),
+        };
+        Ok(Box::new(alloc, Many { taken, waiting })?)
+    }
+
+    /// A letter comes.
+    pub(crate) fn add(&mut self, alloc: Global, letter: Letter) -> Result<(), NoMemory>
+        ensures taken { OnOk result (taken_in self.new ≡ taken_in self.old) }
+        ensures waiting { OnOk result (waiting_in self.new ≡ waiting_in self.old ++ letter ∷ []) }
+    {
+        match self {
+            Letters::Nothing => *self = Letters::Waiting(letter),
+            Letters::Many(many) => many.waiting.push_back(letter)?,
+            Letters::Waiting(_) | Letters::Taken(_) => {
+                let mut many = mem::replace(self, Letters::Nothing).into_many(alloc)?;
+                many.waiting.push_back(letter)?;
+                *self = Letters::Many(many);
+            }
+        }
+        Ok(())
+    }
+
+    /// The first letter that waits leaves, if there is one.
+    pub(crate) fn pop(&mut self) -> Option<Letter>
+        ensures taken { taken_in self.new ≡ taken_in self.old }
+        ensures items { waiting_in self.old ≡ option_to_list result ++ waiting_in self.new }
+        ensures none { MatchOption result (waiting_in self.old ≡ [])
+            (λ _. length (waiting_in self.old) ≡ length (waiting_in self.new) + 1) }
+    {
+        match self {
+            Letters::Nothing | Letters::Taken(_) => None,
+            Letters::Many(many) => many.waiting.pop_front(),
+            Letters::Waiting(_) => match mem::replace(self, Letters::Nothing) {
+                Letters::Waiting(letter) => Some(letter),
+                _ => None,
+            },
+        }
+    }
+
+    /// Keeps a letter as the last one that was taken.
+    pub(crate) fn keep(&mut self, alloc: Global, letter: Letter) -> Result<(), NoMemory>
+        ensures taken { OnOk result (taken_in self.new ≡ Some letter) }
+        ensures waiting { OnOk result (waiting_in self.new ≡ waiting_in self.old) }
+    {
+        match self {
+            Letters::Nothing | Letters::Taken(_) => *self = Letters::Taken(letter),
+            Letters::Many(many) => many.taken = Some(letter),
+            Letters::Waiting(_) => {
+                let mut many = mem::replace(self, Letters::Nothing).into_many(alloc)?;
+                many.taken = Some(letter);
+                *self = Letters::Many(many);
+            }
+        }
+        Ok(())
+    }
+
+    /// The last letter, if there is one: the last one that waits, else the one that was taken.
+    pub(crate) fn last(&self) -> Option<&Letter>
+        ensures { MatchOption result (last_or (taken_in self.now) (waiting_in self.now) ≡ None)
+            (λ l. last_or (taken_in self.now) (waiting_in self.now) ≡ Some l.now) }
+    {
+        match self {
+            Letters::Nothing => None,
+            Letters::Waiting(letter) | Letters::Taken(letter) => Some(letter),
+            Letters::Many(many) => match many.waiting.back() {
+                Some(letter) => Some(letter),
+                None => many.taken.as_ref(),
+            },
+        }
+    }
+}
