@@ -11,6 +11,7 @@ ghost use Rattle.solve_top.specs.Nodes.{AskForNodes, IsAnswerIn, IsAnswerRead, I
 ghost use Rattle.solve_top.specs.Served.{IsTaskInRange, IsFileTaskInRange};
 ghost use Rattle.solve_top.specs.Solving.{Answered};
 ghost use Rattle.solve_inputs.specs.Told.{told_of};
+ghost use Rattle.solve_inputs.specs.Gives.{IsInput};
 ghost use Rattle.solve_inputs.specs.Inputs.{input_read};
 ghost use Rattle.solve_inputs.specs.Fronts.{front_read};
 
@@ -21,7 +22,7 @@ use crate::methods::{by_adopt, by_auto, by_dpop, by_search};
 use crate::replaying::replay_behind;
 use crate::task::{FileTask, Task, nodes_of, workers_of};
 use answer_edge::{MAX_INPUT, ReadEnd, fault_answer, read_all, words_answer};
-use dcop_base::NoMemory;
+use dcop_base::{Bytes, NoMemory};
 use dcop_edge::{Gate, Source};
 use problem_text::{ProblemFile, TextKind};
 use solve_agents::Crew;
@@ -76,7 +77,7 @@ where
         return unread_answer(&crew, alloc, dialer, &command);
     };
     match read_all(alloc, source) {
-        Ok(bytes) => task_answer(&crew, alloc, dialer, task, bytes.as_slice()),
+        Ok(bytes) => task_answer(&crew, alloc, dialer, task, bytes),
         Err(ReadEnd::Failed) => Ok(Answer::Read),
         Err(ReadEnd::TooLong) => Ok(fault_answer(0, TextKind::TooLong)),
         Err(ReadEnd::NoMemory) => Err(NoMemory),
@@ -89,24 +90,24 @@ fn task_answer<R, D, G>(
     alloc: Global,
     dialer: &mut D,
     task: Task,
-    bytes: &[u8],
+    bytes: Bytes,
 ) -> Result<Answer, NoMemory>
 where
     R: Threads + Wait + Clock + RandomSource + Net + AllocGlobal + Sync,
     D: Dialer,
     G: Gate,
     requires range { IsTaskInRange task }
-    requires short { length bytes.now ≤ input_limit }
-    ensures belongs { IfOk result (IsTaskAnswerIn crew.now.nodes task bytes.now) }
+    requires short { length bytes ≤ input_limit }
+    ensures belongs { IfOk result (IsTaskAnswerIn crew.now.nodes task bytes) }
     ensures links { TellsLinks (1 < crew.now.nodes) (D.is_honest dialer.old) (D.faults dialer.old) (D.faults dialer.new) result }
     ensures right { IfOk result TellsRight }
     ensures told { IfOk result HasText }
 {
     match task {
         Task::File { format, task } => text_answer(crew, alloc, dialer, format, task, bytes),
-        Task::Check { format } => report_answer(alloc, format, bytes),
-        Task::Replay { format, after } => replay_behind(alloc, format, after, bytes),
-        Task::Edit => edits_behind(crew, alloc, bytes),
+        Task::Check { format } => report_answer(alloc, format, bytes.as_slice()),
+        Task::Replay { format, after } => replay_behind(alloc, format, after, bytes.as_slice()),
+        Task::Edit => edits_behind(crew, alloc, bytes.as_slice()),
     }
 }
 
@@ -117,24 +118,32 @@ fn text_answer<R, D, G>(
     dialer: &mut D,
     format: Format,
     task: FileTask,
-    bytes: &[u8],
+    bytes: Bytes,
 ) -> Result<Answer, NoMemory>
 where
     R: Threads + Wait + Clock + RandomSource + Net + AllocGlobal + Sync,
     D: Dialer,
     G: Gate,
     requires range { IsFileTaskInRange task }
-    ensures belongs { IfOk result (IsAnswerRead task crew.now.nodes (input_read format bytes.now) (IsTextAnswer task (input_read format bytes.now))) }
+    ensures belongs { IfOk result (IsAnswerRead task crew.now.nodes (input_read format bytes) (IsTextAnswer task (input_read format bytes))) }
     ensures links { TellsLinks (1 < crew.now.nodes) (D.is_honest dialer.old) (D.faults dialer.old) (D.faults dialer.new) result }
     ensures right { IfOk result TellsRight }
     ensures told { IfOk result HasText }
 {
-    match read_input(alloc, format, bytes) {
+    match told_by(alloc, format, bytes) {
         Ok(read) => file_answer(crew, alloc, dialer, task, read),
         Err(InputFault::Text { line, kind }) => Ok(fault_answer(line, kind)),
         Err(InputFault::Wcsp { line, kind }) => Ok(wcsp_answer(line, kind)),
         Err(InputFault::NoMemory) => Err(NoMemory),
     }
+}
+
+/// What an input tells. Its bytes are given back as soon as they are read, so what is solved lies in
+/// their memory.
+fn told_by(alloc: Global, format: Format, bytes: Bytes) -> Result<ReadInput, InputFault>
+    ensures { IsInput (input_read format bytes) result }
+{
+    read_input(alloc, format, bytes.as_slice())
 }
 
 /// The answer to a task on a file, with the bar of a WCSP text.

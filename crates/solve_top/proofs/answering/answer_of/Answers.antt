@@ -7,8 +7,8 @@ use Rattle.solve_top.proofs.answering.answer_of.Goals as goal
 
 pub returns-in-Ok-read_all-clause-answered : goal.returns-in-Ok-read_all-clause-answered
 returns-in-Ok-read_all-clause-answered g c =
-    Answered-text _ c.in-Ok.command c.nodes_of-nodes.result (sym c.in-Ok.ensures.answer) c.nodes_of-nodes.ensures.same c.in-Some.task _ _ c.in-Ok-read_all.bytes c.as_slice.result.now c.task_answer.result
-    (sym c.in-Some.ensures.same) c.in-Ok-read_all.ensures c.as_slice.ensures c.task_answer.ensures.belongs c.task_answer.ensures.right
+    Answered-text _ c.in-Ok.command c.nodes_of-nodes.result (sym c.in-Ok.ensures.answer) c.nodes_of-nodes.ensures.same c.in-Some.task _ _ c.in-Ok-read_all.bytes c.in-Ok-read_all.bytes c.task_answer.result
+    (sym c.in-Some.ensures.same) c.in-Ok-read_all.ensures refl c.task_answer.ensures.belongs c.task_answer.ensures.right
 
 pub returns-in-Ok-read_all-clause-links : goal.returns-in-Ok-read_all-clause-links
 returns-in-Ok-read_all-clause-links g c =
