@@ -1,6 +1,8 @@
 -- What a call read of its source.
 use Rattle.std.specs.Prelude.{◌≡◌, ℕ, ◌<◌, ◌≤◌, List, [], length, Option, Some, None, Result, Ok, Err}
 use Rattle.dcop_edge.specs.Faults.{Rose}
+use Rattle.dcop_edge.specs.declared.fault.ReadFault.{ReadFault}
+use Rattle.dcop_edge.specs.declared.fault.ReadFault.TheVariants as faults
 use Rattle.dcop_base.specs.Limits.{input_limit}
 use Rattle.answer_edge.specs.declared.reading.ReadEnd.{ReadEnd}
 use Rattle.answer_edge.specs.declared.reading.ReadEnd.TheVariants as ends
@@ -11,6 +13,11 @@ pub data Input : Type 0 where
   Broken : Input
   TooLong : Input
   Whole : List ℕ → Input
+
+-- how a reading ends by the fault of one read
+abbrev pub end_of : ReadFault → ReadEnd
+end_of faults.Failed = ends.Failed
+end_of faults.NoMemory = ends.NoMemory
 
 -- how a source stands: the bytes that it has left, where it tells them, and its count of faults
 pub record SourceState : Type 0 where

@@ -3,10 +3,10 @@
 ghost use Rattle.std.specs.Prelude.{◌≡◌};
 ghost use Rattle.answer_edge.specs.Input.{IsReading, source_state};
 
+use dcop_base::Bytes;
 pub use dcop_base::MAX_INPUT;
-use dcop_base::{Bytes, NoMemory};
-use dcop_edge::{Failed, Source};
-use std::alloc::{AllocError, Global};
+use dcop_edge::{ReadFault, Source};
+use std::alloc::Global;
 
 /// The most bytes of one read.
 const BLOCK: usize = 65_536;
@@ -22,13 +22,16 @@ pub enum ReadEnd {
     NoMemory,
 }
 
-impl From<AllocError> for ReadEnd {
-    ghost use Rattle.answer_edge.specs.declared.reading.ReadEnd.TheVariants.{NoMemory as no_memory};
+impl From<ReadFault> for ReadEnd {
+    ghost use Rattle.answer_edge.specs.Input.{end_of};
 
-    ghost from_gives = { λ _ e. e ≡ no_memory };
+    ghost from_gives = { λ fault e. e ≡ end_of fault };
 
-    fn from(_refused: AllocError) -> Self {
-        ReadEnd::NoMemory
+    fn from(fault: ReadFault) -> Self {
+        match fault {
+            ReadFault::Failed => ReadEnd::Failed,
+            ReadFault::NoMemory => ReadEnd::NoMemory,
+        }
     }
 }
 
@@ -44,12 +47,9 @@ pub fn read_all<S: Source>(alloc: Global, source: &mut S) -> Result<Bytes, ReadE
         (source_state (S.left source.new) (S.faults source.new)) }
 {
     let mut bytes = Vec::new(alloc);
-    let mut block = [0; BLOCK];
     while bytes.len() <= MAX_INPUT {
-        match source.read(&mut block) {
-            Err(Failed) => return Err(ReadEnd::Failed),
-            Ok(0) => return Ok(Bytes::from_vec(bytes)),
-            Ok(count) => bytes.extend_from_slice(&block[..count])?,
+        if source.read_behind(&mut bytes, BLOCK)? == 0 {
+            return Ok(Bytes::from_vec(bytes));
         }
     }
     Err(ReadEnd::TooLong)

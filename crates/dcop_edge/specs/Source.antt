@@ -1,5 +1,5 @@
 -- What a source gives, where it tells the bytes that it has left.
-use Rattle.std.specs.Prelude.{◌≡◌, ◌<◌, ◌≤◌, ℕ, List, length, take, drop, Option}
+use Rattle.std.specs.Prelude.{◌≡◌, ◌<◌, ◌≤◌, ℕ, ◌+◌, List, ◌++◌, length, take, drop, Option}
 use Rattle.std.specs.Io.KnownBytes.{prepend_known, IsAtEnd}
 
 -- One read gave `count` bytes: they were the next ones, and stand in front in the buffer.
@@ -8,3 +8,11 @@ pub record Gives (before after : Option (List ℕ)) (buffer filled : List ℕ) (
   pub front : before ≡ prepend_known (take count filled) after
   pub behind : drop count filled ≡ drop count buffer
   pub end : count ≡ 0 → 0 < length buffer → IsAtEnd after
+
+-- One read added `count` bytes, at most so many: they were the next ones, and stand behind those that were held.
+pub record GivesBehind (before after : Option (List ℕ)) (held grown : List ℕ) (most count : ℕ) : Type 0 where
+  pub within : count ≤ most
+  pub size : length grown ≡ length held + count
+  pub behind : grown ≡ held ++ drop (length held) grown
+  pub front : before ≡ prepend_known (drop (length held) grown) after
+  pub end : count ≡ 0 → 0 < most → IsAtEnd after

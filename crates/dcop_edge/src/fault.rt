@@ -4,11 +4,41 @@ ghost use Rattle.std.specs.Prelude.{◌≡◌, is_err};
 ghost use Rattle.dcop_edge.specs.Faults.{HasCause};
 ghost use Rattle.dcop_edge.specs.Memory.{Calls, no_calls, fails_next, after_call};
 
+use std::alloc::AllocError;
 use std::marker::Model;
 
 /// A source or a sink failed. Its count of faults rose in the call that answers this.
 #[derive(Clone, Copy, Debug, PartialEq, Eq)]
 pub struct Failed;
+
+/// Why a read into a list gave nothing.
+#[derive(Clone, Copy, Debug, PartialEq, Eq)]
+pub enum ReadFault {
+    /// The source failed. Its count of faults rose in the call that answers this.
+    Failed,
+    /// Memory was wanted and not had.
+    NoMemory,
+}
+
+impl From<Failed> for ReadFault {
+    ghost use Rattle.dcop_edge.specs.declared.fault.ReadFault.TheVariants.{Failed as failed};
+
+    ghost from_gives = { λ _ e. e ≡ failed };
+
+    fn from(_failed: Failed) -> Self {
+        ReadFault::Failed
+    }
+}
+
+impl From<AllocError> for ReadFault {
+    ghost use Rattle.dcop_edge.specs.declared.fault.ReadFault.TheVariants.{NoMemory as no_memory};
+
+    ghost from_gives = { λ _ e. e ≡ no_memory };
+
+    fn from(_refused: AllocError) -> Self {
+        ReadFault::NoMemory
+    }
+}
 
 /// Which calls of an object in memory fail, with counts of the calls and of the faults. Both
 /// counts stay at 2^64 - 1 once they are there.

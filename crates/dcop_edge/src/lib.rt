@@ -16,7 +16,7 @@ mod source;
 mod standard;
 mod steady;
 
-pub use fault::Failed;
+pub use fault::{Failed, ReadFault};
 pub use gate::{Gate, OpenGate};
 pub use memory::{MemorySink, MemorySource};
 pub use sink::Sink;

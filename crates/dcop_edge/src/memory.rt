@@ -6,7 +6,7 @@ ghost use Rattle.dcop_edge.specs.Source.{Gives};
 ghost use Rattle.dcop_edge.specs.Sink.{Takes};
 ghost use Rattle.dcop_edge.specs.Memory.{GivingState, TakingState, no_calls, fails_next, after_call, kept_whole};
 
-use crate::fault::{Failed, FailingCalls};
+use crate::fault::{Failed, FailingCalls, ReadFault};
 use crate::kept::Kept;
 use crate::sink::Sink;
 use crate::source::Source;
@@ -55,6 +55,11 @@ impl Source for MemorySource {
     {
         self.calls.come()?;
         self.source.read(into)
+    }
+
+    fn read_behind(&mut self, bytes: &mut Vec<u8>, most: usize) -> Result<usize, ReadFault> {
+        self.calls.come()?;
+        self.source.read_behind(bytes, most)
     }
 }
 

@@ -1,10 +1,10 @@
 //! Where bytes come from.
 
 ghost use Rattle.std.specs.Prelude.{◌≡◌, ℕ, List, Option, IfOk, OnErr};
-ghost use Rattle.dcop_edge.specs.Faults.{HasCause};
-ghost use Rattle.dcop_edge.specs.Source.{Gives};
+ghost use Rattle.dcop_edge.specs.Faults.{HasCause, HasReadCause};
+ghost use Rattle.dcop_edge.specs.Source.{Gives, GivesBehind};
 
-use crate::fault::Failed;
+use crate::fault::{Failed, ReadFault};
 
 /// A source of bytes, read in order to its end.
 pub trait Source {
@@ -23,4 +23,17 @@ pub trait Source {
         ensures none_taken { OnErr result (left self.new ≡ left self.old) }
         ensures unfilled { OnErr result (into.new ≡ into.old) }
         ensures cause { HasCause (faults self.old) (faults self.new) result };
+
+    /// Puts the next bytes behind those of `bytes`, and answers how many they are: at most `most`, and
+    /// 0 where `most` is not 0 only at the end of the input.
+    ///
+    /// # Errors
+    ///
+    /// [`ReadFault::Failed`] where the source failed in this call, [`ReadFault::NoMemory`] where memory
+    /// was wanted and not had: then no byte was taken, and `bytes` is as it was.
+    fn read_behind(&mut self, bytes: &mut Vec<u8>, most: usize) -> Result<usize, ReadFault>
+        ensures given { IfOk result (GivesBehind (left self.old) (left self.new) bytes.old.items bytes.new.items most) }
+        ensures none_taken { OnErr result (left self.new ≡ left self.old) }
+        ensures same { OnErr result (bytes.new.items ≡ bytes.old.items) }
+        ensures cause { HasReadCause (faults self.old) (faults self.new) result };
 }

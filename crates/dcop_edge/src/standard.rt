@@ -1,10 +1,11 @@
 //! The real source and sink, over std's readers and writers.
 
-ghost use Rattle.std.specs.Prelude.{◌<◌, ◌≤◌, None, length, IfSome};
+ghost use Rattle.std.specs.Prelude.{◌≡◌, ◌<◌, ◌≤◌, ◌+◌, ◌++◌, None, length, take, drop, IfOk, OnErr, IfSome, MatchOption};
 
-use crate::fault::Failed;
+use crate::fault::{Failed, ReadFault};
 use crate::sink::Sink;
 use crate::source::Source;
+use std::alloc::AllocError;
 use std::io::{Error, ErrorKind, Read, Write};
 
 /// How often a call that a signal interrupts is tried before it counts as a fault.
@@ -45,6 +46,16 @@ impl<R: Read> Source for StdSource<R> {
             None => {
                 self.faults = self.faults.saturating_add(1);
                 Err(Failed)
+            }
+        }
+    }
+
+    fn read_behind(&mut self, bytes: &mut Vec<u8>, most: usize) -> Result<usize, ReadFault> {
+        match append_again(&mut self.reader, bytes, most.min(BLOCK))? {
+            Some(count) => Ok(count),
+            None => {
+                self.faults = self.faults.saturating_add(1);
+                Err(ReadFault::Failed)
             }
         }
     }
@@ -113,6 +124,37 @@ fn read_again<R: Read>(reader: &mut R, into: &mut [u8]) -> Option<usize>
         }
     }
     None
+}
+
+// One read of at most so many bytes behind those that are there; `None` where it is refused: then
+// they are as they were.
+fn append_again<R: Read>(
+    reader: &mut R,
+    bytes: &mut Vec<u8>,
+    most: usize,
+) -> Result<Option<usize>, AllocError>
+    requires { most ≤ 65536 }
+    ensures found { IfOk result (λ found. MatchOption found (bytes.new.items ≡ bytes.old.items)
+        (λ count. (count ≤ most) × (length bytes.new.items ≡ length bytes.old.items + count)
+        × (bytes.new.items ≡ bytes.old.items ++ drop (length bytes.old.items) bytes.new.items))) }
+    ensures same { OnErr result (bytes.new.items ≡ bytes.old.items) }
+{
+    let held = bytes.as_slice().len();
+    bytes.resize(held + most, 0)?;
+    let found = read_tail(reader, bytes.as_mut_slice(), held);
+    bytes.truncate(held + found.unwrap_or(0));
+    Ok(found)
+}
+
+// One read into what lies behind so many bytes, which stay; `None` where it is refused.
+fn read_tail<R: Read>(reader: &mut R, bytes: &mut [u8], held: usize) -> Option<usize>
+    requires { held ≤ length bytes.old }
+    ensures within { IfSome result (λ count. held + count ≤ length bytes.old) }
+    ensures size { length bytes.new ≡ length bytes.old }
+    ensures held { take held bytes.new ≡ take held bytes.old }
+{
+    let (_, room) = bytes.split_at_mut(held);
+    read_again(reader, room)
 }
 
 // One write, tried again where a signal interrupts it; `None` where it is refused or takes nothing.

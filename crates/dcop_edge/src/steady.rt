@@ -4,7 +4,7 @@ ghost use Rattle.std.specs.Prelude.{◌≡◌, ◌≤◌, ℕ, true, false, List
 ghost use Rattle.dcop_edge.specs.Memory.{RoomState, kept_whole, held_within};
 ghost use Rattle.dcop_edge.specs.Sink.{Adds};
 
-use crate::fault::Failed;
+use crate::fault::{Failed, ReadFault};
 use crate::kept::Kept;
 use crate::sink::Sink;
 use crate::source::Source;
@@ -43,6 +43,14 @@ impl Source for SteadySource {
 
     fn read(&mut self, into: &mut [u8]) -> Result<usize, Failed> {
         let count = fill_front(into, &self.bytes[self.given..]);
+        self.given += count;
+        Ok(count)
+    }
+
+    fn read_behind(&mut self, bytes: &mut Vec<u8>, most: usize) -> Result<usize, ReadFault> {
+        let left = &self.bytes[self.given..];
+        let count = left.len().min(most);
+        bytes.extend_from_slice(&left[..count])?;
         self.given += count;
         Ok(count)
     }
