@@ -9,8 +9,8 @@ ghost use Rattle.agent_workers.specs.Joined.{states_of};
 ghost use Rattle.agent_links.specs.Ready.{deliveries_in};
 
 use agent_cells::Cell;
-use dcop_base::{NoMemory, Sequence, Table, ValList};
-use protocol_steps::{Outcome, RunEnd};
+use dcop_base::{NoMemory, Table, ValList};
+use protocol_steps::{OptionList, Outcome, RunEnd};
 use pseudotree::Place;
 use std::alloc::Global;
 
@@ -70,14 +70,14 @@ fn values_of(alloc: Global, cells: &[Cell]) -> Result<ValList, NoMemory>
 }
 
 /// The tables that the agents made.
-fn tables_of(alloc: Global, cells: &[Cell]) -> Result<Sequence<Option<Table>>, NoMemory>
+fn tables_of(alloc: Global, cells: &[Cell]) -> Result<OptionList<Table>, NoMemory>
     ensures { IfOk result (λ tables. tables ≡ map (λ c. table_of (state_of (λ b. meaning (b.vtable, b.value)) c).view) cells.now) }
 {
-    let mut tables = Vec::with_capacity(alloc, cells.len())?;
+    let mut tables = OptionList::new(alloc, cells.len());
     for cell in cells {
         tables.push(table_in(cell)?)?;
     }
-    Ok(Sequence::from_vec(tables))
+    Ok(tables)
 }
 
 /// The table that an agent made.
@@ -91,14 +91,14 @@ fn table_in(cell: &Cell) -> Result<Option<Table>, NoMemory>
 }
 
 /// The places that the agents found.
-fn places_of(alloc: Global, cells: &[Cell]) -> Result<Sequence<Option<Place>>, NoMemory>
+fn places_of(alloc: Global, cells: &[Cell]) -> Result<OptionList<Place>, NoMemory>
     ensures { IfOk result (λ places. places ≡ map (λ c. place_of (state_of (λ b. meaning (b.vtable, b.value)) c).view) cells.now) }
 {
-    let mut places = Vec::with_capacity(alloc, cells.len())?;
+    let mut places = OptionList::new(alloc, cells.len());
     for cell in cells {
         places.push(place_in(cell)?)?;
     }
-    Ok(Sequence::from_vec(places))
+    Ok(places)
 }
 
 /// The place that an agent found.

@@ -10,6 +10,7 @@ ghost use Rattle.cut_dpop.specs.Kept.{KeepsTurn};
 use certificate_text::Turn;
 use dcop_base::{NoMemory, Table, ValList};
 use delivery_core::Start;
+use protocol_steps::OptionList;
 use pseudotree::Tree;
 use std::alloc::Global;
 use util_tables::utils_of;
@@ -22,7 +23,7 @@ pub(crate) fn keep_turn(
     keep: bool,
     kept: &mut Vec<Turn>,
     values: ValList,
-    tables: &[Option<Table>],
+    tables: &OptionList<Table>,
 ) -> Result<(), NoMemory>
     requires { (left : Dcop) × IsDpopStart left start.now }
     ensures { (left : Dcop) → IsDpopStart left start.now → HaveMade left (paths_in start.now) tables.now
@@ -51,7 +52,7 @@ fn turn_made(
     alloc: Global,
     tree: &Tree,
     values: ValList,
-    tables: &[Option<Table>],
+    tables: &OptionList<Table>,
 ) -> Result<Turn, NoMemory>
     ensures values { IfOk result (λ turn. turn.values ≡ values) }
     ensures tables { (left : Dcop) → IsPseudotreeOf left tree.now → HaveMade left tree.now.paths tables.now

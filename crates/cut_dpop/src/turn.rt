@@ -113,7 +113,7 @@ fn play_turn<R: Threads + Sync, G: Gate>(
     let outcome = solve_left(crew, alloc, &left, start)?;
     let cost = cost_of(&left, outcome.values.as_slice());
     let values = with_own(outcome.values, cut.as_slice(), turn.as_slice());
-    keep_turn(alloc, start, keep, kept, turn, outcome.tables.as_slice())?;
+    keep_turn(alloc, start, keep, kept, turn, &outcome.tables)?;
     Ok(Played {
         cost,
         values,

@@ -14,6 +14,7 @@ mod law;
 mod letter;
 mod machine;
 mod message;
+mod option_list;
 mod outcome;
 mod run_end;
 mod standing;
@@ -27,6 +28,7 @@ pub use law::{
 pub use letter::{Batch, Envelope, Letter, Outbox, Parcel};
 pub use machine::Machine;
 pub use message::Message;
+pub use option_list::OptionList;
 pub use outcome::Outcome;
 pub use run_end::RunEnd;
 pub use standing::Standing;

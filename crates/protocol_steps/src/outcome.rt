@@ -1,7 +1,8 @@
 //! What the agents of a run have come to.
 
+use crate::option_list::OptionList;
 use crate::standing::Standing;
-use dcop_base::{Sequence, Table, ValList};
+use dcop_base::{Table, ValList};
 use pseudotree::Place;
 
 /// What the agents of a run have come to, as far as an answer tells of it: who runs agents hands
@@ -11,10 +12,10 @@ pub struct Outcome {
     /// The values; 0 of an agent that has taken none.
     pub values: ValList,
     /// The UTIL tables of DPOP agents; `None` before an agent has joined, and for other kinds.
-    pub tables: Sequence<Option<Table>>,
+    pub tables: OptionList<Table>,
     /// The places that token agents found, without the path's sizes; `None` before an agent has
     /// ended, and for other kinds.
-    pub places: Sequence<Option<Place>>,
+    pub places: OptionList<Place>,
     /// The bounds and the threshold of agent 0, the root of the depth-first tree; 0, none and 0
     /// where it is no ADOPT agent.
     pub top: Standing,

@@ -75,7 +75,7 @@ pub fn chosen_by(
     dpop_runs();
     rounds_are_a_run();
     problem_is_whole(problem);
-    let certificate = certificate_of(alloc, nodes, outcome.tables.as_slice())?;
+    let certificate = certificate_of(alloc, nodes, &outcome.tables)?;
     Ok(Chosen {
         values: outcome.values,
         deliveries: outcome.deliveries,

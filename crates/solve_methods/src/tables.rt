@@ -5,6 +5,7 @@ ghost use Rattle.solve_methods.specs.Agreed.{certificate_with, node_util};
 
 use certificate_text::{Certificate, Util, UtilList};
 use dcop_base::{NoMemory, Table};
+use protocol_steps::OptionList;
 use solve_report::{NodeRow, NodeRowList};
 use std::alloc::Global;
 use util_tables::cells_of;
@@ -13,7 +14,7 @@ use util_tables::cells_of;
 pub(crate) fn certificate_of(
     alloc: Global,
     nodes: Option<NodeRowList>,
-    tables: &[Option<Table>],
+    tables: &OptionList<Table>,
 ) -> Result<Option<Certificate>, NoMemory>
     ensures { IfOk result (λ certificate. certificate ≡ option_map (certificate_with tables.now) nodes) }
 {
@@ -27,7 +28,7 @@ pub(crate) fn certificate_of(
 fn utils_of(
     alloc: Global,
     nodes: NodeRowList,
-    tables: &[Option<Table>],
+    tables: &OptionList<Table>,
 ) -> Result<UtilList, NoMemory>
     ensures { IfOk result (λ utils. utils ≡ map (node_util tables.now) nodes) }
 {
@@ -39,7 +40,7 @@ fn utils_of(
 }
 
 /// The table that the agent of a node made.
-fn util_of(alloc: Global, node: NodeRow, tables: &[Option<Table>]) -> Result<Util, NoMemory>
+fn util_of(alloc: Global, node: NodeRow, tables: &OptionList<Table>) -> Result<Util, NoMemory>
     ensures { IfOk result (λ util. util ≡ node_util tables.now node) }
 {
     let NodeRow {

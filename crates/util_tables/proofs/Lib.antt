@@ -3,3 +3,4 @@ pub mod MadeLaws
 mod OnceLaws
 mod ScopeLaws
 pub mod UtilLaws
+mod CellLaws

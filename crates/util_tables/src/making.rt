@@ -7,6 +7,7 @@ ghost use Rattle.util_tables.specs.Utils.{AreUtilsOf, HaveMade, cells_on, util_w
 
 use certificate_text::{Util, UtilList};
 use dcop_base::{CellList, NoMemory, Table, VarId, VarList};
+use protocol_steps::OptionList;
 use pseudotree::Tree;
 use std::alloc::Global;
 
@@ -16,14 +17,18 @@ use std::alloc::Global;
 /// # Errors
 ///
 /// [`NoMemory`] where memory was wanted and not had.
-pub fn utils_of(alloc: Global, tree: &Tree, tables: &[Option<Table>]) -> Result<UtilList, NoMemory>
+pub fn utils_of(
+    alloc: Global,
+    tree: &Tree,
+    tables: &OptionList<Table>,
+) -> Result<UtilList, NoMemory>
     ensures { (p : Dcop) → IsPseudotreeOf p tree.now → HaveMade p tree.now.paths tables.now
         → IfOk result (AreUtilsOf p tree.now.paths) }
 {
     utils_with(alloc, tree, tables)
 }
 
-fn utils_with(alloc: Global, tree: &Tree, tables: &[Option<Table>]) -> Result<UtilList, NoMemory>
+fn utils_with(alloc: Global, tree: &Tree, tables: &OptionList<Table>) -> Result<UtilList, NoMemory>
     ensures { IfOk result (λ utils. utils ≡ utils_with (separator_at tree.now) tree.now.paths tables.now) }
 {
     let vars = tree.preorder().as_slice();
@@ -38,7 +43,7 @@ fn utils_with(alloc: Global, tree: &Tree, tables: &[Option<Table>]) -> Result<Ut
 fn util_of(
     alloc: Global,
     tree: &Tree,
-    tables: &[Option<Table>],
+    tables: &OptionList<Table>,
     var: VarId,
 ) -> Result<Util, NoMemory>
     requires { var < length tree.now.paths }
@@ -59,11 +64,12 @@ fn util_of(
 /// # Errors
 ///
 /// [`NoMemory`] where memory was wanted and not had.
-pub fn cells_of(alloc: Global, var: VarId, tables: &[Option<Table>]) -> Result<CellList, NoMemory>
+#[tactic(auto, using(crate::proofs::CellLaws::cells_got))]
+pub fn cells_of(alloc: Global, var: VarId, tables: &OptionList<Table>) -> Result<CellList, NoMemory>
     ensures { IfOk result (λ cells. cells ≡ cells_on (slice_get tables.now var)) }
 {
     match tables.get(var.0 as usize) {
-        Some(Some(table)) => Ok(table.cells.clone()?),
-        _ => Ok(CellList::from_vec(Vec::new(alloc))),
+        Some(table) => Ok(table.cells.clone()?),
+        None => Ok(CellList::from_vec(Vec::new(alloc))),
     }
 }

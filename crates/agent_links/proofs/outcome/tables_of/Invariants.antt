@@ -4,4 +4,4 @@ use Rattle.agent_cells.specs.State.{state_of}
 use Rattle.agent_links.proofs.outcome.tables_of.Given as goal
 
 abbrev pub invariant-loop-cell : goal.invariant-loop-cell
-invariant-loop-cell g l = l.tables.items ≡ map (λ c. table_of (state_of (λ b. (goal.Machine-dyn g (b.vtable, b.value)).meaning b.value) c).view) (take l.cell-index l.cells)
+invariant-loop-cell g l = l.tables ≡ map (λ c. table_of (state_of (λ b. (goal.Machine-dyn g (b.vtable, b.value)).meaning b.value) c).view) (take l.cell-index l.cells)

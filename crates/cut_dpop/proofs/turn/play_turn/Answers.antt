@@ -1,10 +1,8 @@
-use Rattle.std.proofs.Common.{ℕ, ◌<◌, List, length, Option, sym, ap, subst, ◌∙◌}
+use Rattle.std.proofs.Common.{ℕ, ◌<◌, List, length, sym, ap, subst, ◌∙◌}
 use Rattle.std.specs.List.{All}
-use Rattle.dcop_base.specs.Table.{CostTable}
 use Rattle.dcop_base.specs.Problem.{Dcop, cost}
 use Rattle.pseudotree.specs.Width.{IsNarrow}
 use Rattle.cost_table.specs.Slices.{put_in}
-use Rattle.util_tables.specs.Utils.{HaveMade}
 use Rattle.cut_dpop.specs.Start.{paths_in, IsDpopStart}
 use Rattle.cut_dpop.proofs.AgreedLaws.{start-on_slice}
 use Rattle.cut_dpop.proofs.PlayedLaws.{turn-is, turn-long, cut-inside, is-played}
@@ -52,9 +50,7 @@ returns-clause-kept g c =
     let start : IsDpopStart c.in_ok-left.left c.args.start.now =
     subst (λ (q : Dcop). IsDpopStart q c.args.start.now) (sym c.in_ok-left.ensures)
     (start-on_slice c.args.problem.now c.args.cut.now c.in_ok-turn.turn c.args.start.now c.slices_keep_trees.ensures c.requires.start) in
-    let made : HaveMade c.in_ok-left.left (paths_in c.args.start.now) c.as_slice-4.result.now =
-    subst (λ (ts : List (Option CostTable)). HaveMade c.in_ok-left.left (paths_in c.args.start.now) ts) (sym c.as_slice-4.ensures) c.in_ok-outcome.ensures.tables in
     kept-in-turn c.args.keep c.args.problem.now (paths_in c.args.start.now) c.args.cut.now c.args.number c.in_ok-left.left c.in_ok-turn.turn c.args.kept.now.items c.keep_turn.new.kept.items
     c.in_ok-left.ensures
     (turn-is c.args.problem.now (paths_in c.args.start.now) c.args.cut.now c.args.sizes.now c.requires.sizes c.args.number c.in_ok-turn.turn c.in_ok-turn.ensures)
-    (c.in_ok-keep_turn.ensures c.in_ok-left.left start made)
+    (c.in_ok-keep_turn.ensures c.in_ok-left.left start c.in_ok-outcome.ensures.tables)

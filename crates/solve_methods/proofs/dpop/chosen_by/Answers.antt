@@ -1,10 +1,7 @@
-use Rattle.std.proofs.Common.{List, Option, ap, ◌∙◌}
-use Rattle.std.specs.Option.{option_map}
-use Rattle.dcop_base.specs.Table.{CostTable}
 use Rattle.dcop_base.specs.Whole.{IsProblem}
 use Rattle.pseudotree.specs.DepthFirst.{dfs}
 use Rattle.pseudotree.specs.Pseudotree.{IsPseudotree}
-use Rattle.solve_methods.specs.Agreed.{HaveValues, certificate_with}
+use Rattle.solve_methods.specs.Agreed.{HaveValues}
 use Rattle.solve_methods.proofs.AgreedLaws.{run-agreed}
 use Rattle.solve_methods.proofs.MadeLaws.{certificate_made}
 use Rattle.solve_methods.proofs.dpop.chosen_by.Goals as goal
@@ -17,7 +14,7 @@ returns-clause-asked c =
     let have : HaveValues p c.args.outcome =
     run-agreed p whole is_tree (c.token_runs.ensures.linked p whole) c.requires.narrow c.dpop_runs.ensures c.rounds_are_a_run.ensures c.args.outcome c.requires.run in
     (certificate_made p c.args.outcome.tables have.tables is_tree c.args.nodes c.in_ok-certificate.certificate c.requires.nodes
-    (c.in_ok-certificate.ensures ∙ ap (λ (tables : List (Option CostTable)). option_map (certificate_with tables) c.args.nodes) c.as_slice.ensures)).0
+    c.in_ok-certificate.ensures).0
 
 pub returns-clause-agreed : goal.returns-clause-agreed
 returns-clause-agreed c =
@@ -31,5 +28,5 @@ returns-clause-agreed c =
       deliveries = have.deliveries;
       certificate =
           (certificate_made p c.args.outcome.tables have.tables is_tree c.args.nodes c.in_ok-certificate.certificate c.requires.nodes
-          (c.in_ok-certificate.ensures ∙ ap (λ (tables : List (Option CostTable)). option_map (certificate_with tables) c.args.nodes) c.as_slice.ensures)).1;
+          c.in_ok-certificate.ensures).1;
     }
