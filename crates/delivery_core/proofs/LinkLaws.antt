@@ -11,6 +11,7 @@ use Rattle.protocol_steps.proofs.EventLaws.{not_then}
 use Rattle.protocol_steps.specs.declared.message.Message.{Message}
 use Rattle.delivery_core.specs.State.{LinkView, link_from, waiting_on, waiting_from}
 use Rattle.delivery_core.specs.Inboxes.{edit_link}
+use Rattle.delivery_core.specs.Queues.{queued}
 
 module _ {X : Type 0} (p : X → Bool) where
   pub find_first : (xs : List X) (k : ℕ) (d : X) → k < length xs → p (get_or xs k d) ≡ true → ((i : ℕ) → i < k → p (get_or xs i d) ≡ false) → find p xs ≡ Some (get_or xs k d)
@@ -82,6 +83,11 @@ last_push o (x ∷ y ∷ ys) d some =
 
 pub last_is : {A : Type 0} (o : Option A) (xs : List A) (d : A) → 0 < length xs → d ≡ get_or xs (length xs - 1) d → last_or o xs ≡ Some d
 last_is o xs d some is = last_push o xs d some ∙ ap (λ y. Some y) (sym is)
+
+-- the last letter of a queue with letters behind its first one
+pub last_queued : (first : Option (ℕ × Message)) (behind : List (ℕ × Message)) (o : Option (ℕ × Message)) (d : ℕ × Message) → 0 < length behind → d ≡ get_or behind (length behind - 1) d → last_or o (queued first behind) ≡ Some d
+last_queued None behind o d some is = last_is o behind d some is
+last_queued (Some first) behind o d some is = last_is (Some first) behind d some is
 
 module _ {X : Type 0} where
   -- where one more is taken off a list, it is the first of those that are left

@@ -16,4 +16,4 @@ abbrev pub waiting_in : Letters → List (ℕ × Message)
 waiting_in Nothing = []
 waiting_in (Waiting m) = m ∷ []
 waiting_in (Taken m) = []
-waiting_in (Many b) = b.value.waiting.items
+waiting_in (Many b) = b.value.waiting

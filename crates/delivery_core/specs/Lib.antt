@@ -9,4 +9,5 @@ pub mod Starts
 pub mod Kinds
 pub mod Shown
 pub mod PlayedOut
+pub mod Queues
 pub mod Letters

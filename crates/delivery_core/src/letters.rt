@@ -1,13 +1,13 @@
 //! The letters of a link.
 
-ghost use Rattle.std.specs.Prelude.{◌≡◌, ◌+◌, ◌++◌, [], ◌∷◌, length, IfOk, OnOk, MatchOption, Option, Some, None, option_to_list};
+ghost use Rattle.std.specs.Prelude.{◌≡◌, ◌+◌, ◌++◌, [], ◌∷◌, length, IfOk, OnOk, MatchOption, Some, None, option_to_list};
 ghost use Rattle.std.specs.List.{last_or};
 ghost use Rattle.delivery_core.specs.Letters.{taken_in, waiting_in};
 
+use crate::queue::Queue;
 use dcop_base::NoMemory;
 use protocol_steps::Letter;
 use std::alloc::Global;
-use std::collections::VecDeque;
 use std::mem;
 
 /// The letters of a link. One letter lies in the link itself, so a link on which no more than one
@@ -28,7 +28,7 @@ pub(crate) enum Letters {
 #[derive(Drop)]
 pub(crate) struct Many {
     taken: Option<Letter>,
-    waiting: VecDeque<Letter>,
+    waiting: Queue,
 }
 
 impl Letters {
@@ -37,22 +37,22 @@ impl Letters {
         ensures { result ≡ length (waiting_in self.now) }
     {
         match self {
-            Letters::Nothing | Letters::Taken(_) => 0,
             Letters::Waiting(_) => 1,
             Letters::Many(many) => many.waiting.len(),
+            _ => 0,
         }
     }
 
     /// The same letters, with room for more.
     fn into_many(self, alloc: Global) -> Result<Box<Many>, NoMemory>
         ensures taken { IfOk result (λ many. many.value.taken ≡ taken_in self) }
-        ensures waiting { IfOk result (λ many. many.value.waiting.items ≡ waiting_in self) }
+        ensures waiting { IfOk result (λ many. many.value.waiting ≡ waiting_in self) }
     {
-        let mut waiting = VecDeque::new(alloc);
+        let mut waiting = Queue::new(alloc);
         let taken = match self {
             Letters::Nothing => None,
             Letters::Waiting(letter) => {
-                waiting.push_back(letter)?;
+                waiting.push(letter)?;
                 None
             }
             Letters::Taken(letter) => Some(letter),
@@ -68,10 +68,10 @@ impl Letters {
     {
         match self {
             Letters::Nothing => *self = Letters::Waiting(letter),
-            Letters::Many(many) => many.waiting.push_back(letter)?,
+            Letters::Many(many) => many.waiting.push(letter)?,
             Letters::Waiting(_) | Letters::Taken(_) => {
                 let mut many = mem::replace(self, Letters::Nothing).into_many(alloc)?;
-                many.waiting.push_back(letter)?;
+                many.waiting.push(letter)?;
                 *self = Letters::Many(many);
             }
         }
@@ -87,7 +87,7 @@ impl Letters {
     {
         match self {
             Letters::Nothing | Letters::Taken(_) => None,
-            Letters::Many(many) => many.waiting.pop_front(),
+            Letters::Many(many) => many.waiting.pop(),
             Letters::Waiting(_) => match mem::replace(self, Letters::Nothing) {
                 Letters::Waiting(letter) => Some(letter),
                 _ => None,
@@ -120,7 +120,7 @@ impl Letters {
         match self {
             Letters::Nothing => None,
             Letters::Waiting(letter) | Letters::Taken(letter) => Some(letter),
-            Letters::Many(many) => match many.waiting.back() {
+            Letters::Many(many) => match many.waiting.last() {
                 Some(letter) => Some(letter),
                 None => many.taken.as_ref(),
             },

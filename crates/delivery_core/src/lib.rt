@@ -16,6 +16,7 @@ mod lawful;
 mod letters;
 mod link;
 mod outcome;
+mod queue;
 mod replaying;
 mod seat;
 mod start;

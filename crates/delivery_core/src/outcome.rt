@@ -6,16 +6,16 @@ ghost use Rattle.delivery_core.specs.PlayedOut.{TellsOf};
 
 use crate::seat::Seat;
 use crate::state::CoreState;
-use dcop_base::{NoMemory, Sequence, Table, ValList, VarId};
-use protocol_steps::Outcome;
+use dcop_base::{NoMemory, Table, ValList, VarId};
+use protocol_steps::{OptionList, Outcome};
 use pseudotree::Place;
 use std::alloc::Global;
 
 /// What agents have made, one item for each.
 #[derive(Drop)]
 struct Made {
-    tables: Vec<Option<Table>>,
-    places: Vec<Option<Place>>,
+    tables: OptionList<Table>,
+    places: OptionList<Place>,
 }
 
 /// The values of agents.
@@ -31,11 +31,11 @@ fn values_of(alloc: Global, seats: &[Seat]) -> Result<ValList, NoMemory>
 
 /// What agents have made.
 fn made_by(alloc: Global, seats: Vec<Seat>) -> Result<Made, NoMemory>
-    ensures tables { IfOk result (λ made. made.tables.items ≡ map (λ x. table_of x.view) seats.items) }
-    ensures places { IfOk result (λ made. made.places.items ≡ map (λ x. place_of x.view) seats.items) }
+    ensures tables { IfOk result (λ made. made.tables ≡ map (λ x. table_of x.view) seats.items) }
+    ensures places { IfOk result (λ made. made.places ≡ map (λ x. place_of x.view) seats.items) }
 {
-    let mut tables = Vec::with_capacity(alloc, seats.len())?;
-    let mut places = Vec::with_capacity(alloc, seats.len())?;
+    let mut tables = OptionList::new(alloc, seats.len());
+    let mut places = OptionList::new(alloc, seats.len());
     for seat in seats {
         let (table, place) = seat.into_agent().into_made();
         tables.push(table)?;
@@ -60,8 +60,8 @@ pub fn outcome_of(alloc: Global, state: CoreState) -> Result<Outcome, NoMemory>
     let made = made_by(alloc, state.seats)?;
     Ok(Outcome {
         values,
-        tables: Sequence::from_vec(made.tables),
-        places: Sequence::from_vec(made.places),
+        tables: made.tables,
+        places: made.places,
         top,
         deliveries,
         ended,

@@ -1,5 +1,5 @@
 -- A DPOP agent by what it was made from and the tables that it keeps.
-use Rattle.std.specs.Prelude.{◌≡◌, ℕ, ◌||◌, true, false, List, [], ◌∷◌, ◌++◌, map, Option, Some, None}
+use Rattle.std.specs.Prelude.{◌≡◌, ℕ, ◌<◌, Bool, ◌||◌, true, false, List, [], ◌∷◌, ◌++◌, length, map, Option, Some, None, slice_index_or}
 use Rattle.std.specs.List.{filter, flat_map, list_any}
 use Rattle.dcop_base.specs.Table.{CostTable, has}
 use Rattle.dcop_base.specs.declared.knowledge.Private.{Private}
@@ -25,6 +25,14 @@ MayKeep own place (Some t) = IsChildTable own place t
 abbrev pub AreApart : List ℕ → List ℕ → Type 0
 AreApart lower path = (u : ℕ) → has lower u ≡ true → has path u ≡ false
 
+-- a variable is a neighbour or stands in this scope or one that is kept
+abbrev pub is_near : Private → List (Option CostTable) → List ℕ → ℕ → Bool
+is_near own kept scope u = has own.neighbours u || list_any (λ vars. has vars u) (scope ∷ map (λ t. t.scope) (flat_map there kept))
+
+-- marks at the places of variables, which say of each whether it passes a test
+abbrev pub AreMarks : (ℕ → Bool) → List ℕ → List Bool → Type 0
+AreMarks p vars marks = (k : ℕ) → k < length vars → slice_index_or marks k false ≡ p (slice_index_or vars k 0)
+
 -- the variables of a list that are neighbours or stand in this scope or one that is kept
 abbrev pub near_in : Private → List (Option CostTable) → List ℕ → List ℕ → List ℕ
-near_in own kept scope path = filter (λ u. has own.neighbours u || list_any (λ vars. has vars u) (scope ∷ map (λ t. t.scope) (flat_map there kept))) path
+near_in own kept scope path = filter (is_near own kept scope) path

@@ -79,18 +79,3 @@ fn stands_from_the_end(vars: &[VarId], var: VarId) -> bool
     }
     stands_from_the_end(before, var)
 }
-
-/// Whether these variables are the agent's and otherwise only those of a short list.
-pub(crate) fn are_mine_or_among(scope: &[VarId], me: VarId, vars: &[VarId]) -> bool
-    ensures { result ≡ list_all (λ u. u == me || has vars.now u) scope.now }
-{
-    scope.iter().all(|var| *var == me || stands_in(vars, *var))
-}
-
-/// Whether each of these variables stands in one of two lists.
-pub(crate) fn are_in_either(vars: &[VarId], first: &[VarId], second: &[VarId]) -> bool
-    ensures { result ≡ list_all (λ u. has first.now u || has second.now u) vars.now }
-{
-    vars.iter()
-        .all(|var| stands_in(first, *var) || stands_in(second, *var))
-}

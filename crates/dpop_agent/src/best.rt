@@ -32,8 +32,27 @@ pub(crate) fn best_of(
     ensures { IfOk result (λ best. best
         ≡ best_value (keeping own.now place.now kept.now) (valued values.now)) }
 {
-    let mut costs = vec![in alloc; 0; usize::from(own.size)]?;
+    let size = usize::from(own.size);
+    if size <= ROW {
+        return Ok(best_of_few(own, place, kept, values));
+    }
+    let mut costs = vec![in alloc; 0; size]?;
     Ok(best_by(costs.as_mut_slice(), own, place, kept, values))
+}
+
+/// The costs of so many own values stand in a row that takes no memory.
+const ROW: usize = 32;
+
+/// The same of few own values.
+fn best_of_few(own: &Private, place: &Place, kept: &[Option<Table>], values: &AgentContext) -> Val
+    requires few { own.now.size ≤ ROW }
+    requires keeper { IsKeeper own.now place.now kept.now }
+    requires within { AreBelowSizes (keeping own.now place.now kept.now) (valued values.now) }
+    ensures { result ≡ best_value (keeping own.now place.now kept.now) (valued values.now) }
+{
+    let mut row = [0; ROW];
+    let (costs, _) = row.split_at_mut(usize::from(own.size));
+    best_by(costs, own, place, kept, values)
 }
 
 /// The same, by a row of zeros, one for each own value.

@@ -12,6 +12,7 @@ mod best;
 mod child;
 mod joint;
 mod kept;
+mod late;
 mod made;
 mod separator;
 mod stage;

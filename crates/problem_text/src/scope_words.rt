@@ -14,7 +14,7 @@ use crate::line_end::LineEnd;
 use crate::name_word::name_of;
 use crate::names::Names;
 use crate::word::{is_word, next_word};
-use dcop_base::{MAX_SCOPE, VarId};
+use dcop_base::{MAX_SCOPE, VarId, VarList};
 use std::alloc::Global;
 
 /// How many words stand before the first `:`, and what stands behind it; `None` exactly where
@@ -45,14 +45,14 @@ pub fn most_names(version: u8) -> usize
 }
 
 /// The variables that the words before the first `:` name.
-pub fn scope_of(alloc: Global, names: &Names, text: &[u8]) -> Result<Vec<VarId>, LineEnd<TextKind>>
+pub fn scope_of(alloc: Global, names: &Names, text: &[u8]) -> Result<VarList, LineEnd<TextKind>>
     requires { list_all is_name_of names.now ≡ true }
     ensures found { IfOk result
-        (λ v. named_by names.now (before_first is_colon (words text.now)) ≡ Some v.items) }
+        (λ v. named_by names.now (before_first is_colon (words text.now)) ≡ Some v) }
     ensures unknown { (d : Declared) → (cells : List (List ℕ)) → IfErr result (λ e.
         Ends e (with_scope d (named_by names.now (before_first is_colon (words text.now))) cells)) }
 {
-    let mut scope = Vec::new(alloc);
+    let mut scope = VarList::new(alloc);
     let mut rest = text;
     while let Some((word, after)) = next_word(rest) {
         if is_word(word, b":") {

@@ -14,7 +14,7 @@ use crate::draft::Draft;
 use crate::fault::TextKind;
 use crate::line_end::LineEnd;
 use crate::scope_words::{most_names, past_colon, scope_of};
-use dcop_base::{CellList, MAX_CELLS, Table, VarId, VarList, product_of, repeats, sizes_of};
+use dcop_base::{CellList, MAX_CELLS, Table, VarList, product_of, repeats, sizes_of};
 use std::alloc::Global;
 
 /// The table that the words behind `table` declare, and what is told of its cells.
@@ -44,13 +44,13 @@ pub fn table_of(
 fn table_with(
     alloc: Global,
     draft: &Draft,
-    scope: Vec<VarId>,
+    scope: VarList,
     text: &[u8],
 ) -> Result<(Table, Summary), LineEnd<TextKind>>
-    requires within { All (λ v. v < length draft.now.sizes) scope.items }
-    requires apart { has_repeat scope.items ≡ false }
+    requires within { All (λ v. v < length draft.now.sizes) scope }
+    requires apart { has_repeat scope ≡ false }
     ensures gives { GivesTable draft.now result
-        (lines.with_cells draft.now scope.items (lines.numbers_of (words text.now))) }
+        (lines.with_cells draft.now scope (lines.numbers_of (words text.now))) }
     ensures told { IfOk result (λ r. summary r.0.cells ≡ r.1) }
     ensures sound { IfOk result (λ r. lines.cells_fault draft.now.tables r.0 ≡ None) }
 {
@@ -62,7 +62,7 @@ fn table_with(
     }
     let shared = CellList::shared(alloc, cells)?;
     let table = Table {
-        scope: VarList::from_vec(scope),
+        scope,
         sizes,
         cells: shared,
     };

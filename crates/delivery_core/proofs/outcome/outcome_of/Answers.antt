@@ -13,8 +13,8 @@ returns c =
           c.in_ok-values.ensures
           ∙ ap (map (λ (x : SeatView). value_of x.view)) (c.as_slice.ensures.value ∙ seats)
           ∙ map-map value_of view c.args.state.seats;
-      tables = c.from_vec.ensures ∙ c.in_ok-made.ensures.tables ∙ ap (map (λ (x : SeatView). table_of x.view)) seats ∙ map-map table_of view c.args.state.seats;
-      places = c.from_vec-2.ensures ∙ c.in_ok-made.ensures.places ∙ ap (map (λ (x : SeatView). place_of x.view)) seats ∙ map-map place_of view c.args.state.seats;
+      tables = c.in_ok-made.ensures.tables ∙ ap (map (λ (x : SeatView). table_of x.view)) seats ∙ map-map table_of view c.args.state.seats;
+      places = c.in_ok-made.ensures.places ∙ ap (map (λ (x : SeatView). place_of x.view)) seats ∙ map-map place_of view c.args.state.seats;
       top = c.standing-top.ensures;
       deliveries = c.deliveries-deliveries.ensures;
       ended = c.all_ended-ended.ensures;

@@ -4,7 +4,4 @@ use Rattle.problem_text.proofs.scope_words.scope_of.Goals as goal
 
 pub loop-word-preserved : goal.loop-word-preserved
 loop-word-preserved c =
-    let a = c.if-is_word.ensures in
-    let b = c.in-Some-variable_of_word.ensures in
-    let d = c.in_ok-push.ensures.items in
-    scope-more c.args.names.now _ _ c.in-Some.word.now _ _ c.in-Some-variable_of_word.var _ c.in-Some.ensures (sym c.if-is_word.ensures) (sym c.in-Some-variable_of_word.ensures) c.in_ok-push.ensures.items c.loop-word.invariant
+    scope-more c.args.names.now _ _ c.in-Some.word.now _ _ c.in-Some-variable_of_word.var _ c.in-Some.ensures (sym c.if-is_word.ensures) (sym c.in-Some-variable_of_word.ensures) c.in_ok-push.ensures c.loop-word.invariant

@@ -8,7 +8,7 @@ use Rattle.problem_text.proofs.scope_words.scope_of.Given as goal
 -- the scope, with what is left before the `:`, is the whole scope
 abbrev pub invariant-loop-word : goal.invariant-loop-word
 invariant-loop-word l =
-    behind l.scope.items (named_by l.names (before_first is_colon (words l.rest)))
+    behind l.scope (named_by l.names (before_first is_colon (words l.rest)))
     ≡ named_by l.names (before_first is_colon (words l.text))
 
 abbrev pub decreases-loop-word : goal.decreases-loop-word
