@@ -1,5 +1,6 @@
 pub mod PathLaws
 pub mod LabelLaws
+pub mod FrontLaws
 pub mod FirstLaws
 pub mod JointLaws
 pub mod TableLaws

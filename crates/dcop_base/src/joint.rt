@@ -51,14 +51,33 @@ fn own_labels(alloc: Global, variables: usize) -> Result<Vec<VarId>, NoMemory>
 }
 
 /// Labels each variable with the first variable of its component in the graph of these tables.
+///
+/// A variable behind all that a table has named so far is its own label, so those are left alone.
 fn join_tables(labels: &mut [VarId], tables: &[Table])
     requires own { labels.old ≡ range_with_len 0 (length labels.old) }
     requires within { All (λ t. All (λ v. v < length labels.old) t.scope) tables.now }
     ensures { AreLabels tables.now labels.new }
 {
+    let mut named = 0;
     for table in tables {
-        join_scope(labels, table.scope.as_slice());
+        let scope = table.scope.as_slice();
+        named = end_of(scope, named);
+        let (front, _) = labels.split_at_mut(named);
+        join_scope(front, scope);
     }
+}
+
+/// The least number above all variables of a scope that is not below this one.
+fn end_of(scope: &[VarId], least: usize) -> usize
+    ensures least { least ≤ result }
+    ensures above { All (λ v. v < result) scope.now }
+    ensures within { (n : ℕ) → least ≤ n → All (λ v. v < n) scope.now → result ≤ n }
+{
+    let mut end = least;
+    for var in scope {
+        end = end.max(var.0 as usize + 1);
+    }
+    end
 }
 
 /// Gives the variables of a scope one label.
