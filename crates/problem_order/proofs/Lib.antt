@@ -1,5 +1,4 @@
 mod ReadLaws
-mod ParentLaws
 pub mod OrderLaws
 mod NameLaws
 mod TableLaws

@@ -6,6 +6,7 @@ pub mod GatherLaws
 pub mod RowLaws
 pub mod SpreadLaws
 pub mod CheckLaws
+pub mod ShortLaws
 pub mod PlaceLaws
 pub mod WidthLaws
 pub mod NestLaws

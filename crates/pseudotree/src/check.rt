@@ -3,7 +3,7 @@
 ghost use Rattle.std.specs.Prelude.{◌≡◌, ◌≤◌, length, IfOk, IfErr};
 ghost use Rattle.dcop_base.specs.Limits.{variable_limit};
 ghost use Rattle.pseudotree.specs.Tree.{IsTree};
-ghost use Rattle.pseudotree.specs.Pseudotree.{IsPseudotreeOf};
+ghost use Rattle.pseudotree.specs.Pseudotree.{IsPseudotree, IsPseudotreeOf};
 ghost use Rattle.pseudotree.specs.Fault.{AreParents, parents_of, IsFirstFault};
 ghost use Rattle.pseudotree.specs.Climb.{IsSplitFault};
 ghost use Rattle.pseudotree.specs.Marks.{AreShort};
@@ -15,7 +15,7 @@ use crate::marks::marks_together;
 use crate::order::{all_children, preorder_of};
 use crate::separator::{gather, marked_of_paths};
 use crate::tree::Tree;
-use dcop_base::{MAX_VARIABLES, Problem, VarId, VarList, problem_is_whole};
+use dcop_base::{MAX_VARIABLES, NoMemory, Problem, VarId, VarList, problem_is_whole};
 use std::alloc::Global;
 
 /// The tree of these parents, or the first reason why they form no pseudotree of the problem.
@@ -40,6 +40,34 @@ pub fn check_tree(
     }
     let paths = paths_of(alloc, parents)?;
     tree_of(alloc, problem, paths)
+}
+
+/// The tree with the paths of a pseudotree of the problem: [`check_tree`] gives the same for its
+/// parents, and makes the paths again. The time is that of `check_tree`.
+///
+/// # Errors
+///
+/// [`NoMemory`] where memory was wanted and not had. The paths are gone then too.
+pub fn tree_on(alloc: Global, problem: &Problem, paths: Vec<VarList>) -> Result<Tree, NoMemory>
+    requires { IsPseudotree problem.now paths.items }
+    ensures tree { IfOk result (IsPseudotreeOf problem.now) }
+    ensures paths { IfOk result (λ tree. tree.paths ≡ paths.items) }
+{
+    problem_is_whole(problem);
+    match tree_of(alloc, problem, paths) {
+        Ok(tree) => Ok(tree),
+        Err(fault) => Err(only_memory(fault)),
+    }
+}
+
+/// Want of memory, where nothing else is at fault.
+fn only_memory(fault: TreeFault) -> NoMemory
+    requires { fault ≡ TreeFault.NoMemory }
+{
+    match fault {
+        TreeFault::NoMemory => NoMemory,
+        _ => unreachable!(),
+    }
 }
 
 /// The tree with these paths, or the least pair that is not ancestor and descendant.

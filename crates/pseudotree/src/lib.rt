@@ -1,7 +1,7 @@
 //! Pseudotrees: the rooted trees over which the agents solve a problem.
 //!
-//! A [`Tree`] that [`check_tree`] gave is a pseudotree of its problem: it has one root, each
-//! variable's parents reach it, and any two variables of one table or joint are ancestor and
+//! A [`Tree`] that [`check_tree`] or [`tree_on`] gave is a pseudotree of its problem: it has one root,
+//! each variable's parents reach it, and any two variables of one table or joint are ancestor and
 //! descendant. Its readers, [`place`] and [`widths`] rest on that and test nothing again. Three
 //! laws follow from the definitions alone: separators nest, each table belongs to one variable,
 //! and the depth-first tree of a problem is a linked pseudotree.
@@ -23,7 +23,7 @@ mod width;
 
 pub use agent::Place;
 pub use agent_place::place;
-pub use check::check_tree;
+pub use check::{check_tree, tree_on};
 pub use dcop_base::{MAX_COUNT, MAX_JOINED_CELLS, MAX_SENT_CELLS};
 pub use fault::TreeFault;
 pub use law::{depth_first_trees_are_linked, separators_nest, tables_have_owners};

@@ -3,13 +3,12 @@ use Rattle.std.proofs.Common.{◌≡◌, ℕ, List, [], ◌∷◌, map, length, 
 use Rattle.std.specs.List.{flat_map, range_with_len}
 use Rattle.std.specs.Option.{option_map}
 use Rattle.std.proofs.lemmas.List.{length-map}
-use Rattle.std.proofs.lemmas.List.FromFn.{length-map-range_with_len}
+use Rattle.std.proofs.lemmas.List.FromFn.{fill_by_all, length-map-range_with_len}
 use Rattle.std.proofs.lemmas.Option.{slice_get-map}
 use Rattle.dcop_base.specs.Problem.{Dcop}
 use Rattle.dcop_base.specs.Whole.{IsProblem}
 use Rattle.pseudotree.specs.DepthFirst.{dfs, path_in, search_of}
-use Rattle.pseudotree.specs.Tree.{parent_of}
-use Rattle.pseudotree.specs.Fault.{parents_of}
+use Rattle.pseudotree.specs.Tree.{path_of}
 use Rattle.pseudotree.specs.declared.agent.Place.{Place}
 use Rattle.protocol_steps.specs.declared.event.Event.{Event}
 use Rattle.protocol_steps.specs.declared.outcome.Outcome.{Outcome}
@@ -19,7 +18,7 @@ use Rattle.protocol_steps.specs.Rounds.{RoundsAreARun}
 use Rattle.token_runs.specs.Agents.{place_found}
 use Rattle.token_runs.specs.Laws.{TokenRuns}
 use Rattle.protocol_steps.specs.TreeAgents.{token_agents}
-use Rattle.tree_search.specs.Found.{token_deliveries, HaveFound, places_found, parent_on}
+use Rattle.tree_search.specs.Found.{token_deliveries, HaveFound, places_found, path_on}
 use Rattle.protocol_steps.specs.Outcomes.{HaveRun}
 use Rattle.tree_search.proofs.EndLaws.{run-ended, same-by}
 
@@ -27,13 +26,12 @@ map-map : {X Y : Type 0} (g : X → Y) (f : ℕ → X) (is : List ℕ) → map g
 map-map g f [] = refl
 map-map {X} {Y} g f (i ∷ is) = ap (λ (ys : List Y). g (f i) ∷ ys) (map-map g f is)
 
--- the parents that agents have found are those of the depth-first tree
-pub found-parents : (p : Dcop) (places : List (Option Place)) → places ≡ places_found p → map parent_on places ≡ parents_of (dfs p)
-found-parents p places found =
-    let long : length p.sizes ≡ length (dfs p) = sym (length-map-range_with_len (path_in (search_of p)) 0 (length p.sizes)) in
-    ap (map parent_on) found
-    ∙ map-map parent_on (λ i. Some (place_found p i)) (range_with_len 0 (length p.sizes))
-    ∙ ap (λ (n : ℕ). map (parent_of (dfs p)) (range_with_len 0 n)) long
+-- the paths that agents have found are those of the depth-first tree
+pub found-paths : (p : Dcop) (places : List (Option Place)) → places ≡ places_found p → map path_on places ≡ dfs p
+found-paths p places found =
+    ap (map path_on) found
+    ∙ map-map path_on (λ i. Some (place_found p i)) (range_with_len 0 (length p.sizes))
+    ∙ sym (fill_by_all (path_of (dfs p)) (dfs p) (length p.sizes) [] (length-map-range_with_len (path_in (search_of p)) 0 (length p.sizes)) (λ k lt. refl))
 
 -- token agents that have run under the budget of their messages have found the depth-first tree
 pub run-found : (p : Dcop) → IsProblem p → TokenRuns → RoundsAreARun → (outcome : Outcome) → HaveRun (token_deliveries p) (token_agents p) outcome → HaveFound p outcome

@@ -1,5 +1,5 @@
 -- What the token agents of a problem have found, and how many messages they take.
-use Rattle.std.specs.Prelude.{◌≡◌, ℕ, ◌-◌, ◌*◌, List, map, length, Option, Some, None}
+use Rattle.std.specs.Prelude.{◌≡◌, ℕ, ◌-◌, ◌*◌, List, [], map, length, Option, Some, None}
 use Rattle.std.specs.List.{range_with_len}
 use Rattle.dcop_base.specs.Problem.{Dcop}
 use Rattle.dcop_base.specs.Whole.{IsProblem}
@@ -7,7 +7,6 @@ use Rattle.pseudotree.specs.DepthFirst.{dfs}
 use Rattle.pseudotree.specs.Pseudotree.{IsPseudotreeOf, IsLinked}
 use Rattle.pseudotree.specs.declared.agent.Place.{Place}
 use Rattle.protocol_steps.specs.declared.outcome.Outcome.{Outcome}
-use Rattle.protocol_steps.specs.Agent.{last_of}
 use Rattle.token_runs.specs.Agents.{place_found}
 use Rattle.tree_search.specs.declared.search.Found.{Found}
 
@@ -24,10 +23,10 @@ pub record HaveFound (p : Dcop) (outcome : Outcome) : Type 0 where
   pub places : outcome.places ≡ places_found p
   pub deliveries : outcome.deliveries ≡ token_deliveries p
 
--- the parent in the place of an agent: the last variable of its path
-abbrev pub parent_on : Option Place → Option ℕ
-parent_on None = None
-parent_on (Some place) = last_of place.path
+-- the path in the place of an agent
+abbrev pub path_on : Option Place → List ℕ
+path_on None = []
+path_on (Some place) = place.path
 
 -- the depth-first tree of a problem, and how many messages the search for it takes
 pub record IsFound (p : Dcop) (found : Found) : Type 0 where

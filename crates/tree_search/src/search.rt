@@ -1,17 +1,14 @@
 //! The tree that token agents find.
 
-ghost use Rattle.std.specs.Prelude.{◌≡◌, ◌≤◌, map, IfOk};
+ghost use Rattle.std.specs.Prelude.{◌≡◌, ◌≤◌, map, IfOk, MatchOption, Some, None};
 ghost use Rattle.dcop_base.specs.Limits.{budget_limit};
-ghost use Rattle.pseudotree.specs.DepthFirst.{dfs};
-ghost use Rattle.pseudotree.specs.Fault.{parents_of};
-ghost use Rattle.pseudotree.specs.Pseudotree.{IsPseudotreeOf};
 ghost use Rattle.protocol_steps.specs.TreeAgents.{token_agents};
 ghost use Rattle.protocol_steps.specs.Outcomes.{HaveRun};
-ghost use Rattle.tree_search.specs.Found.{IsFound, parent_on, token_deliveries};
+ghost use Rattle.tree_search.specs.Found.{IsFound, path_on, token_deliveries};
 
-use dcop_base::{NoMemory, Problem, VarId, problem_is_whole};
-use protocol_steps::{Outcome, rounds_are_a_run};
-use pseudotree::{Place, Tree, TreeFault, check_tree};
+use dcop_base::{NoMemory, Problem, VarList, problem_is_whole};
+use protocol_steps::{OptionList, Outcome, rounds_are_a_run};
+use pseudotree::{Place, Tree, tree_on};
 use std::alloc::Global;
 use token_runs::token_runs;
 
@@ -45,54 +42,31 @@ pub fn tree_found(alloc: Global, problem: &Problem, outcome: &Outcome) -> Result
     token_runs();
     rounds_are_a_run();
     problem_is_whole(problem);
-    let parents = parents_found(alloc, outcome.places.as_slice())?;
+    let paths = paths_found(alloc, &outcome.places)?;
     Ok(Found {
-        tree: tree_of(alloc, problem, parents.as_slice())?,
+        tree: tree_on(alloc, problem, paths)?,
         deliveries: outcome.deliveries,
     })
 }
 
-/// The parents that agents have found.
-fn parents_found(alloc: Global, places: &[Option<Place>]) -> Result<Vec<Option<VarId>>, NoMemory>
-    ensures { IfOk result (λ parents. parents.items ≡ map parent_on places.now) }
+/// The paths that agents have found, in the same memory where they share it.
+fn paths_found(alloc: Global, places: &OptionList<Place>) -> Result<Vec<VarList>, NoMemory>
+    ensures { IfOk result (λ paths. paths.items ≡ map path_on places.now) }
 {
-    let mut parents = Vec::with_capacity(alloc, places.len())?;
-    for place in places {
-        parents.push(parent_on(place))?;
+    let mut paths = Vec::with_capacity(alloc, places.len())?;
+    for agent in 0..places.len() {
+        paths.push(path_on(alloc, places.get(agent))?)?;
     }
-    Ok(parents)
+    Ok(paths)
 }
 
-/// The parent that an agent has found: the last variable of its path.
-fn parent_on(place: &Option<Place>) -> Option<VarId>
-    ensures { result ≡ parent_on place.now }
+/// The path that an agent has found; that of no variables before it has.
+fn path_on(alloc: Global, place: Option<&Place>) -> Result<VarList, NoMemory>
+    ensures { IfOk result (λ path. MatchOption place.entry (path ≡ path_on None)
+        (λ place. path ≡ path_on (Some place.now))) }
 {
     match place {
-        Some(place) => place.path.as_slice().last().copied(),
-        None => None,
-    }
-}
-
-/// The tree with the parents of a problem's depth-first tree.
-fn tree_of(alloc: Global, problem: &Problem, parents: &[Option<VarId>]) -> Result<Tree, NoMemory>
-    requires { parents.now ≡ parents_of (dfs problem.now) }
-    ensures tree { IfOk result (IsPseudotreeOf problem.now) }
-    ensures paths { IfOk result (λ tree. tree.paths ≡ dfs problem.now) }
-{
-    token_runs();
-    problem_is_whole(problem);
-    match check_tree(alloc, problem, parents) {
-        Ok(tree) => Ok(tree),
-        Err(fault) => Err(only_memory(fault)),
-    }
-}
-
-/// Want of memory, where nothing else is at fault.
-fn only_memory(fault: TreeFault) -> NoMemory
-    requires { fault ≡ TreeFault.NoMemory }
-{
-    match fault {
-        TreeFault::NoMemory => NoMemory,
-        _ => unreachable!(),
+        Some(place) => Ok(place.path.clone()?),
+        None => Ok(VarList::new(alloc)),
     }
 }

@@ -1,30 +1,30 @@
-use Rattle.std.proofs.Common.{List, Option, map, sym, ap, subst, ◌∙◌}
+use Rattle.std.proofs.Common.{◌≡◌, sym, subst, ◌∙◌}
+use Rattle.dcop_base.specs.Problem.{Dcop}
 use Rattle.dcop_base.specs.Whole.{IsProblem}
-use Rattle.pseudotree.specs.Pseudotree.{IsLinked}
-use Rattle.pseudotree.specs.declared.agent.Place.{Place}
-use Rattle.tree_search.specs.Found.{HaveFound, parent_on}
-use Rattle.tree_search.proofs.FoundLaws.{run-found, found-parents}
+use Rattle.pseudotree.specs.DepthFirst.{dfs}
+use Rattle.pseudotree.specs.Pseudotree.{IsLinked, IsPseudotree}
+use Rattle.tree_search.specs.Found.{HaveFound}
+use Rattle.tree_search.proofs.FoundLaws.{run-found, found-paths}
 use Rattle.tree_search.proofs.search.tree_found.Goals as goal
 
-pub tree_of-requires : goal.tree_of-requires
-tree_of-requires c =
-    let p = c.args.problem.now in
+pub tree_on-requires : goal.tree_on-requires
+tree_on-requires c =
+    let p : Dcop = c.args.problem.now in
     let whole : IsProblem p = c.problem_is_whole.ensures in
     let found : HaveFound p c.args.outcome.now = run-found p whole c.token_runs.ensures c.rounds_are_a_run.ensures c.args.outcome.now c.requires in
-    c.as_slice-2.ensures.value
-    ∙ c.in_ok-parents.ensures
-    ∙ ap (λ (places : List (Option Place)). map parent_on places) c.as_slice.ensures
-    ∙ found-parents p c.args.outcome.now.places found.places
+    let same : c.in_ok-paths.paths.items ≡ dfs p = c.in_ok-paths.ensures ∙ found-paths p c.args.outcome.now.places found.places in
+    subst (IsPseudotree p) (sym same) (c.token_runs.ensures.pseudotree p whole)
 
 pub returns : goal.returns
 returns c =
-    let p = c.args.problem.now in
+    let p : Dcop = c.args.problem.now in
     let whole : IsProblem p = c.problem_is_whole.ensures in
     let found : HaveFound p c.args.outcome.now = run-found p whole c.token_runs.ensures c.rounds_are_a_run.ensures c.args.outcome.now c.requires in
+    let paths : c.in_ok-tree_on.field-0.paths ≡ dfs p = c.in_ok-tree_on.ensures.paths ∙ c.in_ok-paths.ensures ∙ found-paths p c.args.outcome.now.places found.places in
     record {
       whole = whole;
-      tree = c.in_ok-tree_of.ensures.tree;
-      linked = subst (IsLinked p) (sym c.in_ok-tree_of.ensures.paths) (c.token_runs.ensures.linked p whole);
-      paths = c.in_ok-tree_of.ensures.paths;
+      tree = c.in_ok-tree_on.ensures.tree;
+      linked = subst (IsLinked p) (sym paths) (c.token_runs.ensures.linked p whole);
+      paths = paths;
       deliveries = found.deliveries;
     }
