@@ -1,0 +1,45 @@
+-- What a search comes to.
+use Rattle.std.specs.Prelude.{◌≡◌, ℕ, ◌+◌, ◌≤◌, ◌⊎◌, max, true, false, Bool, List, Option, Some, None, length, IfSome}
+use Rattle.dcop_base.specs.Problem.{Dcop, IsAssignment, cost}
+use Rattle.bucket_bounds.specs.Exact.{AreExact}
+use Rattle.bucket_bounds.specs.declared.bucket.Bucket.{Bucket}
+use Rattle.bucket_bounds.specs.Bounds.{tables_in}
+use Rattle.bound_search.specs.Known.{IsKnown, KnowsMore}
+use Rattle.bound_search.specs.declared.known.Known.{Known}
+use Rattle.bound_search.specs.declared.searching.Ended.{Ended}
+
+-- a search that ended has the best but for the error: something is known, and it is at most the lower bound and the error
+pub record HasEnded (error : ℕ) (known : Known) (lower : ℕ) : Type 0 where
+  pub best : ℕ
+  pub known_is : known.best ≡ Some best
+  pub within : best ≤ lower + error
+
+-- a search that is spent has visited as many nodes as the budget allows, with something known
+pub record IsSpent (budget : ℕ) (known : Known) : Type 0 where
+  pub some : (best : ℕ) × (known.best ≡ Some best)
+  pub reached : budget ≤ known.nodes
+
+-- how it ended
+abbrev pub EndsSo : ℕ → ℕ → Known → Ended → Type 0
+EndsSo error budget known ended = ((ended.spent ≡ false) × HasEnded error known ended.lower) ⊎ ((ended.spent ≡ true) × IsSpent budget known)
+
+-- how many nodes a search may have visited in all: the budget, and what it had; where nothing is known before, also one for each variable
+abbrev pub most_nodes : ℕ → ℕ → Option ℕ → ℕ → ℕ
+most_nodes budget count None before = max budget (before + count)
+most_nodes budget count (Some best) before = max budget before
+
+-- a search with bounds that lose nothing and budget enough ends, and visits at most a node for each variable
+pub record GoesStraight (count : ℕ) (old new : Known) (ended : Ended) : Type 0 where
+  pub whole : ended.spent ≡ false
+  pub few : new.nodes ≤ old.nodes + count
+
+-- a search of a problem, by these buckets: what is known before and afterwards, and how it ended
+pub record IsSearched (p : Dcop) (buckets : List Bucket) (error budget : ℕ) (old new : Known) (ended : Ended) : Type 0 where
+  pub known : IsKnown p new
+  pub more : KnowsMore old new
+  pub found : old.best ≡ None → new.found ≡ true
+  pub lower : (values : List ℕ) → IsAssignment p values → ended.lower ≤ cost p values
+  pub ends : EndsSo error budget new ended
+  pub counted : old.nodes ≤ new.nodes
+  pub nodes : new.nodes ≤ most_nodes budget (length p.sizes) old.best old.nodes
+  pub straight : AreExact p.sizes (tables_in buckets) buckets → old.nodes + length p.sizes ≤ budget → GoesStraight (length p.sizes) old new ended

@@ -1,0 +1,21 @@
+-- Laws of bounds.
+use Rattle.std.specs.Prelude.{◌≡◌, ℕ, ◌*◌, ◌≤◌, List, length}
+use Rattle.dcop_base.specs.Table.{CostTable}
+use Rattle.dcop_base.specs.Problem.{Dcop}
+use Rattle.dcop_optimum.specs.Optimum.{IsOptimum}
+use Rattle.shared_costs.specs.Values.{AreValues}
+use Rattle.shared_costs.specs.Shared.{AreSharedCosts}
+use Rattle.shared_costs.specs.declared.shared.SharedCosts.{SharedCosts}
+use Rattle.bucket_bounds.specs.Rest.{IsRest}
+use Rattle.bucket_bounds.specs.Bounds.{bound_at, AreBounds}
+use Rattle.bucket_bounds.specs.declared.bucket.Bucket.{Bucket}
+
+-- whatever the groups, the bounds of each depth sum to at most the rest
+abbrev pub BoundsAreAtMostTheRest : Type 0
+BoundsAreAtMostTheRest = (sizes : List ℕ) (depths : List (List CostTable)) (buckets : List Bucket) → AreBounds sizes depths buckets
+    → (p : ℕ) (value : ℕ → ℕ) (least : ℕ) → p ≤ length sizes → AreValues sizes value → IsRest sizes depths p value least → bound_at p buckets value ≤ least
+
+-- the bound of depth 0 is at most the scaled optimum
+abbrev pub FirstBoundIsAtMostTheOptimum : Type 0
+FirstBoundIsAtMostTheOptimum = (p : Dcop) (shared : SharedCosts) (buckets : List Bucket) → AreSharedCosts p shared → AreBounds p.sizes shared.depths buckets
+    → (value : ℕ → ℕ) (best : ℕ) → IsOptimum p best → bound_at 0 buckets value ≤ shared.scale * best

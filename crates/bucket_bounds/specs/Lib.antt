@@ -1,0 +1,4 @@
+pub mod Rest
+pub mod Bounds
+pub mod Exact
+pub mod Laws

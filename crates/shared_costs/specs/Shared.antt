@@ -1,0 +1,20 @@
+-- The shared costs of a problem: what the search looks at in place of the problem's own tables.
+use Rattle.std.specs.Prelude.{◌≡◌, ℕ, ◌*◌, ◌≤◌}
+use Rattle.dcop_base.specs.Limits.{amount_limit}
+use Rattle.dcop_base.specs.Faults.{greatest_sum}
+use Rattle.dcop_base.specs.Problem.{Dcop}
+use Rattle.dcop_base.specs.Values.{cost_with}
+use Rattle.shared_costs.specs.Values.{AreValues}
+use Rattle.shared_costs.specs.Tables.{AreDepths, depths_cost}
+use Rattle.shared_costs.specs.declared.shared.SharedCosts.{SharedCosts}
+
+-- a scale by which no sum of the problem's cells gets above the greatest amount
+pub record IsScale (p : Dcop) (scale : ℕ) : Type 0 where
+  pub some : 1 ≤ scale
+  pub within : scale * greatest_sum p.tables ≤ amount_limit
+
+-- tables by depth whose sum, at each values, is the problem's cost there, scaled
+pub record AreSharedCosts (p : Dcop) (s : SharedCosts) : Type 0 where
+  pub scale : IsScale p s.scale
+  pub depths : AreDepths p.sizes s.depths
+  pub sums : (value : ℕ → ℕ) → AreValues p.sizes value → depths_cost s.depths value ≡ s.scale * cost_with p.tables value
