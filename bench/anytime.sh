@@ -13,7 +13,7 @@ program=$(realpath "${1:?usage: bench/anytime.sh PROGRAM [SECONDS]}")
 time=${2:-5}
 front=$(cd "$(dirname "$0")/../front" && pwd)
 . "$(dirname "$0")/common.sh"
-python3 - "$program" "$front" "$folder" "$time" <<'PY'
+"$front/python.sh" - "$program" "$front" "$folder" "$time" <<'PY'
 import itertools, json, os, random, subprocess, sys, time
 
 program, front, folder, given = sys.argv[1:]

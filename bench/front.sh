@@ -10,7 +10,7 @@ set -eu
 program=$(realpath "${1:?usage: bench/front.sh PROGRAM [ORDER]}")
 order=${2:+$(realpath "$2")}
 . "$(dirname "$0")/common.sh"
-python3 - "$program" "$order" "$top" "$folder" <<'PY'
+"$top/front/python.sh" - "$program" "$order" "$top" "$folder" <<'PY'
 import glob, importlib.util, os, statistics, subprocess, sys
 
 program, order, top, folder = sys.argv[1:]

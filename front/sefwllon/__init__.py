@@ -3,4 +3,16 @@
 What is told as verified was given to `dcop check` first; nothing else in this package is proved.
 """
 
-__version__ = "1.0"
+from pathlib import Path
+
+
+def _version() -> str:
+    """What the file `VERSION` says: the one that an installer put beside this file, or that of the clone."""
+    here = Path(__file__).resolve().parent
+    for folder in (here, here.parents[1]):
+        if (folder / "VERSION").is_file():
+            return (folder / "VERSION").read_text().strip()
+    return "unknown"
+
+
+__version__ = _version()

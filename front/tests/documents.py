@@ -1,6 +1,6 @@
 """Runs the commands of README.md and docs/USE.md, and compares what they print with what stands below them.
 
-usage: python3 front/tests/documents.py DCOP DCOP_ORDER [DCOP_SERVE]
+usage: front/python.sh front/tests/documents.py DCOP DCOP_ORDER [DCOP_SERVE]
 
 DCOP, DCOP_ORDER and DCOP_SERVE are the built programs `dcop`, `dcop_order` and `dcop_serve`. A command is a line behind `$ ` in a block of a document; what
 it has to print stands below it, up to the next command or the end of the block, and `..` alone stands for any lines; a text

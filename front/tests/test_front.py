@@ -2,7 +2,6 @@
 
 from __future__ import annotations
 
-import importlib.util
 import io
 import itertools
 import json
@@ -14,60 +13,29 @@ import sys
 import tempfile
 import time
 import unittest
-from contextlib import redirect_stderr, redirect_stdout
+from contextlib import redirect_stderr
 from fractions import Fraction
 from pathlib import Path
 from unittest import mock
 from xml.dom import minidom
 
-HERE = Path(__file__).resolve().parent
-FRONT = HERE.parent
-EXAMPLES = FRONT / "examples"
-PROBLEMS = FRONT.parent / "examples"
-sys.path[:0] = [str(FRONT), str(HERE)]
+from sefwllon import draw, meetings, programs, pydcop, replay, wcsp
+from sefwllon.arguments import seconds
+from sefwllon.cli import main
+from sefwllon.commands.meetings import timetable_headline
+from sefwllon.evaluator import Formula
+from sefwllon.explain import differs, explain
+from sefwllon.problem import Trouble, parse
+from sefwllon.programs import Programs
+from sefwllon.report import Node, Report, read_report
+from sefwllon.solving import Best, Solver
+from sefwllon.translate import Constraint, Source, translate
 
-import documents  # noqa: E402
-from sefwllon import draw, meetings, programs, pydcop, replay, wcsp  # noqa: E402
-from sefwllon.cli import main, seconds, timetable_headline  # noqa: E402
-from sefwllon.evaluator import Formula  # noqa: E402
-from sefwllon.explain import differs, explain  # noqa: E402
-from sefwllon.problem import Trouble, parse  # noqa: E402
-from sefwllon.programs import Programs  # noqa: E402
-from sefwllon.report import Node, Report, read_report  # noqa: E402
-from sefwllon.solving import Best, Solver  # noqa: E402
-from sefwllon.translate import Constraint, Source, translate  # noqa: E402
+from . import documents
+from .case import EXAMPLES, FAKE, FRONT, HAS_YAML, HERE, ORDER, PROBLEMS, REAL, Case
 
-FAKE = str(HERE / "fake_dcop.py")
-REAL = os.environ.get("SEFWLLON_DCOP")
-ORDER = os.environ.get("SEFWLLON_ORDER")
-HAS_YAML = importlib.util.find_spec("yaml") is not None
 if HAS_YAML:
-    import brute_pydcop
-
-
-class Case(unittest.TestCase):
-    """A test that runs the command with the stand-in."""
-
-    def front(self, *words: str, fake: str = "", program: str = FAKE, order: str | None = None) -> tuple[int, str, str]:
-        kept = dict(os.environ)
-        os.environ.update(SEFWLLON_DCOP=program, FAKE=fake)
-        if order is not None:
-            os.environ["SEFWLLON_ORDER"] = order
-        out, err = io.StringIO(), io.StringIO()
-        try:
-            with redirect_stdout(out), redirect_stderr(err):
-                status = main(list(words))
-        finally:
-            os.environ.clear()
-            os.environ.update(kept)
-        return status, out.getvalue(), err.getvalue()
-
-    def file(self, name: str, text: str) -> str:
-        folder = tempfile.TemporaryDirectory()
-        self.addCleanup(folder.cleanup)
-        path = Path(folder.name) / name
-        path.write_text(text)
-        return str(path)
+    from . import brute_pydcop
 
 
 TORN = "torn 3 2 4 100\n2 2 2\n" + "".join(
@@ -868,7 +836,3 @@ class Telling(Case):
             with redirect_stderr(io.StringIO()), self.assertRaises(SystemExit):
                 main(["solve", "x.dcop", *words])
         self.assertEqual([seconds(word) for word in ("30s", "500ms", "2m", "7")], [30, 0.5, 120, 7])
-
-
-if __name__ == "__main__":
-    unittest.main()

@@ -1,0 +1,34 @@
+"""`sefwllon explain`: why a file is refused."""
+
+from __future__ import annotations
+
+import argparse
+from pathlib import Path
+
+from ..arguments import Commands
+from ..explain import explain
+from ..files import KINDS, load, read_text
+from ..programs import Programs
+from ..telling import SOLVED, TEXT
+
+
+def add(commands: Commands) -> None:
+    why = commands.add_parser("explain", help="say in sentences why a file is refused")
+    why.add_argument("file", metavar="FILE")
+    why.add_argument("answer", metavar="ANSWER", nargs="?", help="what dcop printed; without it dcop is asked")
+    why.set_defaults(run=run)
+
+
+def run(options: argparse.Namespace) -> int:
+    options.text = read_text(options.file)
+    kind, programs, words = KINDS.get(Path(options.file).suffix.lower()), Programs(), ["tree"]
+    if kind == "wcsp" and (options.answer or programs.dcop):
+        words += ["--format", "wcsp"]  # dcop reads such a file itself, and names the file's own lines
+    elif kind:
+        options.text = load(options.file, options.text).problem.text()
+    answer = read_text(options.answer) if options.answer else programs.run(words, options.text).text
+    if not answer.startswith(("refused", "status no")):
+        print("dcop takes this file.")
+        return SOLVED
+    print(explain(answer, options.text))
+    return TEXT

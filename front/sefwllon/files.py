@@ -1,0 +1,68 @@
+"""Files that a command reads and writes: texts, and problems of every kind."""
+
+from __future__ import annotations
+
+import sys
+from pathlib import Path
+
+from . import meetings, pydcop, wcsp
+from .problem import MOST_BYTES, TextFault, Trouble, parse
+from .programs import Programs
+from .solving import Refused
+from .translate import Translation, plain, translate
+
+READERS = {
+    "pydcop": pydcop.read,
+    "meetings": lambda text, title: meetings.source(meetings.read(text), title),
+    "wcsp": wcsp.read_wcsp,
+    "uai": wcsp.read_uai,
+}
+"""How a file of another tool is read, by its kind."""
+
+KINDS = {".yaml": "pydcop", ".yml": "pydcop", ".csv": "meetings", ".wcsp": "wcsp", ".uai": "uai"}
+"""Which kind a file is of, by how its name ends."""
+
+
+def read_text(name: str) -> str:
+    try:
+        data = sys.stdin.buffer.read() if name == "-" else Path(name).read_bytes()
+    except OSError as fault:
+        raise Trouble(f"{name} can't be read: {fault.strerror}") from None
+    if len(data) > MOST_BYTES:
+        raise Trouble(f"{name} is longer than 2^28 bytes")
+    if data[:2] in (b"\xff\xfe", b"\xfe\xff"):
+        raise Trouble(f"{name} is UTF-16 text: save it as UTF-8")
+    try:
+        return data.decode("utf-8")
+    except UnicodeDecodeError as fault:
+        if Path(name).suffix.lower() in KINDS:
+            line = data[: fault.start].count(b"\n") + 1
+            raise Trouble(f"{name} is no UTF-8 text from line {line} on: save it as UTF-8") from None
+        return data.decode("utf-8", "replace")
+
+
+def write(name: str, text: str) -> None:
+    try:
+        Path(name).write_text(text, newline="")
+    except OSError as fault:
+        raise Trouble(f"{name} can't be written: {fault.strerror}") from None
+
+
+def load(name: str, text: str, programs: Programs | None = None) -> Translation:
+    """The problem of a file, whatever its kind."""
+    kind = KINDS.get(Path(name).suffix.lower())
+    if kind:
+        return translate(READERS[kind](text, Path(name).name))
+    try:
+        return plain(parse(text))
+    except TextFault:
+        if programs:
+            refuse(programs, text)
+        raise
+
+
+def refuse(programs: Programs, text: str) -> None:
+    """Lets dcop itself say what is wrong with a text."""
+    answer = programs.run(["upgrade"], text)
+    if answer.status not in (0, None):
+        raise Refused(answer)
