@@ -21,6 +21,8 @@ COMMANDS = (
     "meetings",
     "draw",
     "cost",
+    "web",
+    "serve",
 )
 """The modules of `commands`, in the order in which help names what they add."""
 

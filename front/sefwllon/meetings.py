@@ -4,6 +4,7 @@ Each line begins with what it tells:
 
     slot,NAME[,BEGIN[,MINUTES]]        a slot, in order; BEGIN as 2026-03-02 09:00; 60 minutes where none are told
     meeting,NAME,PERSON;PERSON;..      a meeting and who takes part
+    fixed,MEETING,SLOT                 a meeting that is held in a slot
     absent,PERSON,SLOT;SLOT;..         slots in which somebody can't
     like,PERSON or MEETING,SLOT;..,COST    what every other slot costs
     dislike,PERSON or MEETING,SLOT;..,COST what these slots cost
@@ -37,6 +38,7 @@ STAMP = datetime.datetime(2000, 1, 1)
 FORMS = {
     "slot": "slot,NAME or slot,NAME,2026-03-02 09:00 or slot,NAME,2026-03-02 09:00,MINUTES",
     "meeting": "meeting,NAME,PERSON;PERSON",
+    "fixed": "fixed,MEETING,SLOT",
     "absent": "absent,PERSON,SLOT;SLOT",
     "like": "like,PERSON or MEETING,SLOT;SLOT,COST",
     "dislike": "dislike,PERSON or MEETING,SLOT;SLOT,COST",
@@ -92,6 +94,7 @@ class Meetings:
     meetings: dict[str, list[str]] = field(default_factory=dict)
     absent: dict[str, set[str]] = field(default_factory=dict)
     tastes: list[tuple[str, str, list[str], Fraction]] = field(default_factory=list)
+    fixed: dict[str, str] = field(default_factory=dict)
 
     def people(self) -> set[str]:
         return {person for people in self.meetings.values() for person in people}
@@ -156,6 +159,10 @@ def add_row(told: Meetings, cells: list[str]) -> None:
             if name in told.meetings:
                 raise Trouble(f"the meeting {name} stands twice")
             told.meetings[name] = parts(people)
+        case ["fixed", name, slot] if name and slot:
+            if told.fixed.get(name, slot) != slot:
+                raise Trouble(f"the meeting {name} is fixed in {told.fixed[name]} already")
+            told.fixed[name] = slot
         case ["absent", person, *slots] if person and parts(slots):
             told.absent.setdefault(person, set()).update(parts(slots))
         case [("like" | "dislike") as taste, who, *slots, cost] if who and parts(slots):
@@ -165,7 +172,7 @@ def add_row(told: Meetings, cells: list[str]) -> None:
         case [first, *_] if first.split(";")[0] in FORMS:
             raise Trouble("its cells are separated by semicolons: save the file with commas between them")
         case [first, *_]:
-            raise Trouble(f"a line begins with slot, meeting, absent, like or dislike, and not with `{first}`; leave out a heading")
+            raise Trouble(f"a line begins with slot, meeting, fixed, absent, like or dislike, and not with `{first}`; leave out a heading")
 
 
 def check_row(told: Meetings, cells: list[str]) -> None:
@@ -174,6 +181,11 @@ def check_row(told: Meetings, cells: list[str]) -> None:
     match cells:
         case [("absent" | "like" | "dislike") as what, who, *_] if ";" in who:
             raise Trouble(f"a line `{what}` is of one person or meeting: write a line for each of {', '.join(parts([who]))}")
+        case ["fixed", name, slot]:
+            if name not in told.meetings:
+                raise Trouble(f"{name} is fixed in a slot, and is no meeting")
+            if slot not in slots:
+                raise Trouble(f"{name} is fixed in {slot}, which is no slot")
         case ["absent", person, *named]:
             if person not in told.people():
                 raise Trouble(f"{person} is absent, and takes part in no meeting")
@@ -234,7 +246,10 @@ def source(told: Meetings, title: str) -> Source:
     constraints = []
     for i, name in enumerate(names):
         gone = set().union(*(barred.get(person, ()) for person in told.meetings[name]))
-        free = [None if slot in gone else own_cost(told, name, slot) for slot in slots]
+        held = told.fixed.get(name)
+        free = [None if slot in gone or held not in (None, slot) else own_cost(told, name, slot) for slot in slots]
+        if held in gone:
+            raise Trouble(f"{name} is fixed in {held}, and somebody is absent there, or in a slot that overlaps it ({who_bars(told, name)})")
         if all(cost is None for cost in free):
             who = ", ".join(told.meetings[name])
             raise Trouble(f"{name} has no slot: in each of them, or in one that overlaps it, somebody of {who} is absent ({who_bars(told, name)})")
