@@ -11,6 +11,7 @@ import io
 import json
 from collections.abc import Callable
 from contextlib import redirect_stdout
+from dataclasses import replace
 from fractions import Fraction
 from functools import lru_cache
 from pathlib import Path
@@ -172,24 +173,38 @@ def read_plan(text: str) -> meetings.Meetings:
 
 
 def seen(told: meetings.Meetings, values: dict[str, str]) -> Told:
-    """A timetable, added up from the file: what it costs, which rules it breaks, which wishes it does not meet."""
-    check_values(told, values)
+    """A timetable, whole or in part, added up from the file: what it costs, which rules it breaks, which wishes it does not meet."""
+    placed = placed_of(told, values)
+    part = replace(told, meetings={name: who for name, who in told.meetings.items() if name in placed})
     unmet = [
         {"meeting": name, "taste": taste, "who": who, "slots": named, "cost": number(cost)}
-        for name, slot in values.items()
-        for taste, who, named, cost in meetings.against(told, name, slot)
+        for name, slot in placed.items()
+        for taste, who, named, cost in meetings.against(part, name, slot)
         if cost
     ]
-    clashes = [{"meetings": [clash.first, clash.second], "sentence": clash.sentence()} for clash in meetings.clashes(told, dict(values))]
+    clashes = [{"meetings": [clash.first, clash.second], "sentence": clash.sentence()} for clash in meetings.clashes(part, dict(placed))]
     barred = told.barred()
     away = [
         {"meetings": [name], "sentence": f"{person} is absent in {slot}, and takes part in {name}"}
-        for name, slot in values.items()
+        for name, slot in placed.items()
         for person in told.meetings[name]
         if slot in barred.get(person, ())
     ]
-    cost = sum((Fraction(wish["cost"]) for wish in unmet), Fraction(0))
-    return {"added": number(cost), "breaks": clashes + away, "unmet": unmet}
+    return {
+        "added": number(sum((Fraction(wish["cost"]) for wish in unmet), Fraction(0))),
+        "breaks": clashes + away,
+        "unmet": unmet,
+        "unplaced": [name for name in told.meetings if name not in placed],
+        "slots": [
+            {"name": slot.name, "begin": slot.begin and slot.begin.isoformat(), "end": slot.end and slot.end.isoformat()} for slot in told.slots
+        ],
+    }
+
+
+def placed_of(told: meetings.Meetings, values: dict[str, str]) -> dict[str, str]:
+    """The slots of the meetings that have one, in the order of the meetings."""
+    slots = {slot.name for slot in told.slots}
+    return {name: values[name] for name in told.meetings if values.get(name) in slots}
 
 
 def look(text: str, values: dict[str, str]) -> Told:
@@ -200,35 +215,28 @@ def look(text: str, values: dict[str, str]) -> Told:
 def where(text: str, values: dict[str, str], meeting: str) -> list[Told]:
     """For each slot what a timetable costs more with a meeting moved there, and whom that meets."""
     told = read_plan(text)
-    check_values(told, values)
     if meeting not in told.meetings:
         raise Trouble(f"{meeting} is no meeting")
-    own = {slot.name: meetings.own_cost(told, meeting, slot.name) for slot in told.slots}
-    places, barred = told.places(dict(values)), told.barred()
-    near = {name: meetings.in_both(told, meeting, name) for name in told.meetings if name != meeting}
+    slots = {slot.name: slot for slot in told.slots}
+    placed = placed_of(told, values)
+    own = {name: meetings.own_cost(told, meeting, name) for name in slots}
+    now = own[placed[meeting]] if meeting in placed else Fraction(0)
+    near = {name: meetings.in_both(told, meeting, name) for name in placed if name != meeting}
+    barred = told.barred()
     found = []
     for slot in told.slots:
-        meets = [f"{name} ({', '.join(who)})" for name, who in near.items() if who and slot.meets(places[name])]
+        meets = [f"{name} ({', '.join(who)})" for name, who in near.items() if who and slot.meets(slots[placed[name]])]
         away = [person for person in told.meetings[meeting] if slot.name in barred.get(person, ())]
-        found.append({"slot": slot.name, "more": float(own[slot.name] - own[values[meeting]]), "meets": meets, "away": away})
+        found.append({"slot": slot.name, "more": float(own[slot.name] - now), "meets": meets, "away": away})
     return found
-
-
-def check_values(told: meetings.Meetings, values: dict[str, str]) -> None:
-    slots = {slot.name for slot in told.slots}
-    for name in told.meetings:
-        if values.get(name) not in slots:
-            raise Trouble(f"{name} stands in no slot")
-    for name in values:
-        if name not in told.meetings:
-            raise Trouble(f"{name} is no meeting")
 
 
 def file_of(text: str, values: dict[str, str], kind: str) -> str:
     """A timetable as a file to keep: iCalendar, a picture, or lines."""
     told = read_plan(text)
-    check_values(told, values)
-    chosen: dict[str, object] = {name: values[name] for name in told.meetings}
+    chosen: dict[str, object] = dict(placed_of(told, values))
+    if len(chosen) < len(told.meetings):
+        raise Trouble("some meetings stand in no slot yet: solve first")
     makers: dict[str, Callable[[], str]] = {
         "ics": lambda: meetings.icalendar(told, chosen),
         "svg": lambda: draw.timetable(told, chosen),
@@ -358,6 +366,7 @@ def by_run(asked: Request, teller: Any) -> Told:
         "upper": read.upper,
         "deliveries": read.deliveries,
         "verified": sure,
+        "own": own_costs(told),
         "problem": problem.text(),
         "report": report,
     }
@@ -386,8 +395,19 @@ def by_dpop(asked: Request, teller: Any) -> Told:
         "cost": read.cost,
         "deliveries": read.deliveries,
         "verified": sure,
+        "own": own_costs(told),
     }
     return {"answer": found, "final": True}
+
+
+def own_costs(told: Translation) -> str | None:
+    """What the costs of a run are in the file's own, where they differ."""
+    hard = told.hard_cost * len(told.hard) if told.problem.goal == "max" else 0
+    if told.scale == 1 and not told.shift and not hard:
+        return None
+    less = f" - {hard}" if hard else ""
+    shift = f" + {number(told.shift)}" if told.shift else ""
+    return f"Costs are told as the programs count them; by the file's own count N is (N{less}) / {told.scale}{shift}."
 
 
 KINDS: dict[str, Callable[[Request, Any], Told]] = {
