@@ -3,6 +3,7 @@
 from __future__ import annotations
 
 import argparse
+from contextlib import ExitStack
 from pathlib import Path
 
 from ..arguments import Commands
@@ -28,10 +29,11 @@ def run(options: argparse.Namespace) -> int:
 
     first = None if options.file is None else {"name": Path(options.file).name, "text": read_text(options.file)}
     service = Service(options.port, limits(options), first)
+    with ExitStack() as stack:
 
-    def began() -> None:
-        print(f"{service.link}\nctrl-C ends it", flush=True)
-        if not options.no_browser:
-            open_page(service.link)
+        def began() -> None:
+            print(f"{service.link}\nctrl-C ends it", flush=True)
+            if not options.no_browser:
+                stack.enter_context(open_page(service.link))
 
-    return serve(service, began)
+        return serve(service, began)

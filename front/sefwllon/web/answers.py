@@ -48,7 +48,7 @@ def command(words: list[str], teller: Any) -> tuple[int, str]:
         with redirect_stdout(printed):
             status = cli.main(words)
     except SystemExit as ended:  # the words themselves were refused
-        raise Trouble(teller.refusal.splitlines()[-1] if teller.refusal else f"the command ended with {ended.code}") from None
+        raise Trouble(teller.refusal or f"the command ended with {ended.code}") from None
     if teller.refusal:
         raise Trouble(teller.refusal)
     return status, printed.getvalue()

@@ -90,10 +90,18 @@ class Pages:
 def make_app(pool: Pool, first: Told | None = None) -> Flask:
     """The application; `first` is the file that the page begins with."""
     app = Flask(__name__, static_folder=str(STATIC), static_url_path="/static")
-    app.config["MAX_CONTENT_LENGTH"] = pool.limits.bytes
     app.json.sort_keys = False  # type: ignore[attr-defined]
     pages = Pages(pool)
     steps = threading.BoundedSemaphore(MOST_STEPS)
+
+    @app.before_request
+    def measure() -> tuple[Response, int] | None:
+        """Refuses what is too long. Some of it is read, so that who sends it sees the answer."""
+        length = request.content_length or 0
+        if length <= pool.limits.bytes:
+            return None
+        request.stream.read(min(length, 2 * pool.limits.bytes))
+        return jsonify(why=f"the request is longer than {pool.limits.bytes:,} bytes"), 413
 
     @app.after_request
     def headers(response: Response) -> Response:
@@ -120,7 +128,6 @@ def make_app(pool: Pool, first: Told | None = None) -> Flask:
         (400, "the request is no JSON that this address takes"),
         (404, "there is nothing at this address"),
         (405, "this address does not take that method"),
-        (413, f"the request is longer than {pool.limits.bytes:,} bytes"),
         (500, "the service failed on this request"),
     ):
         app.register_error_handler(code, lambda fault, code=code, why=why: (jsonify(why=why), code))

@@ -126,20 +126,21 @@ def serve(service: Service, began: Callable[[], None]) -> int:
     return 0
 
 
-def open_page(link: str) -> None:
-    """Opens the page in a browser. It is led there by a file that only this user can read: the words of a program, which
-    would have the token in them, can be read by every user of the machine."""
-    folder = Path(tempfile.mkdtemp(prefix="sefwllon-"))
-    file = folder / "open.html"
+def open_page(link: str) -> tempfile.TemporaryDirectory[str]:
+    """Opens the page in a browser. It is led there by a file that only this user can read, in the folder that is given: the
+    words of a program, which would have the token in them, can be read by every user of the machine."""
+    folder = tempfile.TemporaryDirectory(prefix="sefwllon-")
+    file = Path(folder.name) / "open.html"
+    file.touch(mode=0o600)
     file.write_text(f'<!doctype html><meta charset="utf-8"><meta http-equiv="refresh" content="0; url={escape(link)}"><title>Sefwllon</title>')
-    file.chmod(0o600)
-    if not webbrowser.open(file.as_uri()):
-        print("sefwllon: no browser was found: open the link yourself", file=sys.stderr)
 
-    def remove() -> None:
-        file.unlink(missing_ok=True)
-        folder.rmdir()
+    def lead() -> None:
+        try:
+            found = webbrowser.open(file.as_uri())
+        except (OSError, ValueError, webbrowser.Error):
+            found = False
+        if not found:
+            print("sefwllon: no browser was found: open the link yourself", file=sys.stderr, flush=True)
 
-    timer = threading.Timer(60, remove)
-    timer.daemon = True
-    timer.start()
+    threading.Thread(target=lead, daemon=True).start()
+    return folder

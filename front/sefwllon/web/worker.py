@@ -22,6 +22,9 @@ from . import answers
 BOUNDS = re.compile(r"cost (-?[\d.]+).* between (-?[\d.]+) and (-?[\d.]+)")
 """The cost and the bounds in what a command says on a terminal."""
 
+REFUSED = re.compile(r"sefwllon(?: \w+: error)?: ")
+"""How a command begins what it refuses."""
+
 
 class Teller(io.TextIOBase):
     """Takes what a command says on a terminal's standard error, and tells it as lines of JSON; a refusal is kept."""
@@ -39,8 +42,9 @@ class Teller(io.TextIOBase):
     def write(self, text: str) -> int:
         for part in re.split(r"[\r\n]", text):
             said = part.replace("\x1b[K", "").strip()
-            if said.startswith("sefwllon:"):
-                self.refusal = said.removeprefix("sefwllon:").strip()
+            refused = REFUSED.match(said)
+            if refused:
+                self.refusal = said[refused.end() :]
             elif self.refusal and said:
                 self.refusal += "\n" + said
             elif said:
