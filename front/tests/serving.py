@@ -102,6 +102,11 @@ def children(process: int) -> list[int]:
     return found
 
 
+def workers(process: int) -> set[int]:
+    """The workers of a service."""
+    return {one for one in children(process) if b"sefwllon.web.worker" in Path(f"/proc/{one}/cmdline").read_bytes()}
+
+
 def runs(process: int) -> bool:
     """Whether a process is there, and not just waited for."""
     try:

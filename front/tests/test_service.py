@@ -180,7 +180,7 @@ class Answers(Case):
             found, body = self.post(where, told)
             self.assertEqual(found, status, (where, told, body))
             self.assertTrue(why is None or why in body["why"], body)
-        with self.assertRaisesRegex(Trouble, "first line with words must be"):
+        with self.assertRaisesRegex(Trouble, "nonsense"):
             self.client.solve("nonsense")
         with self.assertRaisesRegex(Trouble, "invalid choice"):
             self.client.solve(PAIR, method="magic")

@@ -35,6 +35,9 @@ export class Calendar {
 
   /** Draws it: `slots` as the service tells them, `meetings` with name, people, slot, held, clashes and misses. */
   draw(slots, meetings, who, chosen) {
+    const drawn = JSON.stringify([slots, meetings, who, chosen]);
+    if (drawn === this.drawn) return; // what is clicked on stays where it is
+    this.drawn = drawn;
     this.boxes.clear();
     this.chips.clear();
     const inside = grouped(meetings.filter((meeting) => meeting.slot), (meeting) => meeting.slot);

@@ -58,6 +58,7 @@ export class Timetable {
       ]),
       others: grid("others", "Other lines", [{ key: "line", title: "As in the CSV", wide: true }]),
     };
+    for (const [table, one] of Object.entries(this.grids)) one.node.id = `grid-${table}`;
     this.grids.others.node.open = false;
     by("tables").append(...Object.values(this.grids).map((one) => one.node));
     this.grids.slots.node.querySelector("summary").after(this.weekMaker());
@@ -368,9 +369,12 @@ export class Timetable {
   /** The meeting that was clicked: where it stands, whether it is held, and where it could go. */
   async drawChosen(meetings) {
     const meeting = meetings.find((one) => one.name === this.chosen);
+    const slots = this.look?.slots ?? [];
+    const drawn = JSON.stringify([meeting, slots, meeting && this.asked()]);
+    if (drawn === this.drawnChosen) return; // what is clicked on stays where it is
+    this.drawnChosen = drawn;
     show(by("chosen"), Boolean(meeting));
     if (!meeting) return;
-    const slots = this.look?.slots ?? [];
     const move = el("select", { id: "move-to", onchange: (event) => this.move(meeting.name, event.target.value) });
     const options = (places) => {
       const told = new Map(places.map((place) => [place.slot, place]));
@@ -384,21 +388,21 @@ export class Timetable {
   }
 
   drawWishes() {
-    const unmet = this.look?.unmet ?? [];
-    const place = by("wishes");
-    if (!this.plan.values || !unmet.length) {
-      place.replaceChildren();
-      return;
-    }
+    const unmet = this.plan.values ? (this.look?.unmet ?? []) : [];
     const known = this.pricesFor === JSON.stringify([plans.bare(this.plan).text, this.plan.held]);
-    const lines = unmet.map((wish) => {
+    const held = Object.keys(this.plan.held).length > 0;
+    const told = unmet.map((wish) => {
       const price = known ? this.prices.get(wishKey(wish)) : undefined;
-      const words = priceWords(price, Object.keys(this.plan.held).length > 0);
-      const other = price?.found?.values && el("button", { onclick: () => this.take(price.found.values) }, "Show it");
-      return el("tr", {}, el("td", {}, wishWords(wish, this.plan.values[wish.meeting])), el("td", {}, wish.cost), el("td", { class: "price" }, words, " ", other));
+      return { words: wishWords(wish, this.plan.values[wish.meeting]), cost: wish.cost, price: priceWords(price, held), values: price?.found?.values };
     });
+    const drawn = JSON.stringify(told);
+    if (drawn === this.drawnWishes) return; // what is clicked on stays where it is
+    this.drawnWishes = drawn;
+    const lines = told.map(({ words, cost, price, values }) =>
+      el("tr", {}, el("td", {}, words), el("td", {}, cost), el("td", { class: "price" }, price, " ", values && el("button", { onclick: () => this.take(values) }, "Show it"))),
+    );
     const head = el("tr", {}, el("th", {}, "Wish that is not met"), el("th", {}, "costs"), el("th", {}, "meeting it"));
-    place.replaceChildren(el("table", { class: "list" }, el("thead", {}, head), el("tbody", {}, lines)));
+    by("wishes").replaceChildren(...(lines.length ? [el("table", { class: "list" }, el("thead", {}, head), el("tbody", {}, lines))] : []));
   }
 
   async save(kind, type) {
