@@ -2,6 +2,7 @@
 
 from __future__ import annotations
 
+import contextlib
 import http.client
 import importlib.util
 import json
@@ -104,7 +105,12 @@ def children(process: int) -> list[int]:
 
 def workers(process: int) -> set[int]:
     """The workers of a service."""
-    return {one for one in children(process) if b"sefwllon.web.worker" in Path(f"/proc/{one}/cmdline").read_bytes()}
+    found = set()
+    for one in children(process):
+        with contextlib.suppress(OSError):
+            if b"sefwllon.web.worker" in Path(f"/proc/{one}/cmdline").read_bytes():
+                found.add(one)
+    return found
 
 
 def runs(process: int) -> bool:

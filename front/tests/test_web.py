@@ -572,6 +572,7 @@ class Doors(Page):
                 self.served.link,
             )
             self.assertIn("refused: ", found)
+            self.browser.get("about:blank")
         self.browser.get_log("browser")
 
 
