@@ -19,6 +19,7 @@ COMMANDS = (
     "explain",
     "convert",
     "meetings",
+    "why",
     "draw",
     "cost",
 )

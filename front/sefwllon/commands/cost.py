@@ -63,6 +63,9 @@ def assignment(words: list[str], told: Translation) -> list[int]:
                 pairs[parts[0].strip()] = parts[1].strip()
     values = []
     for place, (name, own) in enumerate(zip(told.names, told.values)):
+        if place in told.counters:
+            values.append(told.counted(place, values))
+            continue
         variable = told.problem.variables[place]
         word = pairs.get(name, pairs.get(variable.name))
         if word is None:
