@@ -3,15 +3,18 @@
 from __future__ import annotations
 
 import argparse
+from collections.abc import Callable
 from pathlib import Path
 
 from .. import draw, meetings
-from ..arguments import Commands, seconds, threads
-from ..asking import solved
-from ..files import read_text, write
+from ..arguments import Commands, add_solving
+from ..asking import deadline, kept, solved
+from ..best import Best
+from ..files import read_text
+from ..output import deliver, reading, test_outputs, undisturbed
+from ..problem import Trouble
 from ..programs import Programs
-from ..solving import Best
-from ..telling import OPEN, as_text, headline, known_by, status_of
+from ..telling import TEXT, as_json, as_text, by_line, headline, known_by, notes_of, status_of
 from ..translate import Translation, translate
 
 
@@ -25,33 +28,50 @@ def add(commands: Commands) -> None:
     when.add_argument("file", metavar="CSV")
     when.add_argument("--ics", metavar="OUT", help="write the timetable there as iCalendar")
     when.add_argument("--svg", metavar="OUT", help="write a picture of the timetable there, as SVG, which a browser opens")
-    when.add_argument("--report", metavar="OUT", help="write the report of dcop there, with its certificate")
-    when.add_argument("--time", type=seconds, metavar="30s", help="stop after this time with the best so far")
-    when.add_argument("--workers", type=threads, default=1, metavar="N", help="threads, 1 to 64")
+    add_solving(when)
     when.set_defaults(run=run)
 
 
 def run(options: argparse.Namespace) -> int:
-    told = meetings.read(read_text(options.file))
-    made = translate(meetings.source(told, Path(options.file).name))
-    best = solved(Programs(), made, options)
+    test_outputs([options.file], options.report, options.ics, options.svg)
+    programs = Programs()
+    with reading(deadline(options)):
+        told = meetings.read(read_text(options.file))
+        made = translate(meetings.source(told, Path(options.file).name))
+    if options.ics and all(slot.begin is None for slot in told.slots):
+        raise Trouble("the slots have no begin, so they can't be put into a calendar: write it behind their names, or leave out --ics")
+    best = solved(programs, made, options)
+    with undisturbed():
+        text = as_json(best, made, programs) if options.json else as_timetable(best, made, told)
+        good = deliver(text, outputs(best, made, told, options))
+    return status_of(best, made) if good else TEXT
+
+
+def outputs(best: Best, made: Translation, told: meetings.Meetings, options: argparse.Namespace) -> list[tuple[str, Callable[[], str]]]:
+    """The files that are to be written, each with how its text is made."""
     if best.values is None:
-        print(as_text(best, made), end="")
-        return OPEN
+        return []
     chosen = made.told(best.values)
-    print("\n".join(timetable_headline(best, made)))
-    if best.stopped:
-        print(f"stopped: {best.stopped}")
-    for clash in meetings.clashes(told, chosen):
-        print(f"broken: {clash.sentence()}")
-    print(meetings.table(told, chosen), end="")
-    for line in meetings.unmet(told, chosen):
-        print(f"wish not met, {line}")
-    if options.ics:
-        write(options.ics, meetings.icalendar(told, chosen))
-    if options.svg:
-        write(options.svg, draw.timetable(told, chosen))
-    return status_of(best, made)
+    made_by: list[tuple[str | None, Callable[[], str]]] = [
+        (options.report, lambda: kept(best, made.problem)),
+        (options.ics, lambda: meetings.icalendar(told, chosen)),
+        (options.svg, lambda: draw.timetable(told, chosen)),
+    ]
+    return [(name, text) for name, text in made_by if name]
+
+
+def as_timetable(best: Best, made: Translation, told: meetings.Meetings) -> str:
+    """The timetable for people."""
+    if best.values is None:
+        return as_text(best, made)
+    chosen = made.told(best.values)
+    lines = timetable_headline(best, made)
+    lines += [f"stopped: {best.stopped}"] if best.stopped else []
+    lines += [f"note: {line}" for line in notes_of(best)]
+    lines += [f"broken: {clash.sentence()}" for clash in meetings.clashes(told, chosen)]
+    lines.append(meetings.table(told, chosen).rstrip("\n"))
+    lines += [f"wish not met, {line}" for line in meetings.unmet(told, chosen)]
+    return "\n".join([*lines, by_line(best)]) + "\n"
 
 
 def timetable_headline(best: Best, made: Translation) -> list[str]:
