@@ -41,13 +41,6 @@ def read_text(name: str) -> str:
         return data.decode("utf-8", "replace")
 
 
-def write(name: str, text: str) -> None:
-    try:
-        Path(name).write_text(text, newline="")
-    except OSError as fault:
-        raise Trouble(f"{name} can't be written: {fault.strerror}") from None
-
-
 def load(name: str, text: str, programs: Programs | None = None) -> Translation:
     """The problem of a file, whatever its kind."""
     kind = KINDS.get(Path(name).suffix.lower())

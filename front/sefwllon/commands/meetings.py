@@ -5,14 +5,17 @@ from __future__ import annotations
 import argparse
 import json
 import os
+from collections.abc import Callable
 from fractions import Fraction
 from pathlib import Path
 
 from .. import draw
-from ..arguments import Commands, natural, seconds, threads
-from ..files import read_text, write
+from ..arguments import Commands, add_solving, natural
+from ..asking import kept
+from ..files import read_text
+from ..output import OutOfTime, deliver, reading, test_outputs, undisturbed
 from ..problem import Trouble
-from ..telling import OPEN, SOLVED, as_json, as_text
+from ..telling import OPEN, SOLVED, TEXT, as_json, as_text, by_line, notes_of
 from ..timetable import calendars, earlier, impossible, lines, telling
 from ..timetable.earlier import Earlier
 from ..timetable.make import Aim
@@ -32,50 +35,48 @@ def add(commands: Commands) -> None:
     when.add_argument("--ics", metavar="OUT", help="write the timetable there as iCalendar")
     when.add_argument("--ics-each", metavar="FOLDER", help="write a calendar for each person into that folder")
     when.add_argument("--svg", metavar="OUT", help="write a picture of the timetable there, as SVG, which a browser opens")
-    when.add_argument("--report", metavar="OUT", help="write the report of dcop there, with its certificate")
     when.add_argument("--problem", metavar="OUT", help="write the problem there that was solved, of which the report is")
-    when.add_argument("--json", action="store_true", help="the answer as JSON")
-    add_shared(when)
+    add_busy(when)
+    add_solving(when)
     when.set_defaults(run=run)
 
 
-def add_shared(command: argparse.ArgumentParser) -> None:
-    """The words of each command that makes timetables."""
+def add_busy(command: argparse.ArgumentParser) -> None:
     command.add_argument("--busy", action="append", metavar="PERSON=ICS", help="somebody is busy, or a room taken, as this calendar says; once for each")
-    command.add_argument("--time", type=seconds, metavar="30s", help="stop after this time with the best so far")
-    command.add_argument("--workers", type=threads, default=1, metavar="N", help="threads, 1 to 64")
 
 
 def run(options: argparse.Namespace) -> int:
-    told = opened(options)
-    before = earlier.read(told, read_text(options.keep), options.keep) if options.keep else None
+    test_outputs([options.file, *([options.keep] if options.keep else [])], options.report, options.ics, options.svg, options.problem)
+    session = Session.of(options, Path(options.file).name)
+    with reading(session.until):
+        told = opened(options)
+        before = earlier.read(told, read_text(options.keep), options.keep) if options.keep else None
     if options.ics or options.ics_each:
         calendars.check(told)
         calendars.library()
-    session = Session.of(options, Path(options.file).name)
+    if options.ics_each:
+        make_folder(options.ics_each)
     plan = session.ask(told, Aim(keep=before.places if before else None))
     if not plan.found:
         print(as_text(plan.best, plan.problem), end="")
         return OPEN
     further, none = alternatives(session, plan, options.alternatives)
-    text = as_object(plan, further, none) if options.json else as_table(session, plan, further, none)
-    print(text, end="")
-    write_files(options, plan, further, before)
-    return SOLVED if plan.exact else OPEN
+    reason = impossible.find(session, told) if plan.breaches and plan.impossible else None
+    with undisturbed():
+        why = impossible.sentences(told, reason) if reason else []
+        text = as_object(session, plan, further, none, why) if options.json else as_table(plan, further, none, why)
+        good = deliver(text, outputs(options, plan, before))
+    return TEXT if not good else SOLVED if plan.solved else OPEN
 
 
-def as_table(session: Session, plan: Plan, further: list[Plan], none: str | None) -> str:
+def as_table(plan: Plan, further: list[Plan], none: str | None, why: list[str]) -> str:
     """The answer for people."""
     told = telling.heads(plan)
-    if plan.best.stopped:
-        told.append(f"stopped: {plan.best.stopped}")
-    told += telling.details(plan)
-    if plan.breaches and plan.impossible:
-        reason = impossible.find(session, plan.told)
-        told += impossible.sentences(plan.told, reason) if reason else []
-    told += [f"note: {note}" for note in plan.told.notes]
+    told += [f"stopped: {plan.best.stopped}"] if plan.best.stopped else []
+    told += [*telling.details(plan), *why]
+    told += [f"note: {note}" for note in (*notes_of(plan.best), *plan.told.notes)]
     told += telling.moves(plan)
-    text = "\n".join(told) + "\n" + telling.body(plan)
+    text = "\n".join(told) + "\n" + telling.body(plan) + by_line(plan.best) + "\n"
     for at, other in enumerate(further, 1):
         apart = sum(place != plan.chosen[name] for name, place in other.chosen.items())
         text += f"\nalternative {at}: {apart} of {len(plan.chosen)} meetings elsewhere, cost {telling.money(other.cost)}\n{telling.body(other)}"
@@ -89,29 +90,48 @@ def alternatives(session: Session, plan: Plan, count: int) -> tuple[list[Plan], 
         return found, None
     if not plan.exact:
         return found, "no alternatives: the timetable is not known to be the best, so it is not known what others may cost"
-    aim = plan.made.aim
-    for _ in range(count):
-        known = [plan.names, *(other.names for other in found)]
-        other = session.ask(plan.told, Aim(aim.keep, unlike=known, crowds=aim.crowds))
-        if other.names in known:
-            other = session.ask(plan.told, Aim(aim.keep, unlike=known, crowds=aim.crowds, others=known))
-        worse = not other.keeps or other.names in known or other.cost > plan.cost or len(other.moved) > len(plan.moved)
-        if worse:
-            what = "no further timetable is as good" if other.best.solved else "no further timetable as good was found in time"
-            return found, f"{what}; {len(found)} of {count} alternatives"
+    while len(found) < count:
+        try:
+            other = next_alternative(session, plan, [plan, *found])
+        except (OutOfTime, KeyboardInterrupt):
+            other = None
+        if other is None or not as_good(other, plan, found):
+            known = other is not None and other.best.solved
+            what = "no further timetable is as good" if known else "no further timetable as good was found in time"
+            return found, f"{what}: {len(found)} of {count} alternatives"
         found.append(other)
     return found, None
 
 
-def as_object(plan: Plan, further: list[Plan], none: str | None) -> str:
+def next_alternative(session: Session, plan: Plan, before: list[Plan]) -> Plan:
+    """A timetable as good as one, as different as can be from all of these; where it is one of them, another one."""
+    aim, known = plan.made.aim, [other.names for other in before]
+    other = session.ask(plan.told, Aim(aim.keep, unlike=known, crowds=aim.crowds))
+    if other.names in known:
+        other = session.ask(plan.told, Aim(aim.keep, unlike=known, crowds=aim.crowds, others=known))
+    return other
+
+
+def as_good(other: Plan, plan: Plan, found: list[Plan]) -> bool:
+    new = other.names not in [plan.names, *(it.names for it in found)]
+    return other.keeps and new and other.cost <= plan.cost and len(other.moved) <= len(plan.moved)
+
+
+def as_object(session: Session, plan: Plan, further: list[Plan], none: str | None, why: list[str]) -> str:
     """The answer for programs."""
-    answer = json.loads(as_json(plan.best, plan.problem))
-    answer |= {"solved": plan.exact, "cost": plain(plan.cost), "broken": [breach.sentence() for breach in plan.breaches]}
-    if plan.made.whole:
-        answer |= {"lower": None, "upper": plain(plan.cost)}
-    answer |= {"timetable": entries(plan), "moved": plan.moved, "costs": [cost.sentence() for cost in plan.costs]}
-    answer |= {"alternatives": [{"cost": plain(other.cost), "timetable": entries(other)} for other in further], "alternatives_note": none}
-    answer |= {"notes": plan.told.notes}
+    more: dict[str, object] = {
+        "timetable": entries(plan),
+        "moved": plan.moved,
+        "costs": [cost.sentence() for cost in plan.costs],
+        "why": why,
+        "alternatives": [{"cost": plain(other.cost), "timetable": entries(other)} for other in further],
+        "alternatives_note": none,
+        "notes": plan.told.notes,
+    }
+    answer = json.loads(as_json(plan.best, plan.problem, session.programs, more))
+    answer |= {"solved": plan.solved, "cost": plain(plan.cost), "broken": [breach.sentence() for breach in plan.breaches]}
+    if plan.made.whole:  # the sum has moves in it
+        answer |= {"lower": plain(plan.cost) if plan.exact else None, "upper": plain(plan.cost), "bounds": [], "gap_percent": None}
     return json.dumps(answer, ensure_ascii=False, default=str) + "\n"
 
 
@@ -140,32 +160,32 @@ def entries(plan: Plan) -> list[dict[str, object]]:
     return found
 
 
-def write_files(options: argparse.Namespace, plan: Plan, further: list[Plan], before: Earlier | None) -> None:
-    """Writes what is wanted besides."""
+def outputs(options: argparse.Namespace, plan: Plan, before: Earlier | None) -> list[tuple[str, Callable[[], str]]]:
+    """The files that are to be written, each with how its text is made."""
     told, title = plan.told, Path(options.file).name
-    if options.report and plan.best.report is not None:
-        write(options.report, plan.best.report)
-    if options.problem:
-        write(options.problem, plan.problem.problem.text())
-    if options.ics:
-        write(options.ics, calendars.written(told, plan.chosen, title, plan.rooms, plan.breaches, before).decode())
+
+    def calendar(person: str | None = None) -> str:
+        return calendars.written(told, plan.chosen, title, plan.rooms, plan.breaches, before, person).decode()
+
+    made: list[tuple[str | None, Callable[[], str]]] = [
+        (options.report, lambda: kept(plan.best, plan.problem.problem)),
+        (options.problem, plan.problem.problem.text),
+        (options.ics, calendar),
+        (options.svg, lambda: draw.timetable(told, plan.chosen, plan.breaches, plan.rooms)),
+    ]
     if options.ics_each:
-        write_each(options.ics_each, plan, title, before)
-    if options.svg:
-        write(options.svg, draw.timetable(told, plan.chosen, plan.breaches, plan.rooms))
+        names: set[str] = set()
+        for person in told.people():
+            path = str(Path(options.ics_each) / f"{file_name(person, names)}.ics")
+            made.append((path, lambda person=person: calendar(person)))  # type: ignore[misc]
+    return [(name, text) for name, text in made if name]
 
 
-def write_each(folder: str, plan: Plan, title: str, before: Earlier | None) -> None:
-    """Writes a calendar for each person."""
+def make_folder(folder: str) -> None:
     try:
         os.makedirs(folder, exist_ok=True)
     except OSError as fault:
         raise Trouble(f"the folder {folder} can't be made: {fault.strerror}") from None
-    names: set[str] = set()
-    for person in plan.told.people():
-        name = file_name(person, names)
-        text = calendars.written(plan.told, plan.chosen, title, plan.rooms, plan.breaches, before, person).decode()
-        write(str(Path(folder) / f"{name}.ics"), text)
 
 
 def file_name(person: str, taken: set[str]) -> str:

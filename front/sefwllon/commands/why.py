@@ -7,14 +7,15 @@ from dataclasses import replace
 from difflib import get_close_matches
 from pathlib import Path
 
-from ..arguments import Commands
+from ..arguments import Commands, add_time, threads
+from ..output import reading, say
 from ..problem import Trouble
 from ..telling import OPEN, SOLVED, as_text
 from ..timetable import impossible, rules, telling
 from ..timetable.make import Aim
 from ..timetable.model import Timetable
 from ..timetable.session import Plan, Session, opened
-from .meetings import add_shared
+from .meetings import add_busy
 
 
 def add(commands: Commands) -> None:
@@ -27,31 +28,34 @@ def add(commands: Commands) -> None:
     why.add_argument("file", metavar="CSV")
     why.add_argument("meeting", metavar="MEETING")
     why.add_argument("slot", metavar="SLOT")
-    add_shared(why)
+    add_busy(why)
+    add_time(why)
+    why.add_argument("--workers", type=threads, default=1, metavar="N", help="threads of dcop, 1 to 64")
     why.set_defaults(run=run)
 
 
 def run(options: argparse.Namespace) -> int:
-    told = opened(options)
+    session = Session.of(options, Path(options.file).name)
+    with reading(session.until):
+        told = opened(options)
     name = named(options.meeting, told.meetings, "meeting")
     slot = named(options.slot, told.slot_at, "slot")
-    session = Session.of(options, Path(options.file).name)
     barred = barred_by(told, name, slot)
     if barred:
-        print(f"{name} can't be in {slot}: {'; '.join(barred)}")
+        say(f"{name} can't be in {slot}: {'; '.join(barred)}" + "\n")
         return OPEN
     best = session.ask(told)
     if not best.found:
-        print(as_text(best.best, best.problem), end="")
+        say(as_text(best.best, best.problem))
         return OPEN
     if best.breaches:
-        print("\n".join([*telling.heads(best)[:1], f"so it is not asked what {name} in {slot} costs: `sefwllon meetings` says what is in the way"]))
+        say("\n".join([*telling.heads(best)[:1], f"so it is not asked what {name} in {slot} costs: `sefwllon meetings` says what is in the way"]) + "\n")
         return OPEN
     held = session.ask(told, Aim(held={name: slot}, like=best.names, crowds=best.made.aim.crowds))
     if held.keeps:
-        print("\n".join(compared(told, best, held, name, slot)))
+        say("\n".join(compared(told, best, held, name, slot)) + "\n")
         return SOLVED if best.exact and held.exact else OPEN
-    print("\n".join(refused(session, held, name, slot)))
+    say("\n".join(refused(session, held, name, slot)) + "\n")
     return SOLVED if held.impossible else OPEN
 
 

@@ -94,7 +94,7 @@ def begins(told: Timetable, it: Any, begin: datetime.date, first: datetime.datet
     plain = start.replace(tzinfo=None)
     rules = it.get("rrule")
     for rule in rules if isinstance(rules, list) else [rules]:
-        words = in_place(rule.to_ical().decode(), zone)
+        words = in_place(rule.to_ical().decode(), zone or told.zone)
         try:
             recurring = rrulestr(words, dtstart=plain)
         except ValueError as fault:

@@ -9,6 +9,7 @@ from __future__ import annotations
 from collections.abc import Callable
 from dataclasses import dataclass, field, replace
 
+from ..output import OutOfTime
 from .make import Aim, NoPlace
 from .model import Meeting, Timetable
 from .session import Session
@@ -90,8 +91,11 @@ class Search:
         try:
             plan = self.session.ask(told, Aim(free=True))
         except NoPlace:
-            self.known = "each of its slots is barred"
+            self.known = "added up"
             return True
+        except (OutOfTime, KeyboardInterrupt):
+            self.session.stopped, self.decided = True, False
+            return None
         if plan.keeps:
             return False
         known = plan.known(plan.problem.none_keeps)

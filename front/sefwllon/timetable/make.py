@@ -111,7 +111,7 @@ def make(told: Timetable, title: str, aim: Aim | None = None) -> Made:
     for rule in pairs:
         scope = index[rule.first], index[rule.second]
         problem.constraints.append(Constraint(rule.name, scope, pair_cells(made, rule.first, rule.second, rule.forbids, None)))  # type: ignore[arg-type]
-    add_soft(made, pairs, soft, index)
+    add_soft(made, soft, index)
     wanted = list(limits_of(told, made, index))
     check_limits(problem, wanted)
     for limit in wanted:
@@ -244,15 +244,13 @@ def pair_cells(made: Made, first: str, second: str, where: list[list[bool]], cos
     return cells
 
 
-def add_soft(made: Made, pairs: list[PairRule], soft: dict[tuple[str, str], dict[str, Fraction]], index: dict[str, int]) -> None:
-    """Adds what it costs that two meetings are at once to which somebody need not come both; not where they can't be at once anyway."""
-    apart = {(rule.first, rule.second) for rule in pairs if rule.kind in ("share", "room")}
+def add_soft(made: Made, soft: dict[tuple[str, str], dict[str, Fraction]], index: dict[str, int]) -> None:
+    """Adds what it costs that two meetings are at once to which somebody need not come both."""
     for (first, second), people in soft.items():
-        if (first, second) not in apart:
-            meets = made.told.clock.meets(made.told.meetings[first], made.told.meetings[second])
-            cells = pair_cells(made, first, second, meets, sum(people.values(), Fraction(0)) * made.factor)
-            name = f"{first} and {second} at once, without {', '.join(people)}"
-            made.source.constraints.append(Constraint(name, (index[first], index[second]), cells))  # type: ignore[arg-type]
+        meets = made.told.clock.meets(made.told.meetings[first], made.told.meetings[second])
+        cells = pair_cells(made, first, second, meets, sum(people.values(), Fraction(0)) * made.factor)
+        name = f"{first} and {second} at once, without {', '.join(people)}"
+        made.source.constraints.append(Constraint(name, (index[first], index[second]), cells))  # type: ignore[arg-type]
 
 
 def limits_of(told: Timetable, made: Made, index: dict[str, int]) -> Iterable[Limit]:

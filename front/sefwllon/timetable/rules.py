@@ -235,7 +235,7 @@ def wish_costs(told: Timetable, meeting: Meeting, place: Place) -> list[Cost]:
 
 
 def both_costs(told: Timetable) -> dict[tuple[str, str], dict[str, Fraction]]:
-    """For each two meetings what it costs that they are at once, by who need not come to one of them."""
+    """For each two meetings that can be at once, since nobody must come to both, what that costs, by who need not come to one of them."""
     part: dict[str, list[tuple[str, Fraction | None]]] = {}
     for name, meeting in told.meetings.items():
         for person in meeting.people:
@@ -246,7 +246,8 @@ def both_costs(told: Timetable) -> dict[tuple[str, str], dict[str, Fraction]]:
     for person, its in part.items():
         for (first, a), (second, b) in combinations(sorted(its, key=lambda it: told.meetings[it[0]].line), 2):
             costs = [cost for cost in (a, b) if cost is not None]
-            if costs and min(costs):
+            apart = set(told.meetings[first].people) & set(told.meetings[second].people)
+            if costs and min(costs) and not apart:
                 found.setdefault((first, second), {})[person] = min(costs)
     return found
 

@@ -7,15 +7,17 @@ import time
 from dataclasses import dataclass, field, replace
 from fractions import Fraction
 
+from ..asking import deadline
+from ..best import Best
 from ..files import read_text
+from ..output import OutOfTime, reading
 from ..parts import solved_apart
 from ..problem import Trouble
 from ..programs import Programs
-from ..solving import Best
 from ..telling import known_by
 from ..translate import Translation, translate
 from . import busy, lines, rooms, rules
-from .make import Aim, Made, Same, make
+from .make import Aim, Crowd, Made, Same, make
 from .model import Timetable
 from .rules import Breach, Cost
 
@@ -68,8 +70,14 @@ class Plan:
         return [name for name, place in self.chosen.items() if name in keep and keep[name] != place]
 
     @property
-    def exact(self) -> bool:
+    def solved(self) -> bool:
+        """Whether it is as good as it was asked for."""
         return self.keeps and self.best.solved
+
+    @property
+    def exact(self) -> bool:
+        """Whether it is known that none is better."""
+        return self.keeps and self.best.gap(self.problem.problem.goal) == 0
 
     @property
     def impossible(self) -> bool:
@@ -87,49 +95,56 @@ class Plan:
 
 @dataclass
 class Session:
-    """What a command solves with: the programs, how long, and what the file is called."""
+    """What a command solves with: the programs, until when, and what the file is called."""
 
     programs: Programs
     options: argparse.Namespace
     title: str
     until: float | None
+    stopped: bool = False
+    """Whether the user stopped it."""
 
     @classmethod
     def of(cls, options: argparse.Namespace, title: str) -> Session:
-        until = None if options.time is None else time.monotonic() + options.time
-        return cls(Programs(), options, title, until)
-
-    def left(self) -> float | None:
-        """How many seconds are left."""
-        return None if self.until is None else max(0.0, self.until - time.monotonic())
+        return cls(Programs(), options, title, deadline(options))
 
     @property
     def over(self) -> bool:
-        return self.left() == 0.0
+        return self.stopped or (self.until is not None and time.monotonic() >= self.until)
 
     def within(self, seconds: float) -> Session:
         """The same for at most so long."""
         until = time.monotonic() + seconds
         return replace(self, until=until if self.until is None else min(until, self.until))
 
-    def ask(self, told: Timetable, aim: Aim | None = None, report: bool = False) -> Plan:
+    def ask(self, told: Timetable, aim: Aim | None = None) -> Plan:
         """Finds a timetable. Where there are not rooms for all, its slots are chosen anew, with what was learnt of rooms."""
         aim = aim or Aim()
         best: Plan | None = None
         for _ in range(_ROUNDS):
-            plan, crowds = self.ask_once(told, aim)
+            try:
+                plan, crowds = self.ask_once(told, aim)
+            except (OutOfTime, KeyboardInterrupt):
+                self.stopped = True
+                if best is None:
+                    raise
+                break
             if best is None or len(plan.breaches) <= len(best.breaches) or not best.found:
                 best = plan
+            self.stopped = self.stopped or plan.best.stopped == "interrupted"
             if not crowds or plan.best.stopped or self.over:
                 break
             aim = replace(aim, crowds=[*aim.crowds, *crowds])
         assert best is not None
         return best
 
-    def ask_once(self, told: Timetable, aim: Aim) -> tuple[Plan, list[object]]:
-        made = make(told, self.title, aim)
-        problem = translate(made.source)
-        options = argparse.Namespace(**{**vars(self.options), "time": self.left(), "report": None})
+    def ask_once(self, told: Timetable, aim: Aim) -> tuple[Plan, list[Crowd]]:
+        with reading(self.until):
+            made = make(told, self.title, aim)
+            problem = translate(made.source)
+        left = None if self.until is None else self.until - self.options.began
+        gap = getattr(self.options, "gap", None) if aim.plain else None
+        options = argparse.Namespace(**{**vars(self.options), "time": left, "gap": gap})
         plan = Plan(told, made, problem, solved_apart(self.programs, problem, options))
         if plan.best.values is None:
             return plan, []
@@ -141,4 +156,4 @@ class Session:
         if plan.breaches:
             crowds = []
         plan.breaches = plan.breaches + missing
-        return plan, list(crowds)
+        return plan, crowds

@@ -4,7 +4,7 @@ from __future__ import annotations
 
 from fractions import Fraction
 
-from ..telling import headline, known_by
+from ..telling import headline
 from ..translate import number
 from .model import Timetable
 from .session import Plan
@@ -94,4 +94,4 @@ def money(cost: Fraction) -> str:
     return number(cost)
 
 
-__all__ = ["body", "details", "heads", "known_by", "moves", "money", "table", "who", "wishes"]
+__all__ = ["body", "details", "heads", "moves", "money", "table", "who", "wishes"]
