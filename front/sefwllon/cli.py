@@ -4,12 +4,14 @@ from __future__ import annotations
 
 import argparse
 import sys
+import time
 from importlib import import_module
 
 from . import __version__
-from .asking import crashed
 from .explain import explain
+from .output import OutOfTime, complain, ended_as_interrupted, say
 from .problem import Trouble
+from .programs import crash
 from .solving import Refused
 from .telling import OPEN, TEXT
 
@@ -19,6 +21,7 @@ COMMANDS = (
     "explain",
     "convert",
     "meetings",
+    "why",
     "draw",
     "cost",
     "web",
@@ -26,23 +29,41 @@ COMMANDS = (
 )
 """The modules of `commands`, in the order in which help names what they add."""
 
+INTERRUPTED = 130
+
 
 def main(arguments: list[str] | None = None) -> int:
     """Runs the command, and gives its exit status."""
-    options = parser().parse_args(arguments)
+    began = time.monotonic()
+    for stream in (sys.stdout, sys.stderr):
+        if hasattr(stream, "reconfigure"):
+            stream.reconfigure(errors="backslashreplace")
     try:
-        return options.run(options)
+        options = parser().parse_args(arguments)
+    except SystemExit:
+        say("")
+        raise
+    options.began = began
+    try:
+        with ended_as_interrupted():
+            return options.run(options)
     except Refused as refused:
-        print(f"sefwllon: {crashed(refused.answer) or explain(refused.answer.text, options.text)}", file=sys.stderr)
+        complain(crash(refused.answer) or explain(refused.answer.text, options.text))
         return TEXT
+    except OutOfTime as trouble:
+        complain(str(trouble))
+        return OPEN
     except Trouble as trouble:
-        print(f"sefwllon: {trouble}", file=sys.stderr)
+        complain(str(trouble))
         return TEXT
     except BrokenPipeError:
         return OPEN
+    except (MemoryError, RecursionError):
+        complain("the file is too large, or too deep, for this machine's memory")
+        return TEXT
     except KeyboardInterrupt:
-        print("sefwllon: interrupted", file=sys.stderr)
-        return 130
+        complain("interrupted")
+        return INTERRUPTED
 
 
 def parser() -> argparse.ArgumentParser:

@@ -19,18 +19,26 @@ PROBLEMS = FRONT.parent / "examples"
 
 FAKE = str(HERE / "fake_dcop.py")
 """The stand-in for `dcop` and `dcop_order`."""
+FAKE_SEARCH = str(HERE / "fake_search.py")
+"""The stand-in for `dcop_search`."""
 REAL = os.environ.get("SEFWLLON_DCOP")
 ORDER = os.environ.get("SEFWLLON_ORDER")
+SEARCH = os.environ.get("SEFWLLON_SEARCH")
 """The built programs, where they are there."""
+PAIR = "dcop 1\nvar x 2\nvar y 2\ntable x y : 5 4 2 7\ntable x : 0 1\nend\n"
+"""A problem whose best sum, 3 at x = 1 and y = 0, is not that of its tables' least costs."""
 HAS_YAML = importlib.util.find_spec("yaml") is not None
 
 
 class Case(unittest.TestCase):
     """A test that runs the command with the stand-in."""
 
-    def front(self, *words: str, fake: str = "", program: str = FAKE, order: str | None = None) -> tuple[int, str, str]:
+    def front(
+        self, *words: str, fake: str = "", program: str = FAKE, order: str | None = None, search: str = "", **more: str
+    ) -> tuple[int, str, str]:
+        """Runs the command with these programs, without dcop_search where it is not named."""
         kept = dict(os.environ)
-        os.environ.update(SEFWLLON_DCOP=program, FAKE=fake)
+        os.environ.update(SEFWLLON_DCOP=program, SEFWLLON_SEARCH=search, FAKE=fake, **more)
         if order is not None:
             os.environ["SEFWLLON_ORDER"] = order
         out, err = io.StringIO(), io.StringIO()
