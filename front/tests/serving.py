@@ -30,7 +30,7 @@ class Served:
 
     def __init__(self, *words: str, program: str = FAKE, order: str | None = None, fake: str = "", command: str = "serve", **environment: str):
         kept = {name: value for name, value in os.environ.items() if not name.startswith("SEFWLLON_")}
-        kept |= {"SEFWLLON_DCOP": program, "FAKE": fake, "PYTHONPATH": str(FRONT), "PYTHONDONTWRITEBYTECODE": "1", **environment}
+        kept |= {"SEFWLLON_DCOP": program, "SEFWLLON_SEARCH": "", "FAKE": fake, "PYTHONPATH": str(FRONT), "PYTHONDONTWRITEBYTECODE": "1", **environment}
         if order:
             kept["SEFWLLON_ORDER"] = order
         self.process = subprocess.Popen(

@@ -102,15 +102,15 @@ class Answers(Case):
     def test_an_answer_is_that_of_the_command(self):
         _, printed, _ = self.front("solve", "--json", str(PROBLEMS / "pair.dcop"), program=REAL or FAKE)
         answer = self.client.solve(PAIR)
-        wanted = json.loads(printed)
+        wanted = {name: told for name, told in json.loads(printed).items() if name not in ("time", "bounds", "versions")}
         self.assertEqual({name: answer[name] for name in wanted}, wanted)
-        self.assertEqual((answer["rests"], answer["sentence"]), ("verified", "cost 2, and none is better (verified)"))
+        self.assertEqual((answer["rests_on"], answer["sentence"]), ("verified", "cost 2, and none is better (verified)"))
         self.assertNotIn("report", answer)
 
     def test_a_problem_may_come_as_text_alone(self):
         status, told, _ = self.served.ask("POST", self.served.at("solve?wait=50&method=plain&name=x.dcop"), PAIR.encode())
         self.assertEqual((status, told["state"], told["answer"]["cost"]), (200, "done", 2))
-        self.assertEqual(told["answer"]["rests"], "proved")
+        self.assertEqual(told["answer"]["rests_on"], "proved")
 
     def test_a_problem_may_come_as_json(self):
         problem = {"goal": "max", "variables": {"a": ["red", "green"], "b": ["red", "green"]}, "tables": [{"scope": ["a", "b"], "costs": [0, 3, 7, 0]}]}
@@ -121,7 +121,8 @@ class Answers(Case):
 
     def test_a_report_is_checked(self):
         answer = self.client.solve(PAIR, certificate=True)
-        self.assertEqual(self.client.check(PAIR, answer["report"]), {"yes": True, "sentence": "yes, verified: cost 2, and none is better"})
+        verdict = self.client.check(PAIR, answer["report"])
+        self.assertEqual((verdict["yes"], verdict["sentence"]), (True, "yes, verified: cost 2, and none is better"))
         forged = self.client.check(PAIR, answer["report"].replace("cost 2", "cost 1"))
         self.assertEqual((forged["yes"], forged["sentence"][:4]), (False, "no: "))
 
@@ -139,7 +140,7 @@ class Answers(Case):
         (wish,) = answer["unmet"]
         self.assertEqual((answer["cost"], wish["who"]), (2, "N"))
         price = self.client.answer("wish", text=week, wish=wish)
-        self.assertEqual((price["cost"], price["values"], price["rests"]), (3, {"M": "B", "N": "A"}, "verified"))
+        self.assertEqual((price["cost"], price["values"], price["rests_on"]), (3, {"M": "B", "N": "A"}, "verified"))
         held = self.client.answer("wish", text=week, wish=wish, fixed={"M": "A"})
         self.assertEqual((held["cost"], held["never"]), (None, True))
 
@@ -150,15 +151,15 @@ class Answers(Case):
         self.assertEqual(
             [one["sentence"] for one in look["breaks"]],
             [
+                "standup is in Mon 10, and Ann can't: `absent,Ann,Mon 10` (line 12)",
+                "budget is in Mon 10, and Ann can't: `absent,Ann,Mon 10` (line 12)",
                 "standup and budget are both in Mon 10, and share Ann, Ben",
                 "design and review are both in Tue 9, and share Cho",
-                "Ann is absent in Mon 10, and takes part in standup",
-                "Ann is absent in Mon 10, and takes part in budget",
             ],
         )
         _, places = self.post("timetable/where", {"text": WEEK, "values": values, "meeting": "standup"})
-        self.assertEqual(places[0], {"slot": "Mon 9", "more": -3.0, "meets": [], "away": []})
-        self.assertEqual((places[1]["away"], places[1]["meets"]), (["Ann"], ["budget (Ann, Ben)"]))
+        self.assertEqual(places[0], {"slot": "Mon 9", "more": -3.0, "breaks": []})
+        self.assertEqual(places[1]["breaks"], ["Ann is absent", "budget (Ann, Ben)"])
         _, part = self.post("timetable/look", {"text": WEEK, "values": {"standup": "Mon 9"}})
         self.assertEqual((part["added"], part["unplaced"]), ("0", ["budget", "design", "review"]))
 
@@ -266,19 +267,19 @@ class Running(unittest.TestCase):
             until(lambda: served.client.job(job["job"])["said"])
             served.client.stop(job["job"])
             told = until(lambda: (found := served.client.job(job["job"]))["state"] == "done" and found)
-            self.assertEqual((told["answer"]["cost"], told["answer"]["stopped"], told["answer"]["rests"]), (2, "interrupted", "added up"))
+            self.assertEqual((told["answer"]["cost"], told["answer"]["stopped"], told["answer"]["rests_on"]), (2, "interrupted", "added up"))
             self.assertFalse(served.client.begin("solve", text=PAIR)["state"] == "done", "it is not kept")
 
     def test_time_is_kept(self):
         with Served("--most-time", "1s", fake="slow") as served:
             answer = served.client.solve(PAIR, time=500)
-            self.assertEqual((answer["cost"], answer["stopped"], answer["rests"]), (2, "the time is over", "added up"))
+            self.assertEqual((answer["cost"], answer["stopped"], answer["rests_on"]), (2, "the time is over", "added up"))
 
     def test_bounds_are_told_while_it_runs(self):
         with Served(fake="wide turns spends") as served:
             job = served.client.begin("solve", text=PAIR)
             told = until(lambda: (found := served.client.job(job["job"]))["state"] == "done" and found)
-            self.assertTrue(told["bounds"] and all(bound["lower"] <= 2 <= bound["upper"] for bound in told["bounds"]), told)
+            self.assertTrue(told["bounds"] and all(bound["cost"] - bound["gap"] <= 2 <= bound["cost"] for bound in told["bounds"]), told)
 
     def test_it_ends_cleanly(self):
         for how in (signal.SIGTERM, signal.SIGINT):

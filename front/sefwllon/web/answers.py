@@ -9,6 +9,8 @@ from __future__ import annotations
 import csv
 import io
 import json
+import os
+import re
 from collections.abc import Callable
 from contextlib import redirect_stdout
 from dataclasses import replace
@@ -17,13 +19,16 @@ from functools import lru_cache
 from pathlib import Path
 from typing import Any
 
-from .. import cli, draw, meetings
+from .. import cli, draw, timetable
 from ..files import KINDS as FILES
 from ..files import load
 from ..problem import Problem, Table, Trouble, Variable, is_name
 from ..programs import Programs
 from ..report import fitted, read_report, read_tree
-from ..solving import ORDERS, Refused
+from ..solving import Refused
+from ..timetable import calendars, rooms, rules
+from ..timetable.model import Meeting, Place, Sequence, Timetable, Together
+from ..timetable.telling import table
 from ..translate import Translation, number
 from . import trace
 
@@ -34,8 +39,8 @@ MOST_REPORT = 16 * 2**20
 """How long a report may be that an answer brings along."""
 MOST_CELLS = 4_096
 """How many cells of a table the page is given to look at."""
-VERIFIED, PROVED, ADDED = "verified", "proved", "added up"
-"""What an answer rests on: a certificate that was checked, the proved program alone, or the file's costs alone."""
+ORDERS = 20_000
+"""How many orders are tried where no number is told."""
 
 
 # ---- the commands
@@ -68,61 +73,52 @@ def get(name: str) -> str | None:
     return path.read_text(encoding="utf-8") if path.is_file() and path.stat().st_size <= MOST_REPORT else None
 
 
+def time_words(asked: Request) -> list[str]:
+    return ["--time", f"{float(asked['time'])}s"] if asked.get("time") else []
+
+
 def solve_words(asked: Request) -> list[str]:
-    """The words for `sefwllon solve`, which refuses by itself those that it does not know."""
-    words = ["--time", f"{float(asked['time'])}s"] if asked.get("time") else []
-    for name in ("method", "error", "gap", "workers"):
+    """The words for a command that solves, which refuses by itself those that it does not know."""
+    words = time_words(asked)
+    for name in ("method", "error", "gap", "workers", "cells"):
         if asked.get(name) not in (None, ""):
             words += [f"--{name}", str(asked[name])]
     return words
 
 
-def solved(asked: Request, name: str, teller: Any) -> Told:
-    """What `sefwllon solve --json` prints, with a sentence and the report."""
-    _, printed = command(["solve", "--json", "--report", "report", *solve_words(asked), put(name, asked["text"])], teller)
-    answer: Told = json.loads(printed)
-    answer["rests"] = rests(answer)
-    answer["sentence"] = sentence(answer)
-    answer["report"] = get("report")
-    return answer
-
-
-def rests(answer: Told) -> str | None:
-    """What an answer rests on, in one word."""
-    if answer.get("values") is None:
-        return None
-    if answer.get("rests_on"):
-        return str(answer["rests_on"])
-    if answer["verified"]:
-        return VERIFIED
-    return ADDED if not answer["deliveries"] and answer["method"] == "search" else PROVED
-
-
-def sentence(answer: Told) -> str:
+def sentence(answer: Told, what: str = "assignment", rules_of: str = "hard constraints") -> str:
     """An answer as the front tells it."""
     if answer["values"] is None:
         return f"nothing found: {answer['stopped'] or 'no method fits this problem'}"
     if answer["broken"]:
-        return answer["note"] or "rules are broken"
+        known = re.search(r"no assignment keeps all hard constraints \((.*?)\)", answer["note"] or "")
+        head = f"no {what} keeps all {rules_of} ({known[1]})" if known else f"no {what} that keeps all {rules_of} was found"
+        return f"{head}; this one breaks {len(answer['broken'])}"
     noun = "cost" if answer["goal"] == "min" else "sum"
-    bound = answer["lower"] if answer["goal"] == "min" else answer["upper"]
-    far = None if bound is None else abs(Fraction(str(answer["cost"])) - Fraction(str(bound)))
-    if answer["solved"] or far == 0:
-        return f"{noun} {answer['cost']}, and none is better ({answer['rests']})"
-    return f"{noun} {answer['cost']}" + ("" if far is None else f", at most {number(far)} from the best ({answer['rests']})")
+    cost, bound = answer["cost"], answer["lower"] if answer["goal"] == "min" else answer["upper"]
+    if bound is None:
+        return f"{noun} {cost}"
+    far = abs(Fraction(str(cost)) - Fraction(str(bound)))
+    if not far:
+        return f"{noun} {cost}, and none is better ({answer['rests_on']})"
+    share = f", {answer['gap_percent']:.3g} % of it" if answer["gap_percent"] else ""
+    return f"{noun} {cost}, at most {number(far)} from the best{share} ({answer['rests_on']})"
 
 
 def by_solve(asked: Request, teller: Any) -> Told:
-    answer = solved(asked, asked["name"], teller)
-    if not asked.get("certificate"):
-        del answer["report"]
+    _, printed = command(["solve", "--json", "--report", "report", *solve_words(asked), put(asked["name"], asked["text"])], teller)
+    answer: Told = json.loads(printed)
+    answer["sentence"] = sentence(answer)
+    if asked.get("certificate"):
+        answer["report"] = get("report")
     return {"answer": answer, "final": answer["solved"]}
 
 
 def by_check(asked: Request, teller: Any) -> Told:
     Path("report").write_text(asked["report"], encoding="utf-8", newline="")
-    status, printed = command(["check", put(asked["name"], asked["text"]), "report"], teller)
-    return {"answer": {"yes": status == 0, "sentence": printed.strip()}, "final": True}
+    status, printed = command(["check", *time_words(asked), put(asked["name"], asked["text"]), "report"], teller)
+    answer = {"yes": {0: True, 1: False}.get(status), "sentence": printed.splitlines()[0], "told": printed}
+    return {"answer": answer, "final": status in (0, 1)}
 
 
 # ---- timetables
@@ -130,81 +126,126 @@ def by_check(asked: Request, teller: Any) -> Told:
 
 def plan_text(asked: Request) -> str:
     """The CSV of a request, and behind it a line for each meeting that is held in a slot."""
-    out = io.StringIO()
-    csv.writer(out, lineterminator="\n").writerows(("fixed", name, slot) for name, slot in (asked.get("fixed") or {}).items())
     text = str(asked["text"])
-    return text + ("" if text.endswith("\n") or not text else "\n") + out.getvalue()
+    return text + ("" if text.endswith("\n") or not text else "\n") + csv_lines(["fixed", name, slot] for name, slot in (asked.get("fixed") or {}).items())
+
+
+def csv_lines(rows: Any) -> str:
+    out = io.StringIO()
+    csv.writer(out, lineterminator="\n").writerows(rows)
+    return out.getvalue()
+
+
+def timetabled(asked: Request, text: str, teller: Any) -> Told:
+    """What `sefwllon meetings --json` prints of a CSV, with a sentence, its report, and the problem that the report is of."""
+    words = ["meetings", "--json", "--report", "report", "--problem", "problem", *solve_words(asked), put("asked.csv", text)]
+    status, printed = command(words, teller)
+    if not printed.startswith("{"):  # nothing was found, which is told in a sentence
+        raise Trouble(printed.strip() or f"the command ended with {status}")
+    answer: Told = json.loads(printed)
+    answer |= {"sentence": sentence(answer, "timetable", "the rules"), "report": get("report"), "problem": get("problem")}
+    return answer
 
 
 def by_meetings(asked: Request, teller: Any) -> Told:
-    """A timetable, as `sefwllon solve` has it of a CSV, told in the words of who makes one."""
+    """A timetable, told in the words of who makes one."""
     text = plan_text(asked)
-    told = meetings.read(text)
-    answer = solved(asked | {"text": text}, "asked.csv", teller)
-    answer["csv"] = text
-    if answer["values"] is not None:
-        answer |= seen(told, answer["values"])
-    return {"answer": answer, "final": answer["solved"] or answer["values"] is not None and not answer["stopped"]}
+    told = timetable.read(text)
+    answer = timetabled(asked, text, teller)
+    answer |= {"csv": text, **seen(told, answer["values"])}
+    if not told.rooms:
+        del answer["problem"]  # the report is of the CSV alone
+    return {"answer": answer, "final": not answer["stopped"]}
 
 
 def by_wish(asked: Request, teller: Any) -> Told:
     """What it costs at least to meet a wish: the timetable anew, with a price on that wish that is above all others together."""
     text = plan_text(asked)
-    told = meetings.read(text)
-    price = 1 + sum((cost for *_, cost in told.tastes), Fraction(0)) * max(1, len(told.meetings))
+    told = timetable.read(text)
     wish = asked["wish"]
-    out = io.StringIO()
-    csv.writer(out, lineterminator="\n").writerow((wish["taste"], wish["meeting"], ";".join(wish["slots"]), number(Fraction(int(price) + 1))))
-    answer = solved(asked | {"text": text + out.getvalue()}, "asked.csv", teller)
-    if answer["values"] is None:
-        return {"answer": {"cost": None, "sentence": answer["sentence"]}, "final": False}
-    held = (answer["values"][wish["meeting"]] in wish["slots"]) == (wish["taste"] == "like")
-    found: Told = {"solved": answer["solved"], "rests": answer["rests"], "stopped": answer["stopped"]}
-    if held and not answer["broken"]:
+    meeting = told.meetings.get(wish["meeting"])
+    if meeting is None:
+        raise Trouble(f"{wish['meeting']} is no meeting")
+    answer = timetabled(asked, text + csv_lines([[wish["taste"], meeting.name, ";".join(wish["slots"]), price_above(told)]]), teller)
+    slot = told.slots[told.place_of(meeting, answer["values"][meeting.name]).slot].name
+    found: Told = {name: answer[name] for name in ("solved", "rests_on", "stopped")}
+    if answer["broken"]:
+        found |= {"cost": None, "never": False}
+    elif (slot in wish["slots"]) == (wish["taste"] == "like"):
         found |= {"cost": answer["cost"], "lower": answer["lower"], "values": answer["values"]}
     else:
-        found |= {"cost": None, "never": answer["solved"] or bool(answer["broken"])}
+        found |= {"cost": None, "never": answer["solved"]}
     return {"answer": found, "final": not answer["stopped"]}
 
 
+def price_above(told: Timetable) -> str:
+    """A cost above all that a timetable can cost."""
+    wishes = sum((wish.cost for wish in told.wishes), Fraction(0)) * len(told.meetings)
+    apart = sum((cost for meeting in told.meetings.values() for cost in meeting.optional.values()), Fraction(0)) * len(told.meetings)
+    return str(int(wishes + apart) + 1)
+
+
 @lru_cache(maxsize=16)
-def read_plan(text: str) -> meetings.Meetings:
-    return meetings.read(text)
+def read_plan(text: str) -> Timetable:
+    return timetable.read(text)
 
 
-def seen(told: meetings.Meetings, values: dict[str, str]) -> Told:
+def placed_of(told: Timetable, values: dict[str, str]) -> dict[str, object]:
+    """Where the meetings stand that have a slot, in the order of the meetings."""
+    found: dict[str, object] = {}
+    for name, meeting in told.meetings.items():
+        try:
+            place = told.place_of(meeting, values[name])
+        except (KeyError, ValueError):
+            continue
+        if place in told.places_for(meeting):
+            found[name] = told.place_name(meeting, place)
+    return found
+
+
+def part_of(told: Timetable, names: Any) -> Timetable:
+    """What a file says of some of its meetings."""
+    if len(names) == len(told.meetings):
+        return told
+    return replace(
+        told,
+        meetings={name: meeting for name, meeting in told.meetings.items() if name in names},
+        sequences=[Sequence(it.first, [name for name in it.then if name in names], it.line) for it in told.sequences if it.first in names],
+        together=[Together([name for name in it.names if name in names], it.same, it.line) for it in told.together],
+    )
+
+
+def seen(told: Timetable, values: dict[str, str]) -> Told:
     """A timetable, whole or in part, added up from the file: what it costs, which rules it breaks, which wishes it does not meet."""
-    placed = placed_of(told, values)
-    part = replace(told, meetings={name: who for name, who in told.meetings.items() if name in placed})
-    unmet = [
-        {"meeting": name, "taste": taste, "who": who, "slots": named, "cost": number(cost)}
-        for name, slot in placed.items()
-        for taste, who, named, cost in meetings.against(part, name, slot)
-        if cost
-    ]
-    clashes = [{"meetings": [clash.first, clash.second], "sentence": clash.sentence()} for clash in meetings.clashes(part, dict(placed))]
-    barred = told.barred()
-    away = [
-        {"meetings": [name], "sentence": f"{person} is absent in {slot}, and takes part in {name}"}
-        for name, slot in placed.items()
-        for person in told.meetings[name]
-        if slot in barred.get(person, ())
-    ]
+    chosen = placed_of(told, values)
+    part = part_of(told, chosen)
+    given, _, missing = rooms.give(part, chosen) if part.rooms else ({}, [], [])
+    costs = rules.costs(part, chosen)
     return {
-        "added": number(sum((Fraction(wish["cost"]) for wish in unmet), Fraction(0))),
-        "breaks": clashes + away,
-        "unmet": unmet,
-        "unplaced": [name for name in told.meetings if name not in placed],
+        "added": number(sum((cost.cost for cost in costs), Fraction(0))),
+        "breaks": [{"meetings": list(breach.meetings), "sentence": breach.sentence()} for breach in (*rules.breaches(part, chosen), *missing)],
+        "unmet": unmet(part, chosen, [cost.text for cost in costs], [number(cost.cost) for cost in costs]),
+        "unplaced": [name for name in told.meetings if name not in chosen],
+        "stands": {name: part.slot_of(chosen, name).name for name in chosen},
+        "rooms": given,
+        "notes": told.notes,
         "slots": [
-            {"name": slot.name, "begin": slot.begin and slot.begin.isoformat(), "end": slot.end and slot.end.isoformat()} for slot in told.slots
+            {"name": slot.name, "begin": slot.begin and slot.begin.isoformat(), "end": (end := slot.end()) and end.isoformat()} for slot in told.slots
         ],
     }
 
 
-def placed_of(told: meetings.Meetings, values: dict[str, str]) -> dict[str, str]:
-    """The slots of the meetings that have one, in the order of the meetings."""
-    slots = {slot.name for slot in told.slots}
-    return {name: values[name] for name in told.meetings if values.get(name) in slots}
+def unmet(told: Timetable, chosen: dict[str, object], texts: list[str], costs: list[str]) -> list[Told]:
+    """All that a timetable costs, each as a sentence with its cost; of a wish also whose it is, so that it can be asked for."""
+    wishes = {}
+    for name, meeting in told.meetings.items():
+        slot, place = told.slot_of(chosen, name).name, told.place_name(meeting, told.place_of(meeting, chosen[name]))
+        for who in dict.fromkeys([name, *meeting.people]):
+            for wish in told.wishes_of.get(who, []):
+                if wish.unmet(slot):
+                    why = f"which {who} dislikes" if wish.taste == "dislike" else f"and {who} likes {' or '.join(wish.slots)}"
+                    wishes[f"{name} is in {place}, {why}"] = {"meeting": name, "taste": wish.taste, "who": who, "slots": wish.slots}
+    return [{"sentence": text, "cost": cost, **wishes.get(text, {})} for text, cost in zip(texts, costs)]
 
 
 def look(text: str, values: dict[str, str]) -> Told:
@@ -212,35 +253,66 @@ def look(text: str, values: dict[str, str]) -> Told:
     return seen(read_plan(text), values)
 
 
-def where(text: str, values: dict[str, str], meeting: str) -> list[Told]:
-    """For each slot what a timetable costs more with a meeting moved there, and whom that meets."""
+def where(text: str, values: dict[str, str], name: str) -> list[Told]:
+    """For each slot what a timetable costs more with a meeting moved there, and what that breaks."""
     told = read_plan(text)
-    if meeting not in told.meetings:
-        raise Trouble(f"{meeting} is no meeting")
-    slots = {slot.name: slot for slot in told.slots}
-    placed = placed_of(told, values)
-    own = {name: meetings.own_cost(told, meeting, name) for name in slots}
-    now = own[placed[meeting]] if meeting in placed else Fraction(0)
-    near = {name: meetings.in_both(told, meeting, name) for name in placed if name != meeting}
-    barred = told.barred()
-    found = []
-    for slot in told.slots:
-        meets = [f"{name} ({', '.join(who)})" for name, who in near.items() if who and slot.meets(slots[placed[name]])]
-        away = [person for person in told.meetings[meeting] if slot.name in barred.get(person, ())]
-        found.append({"slot": slot.name, "more": float(own[slot.name] - now), "meets": meets, "away": away})
-    return found
+    if name not in told.meetings:
+        raise Trouble(f"{name} is no meeting")
+    meeting, chosen = told.meetings[name], placed_of(told, values)
+    part = part_of(told, {*chosen, name})
+    places = {other: part.place_of(part.meetings[other], place) for other, place in chosen.items()}
+    week = places[name].week if name in places else 0
+    beside = [rule for rule in rules.pair_rules(part) if name in (rule.first, rule.second)]
+    both = {pair: sum(people.values()) for pair, people in rules.both_costs(part).items() if name in pair}
+
+    def cost(place: Place) -> Fraction:
+        alone = sum((it.cost for it in rules.wish_costs(part, meeting, place)), Fraction(0))
+        return alone + sum(more for pair, more in both.items() if at_once(part, {**places, name: place}, *pair))
+
+    now = cost(places[name]) if name in places else Fraction(0)
+    return [
+        {"slot": slot.name, "more": float(cost(place) - now), "breaks": [*alone(part, meeting, place), *together(part, beside, {**places, name: place}, name)]}
+        for at, slot in enumerate(part.slots)
+        for place in [Place(at, week)]
+    ]
 
 
-def file_of(text: str, values: dict[str, str], kind: str) -> str:
+def at_once(told: Timetable, places: dict[str, Place], first: str, second: str) -> bool:
+    one, other = told.meetings[first], told.meetings[second]
+    return told.clock.meets(one, other)[told.clock.at(one, places[first])][told.clock.at(other, places[second])]
+
+
+def alone(told: Timetable, meeting: Meeting, place: Place) -> list[str]:
+    """Why a meeting can't have a place, in few words."""
+    why = [f"{person} is absent" for person in meeting.people if told.clock.why_away(person, meeting, place)]
+    if meeting.fixed and told.slots[place.slot].name not in meeting.fixed:
+        why.append(f"fixed in {' or '.join(meeting.fixed)}")
+    return why + (["no room"] if told.takes_room(meeting) and not rules.open_rooms(told, meeting, place) else [])
+
+
+def together(told: Timetable, beside: list[rules.PairRule], places: dict[str, Place], name: str) -> list[str]:
+    """What a meeting meets at a place, in few words."""
+    why = []
+    for rule in beside:
+        first, second = told.meetings[rule.first], told.meetings[rule.second]
+        if rule.forbids[told.clock.at(first, places[rule.first])][told.clock.at(second, places[rule.second])]:
+            other = rule.second if rule.first == name else rule.first
+            why.append(f"{other} ({', '.join(rule.who)})" if rule.who else rule.name)
+    return why
+
+
+def file_of(text: str, values: dict[str, str], kind: str, title: str) -> str:
     """A timetable as a file to keep: iCalendar, a picture, or lines."""
     told = read_plan(text)
-    chosen: dict[str, object] = dict(placed_of(told, values))
+    chosen = placed_of(told, values)
     if len(chosen) < len(told.meetings):
         raise Trouble("some meetings stand in no slot yet: solve first")
+    given, _, missing = rooms.give(told, chosen) if told.rooms else ({}, [], [])
+    found = [*rules.breaches(told, chosen), *missing]
     makers: dict[str, Callable[[], str]] = {
-        "ics": lambda: meetings.icalendar(told, chosen),
-        "svg": lambda: draw.timetable(told, chosen),
-        "txt": lambda: meetings.table(told, chosen),
+        "ics": lambda: calendars.written(told, chosen, os.path.basename(title), given, found).decode(),
+        "svg": lambda: draw.timetable(told, chosen, found, given),
+        "txt": lambda: table(told, chosen, given),
     }
     if kind not in makers:
         raise Trouble(f"a timetable is kept as {', '.join(makers)}, and not as {kind}")

@@ -48,10 +48,10 @@ HEADERS = {
 """What each answer says: it is for this page alone, and is not kept by the browser."""
 
 FIELDS: dict[str, tuple[str, ...]] = {
-    "solve": ("name", "text", "method", "time", "error", "gap", "workers", "certificate"),
-    "check": ("name", "text", "report"),
+    "solve": ("name", "text", "method", "time", "error", "gap", "workers", "cells", "certificate"),
+    "check": ("name", "text", "report", "time"),
     "order": ("name", "text", "tries"),
-    "meetings": ("text", "time", "fixed"),
+    "meetings": ("text", "time", "gap", "fixed"),
     "wish": ("text", "time", "fixed", "wish"),
     "view": ("name", "text"),
     "run": ("name", "text", "budget", "error", "report"),
@@ -153,7 +153,7 @@ def make_app(pool: Pool, first: Told | None = None) -> Flask:
     @app.get("/health")
     def health() -> Response:
         programs = Programs()
-        there = {"dcop": programs.dcop is not None, "dcop_order": programs.order is not None}
+        there = {"dcop": bool(programs.dcop), "dcop_order": bool(programs.order), "dcop_search": bool(programs.search)}
         counts = {state: pool.count(state) for state in ("waiting", "running")}
         return jsonify(status="ok", version=__version__, programs=there, d3=D3.is_file(), processes=pool.limits.processes, jobs=counts)
 
@@ -192,7 +192,10 @@ def make_app(pool: Pool, first: Told | None = None) -> Flask:
     def timetable(what: str) -> Response:
         """What is told of a timetable at once: what it costs, where a meeting can go, a file to keep."""
         told = body()
-        text, values = answers.plan_text(told), told.get("values")
+        values, fixed = told.get("values"), told.get("fixed") or {}
+        if what == "where":
+            told["fixed"] = {name: slot for name, slot in fixed.items() if name != told.get("meeting")}
+        text = answers.plan_text(told)
         if len(text) > MOST_PLAN:
             raise Trouble(f"the timetable is longer than {MOST_PLAN:,} letters")
         if not isinstance(values, dict):
@@ -201,7 +204,7 @@ def make_app(pool: Pool, first: Told | None = None) -> Flask:
             return jsonify(answers.look(text, values))
         if what == "where":
             return jsonify(answers.where(text, values, str(told.get("meeting"))))
-        return Response(answers.file_of(text, values, str(told.get("kind"))), mimetype="text/plain")
+        return Response(answers.file_of(text, values, str(told.get("kind")), str(told.get("name") or "timetable.csv")), mimetype="text/plain")
 
     @app.get("/pages/<page>/events")
     def events(page: str) -> Response:
@@ -286,10 +289,10 @@ def checked(kind: str, told: Told, limits: Limits) -> Told:
         raise Trouble("there is no text of a problem in the request")
     if kind == "check" and not told.get("report"):
         raise Trouble("/check takes the report that is to be checked as `report`")
-    for name in ("tries", "budget", "workers"):
+    for name in ("tries", "budget", "workers", "cells"):
         if name in told:
             told[name] = whole(name, told[name])
-    if kind in ("solve", "meetings", "wish"):
+    if kind in ("solve", "check", "meetings", "wish"):
         told["time"] = min(number_of("time", told.get("time") or limits.usual_seconds), limits.seconds)
     if "certificate" in told:
         told["certificate"] = told["certificate"] in (True, "yes", "true", "1", 1)

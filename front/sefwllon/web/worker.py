@@ -8,19 +8,20 @@ from __future__ import annotations
 
 import io
 import json
+import os
 import re
 import signal
 import sys
 from typing import Any, TextIO
 
-from ..asking import crashed
 from ..explain import explain
 from ..problem import Trouble
+from ..programs import crash
 from ..solving import Refused
 from . import answers
 
-BOUNDS = re.compile(r"cost (-?[\d.]+).* between (-?[\d.]+) and (-?[\d.]+)")
-"""The cost and the bounds in what a command says on a terminal."""
+KNOWN = re.compile(r"cost (-?[\d.]+), gap ([\d.]+)")
+"""The cost and the gap in what a command says on a terminal."""
 
 REFUSED = re.compile(r"sefwllon(?: \w+: error)?: ")
 """How a command begins what it refuses."""
@@ -52,15 +53,16 @@ class Teller(io.TextIOBase):
         return len(text)
 
     def say(self, said: str) -> None:
-        found = BOUNDS.search(said)
+        found = KNOWN.search(said)
         told: dict[str, Any] = {"said": said}
         if found:
-            told["bounds"] = dict(zip(("cost", "lower", "upper"), map(float, found.groups())))
+            told["bounds"] = dict(zip(("cost", "gap"), map(float, found.groups())))
         print(json.dumps(told), file=self.out, flush=True)
 
 
 def main() -> int:
     signal.signal(signal.SIGINT, signal.default_int_handler)
+    os.environ["COLUMNS"] = "1000"  # what is said is not cut as for a terminal
     teller = Teller(sys.stderr)
     text = ""
     try:
@@ -69,7 +71,7 @@ def main() -> int:
         sys.stderr = teller  # type: ignore[assignment]
         told = answers.KINDS[request.pop("kind")](request, teller)
     except Refused as refused:
-        told = {"refused": crashed(refused.answer) or explain(refused.answer.text, text)}
+        told = {"refused": crash(refused.answer) or explain(refused.answer.text, text)}
     except Trouble as trouble:
         told = {"refused": str(trouble)}
     except KeyboardInterrupt:

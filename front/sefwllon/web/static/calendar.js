@@ -84,7 +84,7 @@ export class Calendar {
       "button",
       { class: kinds.filter(Boolean).join(" "), data: { meeting: meeting.name }, title: told.filter(Boolean).join("; "), onclick: () => this.chose(meeting.name) },
       el("span", { class: "what" }, meeting.name),
-      el("span", { class: "who" }, meeting.people.join(", ")),
+      el("span", { class: "who" }, [meeting.people.join(", "), meeting.room, meeting.more].filter(Boolean).join(" · ")),
     );
     this.chips.set(meeting.name, chip);
     return chip;
@@ -142,10 +142,9 @@ export class Calendar {
     this.tinting = name;
     const places = await this.asked(name);
     if (this.tinting !== name) return;
-    for (const { slot, more, meets, away } of places) {
+    for (const { slot, more, breaks } of places) {
       const box = this.boxes.get(slot);
       if (!box) continue;
-      const breaks = [...away.map((who) => `${who} is absent`), ...meets];
       box.classList.add(breaks.length ? "barred" : more > 0 ? "dearer" : "fine");
       box.querySelector(".more").textContent = breaks.length ? breaks[0] : more === 0 ? "" : `${more > 0 ? "+" : ""}${more}`;
     }

@@ -54,7 +54,7 @@ export function read(text) {
     else if (kind === "meeting") plan.meetings.push({ name, people: several(rest) });
     else if (kind === "absent") absent(plan, name, several(rest));
     else if (kind === "like" || kind === "dislike") plan.wishes.push({ taste: kind, who: name, slots: several(rest.slice(0, -1)), cost: rest.at(-1) ?? "" });
-    else if (kind === "fixed" && rest.length === 1) plan.held[name] = rest[0];
+    else if (kind === "fixed" && rest.length === 1 && !rest[0].includes(";")) plan.held[name] = rest[0];
     else plan.others.push({ line: line(cells) });
   }
   return withPeople(plan);

@@ -8,6 +8,7 @@ import { Tree } from "./tree.js";
 const METHODS = [
   ["dpop", "DPOP, in the file's order"],
   ["order", "DPOP, in the order of dcop_order"],
+  ["search", "dcop_search"],
   ["cut", "DPOP with variables fixed in turn"],
   ["adopt", "ADOPT"],
   ["auto", "one behind the other, as `sefwllon solve`"],
@@ -119,7 +120,7 @@ export class ProblemView {
 
   tell(method, told) {
     this.answers.set(method, told);
-    const cells = ["by", "answer", "lower", "upper", "messages", "seconds", "rests on", ""].map((word) => el("th", {}, word));
+    const cells = ["by", "answer", "lower", "upper", "messages or nodes", "seconds", "rests on", ""].map((word) => el("th", {}, word));
     const lines = METHODS.map(([name, words]) => this.line(name, words, this.answers.get(name)));
     by("problem-methods").replaceChildren(el("table", { class: "list methods" }, el("thead", {}, el("tr", {}, cells)), el("tbody", {}, lines)));
   }
@@ -129,9 +130,9 @@ export class ProblemView {
     if (!answer) return el("tr", { data: { method } }, first, el("td", { colSpan: 7, class: "quiet" }, why ?? said ?? ""));
     const report = answer.report && el("button", { onclick: () => keep(`${this.file.name}.${method}.report`, answer.report) }, "Report");
     const look = answer.values && typeof d3 !== "undefined" && el("button", { onclick: () => this.shown(answer) }, "Show");
-    const numbers = [answer.lower, answer.upper, answer.deliveries].map((number) => el("td", { class: "number" }, figure(number)));
+    const numbers = [answer.lower, answer.upper, answer.messages || answer.nodes].map((number) => el("td", { class: "number" }, figure(number)));
     const told = `${answer.sentence}${answer.method && answer.method !== method ? `; by ${answer.method}` : ""}`;
-    return el("tr", { data: { method, cost: String(answer.cost) } }, first, el("td", {}, told), numbers, el("td", { class: "number" }, figure(seconds)), el("td", {}, answer.rests ?? ""), el("td", {}, look, report));
+    return el("tr", { data: { method, cost: String(answer.cost) } }, first, el("td", {}, told), numbers, el("td", { class: "number" }, figure(seconds)), el("td", {}, answer.rests_on ?? ""), el("td", {}, look, report));
   }
 
   /** Shows an answer's values in the pictures. */

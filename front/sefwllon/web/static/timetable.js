@@ -101,7 +101,7 @@ export class Timetable {
     by("who").addEventListener("change", () => this.draw());
     by("save-ics").addEventListener("click", () => this.save("ics", "text/calendar"));
     by("save-svg").addEventListener("click", () => this.save("svg", "image/svg+xml"));
-    by("save-report").addEventListener("click", () => keep(`${this.title}.report`, this.result().answer.report));
+    by("save-report").addEventListener("click", () => this.keepReport());
     document.addEventListener("keydown", (event) => this.keys(event));
   }
 
@@ -273,7 +273,7 @@ export class Timetable {
 
   /** Asks for each wish that is not met what it would cost to meet it: the timetable solved anew with that wish held. */
   async price(asked, answer) {
-    const wanted = answer.unmet.map((wish) => ({ wish, state: "waits" }));
+    const wanted = answer.unmet.filter((wish) => wish.taste).map((wish) => ({ wish, state: "waits" }));
     this.prices = new Map(wanted.map((price) => [wishKey(price.wish), price]));
     this.pricesFor = JSON.stringify([asked.text, asked.fixed]);
     for (const price of wanted) price.now = Number(answer.cost);
@@ -330,10 +330,14 @@ export class Timetable {
     const values = this.plan.values ?? {};
     const clashing = new Set(look.breaks.flatMap((one) => one.meetings));
     const missing = new Set(look.unmet.map((wish) => wish.meeting));
+    const slots = new Set(look.slots.map((slot) => slot.name));
+    const stands = (name) => (slots.has(values[name]) ? values[name] : values[name] && (look.stands?.[name] ?? null));
     const meetings = this.plan.meetings.filter((meeting) => meeting.name).map((meeting) => ({
       name: meeting.name,
       people: plans.names(meeting.people),
-      slot: look.slots.some((slot) => slot.name === values[meeting.name]) ? values[meeting.name] : null,
+      slot: stands(meeting.name) || null,
+      room: look.rooms?.[meeting.name] ?? "",
+      more: slots.has(values[meeting.name]) ? "" : (values[meeting.name] ?? ""),
       held: this.plan.held[meeting.name] !== undefined,
       clashes: clashing.has(meeting.name),
       misses: missing.has(meeting.name),
@@ -350,7 +354,9 @@ export class Timetable {
     const result = this.result();
     for (const id of ["save-ics", "save-svg"]) by(id).disabled = !whole;
     by("save-report").disabled = !result?.answer.report;
-    by("breaks").replaceChildren(...look.breaks.map((one) => el("li", {}, one.sentence)));
+    const why = result?.answer.why ?? [];
+    by("breaks").replaceChildren(...[...look.breaks.map((one) => one.sentence), ...why].map((line) => el("li", {}, line)));
+    by("notes").replaceChildren(...(look.notes ?? []).map((line) => el("li", {}, line)));
     if (!this.plan.values || !this.look) return;
     if (result) {
       const { sentence, stopped } = result.answer;
@@ -393,7 +399,7 @@ export class Timetable {
     const held = Object.keys(this.plan.held).length > 0;
     const told = unmet.map((wish) => {
       const price = known ? this.prices.get(wishKey(wish)) : undefined;
-      return { words: wishWords(wish, this.plan.values[wish.meeting]), cost: wish.cost, price: priceWords(price, held), values: price?.found?.values };
+      return { words: wish.sentence, cost: wish.cost, price: priceWords(price, held), values: price?.found?.values };
     });
     const drawn = JSON.stringify(told);
     if (drawn === this.drawnWishes) return; // what is clicked on stays where it is
@@ -405,9 +411,16 @@ export class Timetable {
     by("wishes").replaceChildren(...(lines.length ? [el("table", { class: "list" }, el("thead", {}, head), el("tbody", {}, lines))] : []));
   }
 
+  /** Keeps the report, and where it is not of the CSV alone, the problem that it is of. */
+  keepReport() {
+    const { report, problem } = this.result().answer;
+    keep(`${this.title}.report`, report);
+    if (problem) keep(`${this.title}.dcop`, problem);
+  }
+
   async save(kind, type) {
     try {
-      keep(`${this.title}.${kind}`, await post("timetable/file", { ...this.asked(), kind }), type);
+      keep(`${this.title}.${kind}`, await post("timetable/file", { ...this.asked(), kind, name: `${this.title}.csv` }), type);
     } catch (fault) {
       say(by("answer"), fault.message);
     }
@@ -421,16 +434,12 @@ function difference(more) {
   return more > 0 ? `, ${figure(more)} more than the best that was found` : `, ${figure(-more)} less than what was found`;
 }
 
-function wishWords(wish, slot) {
-  return wish.taste === "dislike" ? `${wish.meeting} is in ${slot}, which ${wish.who} dislikes` : `${wish.meeting} is in ${slot}, and ${wish.who} likes ${wish.slots.join(" or ")}`;
-}
-
 /** What it would cost to meet a wish, in words. */
 function priceWords(price, held) {
   if (!price) return "";
   if (price.state === "waits" || price.state === "asked") return "is being looked for";
   if (price.state === "refused") return price.why;
-  const { cost, lower, solved, rests, never } = price.found;
+  const { cost, lower, solved, rests_on: rests, never } = price.found;
   if (cost === null) {
     if (!never) return "not known within this time";
     return held ? "can't be, with what is held" : "no timetable meets it and keeps all rules";
@@ -442,6 +451,5 @@ function priceWords(price, held) {
 
 function optionWords(slot, place) {
   if (!place) return slot.name;
-  const breaks = [...place.away.map((who) => `${who} is absent`), ...place.meets.map((who) => `meets ${who}`)];
-  return [slot.name, place.more ? `${place.more > 0 ? "+" : ""}${figure(place.more)}` : "", ...breaks].filter(Boolean).join(", ");
+  return [slot.name, place.more ? `${place.more > 0 ? "+" : ""}${figure(place.more)}` : "", ...place.breaks].filter(Boolean).join(", ");
 }
