@@ -10,6 +10,7 @@ import os
 import signal
 import subprocess
 import sys
+import tempfile
 import time
 from pathlib import Path
 from typing import Any
@@ -21,8 +22,12 @@ from .case import FAKE, FRONT
 
 HAS_FLASK = importlib.util.find_spec("flask") is not None
 NO_FLASK = "no Flask: passed over; Debian's python3-flask has it"
-PATIENCE = 60
+PATIENCE = 240
 """How many seconds a test waits for what comes in less than one on an idle machine."""
+
+
+COMPILED = tempfile.TemporaryDirectory(prefix="sefwllon-compiled-")
+"""Where the services of the tests keep their modules compiled: each job is a process that imports them."""
 
 
 class Served:
@@ -30,7 +35,8 @@ class Served:
 
     def __init__(self, *words: str, program: str = FAKE, order: str | None = None, fake: str = "", command: str = "serve", **environment: str):
         kept = {name: value for name, value in os.environ.items() if not name.startswith("SEFWLLON_")}
-        kept |= {"SEFWLLON_DCOP": program, "SEFWLLON_SEARCH": "", "FAKE": fake, "PYTHONPATH": str(FRONT), "PYTHONDONTWRITEBYTECODE": "1", **environment}
+        kept |= {"SEFWLLON_DCOP": program, "SEFWLLON_SEARCH": "", "FAKE": fake, "PYTHONPATH": str(FRONT), "PYTHONPYCACHEPREFIX": COMPILED.name, **environment}
+        kept.pop("PYTHONDONTWRITEBYTECODE", None)
         if order:
             kept["SEFWLLON_ORDER"] = order
         self.process = subprocess.Popen(

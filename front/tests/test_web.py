@@ -106,7 +106,7 @@ class Page(Case):
     def sees(self, css: str, words: str) -> None:
         """Waits until words are seen in a part of the page."""
         try:
-            until(lambda: words in self.browser.execute_script("return document.querySelector(arguments[0])?.innerText ?? ''", css), 30)
+            until(lambda: words in self.browser.execute_script("return document.querySelector(arguments[0])?.innerText ?? ''", css))
         except AssertionError:
             self.fail(f"{css} says `{self.text(css)}`, and not `{words}`")
 

@@ -11,6 +11,7 @@ import io
 import json
 import os
 import re
+import time
 from collections.abc import Callable
 from contextlib import redirect_stdout
 from dataclasses import replace
@@ -41,6 +42,8 @@ MOST_CELLS = 4_096
 """How many cells of a table the page is given to look at."""
 ORDERS = 20_000
 """How many orders are tried where no number is told."""
+ORDER_SECONDS = 10.0
+"""How long a narrower order is sought for the picture of a problem."""
 
 
 # ---- the commands
@@ -356,11 +359,14 @@ def by_order(asked: Request, teller: Any) -> Told:
     return {"answer": {"text": text, "largest": largest[1], "largest_as_given": largest[0]}, "final": True}
 
 
-def ordered_text(programs: Programs, problem: Problem, tries: int) -> str | None:
-    answer = programs.reorder(problem.text(), tries)
-    if answer is not None and answer.status != 0:
+def ordered_text(programs: Programs, problem: Problem, tries: int, seconds: float | None = None) -> str | None:
+    """The problem in another order; None where there is no program for that, or where the time is over."""
+    answer = programs.reorder(problem.text(), tries, None if seconds is None else time.monotonic() + seconds)
+    if answer is None or answer.status is None:
+        return None
+    if answer.status != 0:
         raise Refused(answer)
-    return None if answer is None else answer.text
+    return answer.text
 
 
 def tree_of(programs: Programs, told: Translation, text: str) -> list[Told]:
@@ -401,9 +407,9 @@ def by_view(asked: Request, teller: Any) -> Told:
         "ordered": None,
         "why_no_order": None,
     }
-    text = ordered_text(programs, problem, ORDERS)
+    text = ordered_text(programs, problem, ORDERS, ORDER_SECONDS)
     if text is None:
-        answer["why_no_order"] = "the program dcop_order is not there"
+        answer["why_no_order"] = "it takes dcop_order too long" if programs.order else "the program dcop_order is not there"
     else:
         answer["ordered"] = tree_of(programs, told, text)
     return {"answer": answer, "final": True}

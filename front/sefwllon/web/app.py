@@ -20,7 +20,7 @@ from ..problem import Trouble, parse
 from ..programs import Programs
 from ..solving import Refused
 from . import answers, trace
-from .jobs import Full, Job, Limits, Pool, Told
+from .jobs import Full, Job, Limits, Pool, Told, Unknown
 
 STATIC = Path(__file__).resolve().parent / "static"
 D3 = Path("/usr/share/nodejs/d3/dist/d3.min.js")
@@ -120,9 +120,9 @@ def make_app(pool: Pool, first: Told | None = None) -> Flask:
     def refused(fault: Refused) -> tuple[Response, int]:
         return jsonify(why=explain(fault.answer.text, "")), 422
 
-    @app.errorhandler(KeyError)
-    def unknown(fault: KeyError) -> tuple[Response, int]:
-        return jsonify(why=str(fault.args[0])), 404
+    @app.errorhandler(Unknown)
+    def unknown(fault: Unknown) -> tuple[Response, int]:
+        return jsonify(why=str(fault)), 404
 
     for code, why in (
         (400, "the request is no JSON that this address takes"),
@@ -143,7 +143,7 @@ def make_app(pool: Pool, first: Told | None = None) -> Flask:
     @app.get("/d3.js")
     def d3() -> Response:
         if not D3.is_file():
-            raise KeyError("D3 is not there: install Debian's node-d3")
+            raise Unknown("D3 is not there: install Debian's node-d3")
         return send_file(D3, mimetype="text/javascript")
 
     @app.get("/first")

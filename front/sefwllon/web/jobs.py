@@ -31,6 +31,8 @@ GRACE_SECONDS = 20.0
 """How much longer than its time a job may take, for what is done before and behind the search."""
 OVER = ("done", "refused", "failed", "cancelled")
 """The states in which a job stays."""
+LAST = 16
+"""How many jobs that are over are not let go of, however long their answers are."""
 MOST_BOUNDS = 1_000
 """How many bounds of a job are kept while it runs."""
 
@@ -47,7 +49,7 @@ class Limits:
     kept_answers: int = 256
     kept_bytes: int = 64 * 2**20
     jobs: int = 1_000
-    """How many jobs that are over can still be asked for."""
+    """How many jobs that are over can still be asked for, as far as they have not more bytes together than are kept."""
 
 
 @dataclass
@@ -71,6 +73,8 @@ class Job:
     """Whether the answer was known from before."""
     process: subprocess.Popen[bytes] | None = None
     stopping: bool = False
+    size: int = 0
+    """How many bytes it takes, about: what was asked, and the answer."""
 
     @property
     def over(self) -> bool:
@@ -94,6 +98,10 @@ class Job:
 
 class Full(Trouble):
     """So many jobs wait that no other is taken."""
+
+
+class Unknown(Trouble):
+    """What is asked for is not there."""
 
 
 class Kept:
@@ -140,6 +148,7 @@ class Pool:
     def submit(self, kind: str, request: Request, owner: str = "") -> Job:
         """A job that waits, or that is over at once where its answer is kept."""
         job = Job(secrets.token_urlsafe(9), kind, request, owner)
+        job.size = sum(len(told) for told in request.values() if isinstance(told, str))
         with self.changed:
             answer = self.kept.get(key_of(kind, request))
             if answer is not None:
@@ -153,10 +162,13 @@ class Pool:
         return job
 
     def forget(self) -> None:
-        """Lets go of the jobs that have been over the longest, where they are too many."""
-        over = [job.id for job in self.jobs.values() if job.over]
-        for name in over[: max(0, len(over) - self.limits.jobs)]:
-            del self.jobs[name]
+        """Lets go of the jobs that have been over the longest, where they are too many or too long."""
+        over = [job for job in self.jobs.values() if job.over]
+        left = sum(job.size for job in over)
+        for at, job in enumerate(over[:-LAST]):
+            if len(over) - at > self.limits.jobs or left > self.limits.kept_bytes:
+                left -= job.size
+                del self.jobs[job.id]
 
     def count(self, state: str) -> int:
         return sum(job.state == state for job in self.jobs.values())
@@ -165,7 +177,7 @@ class Pool:
         try:
             return self.jobs[name]
         except KeyError:
-            raise KeyError("there is no such job, or it was over long ago") from None
+            raise Unknown("there is no such job, or it was over long ago") from None
 
     def touch(self, job: Job) -> None:
         """Says that something about a job has changed; the lock is held."""
@@ -283,7 +295,7 @@ class Pool:
         process = subprocess.Popen(
             [sys.executable, "-m", "sefwllon.web.worker"],
             cwd=folder,
-            env=dict(os.environ, PYTHONPATH=path, PYTHONDONTWRITEBYTECODE="1"),
+            env={name: told for name, told in os.environ.items() if name != "SEFWLLON_TOKEN"} | {"PYTHONPATH": path},
             stdin=subprocess.PIPE,
             stdout=subprocess.PIPE,
             stderr=writing,
@@ -323,6 +335,7 @@ class Pool:
         if "refused" in told:
             self.finish(job, "refused", why=told["refused"])
             return
+        job.size += len(printed)
         final = told.pop("final", False)
         if final and not job.stopping:
             with self.changed:

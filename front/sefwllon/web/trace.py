@@ -13,7 +13,7 @@ from ..asking import checked_report
 from ..explain import differs
 from ..problem import Problem, Trouble
 from ..programs import Programs
-from ..replay import deliveries, moments
+from ..replay import moments
 from ..solving import NO, Refused
 
 Told = dict[str, Any]
@@ -74,11 +74,6 @@ class Run:
             if words[:1] == ["agent"]:
                 found.append({"agent": words[1], **dict(zip(words[2::2], words[3::2]))})
         return found
-
-
-def delivered(report: str) -> list[int]:
-    """The messages delivered after 0, 1, 2 and so on events of the log."""
-    return deliveries(report)
 
 
 def util_lines(report: str) -> list[tuple[str, list[str], list[int]]]:
