@@ -1,6 +1,6 @@
 """Tests of the page in a real browser, Chromium without a window: each is what a user does.
 
-Pictures of what was seen are kept in a temporary folder, whose name SEFWLLON_PICTURES tells, or else nowhere."""
+Pictures of what was seen are kept in the folder that SEFWLLON_PICTURES names, where it is set; SEFWLLON_WINDOW is how large the window is."""
 
 from __future__ import annotations
 
@@ -63,7 +63,7 @@ class Page(Case):
         from selenium.webdriver.chrome.service import Service
 
         options = webdriver.ChromeOptions()
-        words = ["--headless=new", "--disable-dev-shm-usage", "--window-size=1500,1000", f"--user-data-dir={cls.folder}/profile"]
+        words = ["--headless=new", "--disable-gpu", "--disable-extensions", "--disable-background-networking", "--disable-dev-shm-usage", f"--window-size={os.environ.get('SEFWLLON_WINDOW', '1500,1000')}", f"--user-data-dir={cls.folder}/profile"]
         for word in words + (["--no-sandbox"] if os.geteuid() == 0 else []):
             options.add_argument(word)
         options.binary_location = shutil.which("chromium")
@@ -217,12 +217,13 @@ class Timetables(Page):
         self.open_week()
         self.solve()
         self.assertEqual(self.text("#answer"), "cost 1, and none is better (verified)")
+        self.sees("#wishes", "in all (verified)")
         before = self.slots()
-        self.picture("timetable")
 
         def look() -> None:
             self.sees("[data-slot='Mon 9'] .more", "Ida is absent")
             self.sees("[data-slot='Wed 10'] .more", "Retro (Ida, Jon, Kim)")
+            self.picture("timetable")
 
         self.drag("Kickoff", "Mon 11", look)
         self.sees("#answer", "cost 1 (added up), as the best that was found, and it breaks 2 rules")

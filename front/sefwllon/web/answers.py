@@ -443,6 +443,7 @@ def by_run(asked: Request, teller: Any) -> Told:
         "lower": read.lower,
         "upper": read.upper,
         "deliveries": read.deliveries,
+        "goal": problem.goal,
         "verified": sure,
         "own": own_costs(told),
         "problem": problem.text(),
@@ -472,6 +473,7 @@ def by_dpop(asked: Request, teller: Any) -> Told:
         "chosen": {name: str(value) for name, value in told.told(read.values).items()},
         "cost": read.cost,
         "deliveries": read.deliveries,
+        "goal": told.problem.goal,
         "verified": sure,
         "own": own_costs(told),
     }
@@ -480,12 +482,14 @@ def by_dpop(asked: Request, teller: Any) -> Told:
 
 def own_costs(told: Translation) -> str | None:
     """What the costs of a run are in the file's own, where they differ."""
+    missed = "The agents count what is missed of the greatest sum." if told.problem.goal == "max" else None
     hard = told.hard_cost * len(told.hard) if told.problem.goal == "max" else 0
     if told.scale == 1 and not told.shift and not hard:
-        return None
+        return missed
     less = f" - {hard}" if hard else ""
     shift = f" + {number(told.shift)}" if told.shift else ""
-    return f"Costs are told as the programs count them; by the file's own count N is (N{less}) / {told.scale}{shift}."
+    counted = f"Sums are told as the programs count them; by the file's own count N is (N{less}) / {told.scale}{shift}."
+    return f"{counted} {missed}" if missed else counted
 
 
 KINDS: dict[str, Callable[[Request, Any], Told]] = {

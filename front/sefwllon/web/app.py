@@ -168,7 +168,7 @@ def make_app(pool: Pool, first: Told | None = None) -> Flask:
     def job_of(name: str) -> tuple[Response, int]:
         job = pool.get(name)
         pool.wait(job, seconds_of("wait", MOST_WAIT))
-        return answer_of(job)
+        return jsonify(job.told()), 200 if job.over else 202
 
     @app.post("/jobs/<name>/stop")
     def stop(name: str) -> tuple[Response, int]:
@@ -228,7 +228,7 @@ def make_app(pool: Pool, first: Told | None = None) -> Flask:
 
 
 def answer_of(job: Job) -> tuple[Response, int]:
-    """A job as an answer: 200 where it is over, 202 where it goes on, 422 where it was refused."""
+    """A job as the answer to its question: 200 where it is over, 202 where it goes on, 422 where it was refused."""
     status = 422 if job.state == "refused" else 500 if job.state == "failed" else 200 if job.over else 202
     return jsonify(job.told()), status
 

@@ -27,7 +27,7 @@ PACKAGES = Path(__file__).resolve().parents[2]
 """The folder that has this package: a worker finds it there."""
 END_SECONDS = 2.0
 """How long a worker has to end by itself when it is told to."""
-GRACE_SECONDS = 20.0
+GRACE_SECONDS = 60.0
 """How much longer than its time a job may take, for what is done before and behind the search."""
 OVER = ("done", "refused", "failed", "cancelled")
 """The states in which a job stays."""

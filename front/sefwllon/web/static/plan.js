@@ -39,17 +39,22 @@ export function written(plan) {
 /** The CSV without the meetings that are held by hand: these go beside it. */
 export const bare = (plan) => written({ ...plan, held: {} });
 
+const KINDS = /^(slot|meeting|optional|absent|busy|(dis)?like|fixed|minutes|before|after|(not )?same ?day|(an)?other ?day|different ?days?|most|room|needs|weeks|every|zone|person)$/;
+
 /** The tables of a CSV. A line of a kind that has no table of its own is kept as it is. */
 export function read(text) {
   const plan = empty();
   const mark = markOf(text);
-  for (const row of parse(text.replace(/^\ufeff/, ""), mark)) {
+  const rows = parse(text.replace(/^\ufeff/, ""), mark);
+  for (const [at, row] of rows.entries()) {
     const cells = row.map((cell) => cell.trim().replaceAll(/\s+/g, " "));
     while (cells.length && cells.at(-1) === "") cells.pop();
     if (!cells.length) continue;
     const [kind, name = "", ...rest] = [cells[0].toLowerCase(), ...cells.slice(1)];
     const several = (words) => list(words.flatMap(names));
     if (kind.startsWith("#")) plan.comments.push(row.join(mark));
+    else if (at === 0 && kind.startsWith("sep=")) continue;
+    else if (at === 0 && !KINDS.test(kind)) plan.comments.push(line(cells)); // a heading
     else if (kind === "slot" && rest.length <= 2) plan.slots.push({ name, begin: rest[0] ?? "", minutes: rest[1] ?? "" });
     else if (kind === "meeting") plan.meetings.push({ name, people: several(rest) });
     else if (kind === "absent") absent(plan, name, several(rest));

@@ -1,7 +1,7 @@
 // The root's bounds over the messages of a run, with a cursor at the event that is shown.
 /* global d3 */
 
-const [WIDE, HIGH, LEFT, TOP, RIGHT, BOTTOM] = [1300, 230, 60, 16, 24, 40];
+const [WIDE, HIGH, LEFT, TOP, RIGHT, BOTTOM] = [1300, 200, 60, 16, 24, 40];
 
 export class Plot {
   /** `moments` have events, deliveries, lower and upper; `chose` hears at which number of messages somebody clicked. */

@@ -6,6 +6,7 @@ import { Tree } from "./tree.js";
 
 const STEP = 700; // milliseconds from one step to the next, when it plays
 const MOST_SHOWN = 512; // how many cells of a table are shown
+const noun = (answer) => (answer.goal === "max" ? "Sum" : "Cost");
 
 /** The steps of ADOPT: an event of the log each, and what `dcop replay` says behind it. */
 class AdoptSteps {
@@ -118,7 +119,7 @@ class DpopSteps {
       const isChosen = values.every((value, at) => value === this.answer.chosen[scope[at]]);
       return el("tr", { class: isChosen ? "acts" : "" }, values.map((value) => el("td", {}, value)), el("td", { class: "number" }, String(cell)));
     });
-    const heads = [...scope, "costs at least"].map((word) => el("th", {}, word));
+    const heads = [...scope, this.answer.goal === "max" ? "misses at least" : "costs at least"].map((word) => el("th", {}, word));
     const more = size > rows.length && el("p", { class: "quiet" }, `The first ${rows.length} of ${size.toLocaleString("en")} cells.`);
     const title = scope.length ? `What ${name} sends` : `What is left at the root, ${name}`;
     by("run-side").replaceChildren(el("table", { class: "list cells", data: { table: name } }, el("caption", {}, title), el("thead", {}, el("tr", {}, heads)), el("tbody", {}, rows)), more || "");
@@ -168,7 +169,7 @@ export class RunView {
     if (!answer) return;
     this.begin(new AdoptSteps(answer), answer.tree);
     const solved = answer.status === "solved" ? "all agents have ended" : "the messages were spent first";
-    say(by("run-said"), `${answer.events.length} events, ${answer.deliveries} messages: ${solved}. Cost ${answer.cost}, the best lies between ${answer.lower} and ${answer.upper} (${answer.verified ? "verified" : "not verified"}).${answer.own ? ` ${answer.own}` : ""}`);
+    say(by("run-said"), `${answer.events.length} events, ${answer.deliveries} messages: ${solved}. ${noun(answer)} ${answer.cost}, the best lies between ${answer.lower} and ${answer.upper} (${answer.verified ? "verified" : "not verified"}).${answer.own ? ` ${answer.own}` : ""}`);
     if (typeof d3 !== "undefined") {
       this.plot = new Plot(by("plot"), answer.moments, answer.cost, (deliveries) => this.go(this.steps.eventAt(deliveries)));
     }
@@ -181,7 +182,7 @@ export class RunView {
     this.begin(new DpopSteps(answer), answer.tree);
     this.plot = null;
     by("plot").replaceChildren();
-    say(by("run-said"), `${answer.deliveries} messages: a table from each agent but the root, and values back. Cost ${answer.cost}, and none is better (${answer.verified ? "verified" : "not verified"}).${answer.own ? ` ${answer.own}` : ""}`);
+    say(by("run-said"), `${answer.deliveries} messages: a table from each agent but the root, and values back. ${noun(answer)} ${answer.cost}, and none is better (${answer.verified ? "verified" : "not verified"}).${answer.own ? ` ${answer.own}` : ""}`);
     this.go(0);
   }
 
@@ -207,6 +208,7 @@ export class RunView {
   begin(steps, tree) {
     this.steps = steps;
     this.tree = typeof d3 === "undefined" ? null : new Tree(by("run-tree"), tree, (name) => steps.shown?.(name));
+    by("run-tree").classList.toggle("fit", tree.length <= 40);
     by("slider").max = steps.last;
     show(by("player"), true);
   }
