@@ -10,7 +10,6 @@ import random
 import signal
 import subprocess
 import sys
-import tempfile
 import time
 import unittest
 from contextlib import redirect_stderr
@@ -33,7 +32,7 @@ from sefwllon.solving import Solver
 from sefwllon.translate import Constraint, Source, translate
 
 from . import documents
-from .case import EXAMPLES, FAKE, FRONT, HAS_YAML, HERE, ORDER, PAIR, PROBLEMS, REAL, SEARCH, Case
+from .case import EXAMPLES, FAKE, FRONT, HAS_YAML, HERE, ORDER, PAIR, PROBLEMS, REAL, Case
 
 if HAS_YAML:
     from . import brute_pydcop

@@ -24,7 +24,6 @@ from sefwllon.parts import parts_of, solved_apart
 from sefwllon.problem import Trouble
 from sefwllon.programs import Programs
 from sefwllon.timetable import busy, calendars, impossible, make, rules, slips, telling
-from sefwllon.timetable.make import Aim
 from sefwllon.timetable.session import Plan, Session
 from sefwllon.translate import Translation, translate
 

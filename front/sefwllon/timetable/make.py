@@ -93,7 +93,10 @@ class Made:
 
 def source(told: Timetable, title: str) -> Source:
     """The problem of a file."""
-    return make(told, title).source
+    made = make(told, title).source
+    if told.rooms:
+        made.notes.append("slots alone are chosen here, and each meeting's slots are those in which a room that suits it is open: `meetings` gives out rooms")
+    return made
 
 
 def make(told: Timetable, title: str, aim: Aim | None = None) -> Made:
