@@ -80,6 +80,10 @@ for (meetings, slots, people), number in ((kind, number) for kind in KINDS for n
     began = time.monotonic()
     ran = subprocess.run([sys.executable, "-m", "sefwllon", "meetings", "--json", "--time", f"{seconds}s", path], env=environment, stdout=subprocess.PIPE, text=True)
     took = time.monotonic() - began
+    if not ran.stdout:
+        bad += 1
+        print(f"{meetings} meetings, {slots} slots, {people} people, {number}: translated in {translated:.2f} s to {size:,} bytes; NO ANSWER IN {seconds} S", flush=True)
+        continue
     told = json.loads(ran.stdout)
     cost = added_up({it["meeting"]: it["slot"] for it in told["timetable"]}, meets, away, wishes)
     first = next((it["time"] for it in told["bounds"] if it["cost"] is not None), None)
