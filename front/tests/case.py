@@ -37,8 +37,8 @@ PAIR = "dcop 1\nvar x 2\nvar y 2\ntable x y : 5 4 2 7\ntable x : 0 1\nend\n"
 HAS_YAML = importlib.util.find_spec("yaml") is not None
 
 
-SLOW = {"slow", "long", "lingers", "fails", "dies"}
-"""By these words a stand-in takes long, or dies: it has to be a process of its own then."""
+SLOW = {"slow": "", "long": "cut", "lingers": "--tries", "fails": "--tries", "dies": ""}
+"""By these words a stand-in takes long, or dies, where it is given the other word: it has to be a process of its own then."""
 STAND_INS = {FAKE: (fake_dcop, "FAKE"), FAKE_SEARCH: (fake_search, "FAKE_SEARCH")}
 as_a_process = programs.run
 
@@ -47,7 +47,7 @@ def at_once(name: str, command: list[str], text: str, until: float | None, tick:
     """Runs a program; a stand-in here, which takes no time."""
     module, variable = STAND_INS.get(command[0], (None, ""))
     words = os.environ.get(variable, "").split()
-    if module is None or SLOW & set(words):
+    if module is None or any(word in words and SLOW[word] in ["", *command] for word in SLOW):
         return as_a_process(name, command, text, until, tick)
     if until is not None and time.monotonic() >= until:
         return programs.Answer("", None, name, command[0])
