@@ -35,6 +35,8 @@ CUT_SECONDS = 60
 """How long a cut may take where other ways are left."""
 START_SECONDS, TICK_SECONDS = 0.2, 0.2
 """How long an assignment is bettered here at the start, and each time that it is said how far a program is."""
+BETTER_SECONDS, BETTER_PART = 2, 0.05
+"""How long it is bettered while programs run: so many seconds, or this part of all the time where that is more."""
 CELLS = (1_048_576, 65_536, 4_096)
 """How many cells a joined table of a cut may have: fewer where all tables of a turn together are too many."""
 SPENT, WORDS, WIDE, NO_MEMORY, NO, MANY = 1, 2, 4, 7, 10, 11
@@ -94,6 +96,8 @@ class Solver:
     tried: list[list[Variable]] = field(default_factory=list)
     """The orders in which DPOP was tried."""
     bettering: Bettering | None = None
+    bettered: float = 0.0
+    """For how long an assignment was bettered here."""
     order_took: float = 0.0
     stride: int = 0
     """By how much a sum that the search is asked for is better than the bound that is known."""
@@ -107,7 +111,7 @@ class Solver:
             self.by_steps()
         except KeyboardInterrupt:
             self.best.stopped = "interrupted"
-        if self.best.values is None and self.best.stopped and self.rival is None:
+        if self.best.stopped:
             self.start()
         self.best.solved = self.best.values is not None and self.aim.reached(self.best, self.problem.goal)
         self.best.seconds = time.monotonic() - self.best.began
@@ -131,12 +135,10 @@ class Solver:
             try:
                 self.take(last)
             except (Crashed, Wrong) as fault:
-                if self.best.method == "" or (isinstance(fault, Wrong) and self.best.method == START):
-                    raise
-                self.best.stopped = str(fault)
+                self.failed(last, fault)
             if self.best.stopped or self.decided:
                 return
-            if self.best.values is None and self.method in ("auto", "search") and self.rival is None:
+            if self.method == "auto":
                 self.start()
         if self.refused is not None and self.best.method in ("", START) and self.method != "auto":
             raise Refused(self.refused)
@@ -144,6 +146,15 @@ class Solver:
             self.best.stopped = f"the budget of {last.budget:,} {last.unit} is spent"
             if last.way == "search" and self.until is None:
                 self.best.stopped += ", which is the last one where no --time is given"
+
+    def failed(self, step: Step, fault: Crashed | Wrong) -> None:
+        """A program failed: what was found before is kept. Without an order the other ways are left."""
+        if self.best.method == "" or (isinstance(fault, Wrong) and self.best.method == START):
+            raise fault
+        if step.way == "order" and self.method == "auto":
+            self.best.notes.append(str(fault))
+        else:
+            self.best.stopped = str(fault)
 
     def steps(self) -> Iterator[Step]:
         """What is tried, in order."""
@@ -194,6 +205,8 @@ class Solver:
 
     def start(self) -> None:
         """Finds an assignment here, where no program came to one yet: the first values, bettered."""
+        if self.best.values is not None or self.rival is not None:
+            return
         latest = time.monotonic() + START_SECONDS
         self.bettering = Bettering(self.problem, [0] * len(self.problem.variables))
         self.bettering.descend(latest)
@@ -207,7 +220,9 @@ class Solver:
         if self.bettering is None or is_better(self.best.cost or 0, self.bettering.best_cost, goal):
             self.bettering = self.bettering or Bettering(self.problem, self.best.values)
             self.bettering.begin(self.best.values)
+        began = time.monotonic()
         self.bettering.go(latest if self.until is None else min(latest, self.until))
+        self.bettered += time.monotonic() - began
         if self.best.cost is not None and is_better(self.bettering.best_cost, self.best.cost, goal):
             values = list(self.bettering.best)
             self.best.take_better(values, self.problem.cost(values), goal)
@@ -216,7 +231,9 @@ class Solver:
         """What is done while a program runs: it is said how far it is, and the assignment that is known is bettered."""
         if self.show:
             self.show()
-        self.better(time.monotonic() + TICK_SECONDS)
+        now = time.monotonic()
+        if self.bettered < max(BETTER_SECONDS, BETTER_PART * (now - self.best.began)):
+            self.better(now + TICK_SECONDS)
 
     def run(self, words: list[str], text: str) -> Answer:
         return self.run_until(self.until, words, text)
@@ -263,17 +280,18 @@ class Solver:
     def by_search(self, budget: int) -> None:
         """The search with this budget: for what is better than what is known, and then for what is better than a sum that may
         be out of reach. That there is none is often known soon, and says how good the best one may be at most."""
+        self.start()
         self.better(time.monotonic() + START_SECONDS)
         self.seek(budget, self.best.cost if self.rival is None else self.rival, self.aim.allowed(self.best))
         while self.rival is None and not self.best.stopped and not self.decided:
             target = self.target()
             if target is None:
                 return
-            spent = self.seek(budget, target)
-            if spent is None or spent >= budget:
+            found = self.seek(budget, target)
+            if found is None or not found.ended:
                 self.stride = max(1, self.stride // 2)
                 return
-            if spent * EASY_PART < budget:
+            if found.nodes * EASY_PART < budget:
                 self.stride *= 2
 
     def target(self) -> int | None:
@@ -284,8 +302,8 @@ class Solver:
         self.stride = min(self.stride or gap // STRIDES, gap // 2) or 1
         return bound + self.stride if self.problem.goal == "min" else bound - self.stride
 
-    def seek(self, budget: int, better: int | None, error: int = 0) -> int | None:
-        """Runs the search for what is better than a sum. How many nodes it visited; None where it did not end."""
+    def seek(self, budget: int, better: int | None, error: int = 0) -> Found | None:
+        """Runs the search for what is better than a sum. None where it was stopped."""
         words = ["--budget", str(budget)]
         words += ["--better", str(better)] if better is not None else []
         words += ["--error", str(error)] if error else []
@@ -298,7 +316,7 @@ class Solver:
             return None
         found = read_found(answer, self.problem, better, error)
         self.take_found(found, answer)
-        return found.nodes
+        return found
 
     def take_found(self, found: Found, answer: Answer) -> None:
         """Takes what the search found. What it claims must not differ from what is added up."""
