@@ -21,6 +21,7 @@ COMMANDS = (
     "explain",
     "convert",
     "meetings",
+    "why",
     "draw",
     "cost",
 )

@@ -5,7 +5,7 @@ from __future__ import annotations
 import sys
 from pathlib import Path
 
-from . import meetings, pydcop, wcsp
+from . import pydcop, timetable, wcsp
 from .problem import MOST_BYTES, TextFault, Trouble, parse
 from .programs import Programs
 from .solving import Refused
@@ -13,7 +13,7 @@ from .translate import Translation, plain, translate
 
 READERS = {
     "pydcop": pydcop.read,
-    "meetings": lambda text, title: meetings.source(meetings.read(text), title),
+    "meetings": lambda text, title: timetable.source(timetable.read(text), title),
     "wcsp": wcsp.read_wcsp,
     "uai": wcsp.read_uai,
 }

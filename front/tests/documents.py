@@ -7,7 +7,7 @@ it has to print stands below it, up to the next command or the end of the block,
 any seconds; a text
 that is given by `<<'EOF'` goes up to that word. The
 commands of a document run one after the other in one folder, in which `examples` and `front` are those of the repository.
-Those that need what the machine has not (Graphviz, toulbar2, PyYAML) are passed over, which is said. Ends with 1 where an
+Those that need what the machine has not (Graphviz, toulbar2, PyYAML, python3-icalendar) are passed over, which is said. Ends with 1 where an
 answer differs, and prints both.
 """
 
@@ -80,6 +80,8 @@ def missing(command: str, path: str) -> str | None:
             return tool
     if any(word.endswith(".yaml") for word in words) and importlib.util.find_spec("yaml") is None:
         return "PyYAML"
+    if any(word.endswith(".ics") for word in words) and importlib.util.find_spec("icalendar") is None:
+        return "python3-icalendar"
     return None
 
 

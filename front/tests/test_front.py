@@ -10,7 +10,6 @@ import random
 import signal
 import subprocess
 import sys
-import tempfile
 import time
 import unittest
 from contextlib import redirect_stderr
@@ -19,12 +18,11 @@ from pathlib import Path
 from unittest import mock
 from xml.dom import minidom
 
-from sefwllon import draw, meetings, programs, pydcop, replay, wcsp
+from sefwllon import draw, programs, pydcop, replay, wcsp
 from sefwllon.arguments import seconds
 from sefwllon.best import Best
 from sefwllon.bettering import Bettering
 from sefwllon.cli import main
-from sefwllon.commands.meetings import timetable_headline
 from sefwllon.evaluator import Formula
 from sefwllon.explain import differs, explain
 from sefwllon.problem import Trouble, parse
@@ -34,7 +32,7 @@ from sefwllon.solving import Solver
 from sefwllon.translate import Constraint, Source, translate
 
 from . import documents
-from .case import EXAMPLES, FAKE, FRONT, HAS_YAML, HERE, ORDER, PAIR, PROBLEMS, REAL, SEARCH, Case
+from .case import EXAMPLES, FAKE, FRONT, HAS_YAML, HERE, ORDER, PAIR, PROBLEMS, REAL, Case
 
 if HAS_YAML:
     from . import brute_pydcop
@@ -538,134 +536,6 @@ class Translating(Case):
         for text, why in (("MARKOV 1 2 1 1 7 2 1 1", "not there"), ("MARKOV 1 2 1 1 0 2 1", "ends too early")):
             with self.assertRaisesRegex(Trouble, why):
                 wcsp.read_uai(text, "file")
-
-
-CROWD = (
-    "slot,Mon 18,2026-09-07 18:00\nslot,Mon 18:30,2026-09-07 18:30\nslot,Tue 18,2026-09-08 18:00\n"
-    "meeting,Board,Anna;Bero;Cleo\nmeeting,Programme,Anna;Dai;Erik\nmeeting,Money,Anna;Fritz\nmeeting,Tour,Cleo;Dai;Fritz\n"
-    "like,Board,Tue 18,3\ndislike,Erik,Tue 18,0.5\n"
-)
-"""Meetings of which no timetable keeps all rules."""
-
-
-class Meetings(Case):
-    def test_a_timetable_keeps_the_rules(self):
-        with tempfile.TemporaryDirectory() as folder:
-            calendar = Path(folder) / "week.ics"
-            status, told, _ = self.front("meetings", str(EXAMPLES / "meetings.csv"), "--ics", str(calendar))
-            text = calendar.read_bytes().decode()
-        self.assertEqual((status, told.splitlines()[0]), (0, "cost 0, and none is better (verified)"))
-        self.assertIn("Mon 9", told)
-        self.assertEqual(text.count("BEGIN:VEVENT\r\n"), 4)
-
-    def test_slots_that_overlap_are_not_both_given_to_one_person(self):
-        text = "slot,a,2026-03-02 09:00,120\nslot,b,2026-03-02 10:00\nslot,c,2026-03-02 11:00\n"
-        text += "meeting,m,Ann\nmeeting,n,Ann\nlike,Ann,a;b,1.5\n"
-        status, told, _ = self.front("meetings", self.file("week.csv", text))
-        self.assertEqual((status, told.splitlines()[0]), (0, "cost 1.5, and none is better (verified)"))
-        self.assertIn("\nc  ", told)
-
-    def test_that_there_is_no_timetable_is_told(self):
-        week = self.file("week.csv", "slot,a\nmeeting,m,Ann\nmeeting,n,Ann\n")
-        report = self.file("report", "")
-        status, told, _ = self.front("meetings", week, "--report", report)
-        wanted = ["no timetable keeps all the rules; this one breaks 1, and none breaks fewer (verified)"]
-        wanted += ["no assignment keeps all hard constraints (verified)", "broken: m and n are both in a, and share Ann"]
-        self.assertEqual((status, told.splitlines()[:3]), (1, wanted))
-        _, told, _ = self.front("check", week, report)
-        self.assertEqual(told, "yes, verified: no assignment keeps all hard constraints; this one breaks: m and n share Ann\n")
-
-    def test_broken_rules_are_told_no_better_than_they_are_known(self):
-        week = self.file("week.csv", CROWD)
-        told = self.front("meetings", week, fake="wide")[1]
-        self.assertEqual(told.splitlines()[0], "no timetable keeps all the rules; this one breaks 2, and none breaks fewer (proved)")
-        told = self.front("meetings", week, "--time", "300ms", fake="slow")[1]
-        self.assertRegex(told, "^no timetable that keeps all the rules was found; this one breaks [0-9]\n")
-        self.assertIn("\nstopped: the time is over\n", told)
-        made = translate(meetings.source(meetings.read(CROWD), "crowd"))
-        best = Best(values=[0, 0, 0, 0], cost=made.problem.cost([0, 0, 0, 0]), lower=0, checked=made.hard_cost)
-        self.assertEqual(timetable_headline(best, made)[0], "no timetable keeps all the rules (verified); this one breaks 6")
-
-    def test_a_timetable_with_clashes_shows_them(self):
-        picture, calendar = self.file("week.svg", ""), self.file("week.ics", "")
-        self.assertEqual(self.front("meetings", self.file("week.csv", CROWD), "--svg", picture, "--ics", calendar)[0], 1)
-        svg, ics = minidom.parse(picture), Path(calendar).read_bytes().decode().replace("\r\n ", "")
-        sentences = ["Board and Tour are both in Tue 18, and share Cleo", "Programme and Money are both in Mon 18, and share Anna"]
-        red = [it.firstChild.data for it in svg.getElementsByTagName("text") if it.getAttribute("class") == "broken"]
-        self.assertEqual(red, [f"breaks a rule: {sentence}" for sentence in sentences])
-        boxes = [[float(it.getAttribute(name)) for name in ("x", "y", "width")] for it in svg.getElementsByTagName("rect")]
-        self.assertEqual(len(boxes), 11)
-        for (x, y, width), (other, below, _) in itertools.permutations(boxes, 2):
-            self.assertTrue(y != below or other >= x + width or other < x)
-        self.assertEqual([it.getAttribute("class") for it in svg.getElementsByTagName("rect")], ["clash"] * 11)
-        self.assertEqual(ics.count("SUMMARY:CLASH: "), 4)
-        for sentence in sentences:
-            self.assertEqual(ics.count(sentence.replace(",", "\\,")), 4)
-        self.assertIn("\r\nDESCRIPTION:Anna\\, Fritz\\nClash: Programme and Money", ics)
-        self.assertIn("\r\nDESCRIPTION:This timetable breaks rules:\\nBoard and Tour", ics)
-        overlap = meetings.read("slot,a,2026-03-02 09:00,120\nslot,b,2026-03-02 10:00\nmeeting,m,Ann;Bo\nmeeting,n,Bo;Ann\n")
-        told = [clash.sentence() for clash in meetings.clashes(overlap, {"m": "a", "n": "b"})]
-        self.assertEqual(told, ["m in a and n in b overlap, and share Ann, Bo"])
-
-    def test_the_clashes_are_the_broken_rules(self):
-        told = meetings.read(CROWD)
-        made = translate(meetings.source(told, "crowd"))
-        for values in itertools.product(range(3), repeat=4):
-            found = meetings.clashes(told, made.told(list(values)))
-            names = [f"{clash.first} and {clash.second} share {', '.join(clash.shared)}" for clash in found]
-            self.assertEqual(names, made.broken(list(values)))
-
-    def test_who_is_absent_is_so_in_slots_that_overlap(self):
-        text = "slot,a,2026-03-02 09:00\nslot,b,2026-03-02 09:30\nslot,c,2026-03-02 10:00\nmeeting,m,Ann;Bo\nabsent,Ann,a\nlike,m,a;b,3\n"
-        picture = self.file("week.svg", "")
-        status, told, _ = self.front("meetings", self.file("week.csv", text), "--svg", picture)
-        wanted = ["cost 3, and none is better (verified)", "c  m  (Ann, Bo)", "wish not met, costs 3: m is in c, and m likes a or b"]
-        self.assertEqual((status, told.splitlines()[:-1]), (0, wanted))
-        grey = [it for it in minidom.parse(picture).getElementsByTagName("rect") if it.getAttribute("fill") == "#eee"]
-        self.assertEqual(len(grey), 2)
-        self.assertEqual(meetings.read(text).barred(), {"Ann": {"a", "b"}})
-        with self.assertRaisesRegex(Trouble, r"m has no slot: in each of them, or in one that overlaps it, somebody of Ann, Bo is absent \(Ann: a, b; Bo: b, c\)"):
-            meetings.source(meetings.read(text + "absent,Bo,c\n"), "file")
-
-    def test_what_is_not_met_sums_to_the_cost(self):
-        text = "slot,a\nslot,b\nslot,c\nmeeting,m,Ann;Bo\nmeeting,n,Ann\nlike,Ann,a;b,1.5\ndislike,Bo,a,2\nlike,n,a,0\nlike,m,c,0.25\n"
-        told = meetings.read(text)
-        made = translate(meetings.source(told, "file"))
-        for values in itertools.product(range(3), repeat=2):
-            lines = meetings.unmet(told, made.told(list(values)))
-            costs = [Fraction(line.split(":")[0].removeprefix("costs ")) for line in lines]
-            self.assertEqual(sum(costs, Fraction(0)), made.own_sum(list(values)))
-        wanted = ["costs 1.5: m is in c, and Ann likes a or b", "costs 1.5: n is in c, and Ann likes a or b"]
-        self.assertEqual(meetings.unmet(told, {"m": "c", "n": "c"}), wanted)
-        self.assertIn("costs 2: m is in a, which Bo dislikes", meetings.unmet(told, {"m": "a", "n": "b"}))
-
-    def test_a_csv_is_explained_as_one(self):
-        status, _, why = self.front("explain", self.file("week.csv", "slot,a\nmeeting,m,Ann\nabsent,Bo,a\n"))
-        self.assertEqual(status, 3)
-        self.assertIn("line 3: Bo is absent", why)
-        bad = self.file("week.csv", "")
-        Path(bad).write_bytes("slot,a\nmeeting,m,J\xfcrgen\n".encode("latin-1"))
-        self.assertIn("no UTF-8 text from line 2 on", self.front("meetings", bad)[2])
-
-    def test_faults_are_told_by_line(self):
-        for text, why in (
-            ("slot,a\nslot,a\n", "line 2: the slot a stands twice"),
-            ("slot,a,tomorrow\n", "line 1: tomorrow is no time"),
-            ("room,a\n", "line 1: a line begins with"),
-            ("slot,a\nmeeting,m,Ann\nabsent,Bo,a\n", "line 3: Bo is absent, and takes part in no meeting \\(`absent,Bo,a`"),
-            ("slot;a\n", "line 1: its cells are separated by semicolons"),
-            ("slot,a\nmeeting,,Ann\n", "line 2: a cell is missing, or is one too many: the line is meeting,NAME"),
-            ("slot,a\nmeeting,m,Ann\nlike,Ann,a,\n", "line 3: a cell is missing"),
-            ("slot,a\nmeeting,m,Ann\nlike,Ann,a,-2\n", "line 3: the cost -2 is negative"),
-            ("slot,a\nmeeting,m,Ann\nlike,Ann,3,a\n", "line 3: the last cell is the cost"),
-            ("slot,a,2026-03-02 09:00,²\n", "line 1: ² is no number of minutes"),
-            ("slot,a,2026-03-02 09:00+01:00\n", "line 1: .* names a time zone"),
-            ("slot,a\nmeeting,m,Ann;Bo\nabsent,Bo,a\n", "m has no slot: in each of them, or in one that overlaps it, somebody of Ann, Bo is absent"),
-            ("slot,a\nmeeting,m,Ann;Bo\nabsent,Ann; Bo,a\n", "line 3: a line `absent` is of one person .* for each of Ann, Bo"),
-            ("slot,a\nmeeting,m,Ann;Bo\nlike,Ann;Bo,a,2\n", "line 3: a line `like` is of one person or meeting"),
-        ):
-            with self.assertRaisesRegex(Trouble, why):
-                meetings.source(meetings.read(text), "file")
 
 
 class Telling(Case):

@@ -114,10 +114,13 @@ def assignment(words: list[str], told: Translation) -> list[int]:
         for at, line in enumerate(text.splitlines(), 1):
             if line.strip() and not line.lstrip().startswith("#"):
                 take(pair_of(line, f"{word}, line {at}, `{line.strip()[:80]}`", told), told, given)
-    missing = [name for place, name in enumerate(told.names) if place not in given]
+    missing = [name for place, name in enumerate(told.names) if place not in given and place not in told.counters]
     if missing:
         raise Trouble(f"the assignment has no value for {', '.join(missing[:5])}{' and others' if len(missing) > 5 else ''}")
-    return [value_of(given[place], place, told) for place in range(len(told.names))]
+    values: list[int] = []
+    for place in range(len(told.names)):
+        values.append(value_of(given[place], place, told) if place in given else told.counted(place, values))
+    return values
 
 
 def pair_of(line: str, place: str, told: Translation) -> Pair:

@@ -1,0 +1,159 @@
+"""How a timetable is solved: the problem is made, its parts are solved, rooms are given out, and what comes of it is added up anew."""
+
+from __future__ import annotations
+
+import argparse
+import time
+from dataclasses import dataclass, field, replace
+from fractions import Fraction
+
+from ..asking import deadline
+from ..best import Best
+from ..files import read_text
+from ..output import OutOfTime, reading
+from ..parts import solved_apart
+from ..problem import Trouble
+from ..programs import Programs
+from ..telling import known_by
+from ..translate import Translation, translate
+from . import busy, lines, rooms, rules
+from .make import Aim, Crowd, Made, Same, make
+from .model import Timetable
+from .rules import Breach, Cost
+
+_ROUNDS = 60
+"""How often the slots are chosen anew since rooms are missing."""
+
+
+def opened(options: argparse.Namespace) -> Timetable:
+    """The timetable of a command's file, with the calendars that are named beside it."""
+    told = lines.read(read_text(options.file))
+    for word in options.busy or []:
+        who, found, name = word.partition("=")
+        if not found or not who or not name:
+            raise Trouble(f"{word} is no calendar of somebody, as Ida=ida.ics")
+        told.busy += busy.taken(told, who, read_text(name), name)
+    return replace(told)
+
+
+@dataclass
+class Plan:
+    """A timetable that was found, and what is known of it."""
+
+    told: Timetable
+    made: Made
+    problem: Translation
+    best: Best
+    chosen: dict[str, object] = field(default_factory=dict)
+    rooms: dict[str, str] = field(default_factory=dict)
+    breaches: list[Breach] = field(default_factory=list)
+    costs: list[Cost] = field(default_factory=list)
+
+    @property
+    def found(self) -> bool:
+        return bool(self.chosen)
+
+    @property
+    def keeps(self) -> bool:
+        """Whether it is a timetable that keeps all rules."""
+        return self.found and not self.breaches
+
+    @property
+    def cost(self) -> Fraction:
+        """What it costs, added up from the file."""
+        return sum((cost.cost for cost in self.costs), Fraction(0))
+
+    @property
+    def moved(self) -> list[str]:
+        """The meetings that are elsewhere than they are to be kept."""
+        keep = self.made.aim.keep or {}
+        return [name for name, place in self.chosen.items() if name in keep and keep[name] != place]
+
+    @property
+    def solved(self) -> bool:
+        """Whether it is as good as it was asked for."""
+        return self.keeps and self.best.solved
+
+    @property
+    def exact(self) -> bool:
+        """Whether it is known that none is better."""
+        return self.keeps and self.best.gap(self.problem.problem.goal) == 0
+
+    @property
+    def impossible(self) -> bool:
+        """Whether it is known that no timetable keeps all rules."""
+        return self.known(self.problem.none_keeps) is not None
+
+    @property
+    def names(self) -> Same:
+        return {name: str(place) for name, place in self.chosen.items()}
+
+    def known(self, holds: object) -> str | None:
+        """By what it is known that something follows from a bound; None where it is not known."""
+        return known_by(holds, self.best, self.problem)  # type: ignore[arg-type]
+
+
+@dataclass
+class Session:
+    """What a command solves with: the programs, until when, and what the file is called."""
+
+    programs: Programs
+    options: argparse.Namespace
+    title: str
+    until: float | None
+    stopped: bool = False
+    """Whether the user stopped it."""
+
+    @classmethod
+    def of(cls, options: argparse.Namespace, title: str) -> Session:
+        return cls(Programs(), options, title, deadline(options))
+
+    @property
+    def over(self) -> bool:
+        return self.stopped or (self.until is not None and time.monotonic() >= self.until)
+
+    def within(self, seconds: float) -> Session:
+        """The same for at most so long."""
+        until = time.monotonic() + seconds
+        return replace(self, until=until if self.until is None else min(until, self.until))
+
+    def ask(self, told: Timetable, aim: Aim | None = None) -> Plan:
+        """Finds a timetable. Where there are not rooms for all, its slots are chosen anew, with what was learnt of rooms."""
+        aim = aim or Aim()
+        best: Plan | None = None
+        for _ in range(_ROUNDS):
+            try:
+                plan, crowds = self.ask_once(told, aim)
+            except (OutOfTime, KeyboardInterrupt):
+                self.stopped = True
+                if best is None:
+                    raise
+                break
+            if best is None or len(plan.breaches) <= len(best.breaches) or not best.found:
+                best = plan
+            self.stopped = self.stopped or plan.best.stopped == "interrupted"
+            if not crowds or plan.best.stopped or self.over:
+                break
+            aim = replace(aim, crowds=[*aim.crowds, *crowds])
+        assert best is not None
+        return best
+
+    def ask_once(self, told: Timetable, aim: Aim) -> tuple[Plan, list[Crowd]]:
+        with reading(self.until):
+            made = make(told, self.title, aim)
+            problem = translate(made.source)
+        left = None if self.until is None else self.until - self.options.began
+        gap = getattr(self.options, "gap", None) if aim.plain else None
+        options = argparse.Namespace(**{**vars(self.options), "time": left, "gap": gap})
+        plan = Plan(told, made, problem, solved_apart(self.programs, problem, options))
+        if plan.best.values is None:
+            return plan, []
+        plan.chosen = problem.told(plan.best.values)
+        plan.breaches, plan.costs = rules.breaches(told, plan.chosen), rules.costs(told, plan.chosen)
+        if not told.rooms:
+            return plan, []
+        plan.rooms, crowds, missing = rooms.give(told, plan.chosen)
+        if plan.breaches:
+            crowds = []
+        plan.breaches = plan.breaches + missing
+        return plan, crowds
