@@ -204,7 +204,8 @@ class Search:
         if counted_out:
             person, names = counted_out
             self.crowded = [person]
-            return names, [person]
+            others = (it for name in names for it in told.meetings[name].people if it != person)
+            return names, [*dict.fromkeys(others), person]
         slots = len(told.slots) * max([1, *(it.every for it in told.meetings.values())])
         loads = sorted(told.meetings_of.items(), key=lambda it: -len(it[1]))
         for person, names in loads:
