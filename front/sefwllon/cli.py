@@ -37,8 +37,9 @@ def main(arguments: list[str] | None = None) -> int:
     try:
         options = parser().parse_args(arguments)
     except SystemExit:
-        say("")
-        raise
+        if say(""):
+            raise
+        return TEXT
     except OSError as fault:
         silence(sys.stdout)
         complain(f"standard output can't be written: {fault.strerror}")

@@ -7,6 +7,7 @@ from __future__ import annotations
 import time
 from collections.abc import Callable, Iterator
 from dataclasses import dataclass, field
+from functools import cached_property
 
 from .best import START, Best, is_better
 from .bettering import Bettering
@@ -29,7 +30,7 @@ STRIDES, EASY_PART = 8, 10
 """Which part of the gap is bridged first, and which part of a budget is little, so that more is bridged next."""
 EASY_NODES = 10**6
 """Up to this budget the search comes before further orders."""
-ORDER_SECONDS = 5
+ORDER_SECONDS = 3
 """How long the first search for an order may take where other ways are left."""
 CUT_SECONDS = 60
 """How long a cut may take where other ways are left."""
@@ -98,7 +99,10 @@ class Solver:
     bettering: Bettering | None = None
     bettered: float = 0.0
     """For how long an assignment was bettered here."""
-    order_took: float = 0.0
+    ordered: int = 0
+    """How many searches for an order have ended."""
+    order_takes: float = 0.0
+    """How long the next one is likely to take."""
     stride: int = 0
     """By how much a sum that the search is asked for is better than the bound that is known."""
     refused: Answer | None = None
@@ -161,9 +165,9 @@ class Solver:
         if self.method == "auto":
             yield Step("dpop")
             yield Step("order", TRIES[0])
-            yield from self.searches(orders=list(TRIES[1:])) if self.programs.search else self.without_search()
+            yield from self.searches(orders=True) if self.programs.search else self.without_search()
         elif self.method == "search":
-            yield from self.searches(orders=[])
+            yield from self.searches(orders=False)
         elif self.method == "order":
             yield from (Step("order", tries) for tries in TRIES)
         elif self.method == "adopt":
@@ -171,14 +175,19 @@ class Solver:
         else:
             yield Step(self.method)
 
-    def searches(self, orders: list[int]) -> Iterator[Step]:
-        """The search in growing budgets; between them more orders, which take no longer than all before them."""
+    def searches(self, orders: bool) -> Iterator[Step]:
+        """The search in growing budgets; between them more orders, where they are not likely to take more than half of all the time
+        before them."""
         for budget in NODES:
             if self.until is None and budget > LAST_NODES:
                 return
-            if budget > EASY_NODES and orders and self.order_took * 10 <= time.monotonic() - self.best.began:
-                yield Step("order", orders.pop(0))
+            if orders and budget > EASY_NODES and self.ordered < len(TRIES) and self.order_takes <= self.elapsed / 2:
+                yield Step("order", TRIES[self.ordered])
             yield Step("search", budget)
+
+    @property
+    def elapsed(self) -> float:
+        return time.monotonic() - self.best.began
 
     def without_search(self) -> Iterator[Step]:
         """What is tried where `dcop_search` is not there."""
@@ -187,13 +196,17 @@ class Solver:
         yield Step("cut")
         yield from (Step("adopt", budget) for budget in MESSAGES[2:])
 
+    @cached_property
+    def text(self) -> str:
+        """The problem as text."""
+        return self.problem.text()
+
     def take(self, step: Step) -> None:
-        text = self.problem.text()
         match step.way:
             case "plain":
-                self.taken(self.run(["solve", "--method", "plain"], text), text, self.problem)
+                self.taken(self.run(["solve", "--method", "plain"], self.text), self.text, self.problem)
             case "dpop":
-                self.by_dpop(self.problem)
+                self.by_dpop(self.problem, self.text)
             case "order":
                 self.by_order(step.budget)
             case "search":
@@ -255,27 +268,25 @@ class Solver:
         latest = time.monotonic() + seconds
         return latest if self.until is None else min(latest, self.until)
 
-    def by_dpop(self, problem: Problem) -> None:
-        text = problem.text()
+    def by_dpop(self, problem: Problem, text: str) -> None:
         self.tried.append(problem.variables)
         self.taken(self.run(["solve", "--method", "dpop", *self.certificate_words(), *self.worker_words()], text), text, problem)
 
     def by_order(self, tries: int) -> None:
         """DPOP in an order by `dcop_order`, where that is another one than was tried before."""
-        began = time.monotonic()
-        seconds = ORDER_SECONDS if tries == TRIES[0] else began - self.best.began
+        began, seconds = time.monotonic(), max(ORDER_SECONDS, self.elapsed / 2)
         until = self.within(seconds, "order")
-        ordered = self.programs.reorder(self.problem.text(), tries, until, self.tick)
-        if ordered is None and self.method == "order":
+        answer = self.programs.reorder(self.text, tries, until, self.tick)
+        if answer is None and self.method == "order":
             raise Trouble(missing("dcop_order"))
-        if ordered is None or self.ended(ordered, until).status in (None, NO_MEMORY):
-            self.order_took = seconds
+        if answer is None or self.ended(answer, until).status in (None, NO_MEMORY):
+            self.order_takes = 4 * seconds
             return
-        self.order_took = time.monotonic() - began
-        found = reordered(self.problem, ordered)
-        self.narrow = found
-        if found.variables not in self.tried:
-            self.by_dpop(found)
+        self.ordered += 1
+        self.order_takes = 10 * (time.monotonic() - began)
+        self.narrow = reordered(self.problem, answer)
+        if self.narrow.variables not in self.tried:
+            self.by_dpop(self.narrow, answer.text)
 
     def by_search(self, budget: int) -> None:
         """The search with this budget: for what is better than what is known, and then for what is better than a sum that may
@@ -309,7 +320,7 @@ class Solver:
         words += ["--error", str(error)] if error else []
         for cells in (self.cells,) if self.cells else SEARCH_CELLS:
             given = [*words, "--cells", str(cells)] if cells else words
-            answer = self.ended(self.programs.seek(given, self.problem.text(), self.until, self.tick), self.until)
+            answer = self.ended(self.programs.seek(given, self.text, self.until, self.tick), self.until)
             if answer.status not in (NO_MEMORY, -9):
                 break
         if answer.status is None:
@@ -337,12 +348,13 @@ class Solver:
         longer than its part is stopped, and leaves the problem to the next way."""
         began = time.monotonic()
         problem = self.narrow or self.problem
+        text = self.text if self.narrow is None else problem.text()
         until = self.within(CUT_SECONDS, "cut")
-        answer = self.run_cut(problem.text(), until)
+        answer = self.run_cut(text, until)
         if answer.status is None and not self.best.stopped:
             spent = time.monotonic() - began
             self.best.notes.append(f"cut was stopped after {spent:.1f} s; with `--method cut` it has all of the time")
-        self.taken(answer, problem.text(), problem)
+        self.taken(answer, text, problem)
 
     def run_cut(self, text: str, until: float | None) -> Answer:
         """What a cut answers, with a certificate where `dcop` makes one."""
@@ -358,13 +370,12 @@ class Solver:
         return answer
 
     def by_adopt(self, budget: int) -> None:
-        text = self.problem.text()
         words = ["solve", "--method", "adopt", "--error", str(self.aim.allowed(self.best)), "--budget", str(budget), *self.worker_words()]
-        answer = self.run([*words, *self.certificate_words()], text)
+        answer = self.run([*words, *self.certificate_words()], self.text)
         if answer.unserved:
             self.certificate = False
-            answer = self.run(words, text)
-        if self.taken(answer, text, self.problem):
+            answer = self.run(words, self.text)
+        if self.taken(answer, self.text, self.problem):
             self.better(time.monotonic() + START_SECONDS)
 
     def certificate_words(self) -> list[str]:

@@ -6,12 +6,11 @@ import io
 import itertools
 import json
 import os
-import pty
 import random
-import select
 import signal
 import subprocess
 import sys
+import threading
 import time
 import unittest
 from pathlib import Path
@@ -234,30 +233,15 @@ class Chain(Case):
         self.assertEqual([it["lower"] for it in self.solved()["bounds"]][-1], 3)
 
     def test_a_terminal_is_told_how_far_it_is(self):
-        environment = dict(os.environ, SEFWLLON_DCOP=FAKE, SEFWLLON_SEARCH=FAKE_SEARCH, FAKE="wide", FAKE_SEARCH="spends", PYTHONPATH=str(FRONT))
-        process, fd = self.on_a_terminal(environment, "solve", self.file("p.dcop", HARD))
-        told = self.read(fd)
-        self.assertEqual(process.wait(), 0)
-        self.assertRegex(told, r"search, 1,000,000 nodes: \d+\.\d s, [\d,]+ nodes, cost \d+, gap \d+ \(\d+ %\)")
+        class Terminal(io.StringIO):
+            def isatty(self) -> bool:
+                return True
 
-    def on_a_terminal(self, environment: dict[str, str], *words: str) -> tuple[subprocess.Popen[bytes], int]:
-        ours, theirs = pty.openpty()
-        command = [sys.executable, "-m", "sefwllon", *words]
-        process = subprocess.Popen(command, env={**environment, "COLUMNS": "120"}, stdin=theirs, stdout=theirs, stderr=theirs, close_fds=True)
-        os.close(theirs)
-        self.addCleanup(os.close, ours)
-        self.addCleanup(process.kill)
-        return process, ours
-
-    def read(self, fd: int) -> str:
-        """What is written on a terminal until nothing is any more."""
-        told, latest = b"", time.monotonic() + 120
-        while time.monotonic() < latest and select.select([fd], [], [], 60)[0]:
-            try:
-                told += os.read(fd, 65_536)
-            except OSError:
-                break
-        return told.decode()
+        terminal = Terminal()
+        with mock.patch.dict(os.environ, FAKE="wide", FAKE_SEARCH="spends", SEFWLLON_DCOP=FAKE, SEFWLLON_SEARCH=FAKE_SEARCH, COLUMNS="120"):
+            with mock.patch.object(sys, "stderr", terminal), mock.patch.object(sys, "stdout", io.StringIO()):
+                self.assertEqual(main(["solve", self.file("p.dcop", HARD)]), 0)
+        self.assertRegex(terminal.getvalue(), r"search, 1,000,000 nodes: \d+\.\d s, [\d,]+ nodes, cost \d+, gap \d+ \(\d+ %\)")
 
 
 class Programming(Case):
@@ -413,18 +397,17 @@ class Keeping(Case):
         status, told, why = self.front("meetings", week, "--ics", "/dev/full", "--svg", picture, "--report", "/dev/full")
         self.assertEqual((status, told.splitlines()[0], why.count("can't be written")), (3, "cost 0, and none is better (verified)", 2))
         self.assertIn("<svg", Path(picture).read_text())
-        environment = dict(os.environ, SEFWLLON_DCOP=FAKE, SEFWLLON_SEARCH="", PYTHONPATH=str(FRONT))
         for words, found in (
             (("solve", file, "--report", report), "cost 3, and none is better (verified)"), (("solve", "--json", file), '"cost": 3'),
             (("check", file, report), "yes, verified"), (("cost", file, "x=1", "y=0"), "cost 3"), (("meetings", week), "Mon 9"),
             (("draw", file), ""), (("to", "wcsp", file), ""), (("from", "meetings", week), ""), (("--help",), ""), (("explain", file), ""),
         ):  # fmt: skip
-            with open("/dev/full", "w") as full:
-                ran = subprocess.run([sys.executable, "-m", "sefwllon", *words], env=environment, stdout=full, stderr=subprocess.PIPE, text=True)
-            self.assertEqual((words, ran.returncode), (words, 3))
-            self.assertIn("standard output can't be written: No space left on device", ran.stderr)
-            self.assertIn(found, ran.stderr)
-            self.assertNotIn("Traceback", ran.stderr)
+            with open("/dev/full", "w") as full, mock.patch.object(sys, "stdout", full), mock.patch.object(sys, "stderr", io.StringIO()) as err:
+                with mock.patch.dict(os.environ, SEFWLLON_DCOP=FAKE, SEFWLLON_SEARCH="", FAKE=""):
+                    status = main(list(words))
+            self.assertEqual((words, status), (words, 3))
+            self.assertIn("standard output can't be written: No space left on device", err.getvalue())
+            self.assertIn(found, err.getvalue())
         self.assertIn("certificate tables", Path(report).read_text())
 
     def test_who_stops_reading_loses_no_report(self):
@@ -447,45 +430,51 @@ class Keeping(Case):
         write(str(path), "new\n")
         self.assertEqual((path.read_text(), os.listdir(path.parent)), ("new\n", ["kept"]))
 
-    def test_a_calendar_that_can_t_be_made_loses_no_timetable(self):
-        text = "slot,a\nslot,b,2026-03-02 09:00\nmeeting,m,Ann\nlike,m,a,3\n"
-        status, told, why = self.front("meetings", self.file("week.csv", text), "--ics", self.file("week.ics", ""))
-        self.assertEqual((status, told.splitlines()[0]), (3, "cost 0, and none is better (verified)"))
-        self.assertIn("the slot a has no begin", why)
+    def test_a_file_that_can_t_be_made_loses_no_answer(self):
+        from sefwllon.output import deliver
+
+        def fails() -> str:
+            raise Trouble("the picture can't be drawn")
+
+        other = self.file("other", "")
+        with mock.patch.object(sys, "stdout", io.StringIO()) as out, mock.patch.object(sys, "stderr", io.StringIO()) as err:
+            self.assertFalse(deliver("the answer\n", [("picture", fails), (other, lambda: "whole\n")]))
+        self.assertEqual((out.getvalue(), Path(other).read_text()), ("the answer\n", "whole\n"))
+        self.assertIn("the picture can't be drawn; the answer that was printed is whole without it", err.getvalue())
         calls = self.file("calls", "")
-        text = "slot,a\nmeeting,m,Ann\n"
+        text = "slot,a\nslot,b,2026-03-02 09:00\nmeeting,m,Ann\nlike,m,a,3\n"
         status, told, why = self.front("meetings", self.file("week.csv", text), "--ics", self.file("week.ics", ""), FAKE_CALLS=calls)
-        self.assertEqual((status, told, Path(calls).read_text(), "the slots have no begin" in why), (3, "", "", True))
+        self.assertEqual((status, told, Path(calls).read_text(), "no begin" in why), (3, "", "", True))
 
 
 class Interrupting(Case):
     def stopped(self, how: int, fake: str, search: str, *words: str) -> tuple[int, str, str]:
-        """What is told where a program that takes for ever is stopped, once it has begun."""
+        """What is told where this signal comes while a program takes for ever."""
         mark = Path(self.file("mark", ""))
-        environment = dict(os.environ, SEFWLLON_DCOP=FAKE, SEFWLLON_ORDER=FAKE, SEFWLLON_SEARCH=FAKE_SEARCH, PYTHONPATH=str(FRONT))
-        environment |= {"FAKE": fake, "FAKE_SEARCH": search, "FAKE_MARK": str(mark)}
-        process = subprocess.Popen(
-            [sys.executable, "-m", "sefwllon", *words],
-            env=environment, stdout=subprocess.PIPE, stderr=subprocess.PIPE, text=True,
-            # (who starts the tests in the background may have interrupts ignored)
-            preexec_fn=lambda: signal.signal(signal.SIGINT, signal.SIG_DFL),
-        )  # fmt: skip
-        self.addCleanup(process.kill)
-        latest = time.monotonic() + 60
-        while not mark.read_text() and time.monotonic() < latest:
-            time.sleep(0.05)
-        process.send_signal(how)
-        told, why = process.communicate(timeout=60)
-        return process.returncode, told, why
+
+        def stop() -> None:
+            latest = time.monotonic() + 120
+            while not mark.read_text() and time.monotonic() < latest:
+                time.sleep(0.05)
+            os.kill(os.getpid(), how)
+
+        # (who starts the tests in the background may have interrupts ignored)
+        before = signal.signal(signal.SIGINT, signal.default_int_handler)
+        self.addCleanup(signal.signal, signal.SIGINT, before)
+        thread = threading.Thread(target=stop)
+        thread.start()
+        self.addCleanup(thread.join)
+        return self.front(*words, fake=fake, order=FAKE, search=FAKE_SEARCH, FAKE_SEARCH=search, FAKE_MARK=str(mark))
 
     def test_an_interrupt_at_each_step_ends_with_the_best_so_far(self):
-        for fake, search in (("slow", ""), ("wide lingers", ""), ("wide", "slow")):
-            for how in (signal.SIGINT, signal.SIGTERM):
-                file, report = self.file("p.dcop", PAIR), self.file("report", "")
-                status, told, why = self.stopped(how, fake, search, "solve", "--report", report, file)
-                self.assertEqual((fake, status, told.splitlines()[1:2], why), (fake, 1, ["stopped: interrupted"], ""))
-                self.assertEqual(told.splitlines()[0], "cost 3, at most 1 from the best, 33.3 % of it (added up)")
-                self.assertEqual(read_report(Path(report).read_text(), parse(PAIR)).cost, 3)
+        for how, fake, search in (
+            (signal.SIGINT, "slow", ""), (signal.SIGINT, "wide lingers", ""), (signal.SIGINT, "wide", "slow"), (signal.SIGTERM, "wide", "slow"),
+        ):  # fmt: skip
+            file, report = self.file("p.dcop", PAIR), self.file("report", "")
+            status, told, why = self.stopped(how, fake, search, "solve", "--report", report, file)
+            self.assertEqual((fake, status, told.splitlines()[1:2], why), (fake, 1, ["stopped: interrupted"], ""))
+            self.assertEqual(told.splitlines()[0], "cost 3, at most 1 from the best, 33.3 % of it (added up)")
+            self.assertEqual(read_report(Path(report).read_text(), parse(PAIR)).cost, 3)
 
     def test_an_interrupted_timetable_and_check_say_what_is_known(self):
         week, report = self.file("week.csv", "slot,a\nslot,b\nmeeting,m,Ann\nmeeting,n,Ann\nlike,m,a,1\nlike,n,a,1\n"), self.file("report", "")

@@ -32,7 +32,7 @@ from sefwllon.solving import Solver
 from sefwllon.translate import Constraint, Source, translate
 
 from . import documents
-from .case import EXAMPLES, FAKE, FRONT, HAS_YAML, HERE, ORDER, PAIR, PROBLEMS, REAL, Case
+from .case import EXAMPLES, FAKE, FRONT, HAS_YAML, HERE, ORDER, PAIR, PROBLEMS, REAL, SEARCH, Case
 
 if HAS_YAML:
     from . import brute_pydcop
