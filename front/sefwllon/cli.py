@@ -7,9 +7,9 @@ import sys
 import time
 from importlib import import_module
 
-from . import __version__
+from . import BEGAN, __version__
 from .explain import explain
-from .output import OutOfTime, complain, ended_as_interrupted, say
+from .output import OutOfTime, complain, ended_as_interrupted, say, silence
 from .problem import Trouble
 from .programs import crash
 from .solving import Refused
@@ -29,20 +29,23 @@ COMMANDS = (
 )
 """The modules of `commands`, in the order in which help names what they add."""
 
-INTERRUPTED = 130
-
 
 def main(arguments: list[str] | None = None) -> int:
     """Runs the command, and gives its exit status."""
-    began = time.monotonic()
+    began = BEGAN if arguments is None else time.monotonic()
     for stream in (sys.stdout, sys.stderr):
         if hasattr(stream, "reconfigure"):
             stream.reconfigure(errors="backslashreplace")
     try:
         options = parser().parse_args(arguments)
     except SystemExit:
-        say("")
-        raise
+        if say(""):
+            raise
+        return TEXT
+    except OSError as fault:
+        silence(sys.stdout)
+        complain(f"standard output can't be written: {fault.strerror}")
+        return TEXT
     options.began = began
     try:
         with ended_as_interrupted():
@@ -61,9 +64,6 @@ def main(arguments: list[str] | None = None) -> int:
     except (MemoryError, RecursionError):
         complain("the file is too large, or too deep, for this machine's memory")
         return TEXT
-    except KeyboardInterrupt:
-        complain("interrupted")
-        return INTERRUPTED
 
 
 def parser() -> argparse.ArgumentParser:

@@ -22,9 +22,9 @@ class OutOfTime(Trouble):
         super().__init__("the time was over before the file was read: give it more by --time")
 
 
-def say(text: str) -> bool:
-    """Prints a text on standard output. Where that takes nothing, the text goes to standard error, with why; where nobody reads
-    it any more, it is gone. Gives whether it was printed."""
+def say(text: str, found: bool = False) -> bool:
+    """Prints a text on standard output. Where that takes nothing, it is said why, and what was found by long work goes to
+    standard error; where nobody reads it any more, it is gone. Gives whether it was printed."""
     try:
         if sys.stdout is None:
             raise OSError(0, "it is closed")
@@ -35,7 +35,7 @@ def say(text: str) -> bool:
         silence(sys.stdout)
     except OSError as fault:
         silence(sys.stdout)
-        complain(f"standard output can't be written: {fault.strerror}. This is the answer:\n{text}")
+        complain(f"standard output can't be written: {fault.strerror}" + (f". This is the answer:\n{text.rstrip()}" if found else ""))
     return False
 
 
@@ -58,7 +58,7 @@ def complain(why: str) -> None:
 def deliver(text: str, files: list[tuple[str, Callable[[], str]]]) -> bool:
     """Prints an answer, and then makes and writes its files, each whatever came of the others. Gives whether all was printed and
     written."""
-    good = say(text)
+    good = say(text, found=True)
     for name, made in files:
         try:
             write(name, made())

@@ -104,7 +104,8 @@ class Problem:
             lines.append(f"var {variable.name} {domain}")
         for table in self.tables:
             scope = " ".join(self.variables[v].name for v in table.scope)
-            lines.append(f"table {scope} : {' '.join(map(str, table.costs))}")
+            words = {cost: str(cost) for cost in set(table.costs)}
+            lines.append(f"table {scope} : {' '.join([words[cost] for cost in table.costs])}")
         lines.append("end")
         return "\n".join(lines) + "\n"
 

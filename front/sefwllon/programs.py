@@ -173,7 +173,7 @@ def found(name: str) -> str | None:
     variable, crate = PLACES[name]
     if variable in os.environ:
         named = os.environ[variable]
-        if named and not (os.path.isfile(named) and os.access(named, os.X_OK)):
+        if named and shutil.which(named) is None:
             raise Trouble(f"{variable} names {named}, which is no program that can be run: name the built {name}, or leave it out")
         return named or None
     on_path = shutil.which(name)

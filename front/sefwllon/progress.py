@@ -9,7 +9,7 @@ from contextlib import suppress
 from fractions import Fraction
 
 from .best import Best
-from .telling import share
+from .telling import hundredths, share
 from .translate import Translation
 
 
@@ -64,7 +64,7 @@ def known(best: Best, told: Translation) -> str:
     broken, own = told.broken(best.values), told.own_sum(best.values)
     if broken:
         return "".join([*parts, f", {len(broken)} broken"])
-    near = f" ({share(gap, own, told):.2g} %)" if own else ""
+    near = f" ({hundredths(share(gap, own, told))})" if own else ""
     return "".join([*parts, f", cost {plainly(own)}, gap {plainly(Fraction(gap, told.scale))}{near}"])
 
 

@@ -7,6 +7,7 @@ from __future__ import annotations
 import time
 from collections.abc import Callable, Iterator
 from dataclasses import dataclass, field
+from functools import cached_property
 
 from .best import START, Best, is_better
 from .bettering import Bettering
@@ -29,12 +30,14 @@ STRIDES, EASY_PART = 8, 10
 """Which part of the gap is bridged first, and which part of a budget is little, so that more is bridged next."""
 EASY_NODES = 10**6
 """Up to this budget the search comes before further orders."""
-ORDER_SECONDS = 5
+ORDER_SECONDS = 3
 """How long the first search for an order may take where other ways are left."""
 CUT_SECONDS = 60
 """How long a cut may take where other ways are left."""
 START_SECONDS, TICK_SECONDS = 0.2, 0.2
 """How long an assignment is bettered here at the start, and each time that it is said how far a program is."""
+BETTER_SECONDS, BETTER_PART = 2, 0.05
+"""How long it is bettered while programs run: so many seconds, or this part of all the time where that is more."""
 CELLS = (1_048_576, 65_536, 4_096)
 """How many cells a joined table of a cut may have: fewer where all tables of a turn together are too many."""
 SPENT, WORDS, WIDE, NO_MEMORY, NO, MANY = 1, 2, 4, 7, 10, 11
@@ -94,7 +97,12 @@ class Solver:
     tried: list[list[Variable]] = field(default_factory=list)
     """The orders in which DPOP was tried."""
     bettering: Bettering | None = None
-    order_took: float = 0.0
+    bettered: float = 0.0
+    """For how long an assignment was bettered here."""
+    ordered: int = 0
+    """How many searches for an order have ended."""
+    order_takes: float = 0.0
+    """How long the next one is likely to take."""
     stride: int = 0
     """By how much a sum that the search is asked for is better than the bound that is known."""
     refused: Answer | None = None
@@ -107,7 +115,7 @@ class Solver:
             self.by_steps()
         except KeyboardInterrupt:
             self.best.stopped = "interrupted"
-        if self.best.values is None and self.best.stopped and self.rival is None:
+        if self.best.stopped:
             self.start()
         self.best.solved = self.best.values is not None and self.aim.reached(self.best, self.problem.goal)
         self.best.seconds = time.monotonic() - self.best.began
@@ -131,12 +139,10 @@ class Solver:
             try:
                 self.take(last)
             except (Crashed, Wrong) as fault:
-                if self.best.method == "" or (isinstance(fault, Wrong) and self.best.method == START):
-                    raise
-                self.best.stopped = str(fault)
+                self.failed(last, fault)
             if self.best.stopped or self.decided:
                 return
-            if self.best.values is None and self.method in ("auto", "search") and self.rival is None:
+            if self.method == "auto":
                 self.start()
         if self.refused is not None and self.best.method in ("", START) and self.method != "auto":
             raise Refused(self.refused)
@@ -145,14 +151,23 @@ class Solver:
             if last.way == "search" and self.until is None:
                 self.best.stopped += ", which is the last one where no --time is given"
 
+    def failed(self, step: Step, fault: Crashed | Wrong) -> None:
+        """A program failed: what was found before is kept. Without an order the other ways are left."""
+        if self.best.method == "" or (isinstance(fault, Wrong) and self.best.method == START):
+            raise fault
+        if step.way == "order" and self.method == "auto":
+            self.best.notes.append(str(fault))
+        else:
+            self.best.stopped = str(fault)
+
     def steps(self) -> Iterator[Step]:
         """What is tried, in order."""
         if self.method == "auto":
             yield Step("dpop")
             yield Step("order", TRIES[0])
-            yield from self.searches(orders=list(TRIES[1:])) if self.programs.search else self.without_search()
+            yield from self.searches(orders=True) if self.programs.search else self.without_search()
         elif self.method == "search":
-            yield from self.searches(orders=[])
+            yield from self.searches(orders=False)
         elif self.method == "order":
             yield from (Step("order", tries) for tries in TRIES)
         elif self.method == "adopt":
@@ -160,14 +175,19 @@ class Solver:
         else:
             yield Step(self.method)
 
-    def searches(self, orders: list[int]) -> Iterator[Step]:
-        """The search in growing budgets; between them more orders, which take no longer than all before them."""
+    def searches(self, orders: bool) -> Iterator[Step]:
+        """The search in growing budgets; between them more orders, where they are not likely to take more than half of all the time
+        before them."""
         for budget in NODES:
             if self.until is None and budget > LAST_NODES:
                 return
-            if budget > EASY_NODES and orders and self.order_took * 10 <= time.monotonic() - self.best.began:
-                yield Step("order", orders.pop(0))
+            if orders and budget > EASY_NODES and self.ordered < len(TRIES) and self.order_takes <= self.elapsed / 2:
+                yield Step("order", TRIES[self.ordered])
             yield Step("search", budget)
+
+    @property
+    def elapsed(self) -> float:
+        return time.monotonic() - self.best.began
 
     def without_search(self) -> Iterator[Step]:
         """What is tried where `dcop_search` is not there."""
@@ -176,13 +196,17 @@ class Solver:
         yield Step("cut")
         yield from (Step("adopt", budget) for budget in MESSAGES[2:])
 
+    @cached_property
+    def text(self) -> str:
+        """The problem as text."""
+        return self.problem.text()
+
     def take(self, step: Step) -> None:
-        text = self.problem.text()
         match step.way:
             case "plain":
-                self.taken(self.run(["solve", "--method", "plain"], text), text, self.problem)
+                self.taken(self.run(["solve", "--method", "plain"], self.text), self.text, self.problem)
             case "dpop":
-                self.by_dpop(self.problem)
+                self.by_dpop(self.problem, self.text)
             case "order":
                 self.by_order(step.budget)
             case "search":
@@ -194,6 +218,8 @@ class Solver:
 
     def start(self) -> None:
         """Finds an assignment here, where no program came to one yet: the first values, bettered."""
+        if self.best.values is not None or self.rival is not None:
+            return
         latest = time.monotonic() + START_SECONDS
         self.bettering = Bettering(self.problem, [0] * len(self.problem.variables))
         self.bettering.descend(latest)
@@ -207,7 +233,9 @@ class Solver:
         if self.bettering is None or is_better(self.best.cost or 0, self.bettering.best_cost, goal):
             self.bettering = self.bettering or Bettering(self.problem, self.best.values)
             self.bettering.begin(self.best.values)
+        began = time.monotonic()
         self.bettering.go(latest if self.until is None else min(latest, self.until))
+        self.bettered += time.monotonic() - began
         if self.best.cost is not None and is_better(self.bettering.best_cost, self.best.cost, goal):
             values = list(self.bettering.best)
             self.best.take_better(values, self.problem.cost(values), goal)
@@ -216,7 +244,9 @@ class Solver:
         """What is done while a program runs: it is said how far it is, and the assignment that is known is bettered."""
         if self.show:
             self.show()
-        self.better(time.monotonic() + TICK_SECONDS)
+        now = time.monotonic()
+        if self.bettered < max(BETTER_SECONDS, BETTER_PART * (now - self.best.began)):
+            self.better(now + TICK_SECONDS)
 
     def run(self, words: list[str], text: str) -> Answer:
         return self.run_until(self.until, words, text)
@@ -238,42 +268,41 @@ class Solver:
         latest = time.monotonic() + seconds
         return latest if self.until is None else min(latest, self.until)
 
-    def by_dpop(self, problem: Problem) -> None:
-        text = problem.text()
+    def by_dpop(self, problem: Problem, text: str) -> None:
         self.tried.append(problem.variables)
         self.taken(self.run(["solve", "--method", "dpop", *self.certificate_words(), *self.worker_words()], text), text, problem)
 
     def by_order(self, tries: int) -> None:
         """DPOP in an order by `dcop_order`, where that is another one than was tried before."""
-        began = time.monotonic()
-        seconds = ORDER_SECONDS if tries == TRIES[0] else began - self.best.began
+        began, seconds = time.monotonic(), max(ORDER_SECONDS, self.elapsed / 2)
         until = self.within(seconds, "order")
-        ordered = self.programs.reorder(self.problem.text(), tries, until, self.tick)
-        if ordered is None and self.method == "order":
+        answer = self.programs.reorder(self.text, tries, until, self.tick)
+        if answer is None and self.method == "order":
             raise Trouble(missing("dcop_order"))
-        if ordered is None or self.ended(ordered, until).status in (None, NO_MEMORY):
-            self.order_took = seconds
+        if answer is None or self.ended(answer, until).status in (None, NO_MEMORY):
+            self.order_takes = 4 * seconds
             return
-        self.order_took = time.monotonic() - began
-        found = reordered(self.problem, ordered)
-        self.narrow = found
-        if found.variables not in self.tried:
-            self.by_dpop(found)
+        self.ordered += 1
+        self.order_takes = 10 * (time.monotonic() - began)
+        self.narrow = reordered(self.problem, answer)
+        if self.narrow.variables not in self.tried:
+            self.by_dpop(self.narrow, answer.text)
 
     def by_search(self, budget: int) -> None:
         """The search with this budget: for what is better than what is known, and then for what is better than a sum that may
         be out of reach. That there is none is often known soon, and says how good the best one may be at most."""
+        self.start()
         self.better(time.monotonic() + START_SECONDS)
         self.seek(budget, self.best.cost if self.rival is None else self.rival, self.aim.allowed(self.best))
         while self.rival is None and not self.best.stopped and not self.decided:
             target = self.target()
             if target is None:
                 return
-            spent = self.seek(budget, target)
-            if spent is None or spent >= budget:
+            found = self.seek(budget, target)
+            if found is None or not found.ended:
                 self.stride = max(1, self.stride // 2)
                 return
-            if spent * EASY_PART < budget:
+            if found.nodes * EASY_PART < budget:
                 self.stride *= 2
 
     def target(self) -> int | None:
@@ -284,21 +313,21 @@ class Solver:
         self.stride = min(self.stride or gap // STRIDES, gap // 2) or 1
         return bound + self.stride if self.problem.goal == "min" else bound - self.stride
 
-    def seek(self, budget: int, better: int | None, error: int = 0) -> int | None:
-        """Runs the search for what is better than a sum. How many nodes it visited; None where it did not end."""
+    def seek(self, budget: int, better: int | None, error: int = 0) -> Found | None:
+        """Runs the search for what is better than a sum. None where it was stopped."""
         words = ["--budget", str(budget)]
         words += ["--better", str(better)] if better is not None else []
         words += ["--error", str(error)] if error else []
         for cells in (self.cells,) if self.cells else SEARCH_CELLS:
             given = [*words, "--cells", str(cells)] if cells else words
-            answer = self.ended(self.programs.seek(given, self.problem.text(), self.until, self.tick), self.until)
+            answer = self.ended(self.programs.seek(given, self.text, self.until, self.tick), self.until)
             if answer.status not in (NO_MEMORY, -9):
                 break
         if answer.status is None:
             return None
         found = read_found(answer, self.problem, better, error)
         self.take_found(found, answer)
-        return found.nodes
+        return found
 
     def take_found(self, found: Found, answer: Answer) -> None:
         """Takes what the search found. What it claims must not differ from what is added up."""
@@ -319,12 +348,13 @@ class Solver:
         longer than its part is stopped, and leaves the problem to the next way."""
         began = time.monotonic()
         problem = self.narrow or self.problem
+        text = self.text if self.narrow is None else problem.text()
         until = self.within(CUT_SECONDS, "cut")
-        answer = self.run_cut(problem.text(), until)
+        answer = self.run_cut(text, until)
         if answer.status is None and not self.best.stopped:
             spent = time.monotonic() - began
             self.best.notes.append(f"cut was stopped after {spent:.1f} s; with `--method cut` it has all of the time")
-        self.taken(answer, problem.text(), problem)
+        self.taken(answer, text, problem)
 
     def run_cut(self, text: str, until: float | None) -> Answer:
         """What a cut answers, with a certificate where `dcop` makes one."""
@@ -340,13 +370,12 @@ class Solver:
         return answer
 
     def by_adopt(self, budget: int) -> None:
-        text = self.problem.text()
         words = ["solve", "--method", "adopt", "--error", str(self.aim.allowed(self.best)), "--budget", str(budget), *self.worker_words()]
-        answer = self.run([*words, *self.certificate_words()], text)
+        answer = self.run([*words, *self.certificate_words()], self.text)
         if answer.unserved:
             self.certificate = False
-            answer = self.run(words, text)
-        if self.taken(answer, text, self.problem):
+            answer = self.run(words, self.text)
+        if self.taken(answer, self.text, self.problem):
             self.better(time.monotonic() + START_SECONDS)
 
     def certificate_words(self) -> list[str]:

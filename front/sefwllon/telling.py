@@ -69,7 +69,12 @@ def from_best(gap: int, told: Translation) -> str:
 
 def percent(gap: int, own: Fraction, told: Translation) -> str:
     """A gap as a part of the cost, in a hundred."""
-    return f", {share(gap, own, told):.3g} % of it" if own else ""
+    return f", {hundredths(share(gap, own, told))} of it" if own else ""
+
+
+def hundredths(part: float) -> str:
+    """A part in a hundred, as it is told to people."""
+    return f"{part:.0f} %" if part >= 100 else f"{part:.3g} %" if part >= 0.001 else "less than 0.001 %"
 
 
 def share(gap: int, own: Fraction, told: Translation) -> float:

@@ -3,6 +3,7 @@
 from __future__ import annotations
 
 import re
+from contextlib import suppress
 from dataclasses import dataclass, field, replace
 from fractions import Fraction
 from itertools import product
@@ -193,7 +194,7 @@ def translate(source: Source) -> Translation:
         scale,
         shift,
         rounded,
-        {at: frozenset(i for i, c in enumerate(whole[at]) if c is None) for at in sorted(forbids)},
+        {at: frozenset(forbidden(whole[at])) for at in sorted(forbids)},
         {at: source.constraints[at].name for at in forbids},
         hard_cost,
         source,
@@ -201,6 +202,16 @@ def translate(source: Source) -> Translation:
     problem.comments = comments_of(source, result)
     problem.check_limits()
     return result
+
+
+def forbidden(costs: list[int | None]) -> list[int]:
+    """Which cells are forbidden."""
+    found, at = [], -1
+    with suppress(ValueError):
+        while True:
+            at = costs.index(None, at + 1)
+            found.append(at)
+    return found
 
 
 def settled(costs: list[int | None], forbids: bool, hard_cost: int, goal: str) -> tuple[int, ...]:
@@ -270,7 +281,8 @@ def whole_costs(source: Source, scale: int) -> tuple[list[list[int | None]], Fra
         least = min((c for c in scaled.values() if c is not None), default=0)
         shift += Fraction(least, scale)
         moved = {c: None if told is None else told - least for c, told in scaled.items()}
-        whole.append([moved[c] for c in constraint.costs])
+        same = all(type(c) is int and c == told for c, told in moved.items() if c is not None)
+        whole.append(constraint.costs if same else [moved[c] for c in constraint.costs])
     return whole, shift
 
 

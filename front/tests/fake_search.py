@@ -70,4 +70,5 @@ def main() -> int:
     return 1 if spent else 0 if found else 10
 
 
-raise SystemExit(main())
+if __name__ == "__main__":
+    raise SystemExit(main())

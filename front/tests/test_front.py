@@ -10,7 +10,6 @@ import random
 import signal
 import subprocess
 import sys
-import tempfile
 import time
 import unittest
 from contextlib import redirect_stderr
@@ -364,17 +363,21 @@ class Solving(Case):
 
 
 class Documents(unittest.TestCase):
+    def programs(self) -> dict[str, str]:
+        built = {"dcop": REAL, "dcop_order": ORDER, "dcop_search": SEARCH}
+        return {name: path for name, path in built.items() if path}
+
     @unittest.skipUnless(REAL and ORDER, "no built programs")
     def test_the_answers_of_the_documents(self):
         for document in documents.DOCUMENTS:
-            differ, _ = documents.run(document, {"dcop": REAL, "dcop_order": ORDER})
+            differ, _ = documents.run(document, self.programs())
             self.assertEqual(differ, [])
 
     @unittest.skipUnless(REAL and ORDER, "no built programs")
     def test_the_answers_of_the_front_s_page(self):
         page = (FRONT / "README.md").read_text()
         week = page[page.index("slot,Mon 9,") : page.index("```", page.index("slot,Mon 9,"))]
-        differ, _ = documents.run("front/README.md", {"dcop": REAL, "dcop_order": ORDER}, {"week.csv": week})
+        differ, _ = documents.run("front/README.md", self.programs(), {"week.csv": week})
         self.assertEqual(differ, [])
 
 

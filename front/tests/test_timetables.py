@@ -24,7 +24,6 @@ from sefwllon.parts import parts_of, solved_apart
 from sefwllon.problem import Trouble
 from sefwllon.programs import Programs
 from sefwllon.timetable import busy, calendars, impossible, make, rules, slips, telling
-from sefwllon.timetable.make import Aim
 from sefwllon.timetable.session import Plan, Session
 from sefwllon.translate import Translation, translate
 
@@ -41,6 +40,8 @@ CROWD = (
     "like,Board,Tue 18,3\ndislike,Erik,Tue 18,0.5\n"
 )
 """Meetings of which no timetable keeps all rules."""
+RING = "slot,a\nslot,b\nmeeting,m,Ann;Bo\nmeeting,n,Bo;Cy\nmeeting,o,Ann;Cy\n"
+"""The same, though nobody has more meetings than slots."""
 WEEK = (
     "slot,Mon 9,2026-03-02 09:00\nslot,Mon 11,2026-03-02 11:00\nslot,Tue 9,2026-03-03 09:00\nslot,Wed 10,2026-03-04 10:00,90\n"
     "meeting,Kickoff,Ida;Jon;Kim\nmeeting,Design,Ida;Kim\nmeeting,Budget,Jon;Lea\nmeeting,Retro,Ida;Jon;Kim;Lea\n"
@@ -190,19 +191,22 @@ class Meetings(Case):
         status, told, _ = self.front("meetings", week, "--report", report)
         wanted = ["no timetable keeps all the rules; this one breaks 1, and none breaks fewer (verified)"]
         wanted += ["no assignment keeps all hard constraints (verified)", "broken: m and n are both in a, and share Ann"]
-        wanted += ["why: Ann has two meetings and one slot for them (a): m, n", "why: without any of these it could (verified)"]
+        wanted += ["why: Ann has two meetings and one slot for them (a): m, n", "why: without any of these it could (added up)"]
         wanted += ["to relax: it is enough to leave out one of Ann in m; Ann in n; the meeting m; the meeting n"]
         self.assertEqual((status, told.splitlines()[:6]), (1, wanted))
         _, told, _ = self.front("check", week, report)
         self.assertEqual(told, "yes, verified: no assignment keeps all hard constraints; this one breaks: m and n share Ann\n")
 
     def test_broken_rules_are_told_no_better_than_they_are_known(self):
-        week = self.file("week.csv", CROWD)
+        week = self.file("week.csv", RING)
         told = self.front("meetings", week, fake="wide")[1]
-        self.assertEqual(told.splitlines()[0], "no timetable keeps all the rules; this one breaks 2, and none breaks fewer (proved)")
+        self.assertEqual(told.splitlines()[0], "no timetable keeps all the rules; this one breaks 1, and none breaks fewer (proved)")
+        self.assertIn("\nwhy: three meetings, for Ann, Bo, Cy, can't go together: m, n, o\n", told)
         told = self.front("meetings", week, "--time", "1s", fake="slow")[1]
         self.assertRegex(told, "^no timetable that keeps all the rules was found; this one breaks [0-9]\n")
         self.assertIn("\nstopped: the time is over\n", told)
+        told = self.front("meetings", self.file("week.csv", CROWD), "--time", "1s", fake="slow")[1]
+        self.assertRegex(told, r"^no timetable keeps all the rules \(added up\); this one breaks [0-9]\nstopped: the time is over\n")
         told = timetable.read(CROWD)
         made = make.make(told, "crowd")
         problem = translate(made.source)

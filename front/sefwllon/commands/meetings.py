@@ -12,6 +12,7 @@ from pathlib import Path
 from .. import draw
 from ..arguments import Commands, add_solving, natural
 from ..asking import kept
+from ..best import ADDED_UP
 from ..files import read_text
 from ..output import OutOfTime, deliver, reading, test_outputs, undisturbed
 from ..problem import Trouble
@@ -20,6 +21,14 @@ from ..timetable import calendars, earlier, impossible, lines, telling
 from ..timetable.earlier import Earlier
 from ..timetable.make import Aim
 from ..timetable.session import Plan, Session, opened
+
+
+CROWDED_SECONDS = 10.0
+"""How long a timetable is sought where somebody has more meetings than times for them, and no time is given."""
+OTHER_PROBLEM = (
+    "the report is not of the file alone, but of what was asked besides: `--problem OUT` writes that, and `check OUT REPORT` reads both"
+)
+"""What is told of a report where meetings are kept, rooms were learnt of, or calendars are read."""
 
 
 def add(commands: Commands) -> None:
@@ -56,25 +65,29 @@ def run(options: argparse.Namespace) -> int:
         calendars.library()
     if options.ics_each:
         make_folder(options.ics_each)
-    plan = session.ask(told, Aim(keep=before.places if before else None))
+    crowded = impossible.too_many(told)
+    asked = session.within(CROWDED_SECONDS) if crowded and session.until is None else session
+    plan = asked.ask(told, Aim(keep=before.places if before else None))
     if not plan.found:
         print(as_text(plan.best, plan.problem), end="")
         return OPEN
     further, none = alternatives(session, plan, options.alternatives)
-    reason = impossible.find(session, told) if plan.breaches and plan.impossible else None
+    reason = impossible.find(session, told) if plan.breaches and (crowded or plan.impossible) else None
     with undisturbed():
         why = impossible.sentences(told, reason) if reason else []
-        text = as_object(session, plan, further, none, why) if options.json else as_table(plan, further, none, why)
+        text = as_object(session, plan, further, none, why) if options.json else as_table(options, plan, further, none, why, bool(crowded))
         good = deliver(text, outputs(options, plan, before))
     return TEXT if not good else SOLVED if plan.solved else OPEN
 
 
-def as_table(plan: Plan, further: list[Plan], none: str | None, why: list[str]) -> str:
+def as_table(options: argparse.Namespace, plan: Plan, further: list[Plan], none: str | None, why: list[str], crowded: bool) -> str:
     """The answer for people."""
-    told = telling.heads(plan)
+    told = telling.heads(plan, ADDED_UP if crowded else None)
     told += [f"stopped: {plan.best.stopped}"] if plan.best.stopped else []
     told += [*telling.details(plan), *why]
     told += [f"note: {note}" for note in (*notes_of(plan.best), *plan.told.notes)]
+    if options.report and not (plan.made.aim.plain and not options.busy):
+        told.append(f"note: {OTHER_PROBLEM}")
     told += telling.moves(plan)
     text = "\n".join(told) + "\n" + telling.body(plan) + by_line(plan.best) + "\n"
     for at, other in enumerate(further, 1):

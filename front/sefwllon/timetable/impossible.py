@@ -1,7 +1,8 @@
 """Why a timetable can't be: meetings, people and lines that cannot go together, and of which none can be left out.
 
 They are found by leaving out, one after the other, what is not needed: what remains has no timetable, and has one without any of it. Each step
-asks whether there is a timetable; where that is not decided in time, the thing stays, and it is said that less may be enough.
+asks whether there is a timetable; where that is not decided in time, the thing stays, and it is said that less may be enough. That somebody
+has more meetings than times for them is counted here, by a matching, since it is hard to find for a solver.
 """
 
 from __future__ import annotations
@@ -9,7 +10,9 @@ from __future__ import annotations
 from collections.abc import Callable
 from dataclasses import dataclass, field, replace
 
+from ..best import ADDED_UP
 from ..output import OutOfTime
+from . import rules
 from .make import Aim, NoPlace
 from .model import Meeting, Timetable
 from .session import Session
@@ -68,6 +71,73 @@ def rule_lines(told: Timetable) -> list[int]:
     return list(dict.fromkeys(rule.line for rule in rules))
 
 
+def too_many(told: Timetable, people: list[str] | None = None) -> tuple[str, list[str]] | None:
+    """Somebody (of these) who has more meetings than times for them, and meetings of theirs that are one too many; none where that is not so."""
+    for person in told.meetings_of if people is None else people:
+        names = told.meetings_of.get(person, [])
+        its = [name for name in names if told.meetings[name].every == 1]
+        point = points(told, its)
+        free = {
+            name: {point[place.slot] for place in told.places_for(told.meetings[name]) if rules.can(told, told.meetings[name], place)} for name in its
+        }
+        found = unplaced(free) if len(its) > 1 else []
+        if found:
+            return person, found
+    return None
+
+
+def is_counted(told: Timetable) -> bool:
+    """Whether a matching for each person tells exactly whether there is a timetable: there is one person, each meeting has a place, no two slots
+    overlap, and nothing else is ruled."""
+    rules_left = told.rooms or told.sequences or told.most or any(len(it.names) > 1 for it in told.together)
+    if rules_left or len(told.meetings_of) > 1 or any(meeting.every > 1 for meeting in told.meetings.values()):
+        return False
+    longest = max((meeting.minutes or 0 for meeting in told.meetings.values()), default=0)
+    spans = sorted(span for slot in told.slots for span in [slot.span(max(slot.minutes, longest))] if span is not None)
+    if any(later[0] < earlier[1] for earlier, later in zip(spans, spans[1:])) or (told.weeks > 1 and spans):
+        return False
+    return all(any(rules.can(told, it, place) for place in told.places_for(it)) for it in told.meetings.values())
+
+
+def points(told: Timetable, names: list[str]) -> dict[int, int]:
+    """For each slot a moment at which each of these meetings is on, wherever in it: at each moment somebody is in one of them at most. Slots
+    that overlap have one moment together where that can be."""
+    minutes = [told.meetings[name].minutes for name in names]
+    found: dict[int, int] = {}
+    timed = []
+    for at, slot in enumerate(told.slots):
+        spans = [span for it in set(minutes) for span in [slot.span(it)] if span is not None]
+        if spans:
+            timed.append((min(end for _, end in spans), spans[0][0], at))
+        else:
+            found[at] = at
+    last = None
+    for end, begin, at in sorted(timed):
+        if last is None or begin >= last[0]:
+            last = end, at
+        found[at] = last[1]
+    return found
+
+
+def unplaced(free: dict[str, set[int]]) -> list[str]:
+    """Meetings that have fewer times together than they are, by one; nothing where each can have one of its own."""
+    holder: dict[int, str] = {}
+
+    def place(name: str, seen: set[int]) -> bool:
+        for point in free[name] - seen:
+            seen.add(point)
+            if point not in holder or place(holder[point], seen):
+                holder[point] = name
+                return True
+        return False
+
+    for name in free:
+        seen: set[int] = set()
+        if not place(name, seen):
+            return [it for it in free if it == name or it in {holder[point] for point in seen}]
+    return []
+
+
 class Search:
     """A search for what can't go together."""
 
@@ -76,6 +146,8 @@ class Search:
         self.told = told
         self.decided = True
         self.known = ""
+        self.crowded: list[str] = []
+        """Who has too many meetings: of them it is counted first."""
 
     def fails(self, meetings: list[str], people: list[str], lines: list[int]) -> bool:
         """Whether it is known that these have no timetable."""
@@ -85,13 +157,18 @@ class Search:
         """Whether these have no timetable; None where that is not known in time."""
         if not told.meetings:
             return False
+        if too_many(told, self.crowded) or too_many(told):
+            self.known = ADDED_UP
+            return True
+        if is_counted(told):
+            return False
         if self.session.over:
             self.decided = False
             return None
         try:
             plan = self.session.ask(told, Aim(free=True))
         except NoPlace:
-            self.known = "added up"
+            self.known = ADDED_UP
             return True
         except (OutOfTime, KeyboardInterrupt):
             self.session.stopped, self.decided = True, False
@@ -123,6 +200,12 @@ class Search:
     def start(self, lines: list[int]) -> tuple[list[str], list[str]]:
         """Meetings that have no timetable: those of one person, where these are enough, or all."""
         told = self.told
+        counted_out = too_many(told)
+        if counted_out:
+            person, names = counted_out
+            self.crowded = [person]
+            others = (it for name in names for it in told.meetings[name].people if it != person)
+            return names, [*dict.fromkeys(others), person]
         slots = len(told.slots) * max([1, *(it.every for it in told.meetings.values())])
         loads = sorted(told.meetings_of.items(), key=lambda it: -len(it[1]))
         for person, names in loads:
@@ -240,10 +323,8 @@ def of_one(told: Timetable, reason: Reason, person: str) -> list[str]:
 
 def open_slots(told: Timetable, reason: Reason, person: str) -> list[str]:
     """The slots in which one of the meetings of somebody could be."""
-    from .rules import can
-
     its = reduced(told, reason.meetings, [person], reason.lines)
-    return [slot.name for at, slot in enumerate(told.slots) if any(can(its, meeting, place) for meeting in its.meetings.values() for place in its.places_for(meeting) if place.slot == at)]
+    return [slot.name for at, slot in enumerate(told.slots) if any(rules.can(its, meeting, place) for meeting in its.meetings.values() for place in its.places_for(meeting) if place.slot == at)]
 
 
 _WORDS = ("no", "one", "two", "three", "four", "five", "six", "seven", "eight", "nine", "ten", "eleven", "twelve")

@@ -93,6 +93,21 @@ class Plan:
         return known_by(holds, self.best, self.problem)  # type: ignore[arg-type]
 
 
+def better(one: Plan, other: Plan) -> Plan:
+    """The better of two timetables of one file, with the better of their bounds: what is asked of rooms holds for each timetable."""
+    if not other.found or (one.found and (len(one.breaches), len(one.moved), one.cost) < (len(other.breaches), len(other.moved), other.cost)):
+        one, other = other, one
+    best, cost = replace(other.best), other.best.cost
+    if one.problem.shift == other.problem.shift and one.problem.scale == other.problem.scale and cost is not None and other.keeps:
+        for what in ("lower", "checked", "proved"):
+            bound = getattr(one.best, what)
+            if bound is not None and bound < one.problem.hard_cost:
+                setattr(best, what, min(cost, max(bound, getattr(best, what) or 0)))
+        best.solved = best.solved or best.gap("min") == 0
+    best.stopped = best.stopped or one.best.stopped
+    return replace(other, best=best)
+
+
 @dataclass
 class Session:
     """What a command solves with: the programs, until when, and what the file is called."""
@@ -121,7 +136,7 @@ class Session:
         """Finds a timetable. Where there are not rooms for all, its slots are chosen anew, with what was learnt of rooms."""
         aim = aim or Aim()
         best: Plan | None = None
-        for _ in range(_ROUNDS):
+        for turn in range(_ROUNDS):
             try:
                 plan, crowds = self.ask_once(told, aim)
             except (OutOfTime, KeyboardInterrupt):
@@ -129,14 +144,30 @@ class Session:
                 if best is None:
                     raise
                 break
-            if best is None or len(plan.breaches) <= len(best.breaches) or not best.found:
-                best = plan
+            if turn == 0 and crowds and not plan.problem.counters:
+                plan = self.repaired(plan)
+            best = plan if best is None else better(best, plan)
+            if best.exact:
+                break
             self.stopped = self.stopped or plan.best.stopped == "interrupted"
             if not crowds or plan.best.stopped or self.over:
                 break
             aim = replace(aim, crowds=[*aim.crowds, *crowds])
         assert best is not None
         return best
+
+    def repaired(self, plan: Plan) -> Plan:
+        """A timetable in which all have rooms, found from one in which some have none; the same where none is found so."""
+        values = rooms.repaired(plan.told, plan.made.places, plan.problem, plan.best.values or [])
+        if values is None:
+            return plan
+        best = replace(plan.best, moments=list(plan.best.moments))
+        best.take_better(values, plan.problem.problem.cost(values), plan.problem.problem.goal)
+        best.solved = best.gap(plan.problem.problem.goal) == 0
+        chosen = plan.problem.told(values)
+        given, _, missing = rooms.give(plan.told, chosen)
+        found = rules.breaches(plan.told, chosen) + missing
+        return replace(plan, best=best, chosen=chosen, rooms=given, breaches=found, costs=rules.costs(plan.told, chosen))
 
     def ask_once(self, told: Timetable, aim: Aim) -> tuple[Plan, list[Crowd]]:
         with reading(self.until):

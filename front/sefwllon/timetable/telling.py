@@ -31,8 +31,9 @@ def who(told: Timetable, name: str) -> str:
     return must if not meeting.optional else f"{must}; {', '.join(meeting.optional)} need not come"
 
 
-def heads(plan: Plan) -> list[str]:
-    """What is known of a timetable: where it breaks rules in the words of who makes one, and then in exact ones."""
+def heads(plan: Plan, counted: str | None = None) -> list[str]:
+    """What is known of a timetable: where it breaks rules in the words of who makes one, and then in exact ones. It may be known already,
+    by a count, that none keeps all rules."""
     if not plan.breaches:
         return [kept(plan) if plan.made.aim.keep is not None else headline(plan.best, plan.problem)]
     broken = plan.problem.broken(plan.best.values or [])
@@ -40,13 +41,14 @@ def heads(plan: Plan) -> list[str]:
         return [f"no timetable that keeps all the rules was found; this one breaks {len(plan.breaches)}"]
     count = len(plan.breaches)
     pairs = len(broken) == count and not plan.told.most and not plan.told.rooms
-    none = plan.known(plan.problem.none_keeps)
+    by_bound = plan.known(plan.problem.none_keeps)
+    none = by_bound or counted
     fewest = plan.known(lambda bound: plan.problem.fewest_broken(bound) == len(broken)) if pairs else None
     exact = headline(plan.best, plan.problem)
     if none is None:
         return [f"no timetable that keeps all the rules was found; this one breaks {count}", exact]
     told = "no timetable keeps all the rules" + ("" if none == fewest else f" ({none})") + f"; this one breaks {count}"
-    return [told + (f", and none breaks fewer ({fewest})" if fewest else ""), exact]
+    return [told + (f", and none breaks fewer ({fewest})" if fewest else ""), *([exact] if by_bound else [])]
 
 
 def kept(plan: Plan) -> str:
