@@ -22,7 +22,8 @@ use words::Words;
 
 /// What the stages and the sharing of costs are like.
 struct Measures {
-    /// For each stage the greatest joined table and the most nodes; the last stage has what is left of the budget.
+    /// For each stage the greatest joined table and the most nodes, which are at most a quarter of what is left of the budget;
+    /// the last stage has all that is left.
     stages: Vec<(u64, u64)>,
     rounds: usize,
     scale: u64,
@@ -109,8 +110,8 @@ fn solve(problem: &Problem, words: &Words, clock: &mut Clock) -> Answer {
         let bounds = bounds::make(&depths, &sizes, words.cells, limit, measures.shares);
         let first: u64 = bounds.buckets.iter().map(|bucket| bucket.fixed).sum();
         clock.tell("bounds", &format!("limit {limit} joined {} kept {} low {}", bounds.joined, bounds.kept, first.div_ceil(scale)));
-        let budget = if last { words.budget } else { words.budget.min(known.nodes + nodes) };
         let begun = known.nodes;
+        let budget = if last { words.budget } else { begun + (*nodes).min((words.budget - begun) / 4) };
         let ended = search::search(&depths, &bounds, &sizes, &Limits { scale, error: words.error, budget }, &mut known);
         clock.tell("search", &format!("nodes {} best {:?} lower {}", known.nodes - begun, known.best, ended.lower));
         answer.lower = answer.lower.max(ended.lower);
