@@ -77,7 +77,7 @@ def _grid(side: int, size: int, number: int) -> Made:
 
 def _colouring(count: int, degree: int, number: int) -> Made:
     what = f"colouring of {count}, {degree} neighbours"
-    return Made(f"colour{count}-{degree}", what, "colouring", lambda: colouring(count, degree, number))
+    return Made(f"colour{count}-{degree}-{number}", what, "colouring", lambda: colouring(count, degree, number))
 
 
 PAIRS = [
@@ -89,6 +89,8 @@ GRIDS = [_grid(12, 4, 1), _grid(12, 4, 2), _grid(20, 3, 1), _grid(20, 3, 2), _gr
 COLOURINGS = [_colouring(80, 3, 1), _colouring(100, 3, 1), _colouring(200, 3, 1), _colouring(100, 4, 1)]
 TIMETABLE = Made("timetable", "timetable of 40 in 20 slots", "timetable", lambda: timetable(1))
 PROBLEMS = [*PAIRS, *GRIDS, *COLOURINGS, TIMETABLE]
+# Those that are small enough for tests.
+TESTED = [_grid(12, 4, 3), _grid(20, 3, 7), PAIRS[0], _colouring(200, 3, 6)]
 
 
 def write(made: Made, folder: Path) -> None:
@@ -99,9 +101,9 @@ def write(made: Made, folder: Path) -> None:
 
 def main() -> None:
     folder, names = Path(sys.argv[1]), sys.argv[2:]
-    for made in PROBLEMS:
-        if not names or made.name in names:
-            write(made, folder)
+    known = {made.name: made for made in PROBLEMS + TESTED}
+    for name in names or [made.name for made in PROBLEMS]:
+        write(known[name], folder)
 
 
 if __name__ == "__main__":
