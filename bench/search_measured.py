@@ -138,7 +138,7 @@ def times_of_parts(program: str, plain: str, folder: Path) -> tuple[list[float],
 
 
 def goals(rows: list[Row], cells: list[float], nodes: list[float]) -> list[tuple[str, str, bool | None]]:
-    """For each goal what it is, what was measured, and whether it is met; None where toulbar2 is not there."""
+    """For each goal what it is, what was measured, and whether it is met; None where that can't be told."""
     solved = [row for row in rows if row.solved()]
     quick = [row for row in rows if row.made.family in ("grid", "colouring")]
     slowest = max(row.ours.seconds for row in quick)
@@ -148,6 +148,8 @@ def goals(rows: list[Row], cells: list[float], nodes: list[float]) -> list[tuple
     gaps = [(row.ours.number("upper") or 0) / max(1, row.ours.number("lower") or 0) for row in rows if row.made.family == "pairs"]
     peak = max(row.ours.megabytes for row in rows)
     here = bool(both) or None
+    # A program that makes fewer tables with so few nodes has other stages.
+    alike = cells[0] > cells[1] / 4 or None
     return [
         (f"at least 10 of 13 solved within {LIMIT} s", f"{len(solved)}", len(solved) >= 10),
         ("each grid and colouring solved within 3 s", f"{slowest:.2f} s", slowest <= 3 and all(row.solved() for row in quick)),
@@ -155,7 +157,7 @@ def goals(rows: list[Row], cells: list[float], nodes: list[float]) -> list[tuple
         ("sum of times at most twice that of toulbar2", f"{sums[0]:.2f} s, {sums[1]:.2f} s" if here else "not there", here and sums[0] <= 2 * sums[1]),
         ("upper at most 1.3 lower on the three of anytime.sh", ", ".join(f"{gap:.2f}" for gap in gaps), all(0 < gap <= 1.3 for gap in gaps)),
         ("a node in at most 1.25 the time of plain Rust", f"{nodes[0] * 1e9:.0f} ns, {nodes[1] * 1e9:.0f} ns, {nodes[0] / nodes[1]:.2f}", nodes[0] <= 1.25 * nodes[1]),
-        ("a cell in at most 1.25 the time of plain Rust", f"{cells[0] * 1e9:.1f} ns, {cells[1] * 1e9:.1f} ns, {cells[0] / cells[1]:.2f}", cells[0] <= 1.25 * cells[1]),
+        ("a cell in at most 1.25 the time of plain Rust", f"{cells[0] * 1e9:.1f} ns, {cells[1] * 1e9:.1f} ns, {cells[0] / cells[1]:.2f}" if alike else "other stages", alike and cells[0] <= 1.25 * cells[1]),
         ("held to 1 GB", f"{peak:.0f} MB", peak <= 1024 and all(row.ours.status in (0, 1, None) for row in rows)),
     ]
 
