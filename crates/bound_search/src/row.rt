@@ -123,6 +123,36 @@ fn stride_of(scope: &[VarId], sizes: &[u16], var: VarId) -> usize
 /// Adds cells to the entries of a row: the first cell to the first one, and one so many cells on to
 /// each further one.
 fn add_cells(row: &mut [u64], cells: &[u64], first: usize, stride: usize)
+    requires some { 1 ≤ length row.old }
+    requires inside { (d : ℕ) → d < length row.old → first + d * stride < length cells.now }
+    requires within { (d : ℕ) → d < length row.old → slice_index row.old d
+        + slice_index cells.now (first + d * stride) ≤ amount_limit }
+    ensures { (d : ℕ) → d < length row.old → slice_index row.new d
+        ≡ slice_index row.old d + slice_index cells.now (first + d * stride) }
+{
+    if stride == 1 {
+        let end = first + row.len();
+        add_run(row, &cells[first..end]);
+    } else {
+        add_strided(row, cells, first, stride);
+    }
+}
+
+/// Adds cells to the entries of a row, one to each.
+fn add_run(row: &mut [u64], run: &[u64])
+    requires long { length row.old ≤ length run.now }
+    requires within { (d : ℕ) → d < length row.old → slice_index row.old d
+        + slice_index run.now d ≤ amount_limit }
+    ensures { (d : ℕ) → d < length row.old → slice_index row.new d
+        ≡ slice_index row.old d + slice_index run.now d }
+{
+    for (k, entry) in row.iter_mut().enumerate() {
+        *entry += run[k];
+    }
+}
+
+/// [`add_cells`], one cell after the other.
+fn add_strided(row: &mut [u64], cells: &[u64], first: usize, stride: usize)
     requires inside { (d : ℕ) → d < length row.old → first + d * stride < length cells.now }
     requires within { (d : ℕ) → d < length row.old → slice_index row.old d
         + slice_index cells.now (first + d * stride) ≤ amount_limit }
