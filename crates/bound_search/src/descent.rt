@@ -1,8 +1,7 @@
 //! The descent from variable to variable.
 
-ghost use Rattle.std.specs.Prelude.{◌≡◌, ℕ, ◌+◌, ◌-◌, ◌*◌, ◌/◌, ◌<◌, ◌≤◌, min, true, Some, None, length, drop, slice_index};
+ghost use Rattle.std.specs.Prelude.{◌≡◌, ℕ, ◌+◌, ◌-◌, ◌/◌, ◌<◌, ◌≤◌, min, true, Some, None, length, drop, slice_index};
 ghost use Rattle.std.specs.List.{sum};
-ghost use Rattle.dcop_base.specs.Limits.{amount_limit};
 ghost use Rattle.dcop_base.specs.Table.{AreWithin};
 ghost use Rattle.dcop_base.specs.Values.{with_own};
 ghost use Rattle.shared_costs.specs.Values.{AgreeBelow};

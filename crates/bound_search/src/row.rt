@@ -1,6 +1,6 @@
 //! Rows: what the values of the next variable cost at least, value by value.
 
-ghost use Rattle.std.specs.Prelude.{◌≡◌, ℕ, ◌+◌, ◌*◌, ◌<◌, ◌≤◌, length, map, min, slice_index};
+ghost use Rattle.std.specs.Prelude.{◌≡◌, ℕ, ◌+◌, ◌*◌, ◌<◌, ◌≤◌, length, min, slice_index};
 ghost use Rattle.std.specs.List.{All};
 ghost use Rattle.dcop_base.specs.Limits.{amount_limit};
 ghost use Rattle.dcop_base.specs.Table.{AreWithin, cell_place, product, values_at};

@@ -1,6 +1,6 @@
 //! The search.
 
-ghost use Rattle.std.specs.Prelude.{◌≡◌, ◌+◌, ◌-◌, ◌≤◌, false, length, IfOk, OnOk};
+ghost use Rattle.std.specs.Prelude.{◌≡◌, ◌+◌, ◌≤◌, false, length, IfOk, OnOk};
 ghost use Rattle.std.specs.List.{sum};
 ghost use Rattle.shared_costs.specs.Shared.{AreSharedCosts};
 ghost use Rattle.bucket_bounds.specs.Bounds.{AreBounds};
@@ -60,7 +60,8 @@ pub fn search(
     requires bounds { AreBounds problem.now.sizes shared.now.depths buckets.now }
     requires known { IsKnown problem.now known.old }
     requires few { known.old.nodes ≤ 4611686018427387904 }
-    ensures { IfOk result (IsSearched problem.now buckets.now limits.error limits.budget known.old known.new) }
+    ensures { IfOk result (IsSearched problem.now buckets.now limits.error limits.budget
+        known.old known.new) }
 {
     problem_is_whole(problem);
     let rules = Rules {
@@ -95,7 +96,7 @@ pub fn search(
     })
 }
 
-/// Searches all assignments.
+/// Searches all assignments, unless the estimate at depth 0 is passed over already.
 fn search_from_top(
     alloc: Global,
     sizes: &[u16],
