@@ -10,6 +10,8 @@
 
 mod bounds;
 mod bucket;
+mod law;
 
 pub use bounds::bounds_of;
 pub use bucket::{Bucket, BucketList};
+pub use law::{bounds_are_at_most_the_rest, first_bound_is_at_most_the_optimum};
