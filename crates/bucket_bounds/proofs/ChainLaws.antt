@@ -1,18 +1,16 @@
 -- Laws of buckets that are made one before the other: what they send sums to at most their tables.
-use Rattle.std.proofs.Common.{◌≡◌, ℕ, zero, suc, ◌+◌, ◌<◌, ◌≤◌, Bool, true, false, not, eqb, List, [], ◌∷◌, ◌++◌, map, length, drop, get_or, slice_index, refl, sym, ap, ◌∙◌, subst, inl, inr, arith}
+use Rattle.std.proofs.Common.{◌≡◌, ℕ, zero, suc, ◌+◌, ◌<◌, ◌≤◌, Bool, true, false, not, List, [], ◌∷◌, drop, get_or, refl, ap, subst, arith}
 use Rattle.std.specs.List.{All, sum_by, filter}
-use Rattle.std.proofs.lemmas.Bool.{not-false}
-use Rattle.std.proofs.lemmas.List.{drop_more, drop_all, drop-map}
-use Rattle.std.proofs.lemmas.List.Elements.{All-nil, All-cons, All-head, All-tail, All-append, All-filter, filter_passes}
+use Rattle.std.proofs.lemmas.List.Elements.{All-nil, All-head, All-tail, All-append, All-filter, filter_passes}
 use Rattle.std.proofs.lemmas.List.Filters.{sum_by-filter_both}
 use Rattle.std.proofs.lemmas.List.Sums.{sum_by-cons, sum_by-append}
 use Rattle.dcop_base.specs.Table.{CostTable, has}
 use Rattle.dcop_base.specs.Values.{cell_with, cost_with, with_own}
 use Rattle.shared_costs.specs.Values.{AreValues, AgreeBelow}
-use Rattle.shared_costs.specs.Tables.{IsTableOver, IsOfDepth, depths_cost}
+use Rattle.shared_costs.specs.Tables.{depths_cost}
 use Rattle.bucket_bounds.specs.Bounds.{bounds_from, tables_in}
 use Rattle.bucket_bounds.specs.Exact.{IsUnparted}
-use Rattle.bucket_bounds.specs.Made.{IsItem, IsBound, IsMade, AreMade}
+use Rattle.bucket_bounds.specs.Made.{IsItem, IsBound, AreMade}
 use Rattle.bucket_bounds.specs.declared.bucket.Bucket.{Bucket}
 use Rattle.bucket_bounds.proofs.CellLaws.{cost_agrees, own_agrees, own_values, agrees_before, below_without}
 

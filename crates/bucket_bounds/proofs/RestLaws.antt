@@ -1,19 +1,18 @@
 -- Laws of the rest behind a depth: what bounds of buckets are, and that they are exact where nothing was lost.
-use Rattle.std.proofs.Common.{◌≡◌, ℕ, suc, ◌+◌, ◌<◌, ◌≤◌, List, [], ◌∷◌, map, length, drop, get_or, refl, sym, ap, ◌∙◌, subst, arith}
-use Rattle.std.specs.List.{All, sum_by, slice_index_or}
+use Rattle.std.proofs.Common.{◌≡◌, ℕ, suc, ◌+◌, ◌<◌, ◌≤◌, List, [], ◌∷◌, length, drop, sym, ap, ◌∙◌, subst, arith}
+use Rattle.std.specs.List.{All, slice_index_or}
 use Rattle.std.proofs.lemmas.List.{drop_more, drop-map, length-map, get_or-drop, length-drop}
 use Rattle.std.proofs.lemmas.List.Elements.{All-drop}
 use Rattle.dcop_base.specs.Table.{CostTable}
-use Rattle.dcop_base.specs.Values.{cost_with}
 use Rattle.shared_costs.specs.Values.{AreValues, AgreeBelow}
 use Rattle.shared_costs.specs.Tables.{depths_cost}
 use Rattle.bucket_bounds.specs.Rest.{deep_cost, IsRest}
-use Rattle.bucket_bounds.specs.Bounds.{bounds_from, bounds_at, fixed_at, bound_at, tables_in, bucket_of, IsBucket, AreBounds}
+use Rattle.bucket_bounds.specs.Bounds.{bounds_at, fixed_at, bound_at, tables_in, bucket_of, AreBounds}
 use Rattle.bucket_bounds.specs.Exact.{IsUnparted, AreExact}
 use Rattle.bucket_bounds.specs.Made.{IsBound, IsMade, AreMade}
 use Rattle.bucket_bounds.specs.declared.bucket.Bucket.{Bucket}
 use Rattle.bucket_bounds.proofs.CellLaws.{cost_agrees}
-use Rattle.bucket_bounds.proofs.ChainLaws.{fixed_in, AreSent, sent_of_made, bounds_before, low_from, exact_from, made_drop}
+use Rattle.bucket_bounds.proofs.ChainLaws.{AreSent, sent_of_made, bounds_before, low_from, exact_from, made_drop}
 
 abbrev no_bucket : Bucket
 no_bucket = record { tables = []; came = []; sent = []; fixed = 0; groups = 0; replaced = 0 }

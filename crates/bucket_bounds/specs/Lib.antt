@@ -3,3 +3,8 @@ pub mod Bounds
 pub mod Exact
 pub mod Laws
 pub mod Made
+pub mod Union
+pub mod Kept
+pub mod Groups
+pub mod Joining
+pub mod Parts

@@ -10,7 +10,15 @@
 
 mod bounds;
 mod bucket;
+mod by_cells;
+mod group;
+mod joining;
+mod keeping;
 mod law;
+mod making;
+mod projecting;
+mod sharing;
+mod union;
 
 pub use bounds::bounds_of;
 pub use bucket::{Bucket, BucketList};

@@ -1,5 +1,4 @@
 use Rattle.std.proofs.Common.{ℕ, ◌*◌, ap, slice_index, arith}
-use Rattle.dcop_base.specs.Values.{cost_with}
 use Rattle.dcop_optimum.proofs.JoinLaws.{value_below}
 use Rattle.bucket_bounds.proofs.RestLaws.{same_bound}
 use Rattle.bucket_bounds.proofs.law.first_bound_is_at_most_the_optimum.Goals as goal
