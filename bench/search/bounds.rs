@@ -34,11 +34,11 @@ fn union(one: &[usize], other: &[usize]) -> Vec<usize> {
     all
 }
 
-/// Parts the tables with these scopes into groups of at most so many cells: by falling cells, and among equals by their variables
-/// from the first on, each into the first group that has room.
+/// Parts the tables with these scopes into groups of at most so many cells: by falling cells, and among equals by the sum of their
+/// variables' places, each into the first group that has room.
 fn groups_of(scopes: &[&[usize]], sizes: &[usize], limit: u64) -> Vec<(Vec<usize>, Vec<usize>)> {
     let mut order: Vec<usize> = (0..scopes.len()).collect();
-    order.sort_by_key(|at| (Reverse(cells_of(scopes[*at], sizes)), scopes[*at]));
+    order.sort_by_key(|at| (Reverse(cells_of(scopes[*at], sizes)), scopes[*at].iter().sum::<usize>()));
     let mut groups: Vec<(Vec<usize>, Vec<usize>)> = Vec::new();
     for at in order {
         let fits = groups.iter_mut().find_map(|(members, scope)| {
