@@ -14,7 +14,7 @@
 # for each goal, and how many are met. Ends with status 1 where one is not.
 set -eu
 . "$(dirname "$0")/common.sh"
-program=$(realpath "${1:-$top/crates/dcop_search/out/dcop_search}")
+program=$(realpath -m "${1:-$top/crates/dcop_search/out/dcop_search}")
 [ -x "$program" ] || { echo "there is no program $program; 'rt run' in crates/dcop_search builds it"; exit 1; }
 rustc -O --edition 2024 -o "$folder/plain" "$top/bench/search/plain.rs"
 export PYTHONPATH="$PYTHONPATH:$top/front"
