@@ -359,7 +359,7 @@ class Solver:
     def run_cut(self, text: str, until: float | None) -> Answer:
         """What a cut answers, with a certificate where `dcop` makes one."""
         certificate = self.certificate_words()
-        for cells in (self.cells,) if self.cells else CELLS:
+        for cells in (min(self.cells, CELLS[0]),) if self.cells else CELLS:
             words = ["solve", "--method", "cut", "--cells", str(cells), *self.worker_words()]
             answer = self.run_until(until, [*words, *certificate], text)
             if certificate and (answer.unserved or answer.status == WIDE):
