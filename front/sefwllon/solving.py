@@ -12,6 +12,7 @@ from functools import cached_property
 from .best import START, Best, is_better
 from .bettering import Bettering
 from .explain import explain
+from .output import undisturbed
 from .problem import MOST_BYTES, Problem, Table, TextFault, Trouble, Variable, parse
 from .programs import Answer, Crashed, Programs, Wrong, crash, missing
 from .report import Report, read_report
@@ -115,11 +116,20 @@ class Solver:
             self.by_steps()
         except KeyboardInterrupt:
             self.best.stopped = "interrupted"
+        with undisturbed():
+            self.finish()
+        return self.best
+
+    def finish(self) -> None:
+        """Puts together what is known, whenever it was stopped."""
+        goal = self.problem.goal
         if self.best.stopped:
             self.start()
-        self.best.solved = self.best.values is not None and self.aim.reached(self.best, self.problem.goal)
-        self.best.seconds = time.monotonic() - self.best.began
-        return self.best
+        if self.best.values is not None:
+            self.best.cost = self.problem.cost(self.best.values)
+            self.best.settle(goal)
+        self.best.solved = self.best.values is not None and self.aim.reached(self.best, goal)
+        self.best.seconds = self.elapsed
 
     @property
     def decided(self) -> bool:
@@ -140,6 +150,8 @@ class Solver:
                 self.take(last)
             except (Crashed, Wrong) as fault:
                 self.failed(last, fault)
+            except MemoryError:
+                self.failed(last, Crashed("there was not enough memory"))
             if self.best.stopped or self.decided:
                 return
             if self.method == "auto":
@@ -277,9 +289,13 @@ class Solver:
         began, seconds = time.monotonic(), max(ORDER_SECONDS, self.elapsed / 2)
         until = self.within(seconds, "order")
         answer = self.programs.reorder(self.text, tries, until, self.tick)
-        if answer is None and self.method == "order":
-            raise Trouble(missing("dcop_order"))
-        if answer is None or self.ended(answer, until).status in (None, NO_MEMORY):
+        if answer is None:
+            if self.method == "order":
+                raise Trouble(missing("dcop_order"))
+            self.best.notes.append(f"{missing('dcop_order')}; without it DPOP was not tried in other orders")
+            self.ordered = len(TRIES)
+            return
+        if self.ended(answer, until).status in (None, NO_MEMORY):
             self.order_takes = 4 * seconds
             return
         self.ordered += 1
