@@ -277,6 +277,23 @@ class Meetings(Case):
         self.assertEqual((rooms["o"][0], rooms["o"][2]), ("Blue", ["Cy"]))
         self.assertEqual(answer["solved"], True)
 
+    @real_test
+    def test_rooms_are_given_out_behind_the_slots(self):
+        rooms = "room,Blue\nroom,Red\n"
+        text = "slot,a\nslot,b\nslot,c\n" + "".join(f"meeting,m{at},p{at}\nlike,m{at},a,{at + 1}\n" for at in range(6)) + rooms
+        status, told, _ = self.front("meetings", self.file("week.csv", text), program=REAL)
+        self.assertEqual((status, told.splitlines()[0]), (0, "cost 10, and none is better (verified)"))
+        self.assertEqual([len(re.findall(f"^{slot} .* in (?:Blue|Red)$", told, re.MULTILINE)) for slot in "abc"], [2, 2, 2])
+        even = "".join(f"slot,s{at}\n" for at in range(8)) + "".join(f"meeting,m{at},p{at}\n" for at in range(16)) + rooms
+        status, told, _ = self.front("meetings", self.file("week.csv", even), program=REAL)
+        self.assertEqual((status, told.splitlines()[0]), (0, "cost 0, and none is better (verified)"))
+        few = "slot,a\nslot,b\n" + "".join(f"meeting,m{at},p{at}\n" for at in range(5)) + rooms
+        status, told, _ = self.front("meetings", self.file("week.csv", few), program=REAL)
+        self.assertEqual((status, told.splitlines()[0]), (1, "no timetable keeps all the rules (verified); this one breaks 1"))
+        self.assertRegex(told, r"\nbroken: m\d is in [ab], and has no room there: (Blue|Red) is taken by m\d, (Blue|Red) is taken by m\d\n")
+        self.assertIn("\nwhy: with the rooms Blue, Red\n", told)
+        self.assertIn("\nto relax: it is enough to have another room that suits all, or to leave out one of the meeting m0; ", told)
+
     def test_why_a_meeting_has_no_place(self):
         for lines, why in (
             ("room,Blue,1\nmeeting,m,Ann;Bo\n", r"no room has what m needs, 2 seats \(Blue: 1 seats\)"),

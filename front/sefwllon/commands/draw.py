@@ -64,7 +64,7 @@ def graph_of(told: Translation, report: str | None) -> str:
     problem = fitted(told.problem, report)
     by_name = dict(zip((v.name for v in problem.variables), read_report(printed(report), problem).values))
     chosen = told.told([by_name[v.name] for v in told.problem.variables])
-    return draw.graph(told.problem, told.names, [str(value) for value in chosen.values()])
+    return draw.graph(told.problem, told.names, [str(chosen.get(name, "")) for name in told.names])
 
 
 def tree_of(programs: Programs, told: Translation, report: str | None) -> str:

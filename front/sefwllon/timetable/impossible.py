@@ -14,11 +14,12 @@ from ..best import ADDED_UP
 from ..output import OutOfTime
 from . import rules
 from .make import Aim, NoPlace
-from .model import Meeting, Timetable
+from .model import Meeting, Room, Timetable
 from .session import Session
 
 _SECONDS = 20.0
 """How long reasons are looked for where no time is given."""
+ANOTHER_ROOM = "to have another room that suits all"
 _MOST_RELAXED = 40
 """How many ways to relax a week are tried."""
 
@@ -38,6 +39,8 @@ class Reason:
     """What alone makes a week possible."""
     tried: bool = True
     """Whether all ways to relax one thing were tried."""
+    rooms: bool = False
+    """Whether it is since rooms are too few."""
 
 
 def reduced(told: Timetable, meetings: list[str], people: list[str], lines: list[int]) -> Timetable:
@@ -175,7 +178,7 @@ class Search:
             return None
         if plan.keeps:
             return False
-        known = plan.known(plan.problem.none_keeps)
+        known = plan.none_keeps
         if known is None:
             self.decided = False
             return None
@@ -195,7 +198,10 @@ class Search:
         lines = self.least([line for line in lines if self.concerns(line, meetings, people)], lambda its: self.fails(meetings, people, its))
         if not self.fails(meetings, people, lines):
             return None
-        return Reason(meetings, people, lines, self.decided, self.known)
+        reason = Reason(meetings, people, lines, self.decided, self.known)
+        if told.rooms:
+            reason.rooms = self.fails_told(replace(reduced(told, meetings, people, lines), rooms={})) is False
+        return reason
 
     def start(self, lines: list[int]) -> tuple[list[str], list[str]]:
         """Meetings that have no timetable: those of one person, where these are enough, or all."""
@@ -243,6 +249,10 @@ class Search:
         told, lines = self.told, rule_lines(self.told)
         everybody, names = list(told.meetings_of), list(told.meetings)
         ways: list[tuple[str, Callable[[], Timetable]]] = []
+        if reason.rooms:
+            things = list(dict.fromkeys(it for meeting in told.meetings.values() for it in meeting.needs))
+            more = {**told.rooms, "another room": Room("another room", None, things)}
+            ways.append((ANOTHER_ROOM, lambda: replace(told, rooms=more, wishes=[])))
         for line in reason.lines:
             ways.append((f"the line {told.line(line)}", lambda line=line: reduced(told, names, everybody, [it for it in lines if it != line])))  # type: ignore[misc]
         for name in reason.meetings:
@@ -278,9 +288,13 @@ def loosen(told: Timetable, name: str) -> Timetable:
 def find(session: Session, told: Timetable) -> Reason | None:
     """Why a timetable can't be, and what to relax; None where that is not found in time."""
     search = Search(session, told)
-    reason = search.reason()
-    if reason is not None:
-        search.relax(reason)
+    reason = None
+    try:
+        reason = search.reason()
+        if reason is not None:
+            search.relax(reason)
+    except KeyboardInterrupt:
+        session.stopped = True
     return reason
 
 
@@ -298,10 +312,15 @@ def sentences(told: Timetable, reason: Reason) -> list[str]:
     for name in reason.meetings:
         if told.meetings[name].fixed:
             lines.append(f"why: with {name} fixed in {' or '.join(told.meetings[name].fixed)}")
+    if reason.rooms:
+        lines.append(f"why: with the rooms {', '.join(told.rooms)}")
     least = "without any of these it could" if reason.least else "less than this may be enough, which was not decided in time"
     lines.append(f"why: {least} ({reason.known})")
     if reason.relaxed:
-        lines.append(f"to relax: it is enough to leave out one of {'; '.join(reason.relaxed)}")
+        more = [words for words in reason.relaxed if words.startswith(ANOTHER_ROOM)]
+        less = [words for words in reason.relaxed if words not in more]
+        ways = [*more, *([f"to leave out one of {'; '.join(less)}"] if less else [])]
+        lines.append(f"to relax: it is enough {', or '.join(ways)}")
     elif reason.tried:
         lines.append("to relax: no single one of these is enough, so more than one thing is in the way; relax one, and ask again")
     return lines

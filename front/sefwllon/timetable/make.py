@@ -104,6 +104,8 @@ def make(told: Timetable, title: str, aim: Aim | None = None) -> Made:
     aim = aim or Aim()
     check_count(told)
     places = {name: places_of(told, meeting, aim.held.get(name)) for name, meeting in told.meetings.items()}
+    if told.rooms:
+        places = spread(places)
     pairs = rules.pair_rules(told)
     soft = {} if aim.free else rules.both_costs(told)
     check_cells(told, places, pairs, soft)
@@ -149,6 +151,15 @@ def places_of(told: Timetable, meeting: Meeting, held: str | None) -> list[Place
     if len(its) > MOST_VALUES:
         raise Trouble(f"{meeting.name} has {len(its):,} slots to choose from, and dcop takes {MOST_VALUES:,}: leave some out, or fix it in fewer")
     return its
+
+
+def spread(places: dict[str, list[Place]]) -> dict[str, list[Place]]:
+    """The places of each meeting from another one on: where several are as good, the first is taken, and few meetings are to be at once."""
+    found = {}
+    for at, (name, its) in enumerate(places.items()):
+        first = at * len(its) // len(places)
+        found[name] = its[first:] + its[:first]
+    return found
 
 
 class NoPlace(Trouble):

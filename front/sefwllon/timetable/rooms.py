@@ -9,12 +9,16 @@ from __future__ import annotations
 
 from collections.abc import Iterable
 
+from ..problem import Table
+from ..translate import Translation
 from .make import Crowd
 from .model import Place, Room, Timetable
 from .rules import Breach, open_rooms
 
 _STEPS = 100_000
 """How many rooms are tried before giving them out is given up."""
+_MOVES = 3
+"""How often a meeting is moved for a room, on an average."""
 
 
 class Rooms:
@@ -119,7 +123,7 @@ def crowd_at(rooms: Rooms, name: str, cluster: list[str]) -> list[Crowd]:
     told = rooms.told
     slot = told.slots[rooms.places[name].slot]
     now = [other for other in cluster if other == name or (rooms.at_once(name, other) and is_on(told, other, rooms.places[other], name, rooms.places[name]))]
-    wanting = unmatched(rooms, now)
+    wanting = unmatched(rooms.choices, now)
     if not wanting:
         return []
     few = sorted({room for it in wanting for room in rooms.choices[it]})
@@ -152,12 +156,12 @@ def is_on(told: Timetable, name: str, place: Place, other: str, begin: Place) ->
     return span[0] <= at[0] < span[1]
 
 
-def unmatched(rooms: Rooms, names: list[str]) -> list[str]:
+def unmatched(choices: dict[str, list[str]], names: list[str]) -> list[str]:
     """Of meetings that are at once some that have fewer rooms together than they are; nothing where each can have one."""
     holder: dict[str, str] = {}
 
     def seat(name: str, seen: set[str]) -> bool:
-        for room in rooms.choices[name]:
+        for room in choices[name]:
             if room not in seen:
                 seen.add(room)
                 if room not in holder or seat(holder[room], seen):
@@ -170,6 +174,78 @@ def unmatched(rooms: Rooms, names: list[str]) -> list[str]:
         if not seat(name, seen):
             return [name, *(holder[room] for room in seen)]
     return []
+
+
+def repaired(told: Timetable, places: dict[str, list[Place]], problem: Translation, values: list[int]) -> list[int] | None:
+    """The values of a timetable in which all have rooms, found by moving meetings that have none, or others for them, one after the other:
+    each time the move that costs least, to where no rule is broken and a room is free. None where that comes to no end."""
+    repair = Repair(told, places, problem, list(values))
+    for _ in range(_MOVES * len(places)):
+        _, _, missing = give(told, problem.told(repair.values))
+        if not missing:
+            return repair.values
+        if not repair.move(missing[0].meetings[0]):
+            return None
+    return None
+
+
+class Repair:
+    """A timetable that is changed until all have rooms."""
+
+    def __init__(self, told: Timetable, places: dict[str, list[Place]], problem: Translation, values: list[int]):
+        self.told, self.places, self.problem, self.values = told, places, problem.problem, values
+        self.hard = problem.hard_cost or None
+        self.index = {name: at for at, name in enumerate(told.meetings)}
+        self.own: list[list[Table]] = [[] for _ in values]
+        for table in self.problem.tables:
+            for variable in table.scope:
+                self.own[variable].append(table)
+        self.seen: set[tuple[str, int]] = set()
+
+    def place(self, name: str) -> Place:
+        return self.places[name][self.values[self.index[name]]]
+
+    def beside(self, name: str, place: Place) -> list[str]:
+        """The other meetings that take a room at that time."""
+        told, mine = self.told, self.told.meetings[name]
+        row = told.clock.at(mine, place)
+        found = []
+        for other, meeting in told.meetings.items():
+            if other != name and told.takes_room(meeting) and told.clock.meets(mine, meeting)[row][told.clock.at(meeting, self.place(other))]:
+                found.append(other)
+        return found
+
+    def cost(self, variable: int, value: int) -> int:
+        kept, self.values[variable] = self.values[variable], value
+        total = sum(self.problem.cell(table, self.values) for table in self.own[variable])
+        self.values[variable] = kept
+        return total
+
+    def move(self, name: str) -> bool:
+        """Moves a meeting that has no room, or one that takes a room beside it."""
+        best: tuple[int, str, int] | None = None
+        for who in [name, *self.beside(name, self.place(name))]:
+            variable = self.index[who]
+            before = self.cost(variable, self.values[variable])
+            for value in range(len(self.places[who])):
+                if (who, value) in self.seen or value == self.values[variable]:
+                    continue
+                more = self.cost(variable, value) - before
+                if (best is None or more < best[0]) and (self.hard is None or more < self.hard) and self.has_room(who, self.places[who][value]):
+                    best = more, who, value
+        if best is None:
+            return False
+        _, who, value = best
+        self.seen |= {(who, value), (who, self.values[self.index[who]])}
+        self.values[self.index[who]] = value
+        return True
+
+    def has_room(self, name: str, place: Place) -> bool:
+        """Whether all that would be at that time could have rooms."""
+        told = self.told
+        choices = {other: [room.name for room in open_rooms(told, told.meetings[other], self.place(other))] for other in self.beside(name, place)}
+        choices[name] = [room.name for room in open_rooms(told, told.meetings[name], place)]
+        return not unmatched(choices, list(choices))
 
 
 def no_good(rooms: Rooms, cluster: list[str]) -> Crowd:

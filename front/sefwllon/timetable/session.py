@@ -10,7 +10,7 @@ from fractions import Fraction
 from ..asking import deadline
 from ..best import Best
 from ..files import read_text
-from ..output import OutOfTime, reading
+from ..output import OutOfTime, reading, undisturbed
 from ..parts import solved_apart
 from ..problem import Trouble
 from ..programs import Programs
@@ -48,6 +48,8 @@ class Plan:
     rooms: dict[str, str] = field(default_factory=dict)
     breaches: list[Breach] = field(default_factory=list)
     costs: list[Cost] = field(default_factory=list)
+    none: str | None = None
+    """By what it is known that no timetable keeps all rules, where another problem of the same file told it."""
 
     @property
     def found(self) -> bool:
@@ -82,7 +84,12 @@ class Plan:
     @property
     def impossible(self) -> bool:
         """Whether it is known that no timetable keeps all rules."""
-        return self.known(self.problem.none_keeps) is not None
+        return self.none_keeps is not None
+
+    @property
+    def none_keeps(self) -> str | None:
+        """By what that is known."""
+        return self.none or self.known(self.problem.none_keeps)
 
     @property
     def names(self) -> Same:
@@ -91,6 +98,21 @@ class Plan:
     def known(self, holds: object) -> str | None:
         """By what it is known that something follows from a bound; None where it is not known."""
         return known_by(holds, self.best, self.problem)  # type: ignore[arg-type]
+
+
+def better(one: Plan, other: Plan) -> Plan:
+    """The better of two timetables of one file, with the better of their bounds: what is asked of rooms holds for each timetable."""
+    if not other.found or (one.found and (len(one.breaches), len(one.moved), one.cost) < (len(other.breaches), len(other.moved), other.cost)):
+        one, other = other, one
+    best, cost = replace(other.best), other.best.cost
+    if one.problem.shift == other.problem.shift and one.problem.scale == other.problem.scale and cost is not None and other.keeps:
+        for what in ("lower", "checked", "proved"):
+            bound = getattr(one.best, what)
+            if bound is not None and bound < one.problem.hard_cost:
+                setattr(best, what, min(cost, max(bound, getattr(best, what) or 0)))
+        best.solved = best.solved or best.gap("min") == 0
+    best.stopped = best.stopped or one.best.stopped
+    return replace(other, best=best, none=other.none_keeps or one.none_keeps)
 
 
 @dataclass
@@ -121,7 +143,7 @@ class Session:
         """Finds a timetable. Where there are not rooms for all, its slots are chosen anew, with what was learnt of rooms."""
         aim = aim or Aim()
         best: Plan | None = None
-        for _ in range(_ROUNDS):
+        for turn in range(_ROUNDS):
             try:
                 plan, crowds = self.ask_once(told, aim)
             except (OutOfTime, KeyboardInterrupt):
@@ -129,14 +151,34 @@ class Session:
                 if best is None:
                     raise
                 break
-            if best is None or len(plan.breaches) <= len(best.breaches) or not best.found:
-                best = plan
+            if turn == 0 and crowds and not plan.problem.counters:
+                plan = self.repaired(plan)
+            best = plan if best is None else better(best, plan)
+            if best.exact:
+                break
             self.stopped = self.stopped or plan.best.stopped == "interrupted"
-            if not crowds or plan.best.stopped or self.over:
+            crowds = [crowd for crowd in crowds if crowd not in aim.crowds]
+            if not crowds or plan.best.stopped or plan.none_keeps or self.over:
                 break
             aim = replace(aim, crowds=[*aim.crowds, *crowds])
         assert best is not None
         return best
+
+    def repaired(self, plan: Plan) -> Plan:
+        """A timetable in which all have rooms, found from one in which some have none; the same where none is found so."""
+        try:
+            values = rooms.repaired(plan.told, plan.made.places, plan.problem, plan.best.values or [])
+        except KeyboardInterrupt:
+            self.stopped, values = True, None
+        if values is None:
+            return plan
+        best = replace(plan.best, moments=list(plan.best.moments))
+        best.take_better(values, plan.problem.problem.cost(values), plan.problem.problem.goal)
+        best.solved = best.gap(plan.problem.problem.goal) == 0
+        chosen = plan.problem.told(values)
+        given, _, missing = rooms.give(plan.told, chosen)
+        found = rules.breaches(plan.told, chosen) + missing
+        return replace(plan, best=best, chosen=chosen, rooms=given, breaches=found, costs=rules.costs(plan.told, chosen))
 
     def ask_once(self, told: Timetable, aim: Aim) -> tuple[Plan, list[Crowd]]:
         with reading(self.until):
@@ -145,15 +187,15 @@ class Session:
         left = None if self.until is None else self.until - self.options.began
         gap = getattr(self.options, "gap", None) if aim.plain else None
         options = argparse.Namespace(**{**vars(self.options), "time": left, "gap": gap})
-        plan = Plan(told, made, problem, solved_apart(self.programs, problem, options))
+        plan, crowds = Plan(told, made, problem, solved_apart(self.programs, problem, options)), []
         if plan.best.values is None:
-            return plan, []
-        plan.chosen = problem.told(plan.best.values)
-        plan.breaches, plan.costs = rules.breaches(told, plan.chosen), rules.costs(told, plan.chosen)
-        if not told.rooms:
-            return plan, []
-        plan.rooms, crowds, missing = rooms.give(told, plan.chosen)
-        if plan.breaches:
-            crowds = []
-        plan.breaches = plan.breaches + missing
+            return plan, crowds
+        with undisturbed():
+            plan.chosen = problem.told(plan.best.values)
+            plan.breaches, plan.costs = rules.breaches(told, plan.chosen), rules.costs(told, plan.chosen)
+            if told.rooms:
+                broken = bool(plan.breaches)
+                plan.rooms, crowds, missing = rooms.give(told, plan.chosen)
+                plan.breaches = plan.breaches + missing
+                crowds = [] if broken else crowds
         return plan, crowds
