@@ -3,7 +3,11 @@
 What is told as verified was given to `dcop check` first; nothing else in this package is proved.
 """
 
+import time
 from pathlib import Path
+
+BEGAN = time.monotonic()
+"""When the command began, as far as it knows."""
 
 
 def _version() -> str:

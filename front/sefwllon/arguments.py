@@ -35,8 +35,34 @@ def amount(word: str) -> Fraction:
     return Fraction(word)
 
 
+def cells(word: str) -> int:
+    if natural(word) not in range(1_024, 2**28 + 1):
+        raise argparse.ArgumentTypeError(f"{word} is no number of cells from 1024 to 268435456")
+    return int(word)
+
+
+def share(word: str) -> Fraction:
+    """A part in a hundred, as 2%."""
+    if not re.fullmatch(r"\d{1,6}(\.\d{1,6})?\s*%", word):
+        raise argparse.ArgumentTypeError(f"{word} is no gap as 2% or 0.5%; by how much a cost may miss the best is told by --error")
+    return Fraction(word.rstrip("% ")) / 100
+
+
 def seconds(word: str) -> float:
     match = re.fullmatch(r"(\d+(?:\.\d+)?)(ms|s|m|h)?", word)
     if not match:
         raise argparse.ArgumentTypeError(f"{word} is no time as 30s, 500ms or 2m")
     return float(match[1]) * {"ms": 0.001, "m": 60, "h": 3600}.get(match[2], 1)
+
+
+def add_time(command: argparse.ArgumentParser) -> None:
+    command.add_argument("--time", type=seconds, metavar="30s", help="stop after this time, from the start of the command, with the best so far")
+
+
+def add_solving(command: argparse.ArgumentParser) -> None:
+    """The words of a command that solves."""
+    add_time(command)
+    command.add_argument("--gap", type=share, metavar="2%", help="stop as soon as the answer is known to be within so much of the best")
+    command.add_argument("--workers", type=threads, default=1, metavar="N", help="threads of dcop, 1 to 64")
+    command.add_argument("--json", action="store_true", help="the answer as JSON")
+    command.add_argument("--report", metavar="OUT", help="keep the answer there, with its certificate where it has one: check and cost read it")

@@ -4,12 +4,14 @@ from __future__ import annotations
 
 import argparse
 import sys
+import time
 from importlib import import_module
 
-from . import __version__
-from .asking import crashed
+from . import BEGAN, __version__
 from .explain import explain
+from .output import OutOfTime, complain, ended_as_interrupted, say, silence
 from .problem import Trouble
+from .programs import crash
 from .solving import Refused
 from .telling import OPEN, TEXT
 
@@ -19,6 +21,7 @@ COMMANDS = (
     "explain",
     "convert",
     "meetings",
+    "why",
     "draw",
     "cost",
 )
@@ -27,20 +30,38 @@ COMMANDS = (
 
 def main(arguments: list[str] | None = None) -> int:
     """Runs the command, and gives its exit status."""
-    options = parser().parse_args(arguments)
+    began = BEGAN if arguments is None else time.monotonic()
+    for stream in (sys.stdout, sys.stderr):
+        if hasattr(stream, "reconfigure"):
+            stream.reconfigure(errors="backslashreplace")
     try:
-        return options.run(options)
-    except Refused as refused:
-        print(f"sefwllon: {crashed(refused.answer) or explain(refused.answer.text, options.text)}", file=sys.stderr)
+        options = parser().parse_args(arguments)
+    except SystemExit:
+        if say(""):
+            raise
         return TEXT
+    except OSError as fault:
+        silence(sys.stdout)
+        complain(f"standard output can't be written: {fault.strerror}")
+        return TEXT
+    options.began = began
+    try:
+        with ended_as_interrupted():
+            return options.run(options)
+    except Refused as refused:
+        complain(crash(refused.answer) or explain(refused.answer.text, options.text))
+        return TEXT
+    except OutOfTime as trouble:
+        complain(str(trouble))
+        return OPEN
     except Trouble as trouble:
-        print(f"sefwllon: {trouble}", file=sys.stderr)
+        complain(str(trouble))
         return TEXT
     except BrokenPipeError:
         return OPEN
-    except KeyboardInterrupt:
-        print("sefwllon: interrupted", file=sys.stderr)
-        return 130
+    except (MemoryError, RecursionError):
+        complain("the file is too large, or too deep, for this machine's memory")
+        return TEXT
 
 
 def parser() -> argparse.ArgumentParser:

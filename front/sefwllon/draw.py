@@ -6,10 +6,11 @@ import math
 from collections.abc import Callable, Iterable
 from html import escape
 
-from .meetings import Meetings, Slot, clashes
 from .problem import Problem, Trouble
 from .replay import Moment
 from .report import Node
+from .timetable.model import Slot, Timetable
+from .timetable.rules import Breach, breaches
 
 _STYLE = (
     "<style>text{font:12px sans-serif;text-anchor:middle;fill:#222;paint-order:stroke;stroke:#fff;stroke-width:2px}"
@@ -146,17 +147,20 @@ def bounds(moments: list[Moment], told: Callable[[int], str], title: str, cost: 
     return svg(_LEFT + _WIDE + 70, _TOP + _HIGH + 60, parts)
 
 
-def timetable(told: Meetings, chosen: dict[str, object]) -> str:
+def timetable(
+    told: Timetable, chosen: dict[str, object], found: Iterable[Breach] | None = None, rooms: dict[str, str] | None = None
+) -> str:
     """A row for each slot and a column for each person, with the meetings in it; grey where somebody can't. Two meetings
-    that a person has in one slot stand side by side. Meetings that clash have a red edge, and a red line on top."""
-    people, barred, found = sorted(told.people()), told.barred(), clashes(told, chosen)
-    clashing = {name for clash in found for name in (clash.first, clash.second)}
+    that a person has in one slot stand side by side. Meetings that break a rule have a red edge, and a red line on top."""
+    people, barred, found = sorted(told.people()), told.barred(), list(breaches(told, chosen) if found is None else found)
+    clashing = {name for clash in found for name in clash.meetings}
     hues = {name: 360 * place // len(told.meetings) for place, name in enumerate(told.meetings)}
     warnings = [f"breaks a rule: {clash.sentence()}" for clash in found]
     parts = [f'<text class="broken" x="20" y="{24 + 18 * at}">{escape(line)}</text>' for at, line in enumerate(warnings)]
     top = 42 + 18 * len(warnings)
     left = 30 + max(max(7 * len(slot.name), 6 * len(slot.hours)) for slot in told.slots)
-    wide = 30 + 7 * max(len(word) for word in [*people, *told.meetings])
+    words = {name: name if not (rooms or {}).get(name) else f"{name}, {(rooms or {})[name]}" for name in told.meetings}
+    wide = 30 + 7 * max(len(word) for word in [*people, *words.values()])
     columns = {name: wide * most_at_once(told, chosen, name) for name in people}
     right = left + sum(columns.values())
     for row, slot in enumerate(told.slots):
@@ -170,17 +174,17 @@ def timetable(told: Meetings, chosen: dict[str, object]) -> str:
             if slot.name in barred.get(person, ()):
                 parts.append(f'<rect x="{x + 2}" y="{y}" width="{width - 4}" height="30" fill="#eee"/>')
             for at, name in enumerate(here):
-                parts += box(x + width / len(here) * at, y, width / len(here), name, hues[name], name in clashing)
+                parts += box(x + width / len(here) * at, y, width / len(here), words[name], hues[name], name in clashing)
         x += width
     wanted = 40 + 7 * max(map(len, warnings), default=0)
     return svg(max(right + 20, wanted), top + _ROW * len(told.slots) + 12, parts)
 
 
-def meetings_of(told: Meetings, chosen: dict[str, object], person: str, slot: Slot) -> list[str]:
-    return [name for name, people in told.meetings.items() if person in people and chosen[name] == slot.name]
+def meetings_of(told: Timetable, chosen: dict[str, object], person: str, slot: Slot) -> list[str]:
+    return [name for name, it in told.meetings.items() if person in it.everybody and told.slot_of(chosen, name) is slot]
 
 
-def most_at_once(told: Meetings, chosen: dict[str, object], person: str) -> int:
+def most_at_once(told: Timetable, chosen: dict[str, object], person: str) -> int:
     """How many boxes stand side by side in a person's column."""
     return max([1, *(len(meetings_of(told, chosen, person, slot)) for slot in told.slots)])
 

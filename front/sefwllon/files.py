@@ -5,7 +5,7 @@ from __future__ import annotations
 import sys
 from pathlib import Path
 
-from . import meetings, pydcop, wcsp
+from . import pydcop, timetable, wcsp
 from .problem import MOST_BYTES, TextFault, Trouble, parse
 from .programs import Programs
 from .solving import Refused
@@ -13,7 +13,7 @@ from .translate import Translation, plain, translate
 
 READERS = {
     "pydcop": pydcop.read,
-    "meetings": lambda text, title: meetings.source(meetings.read(text), title),
+    "meetings": lambda text, title: timetable.source(timetable.read(text), title),
     "wcsp": wcsp.read_wcsp,
     "uai": wcsp.read_uai,
 }
@@ -39,13 +39,6 @@ def read_text(name: str) -> str:
             line = data[: fault.start].count(b"\n") + 1
             raise Trouble(f"{name} is no UTF-8 text from line {line} on: save it as UTF-8") from None
         return data.decode("utf-8", "replace")
-
-
-def write(name: str, text: str) -> None:
-    try:
-        Path(name).write_text(text, newline="")
-    except OSError as fault:
-        raise Trouble(f"{name} can't be written: {fault.strerror}") from None
 
 
 def load(name: str, text: str, programs: Programs | None = None) -> Translation:

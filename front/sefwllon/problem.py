@@ -3,7 +3,6 @@
 from __future__ import annotations
 
 import re
-import time
 from dataclasses import dataclass, field
 from itertools import product
 from math import prod
@@ -92,26 +91,6 @@ class Problem:
         tables = [Table(tuple(to[v] for v in table.scope), table.costs) for table in self.tables]
         return Problem(self.goal, [self.variables[at[name]] for name in names], tables, list(self.comments))
 
-    def improved(self, assignment: list[int], until: float | None = None) -> list[int]:
-        """An assignment that no change of one variable betters, found from this one; the best so far at that moment."""
-        sign = 1 if self.goal == "min" else -1
-        own: list[list[Table]] = [[] for _ in self.variables]
-        for table in self.tables:
-            for variable in table.scope:
-                own[variable].append(table)
-        values, waiting = list(assignment), list(range(len(self.variables)))
-        while waiting and (until is None or time.monotonic() < until):
-            variable = waiting.pop(0)
-            kept, costs = values[variable], []
-            for values[variable] in range(self.variables[variable].size):
-                costs.append(sign * sum(self.cell(table, values) for table in own[variable]))
-            least = min(costs)
-            values[variable] = kept if costs[kept] == least else costs.index(least)
-            if values[variable] != kept:
-                near = {v for table in own[variable] for v in table.scope}
-                waiting += sorted(near - {variable} - set(waiting))
-        return values
-
     def text(self) -> str:
         """The problem as text, which `dcop` reads: the one that it was read from, so that it is told by its own lines."""
         if self.source is not None:
@@ -125,7 +104,8 @@ class Problem:
             lines.append(f"var {variable.name} {domain}")
         for table in self.tables:
             scope = " ".join(self.variables[v].name for v in table.scope)
-            lines.append(f"table {scope} : {' '.join(map(str, table.costs))}")
+            words = {cost: str(cost) for cost in set(table.costs)}
+            lines.append(f"table {scope} : {' '.join([words[cost] for cost in table.costs])}")
         lines.append("end")
         return "\n".join(lines) + "\n"
 

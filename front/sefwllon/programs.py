@@ -27,8 +27,19 @@ VERIFIED = "verified"
 VERIFIED_UNPROVED = "verified by a check that was compiled without proofs"
 """What it is called where that was the `dcop` of the script."""
 
+PLACES = {
+    "dcop": ("SEFWLLON_DCOP", "solve_cli"),
+    "dcop_order": ("SEFWLLON_ORDER", "order_cli"),
+    "dcop_search": ("SEFWLLON_SEARCH", "dcop_search"),
+}
+"""The programs: each with the variable that names it, and the crate that it is built in."""
+
+WORDS = 2
+"""The exit status of words that are refused."""
+
 _CLONE = Path(__file__).resolve().parents[2]
 _CRATES = _CLONE / "crates"
+_SHOWN = 80
 
 
 @dataclass(frozen=True)
@@ -37,19 +48,54 @@ class Answer:
 
     text: str
     status: int | None
+    program: str = "dcop"
+    """Which program it was, by its name."""
+    path: str = ""
 
     @property
     def unserved(self) -> bool:
         """Whether the words are right and not served by this program."""
-        return self.status == 2 and self.text.startswith("refused words at 1 kind 10")
+        return self.status == WORDS and self.text.startswith("refused words at 1 kind 10")
+
+    @property
+    def who(self) -> str:
+        """The program, by what named it where the user did."""
+        variable = PLACES[self.program][0]
+        return f"{variable} names {self.path}, which" if os.environ.get(variable) == self.path else f"the program {self.path or self.program}"
+
+    @property
+    def said(self) -> str:
+        """What it answered, in short."""
+        line = next((it.strip() for it in self.text.splitlines() if it.strip()), "")
+        shown = f"`{line[:_SHOWN]}`" if line.isprintable() and line else "with no text" if line else "nothing"
+        return shown if self.status == 0 else f"{shown}, with exit status {self.status}"
+
+
+class Wrong(Trouble):
+    """A program is another one than is meant: what it answered is no answer of it."""
+
+    def __init__(self, answer: Answer, why: str):
+        super().__init__(f"{answer.who} answered {answer.said}: {why}")
+
+
+class Crashed(Trouble):
+    """A program was ended by a signal, or had not enough memory."""
+
+
+def crash(answer: Answer) -> str | None:
+    """That a program was ended by a signal, where it was."""
+    if answer.status is None or answer.status >= 0:
+        return None
+    return f"{answer.program} was ended by the signal {-answer.status}, as a program is that crashed or that something else ended"
 
 
 class Programs:
-    """The programs `dcop` and `dcop_order`."""
+    """The programs `dcop`, `dcop_order` and `dcop_search`."""
 
-    def __init__(self, dcop: str | None = None, order: str | None = None):
-        self.dcop = dcop or found("SEFWLLON_DCOP", "dcop", "solve_cli")
-        self.order = order or found("SEFWLLON_ORDER", "dcop_order", "order_cli")
+    def __init__(self, dcop: str | None = None, order: str | None = None, search: str | None = None):
+        self.dcop = dcop or found("dcop")
+        self.order = order or found("dcop_order")
+        self.search = search or found("dcop_search")
 
     @property
     def quick(self) -> bool:
@@ -66,13 +112,39 @@ class Programs:
         """Runs `dcop` on a text, at most until this moment of `time.monotonic`."""
         if self.dcop is None:
             raise Trouble(unbuilt(_CLONE))
-        return run([self.dcop, *words], text, until, tick)
+        return run("dcop", [self.dcop, *words], text, until, tick)
 
     def reorder(
         self, text: str, tries: int, until: float | None = None, tick: Callable[[], None] | None = None
     ) -> Answer | None:
         """Runs `dcop_order`, where it is built, at most until this moment."""
-        return run([self.order, "--tries", str(tries)], text, until, tick) if self.order else None
+        return run("dcop_order", [self.order, "--tries", str(tries)], text, until, tick) if self.order else None
+
+    def seek(
+        self, words: list[str], text: str, until: float | None = None, tick: Callable[[], None] | None = None
+    ) -> Answer:
+        """Runs `dcop_search`, at most until this moment."""
+        if not self.search:
+            raise Trouble(missing("dcop_search"))
+        return run("dcop_search", [self.search, *words], text, until, tick)
+
+    def versions(self) -> dict[str, str | None]:
+        """Which programs answer: that of this package by its number, each other one by what its file sums to."""
+        from . import __version__
+
+        paths = {"dcop": self.dcop, "dcop_order": self.order, "dcop_search": self.search}
+        return {"sefwllon": __version__, **{name: sum_of(path) for name, path in paths.items()}}
+
+
+def sum_of(path: str | None) -> str | None:
+    """The SHA-256 of a program's file."""
+    import hashlib
+
+    try:
+        with open(path or "", "rb") as file:
+            return "sha256 " + hashlib.file_digest(file, "sha256").hexdigest()
+    except OSError:
+        return None
 
 
 def is_quick(program: str) -> bool:
@@ -90,10 +162,20 @@ def unbuilt(clone: Path) -> str:
     )
 
 
-def found(variable: str, name: str, crate: str) -> str | None:
-    """A program by an environment variable, on the path, or in the clone that this file lies in."""
+def missing(name: str) -> str:
+    """That one of the other programs is not there, and what to do."""
+    variable, crate = PLACES[name]
+    return f"the program {name} is not built: run `cd crates/{crate} && rt run`, or name it by {variable}"
+
+
+def found(name: str) -> str | None:
+    """A program by its variable, on the path, or in the clone that this file lies in. An empty variable means none."""
+    variable, crate = PLACES[name]
     if variable in os.environ:
-        return os.environ[variable]
+        named = os.environ[variable]
+        if named and shutil.which(named) is None:
+            raise Trouble(f"{variable} names {named}, which is no program that can be run: name the built {name}, or leave it out")
+        return named or None
     on_path = shutil.which(name)
     if on_path:
         return on_path
@@ -101,11 +183,11 @@ def found(variable: str, name: str, crate: str) -> str | None:
     return str(built) if built.is_file() else None
 
 
-def run(command: list[str], text: str, until: float | None, tick: Callable[[], None] | None = None) -> Answer:
+def run(name: str, command: list[str], text: str, until: float | None, tick: Callable[[], None] | None = None) -> Answer:
     """Runs a program to its end, or until its time is over."""
     left = None if until is None else until - time.monotonic()
     if left is not None and left <= 0:
-        return Answer("", None)
+        return Answer("", None, name, command[0])
     told = None if is_quick(command[0]) else subprocess.DEVNULL
     try:
         process = subprocess.Popen(command, stdin=subprocess.PIPE, stdout=subprocess.PIPE, stderr=told)
@@ -118,8 +200,8 @@ def run(command: list[str], text: str, until: float | None, tick: Callable[[], N
         raise
     if printed is None:
         end(process)
-        return Answer("", None)
-    return Answer(printed.decode("utf-8", "replace"), process.returncode)
+        return Answer("", None, name, command[0])
+    return Answer(printed.decode("utf-8", "replace"), process.returncode, name, command[0])
 
 
 def end(process: subprocess.Popen[bytes]) -> None:

@@ -20,10 +20,17 @@ class Report:
     upper: int
     values: list[int]
     certificate: str | None = None
+    nodes: int = 0
+    rests: str | None = None
+    """What the front said that it rests on, where it wrote the report."""
 
     @property
     def exact(self) -> bool:
         return self.lower == self.upper == self.cost
+
+    def bound(self, goal: str) -> int:
+        """What no assignment is better than, as the report says."""
+        return self.lower if goal == "min" else self.upper
 
 
 @dataclass
@@ -41,10 +48,35 @@ def parted(text: str) -> tuple[str, str | None]:
     return told, rest.split(maxsplit=1)[0] if found and rest.split(maxsplit=1) else None
 
 
+def printed(text: str) -> str:
+    """What a report says that was printed: all of it, or what stands before the report of `dcop` that it rests on."""
+    before, found, _ = text.partition("\nend\n")
+    return before + found
+
+
+def certified(text: str) -> str | None:
+    """The report of `dcop` with a certificate: all of the text, or what stands behind what was printed."""
+    rest = text.partition("\nend\n")[2]
+    told = rest if rest.strip() else text
+    return told if parted(told)[1] else None
+
+
+def written(problem: Problem, report: Report) -> str:
+    """A report as the front writes it, where there is none of `dcop` that says the same."""
+    lines = [f"status {report.status}", f"method {report.method}"]
+    lines += ["goal max"] if problem.goal == "max" else []
+    lines += [f"rests {report.rests}", f"error {report.error}"]
+    lines.append(f"nodes {report.nodes}" if report.method == "search" else f"deliveries {report.deliveries}")
+    lines += [f"cost {report.cost}", f"lower {report.lower}", f"upper {report.upper}"]
+    lines += [f"value {v.name} {v.value_name(value)}" for v, value in zip(problem.variables, report.values)]
+    return "\n".join([*lines, "end"]) + "\n"
+
+
 def read_report(text: str, problem: Problem) -> Report:
     """Reads a report of this problem."""
     numbers: dict[str, str] = {}
     values: list[int] = []
+    rests = None
     told, certificate = parted(text)
     for line in told.splitlines():
         words = line.split()
@@ -56,23 +88,26 @@ def read_report(text: str, problem: Problem) -> Report:
             if value is None:
                 raise Trouble(f"the report says `{line}`, which fits no variable of the problem")
             values.append(value)
+        elif words[0] == "rests":
+            rests = " ".join(words[1:])
         elif len(words) == 2:
             numbers.setdefault(words[0], words[1])
     try:
-        count = {name: int(numbers[name]) for name in ("error", "deliveries", "cost", "lower", "upper")}
+        numbers.setdefault("nodes" if "deliveries" in numbers else "deliveries", "0")
+        count = {name: int(numbers[name]) for name in ("error", "deliveries", "nodes", "cost", "lower", "upper")}
         status, method = numbers["status"], numbers["method"]
     except (KeyError, ValueError):
         raise Trouble("that is no report of `dcop solve`") from None
     if len(values) != len(problem.variables):
         raise Trouble(f"the report has {len(values)} values for {len(problem.variables)} variables")
-    return Report(status, method, values=values, certificate=certificate, **count)
+    return Report(status, method, values=values, certificate=certificate, rests=rests, **count)
 
 
 def fitted(problem: Problem, report: str) -> Problem:
     """The problem with its variables in the order in which a report has them, where these are the same variables.
 
     `solve` may have solved the problem in another order; whatever the order is, each assignment costs the same."""
-    names = [words[1] for words in map(str.split, parted(report)[0].splitlines()) if words[:1] == ["value"] and len(words) == 3]
+    names = [words[1] for words in map(str.split, parted(printed(report))[0].splitlines()) if words[:1] == ["value"] and len(words) == 3]
     own = [v.name for v in problem.variables]
     return problem.reordered(names) if names != own and sorted(names) == sorted(own) else problem
 

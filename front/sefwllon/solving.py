@@ -1,102 +1,79 @@
-"""Which way a problem is solved: DPOP as given, DPOP in a better order, cut, ADOPT in growing budgets."""
+"""Which way a problem is solved: DPOP as given, DPOP in a better order, the search in growing budgets; else cut and ADOPT.
+
+Which ways and budgets are tried, and in which order, does not depend on how much time there is: more of it only goes further."""
 
 from __future__ import annotations
 
 import time
-from collections.abc import Callable
+from collections.abc import Callable, Iterator
 from dataclasses import dataclass, field
+from functools import cached_property
 
-from .problem import MOST_BYTES, Problem, Table, Trouble, Variable, parse
-from .programs import Answer, Programs
+from .best import START, Best, is_better
+from .bettering import Bettering
+from .explain import explain
+from .output import undisturbed
+from .problem import MOST_BYTES, Problem, Table, TextFault, Trouble, Variable, parse
+from .programs import Answer, Crashed, Programs, Wrong, crash, missing
 from .report import Report, read_report
+from .searching import CELLS as SEARCH_CELLS
+from .searching import Found, read_found
 
-BUDGETS = (1_000, 10_000, 100_000, 1_000_000, 10_000_000)
-ORDERS = 1_000
-ORDER_SECONDS, ORDER_SHARE = 30, 0.25
-"""How long, and which part of what is left of the time, the search for an order may take where other ways are left."""
-START = "search"
-"""What is told as the method where no method of `dcop` came to an assignment in time."""
-START_SECONDS = 0.5
-"""How long an assignment is bettered here where no method of `dcop` came to one in time."""
+MESSAGES = (1_000, 10_000, 100_000, 1_000_000, 10_000_000)
+"""The budgets of ADOPT."""
+TRIES = (20_000, 200_000, 1_000_000)
+"""How many orders are tried: the first at once, the others as time goes on."""
+NODES = tuple(10**power for power in range(5, 13))
+"""The budgets of the search."""
+LAST_NODES = 10**9
+"""The last budget of the search where the time has no end."""
+STRIDES, EASY_PART = 8, 10
+"""Which part of the gap is bridged first, and which part of a budget is little, so that more is bridged next."""
+EASY_NODES = 10**6
+"""Up to this budget the search comes before further orders."""
+ORDER_SECONDS = 3
+"""How long the first search for an order may take where other ways are left."""
 CUT_SECONDS = 60
-"""How long a cut may take where other ways are left and the time has no end."""
-CUT_SHARE = 0.5
-"""Which part of what is left of the time a cut may take where other ways are left."""
+"""How long a cut may take where other ways are left."""
+START_SECONDS, TICK_SECONDS = 0.2, 0.2
+"""How long an assignment is bettered here at the start, and each time that it is said how far a program is."""
+BETTER_SECONDS, BETTER_PART = 2, 0.05
+"""How long it is bettered while programs run: so many seconds, or this part of all the time where that is more."""
 CELLS = (1_048_576, 65_536, 4_096)
 """How many cells a joined table of a cut may have: fewer where all tables of a turn together are too many."""
-WIDE, NO_MEMORY, NO, MANY = 4, 7, 10, 11
+SPENT, WORDS, WIDE, NO_MEMORY, NO, MANY = 1, 2, 4, 7, 10, 11
+
+METHODS = ("auto", "plain", "dpop", "order", "search", "cut", "adopt")
+
+
+@dataclass(frozen=True)
+class Step:
+    """A way that is tried, with its budget: of tries, of nodes or of messages."""
+
+    way: str
+    budget: int = 0
+
+    @property
+    def unit(self) -> str:
+        return {"order": "tries", "search": "nodes", "adopt": "messages"}.get(self.way, "")
+
+    def __str__(self) -> str:
+        return f"{self.way}, {self.budget:,} {self.unit}" if self.unit else self.way
 
 
 @dataclass
-class Best:
-    """The best that is known: an assignment, bounds, and what was checked."""
+class Aim:
+    """When an answer is good enough: here, where it is within an error, in sums of the problem."""
 
-    values: list[int] | None = None
-    cost: int | None = None
-    lower: int | None = None
-    upper: int | None = None
-    method: str = ""
-    deliveries: int = 0
     error: int = 0
-    solved: bool = False
-    checked: int | None = None
-    """The best bound that a report showed which `dcop check` accepted: a lower one, or an upper one for a greatest sum."""
-    stopped: str | None = None
-    cut_stopped: float | None = None
-    """After how many seconds, its share of the time, a cut was stopped."""
-    report: str | None = None
-    text: str | None = None
-    quick: bool = False
-    """Whether the program was compiled without proofs, by the script of a first look."""
 
-    def take(self, report: Report, goal: str) -> None:
-        """Takes what a report says: bounds only narrow, an assignment only gets better."""
-        self.method, self.deliveries = report.method, report.deliveries
-        self.lower = report.lower if self.lower is None else max(self.lower, report.lower)
-        self.upper = report.upper if self.upper is None else min(self.upper, report.upper)
-        worse = self.cost is not None and (report.cost > self.cost if goal == "min" else report.cost < self.cost)
-        if not worse:
-            self.values, self.cost = report.values, report.cost
-        self.keep_bound(goal)
-        self.solved = report.status == "solved"
+    def reached(self, best: Best, goal: str) -> bool:
+        gap = best.gap(goal)
+        return gap is not None and gap <= self.error
 
-    def take_better(self, values: list[int], cost: int, goal: str) -> None:
-        """Takes an assignment that is better than the one that is kept."""
-        self.values, self.cost = values, cost
-        self.keep_bound(goal)
-
-    def start(self, values: list[int], problem: Problem) -> None:
-        """Takes a first assignment, and as the other bound what all tables give at their best."""
-        if problem.goal == "min":
-            self.lower = sum(min(table.costs) for table in problem.tables)
-        else:
-            self.upper = sum(max(table.costs) for table in problem.tables)
-        self.take_better(values, problem.cost(values), problem.goal)
-        self.method = START
-
-    def keep_bound(self, goal: str) -> None:
-        """The bound on the side of the assignment is what it costs: what is told as reached is in hand."""
-        if goal == "min":
-            self.upper = self.cost
-        else:
-            self.lower = self.cost
-
-    def check(self, report: Report, goal: str) -> None:
-        """Takes the bound of a report that was checked."""
-        if goal == "min":
-            self.checked = report.lower if self.checked is None else max(self.checked, report.lower)
-        else:
-            self.checked = report.upper if self.checked is None else min(self.checked, report.upper)
-
-    def gap(self, goal: str) -> int | None:
-        """By how much the assignment may miss the best sum."""
-        bound = self.lower if goal == "min" else self.upper
-        return None if self.cost is None or bound is None else abs(self.cost - bound)
-
-    @property
-    def checked_gap(self) -> int | None:
-        """By how much it may miss the best sum, by what was checked."""
-        return None if self.cost is None or self.checked is None else abs(self.cost - self.checked)
+    def allowed(self, best: Best) -> int:
+        """The error that a search may have, as things are known."""
+        return self.error
 
 
 @dataclass
@@ -105,96 +82,300 @@ class Solver:
 
     programs: Programs
     problem: Problem
-    error: int = 0
+    aim: Aim = field(default_factory=Aim)
     workers: int = 1
     method: str = "auto"
     until: float | None = None
+    cells: int | None = None
+    certificate: bool = True
+    rival: int | None = None
+    """A sum: it is only asked whether some assignment is better. Then no assignment is sought here."""
     tell: Callable[[str, Best], None] = lambda what, best: None
-    tick: Callable[[], None] | None = None
+    show: Callable[[], None] | None = None
     best: Best = field(default_factory=Best)
-    narrow: str | None = None
+    narrow: Problem | None = None
     """The problem in the order that `dcop_order` found."""
+    tried: list[list[Variable]] = field(default_factory=list)
+    """The orders in which DPOP was tried."""
+    bettering: Bettering | None = None
+    bettered: float = 0.0
+    """For how long an assignment was bettered here."""
+    ordered: int = 0
+    """How many searches for an order have ended."""
+    order_takes: float = 0.0
+    """How long the next one is likely to take."""
+    stride: int = 0
+    """By how much a sum that the search is asked for is better than the bound that is known."""
+    refused: Answer | None = None
+    """The last refusal of a problem for its size."""
 
     def solve(self) -> Best:
         """Solves it, or keeps the best that is known when the time is over or the user stops it."""
         self.best.quick = self.programs.quick
         try:
-            self.by_ways()
+            self.by_steps()
         except KeyboardInterrupt:
             self.best.stopped = "interrupted"
-        if self.best.values is None and self.best.stopped:
-            self.start()
-        if self.best.method == START:
-            self.best.solved = self.best.gap(self.problem.goal) == 0
+        with undisturbed():
+            self.finish()
         return self.best
 
-    def start(self) -> None:
-        """Finds an assignment here, where no method of `dcop` came to one yet: the first values, bettered a variable at a
-        time."""
-        first = [0] * len(self.problem.variables)
-        self.best.start(self.problem.improved(first, time.monotonic() + START_SECONDS), self.problem)
+    def finish(self) -> None:
+        """Puts together what is known, whenever it was stopped."""
+        goal = self.problem.goal
+        if self.best.stopped:
+            self.start()
+        if self.best.values is not None:
+            self.best.cost = self.problem.cost(self.best.values)
+            self.best.settle(goal)
+        self.best.solved = self.best.values is not None and self.aim.reached(self.best, goal)
+        self.best.seconds = self.elapsed
 
-    def by_ways(self) -> None:
-        text = self.problem.text()
-        ways: dict[str, Callable[[str], bool]] = {
-            "plain": self.by_plain,
-            "dpop": self.by_dpop,
-            "order": self.by_order,
-            "cut": self.by_cut,
-            "adopt": self.by_adopt,
-        }
-        chosen = ("dpop", "order", "cut", "adopt") if self.method == "auto" else (self.method,)
-        for way in chosen:
-            self.tell(way, self.best)
-            if ways[way](text) or self.best.stopped:
+    @property
+    def decided(self) -> bool:
+        """Whether nothing is left to ask."""
+        goal = self.problem.goal
+        if self.rival is None:
+            return self.best.values is not None and self.aim.reached(self.best, goal)
+        bound = self.best.bound(goal)
+        found = self.best.cost is not None and is_better(self.best.cost, self.rival, goal)
+        return found or (bound is not None and not is_better(bound, self.rival, goal))
+
+    def by_steps(self) -> None:
+        """Takes one step after another until the problem is solved, or the time is over."""
+        last = Step(self.method)
+        for last in self.steps():
+            self.tell(str(last), self.best)
+            try:
+                self.take(last)
+            except (Crashed, Wrong) as fault:
+                self.failed(last, fault)
+            except MemoryError:
+                self.failed(last, Crashed("there was not enough memory"))
+            if self.best.stopped or self.decided:
                 return
-            if self.method == "auto" and self.best.values is None:
+            if self.method == "auto":
                 self.start()
+        if self.refused is not None and self.best.method in ("", START) and self.method != "auto":
+            raise Refused(self.refused)
+        if last.budget:
+            self.best.stopped = f"the budget of {last.budget:,} {last.unit} is spent"
+            if last.way == "search" and self.until is None:
+                self.best.stopped += ", which is the last one where no --time is given"
+
+    def failed(self, step: Step, fault: Crashed | Wrong) -> None:
+        """A program failed: what was found before is kept. Without an order the other ways are left."""
+        if self.best.method == "" or (isinstance(fault, Wrong) and self.best.method == START):
+            raise fault
+        if step.way == "order" and self.method == "auto":
+            self.best.notes.append(str(fault))
+        else:
+            self.best.stopped = str(fault)
+
+    def steps(self) -> Iterator[Step]:
+        """What is tried, in order."""
+        if self.method == "auto":
+            yield Step("dpop")
+            yield Step("order", TRIES[0])
+            yield from self.searches(orders=True) if self.programs.search else self.without_search()
+        elif self.method == "search":
+            yield from self.searches(orders=False)
+        elif self.method == "order":
+            yield from (Step("order", tries) for tries in TRIES)
+        elif self.method == "adopt":
+            yield from (Step("adopt", budget) for budget in MESSAGES)
+        else:
+            yield Step(self.method)
+
+    def searches(self, orders: bool) -> Iterator[Step]:
+        """The search in growing budgets; between them more orders, where they are not likely to take more than half of all the time
+        before them."""
+        for budget in NODES:
+            if self.until is None and budget > LAST_NODES:
+                return
+            if orders and budget > EASY_NODES and self.ordered < len(TRIES) and self.order_takes <= self.elapsed / 2:
+                yield Step("order", TRIES[self.ordered])
+            yield Step("search", budget)
+
+    @property
+    def elapsed(self) -> float:
+        return time.monotonic() - self.best.began
+
+    def without_search(self) -> Iterator[Step]:
+        """What is tried where `dcop_search` is not there."""
+        self.best.notes.append(f"{missing('dcop_search')}; in its place cut and ADOPT were tried")
+        yield from (Step("adopt", budget) for budget in MESSAGES[:2])
+        yield Step("cut")
+        yield from (Step("adopt", budget) for budget in MESSAGES[2:])
+
+    @cached_property
+    def text(self) -> str:
+        """The problem as text."""
+        return self.problem.text()
+
+    def take(self, step: Step) -> None:
+        match step.way:
+            case "plain":
+                self.taken(self.run(["solve", "--method", "plain"], self.text), self.text, self.problem)
+            case "dpop":
+                self.by_dpop(self.problem, self.text)
+            case "order":
+                self.by_order(step.budget)
+            case "search":
+                self.by_search(step.budget)
+            case "cut":
+                self.by_cut()
+            case "adopt":
+                self.by_adopt(step.budget)
+
+    def start(self) -> None:
+        """Finds an assignment here, where no program came to one yet: the first values, bettered."""
+        if self.best.values is not None or self.rival is not None:
+            return
+        latest = time.monotonic() + START_SECONDS
+        self.bettering = Bettering(self.problem, [0] * len(self.problem.variables))
+        self.bettering.descend(latest)
+        self.best.start(list(self.bettering.best), self.problem)
+
+    def better(self, latest: float) -> None:
+        """Betters the assignment that is known until this moment, or until the time is over."""
+        if self.rival is not None or self.best.values is None or self.decided:
+            return
+        goal = self.problem.goal
+        if self.bettering is None or is_better(self.best.cost or 0, self.bettering.best_cost, goal):
+            self.bettering = self.bettering or Bettering(self.problem, self.best.values)
+            self.bettering.begin(self.best.values)
+        began = time.monotonic()
+        self.bettering.go(latest if self.until is None else min(latest, self.until))
+        self.bettered += time.monotonic() - began
+        if self.best.cost is not None and is_better(self.bettering.best_cost, self.best.cost, goal):
+            values = list(self.bettering.best)
+            self.best.take_better(values, self.problem.cost(values), goal)
+
+    def tick(self) -> None:
+        """What is done while a program runs: it is said how far it is, and the assignment that is known is bettered."""
+        if self.show:
+            self.show()
+        now = time.monotonic()
+        if self.bettered < max(BETTER_SECONDS, BETTER_PART * (now - self.best.began)):
+            self.better(now + TICK_SECONDS)
 
     def run(self, words: list[str], text: str) -> Answer:
         return self.run_until(self.until, words, text)
 
     def run_until(self, until: float | None, words: list[str], text: str) -> Answer:
-        """Runs `dcop` until this moment, which is the end of the time or of a share of it."""
-        answer = self.programs.run(words, text, until, self.tick)
+        """Runs `dcop` until this moment, which is the end of the time or of a way's own."""
+        return self.ended(self.programs.run(words, text, until, self.tick), until)
+
+    def ended(self, answer: Answer, until: float | None) -> Answer:
+        """An answer, which may be that the time is over."""
         if answer.status is None and until == self.until:
             self.best.stopped = "the time is over"
         return answer
 
-    def by_plain(self, text: str) -> bool:
-        return self.taken(self.run(["solve", "--method", "plain"], text), text, self.problem)
+    def within(self, seconds: float, way: str) -> float | None:
+        """The moment at which a way is stopped: where it is the only one, the end of the time."""
+        if self.method == way:
+            return self.until
+        latest = time.monotonic() + seconds
+        return latest if self.until is None else min(latest, self.until)
 
-    def by_dpop(self, text: str) -> bool:
-        words = ["solve", "--method", "dpop", "--certificate", "yes", *self.worker_words()]
-        return self.taken(self.run(words, text), text, self.problem)
+    def by_dpop(self, problem: Problem, text: str) -> None:
+        self.tried.append(problem.variables)
+        self.taken(self.run(["solve", "--method", "dpop", *self.certificate_words(), *self.worker_words()], text), text, problem)
 
-    def by_order(self, text: str) -> bool:
-        share = self.share(time.monotonic(), "order", ORDER_SECONDS, ORDER_SHARE)
-        ordered = self.programs.reorder(text, ORDERS, share, self.tick)
-        if self.method != "auto" and ordered is None:
-            raise Trouble("the program dcop_order is not built: run `cd crates/order_cli && rt run`, or name it by SEFWLLON_ORDER")
-        if ordered is None or ordered.status != 0:
-            if ordered is not None and ordered.status is None and share == self.until:
-                self.best.stopped = "the time is over"
-            return False
-        self.narrow = ordered.text
-        words = ["solve", "--method", "dpop", "--certificate", "yes", *self.worker_words()]
-        return self.taken(self.run(words, ordered.text), ordered.text, parse(ordered.text))
+    def by_order(self, tries: int) -> None:
+        """DPOP in an order by `dcop_order`, where that is another one than was tried before."""
+        began, seconds = time.monotonic(), max(ORDER_SECONDS, self.elapsed / 2)
+        until = self.within(seconds, "order")
+        answer = self.programs.reorder(self.text, tries, until, self.tick)
+        if answer is None:
+            if self.method == "order":
+                raise Trouble(missing("dcop_order"))
+            self.best.notes.append(f"{missing('dcop_order')}; without it DPOP was not tried in other orders")
+            self.ordered = len(TRIES)
+            return
+        if self.ended(answer, until).status in (None, NO_MEMORY):
+            self.order_takes = 4 * seconds
+            return
+        self.ordered += 1
+        self.order_takes = 10 * (time.monotonic() - began)
+        self.narrow = reordered(self.problem, answer)
+        if self.narrow.variables not in self.tried:
+            self.by_dpop(self.narrow, answer.text)
 
-    def by_cut(self, text: str) -> bool:
+    def by_search(self, budget: int) -> None:
+        """The search with this budget: for what is better than what is known, and then for what is better than a sum that may
+        be out of reach. That there is none is often known soon, and says how good the best one may be at most."""
+        self.start()
+        self.better(time.monotonic() + START_SECONDS)
+        self.seek(budget, self.best.cost if self.rival is None else self.rival, self.aim.allowed(self.best))
+        while self.rival is None and not self.best.stopped and not self.decided:
+            target = self.target()
+            if target is None:
+                return
+            found = self.seek(budget, target)
+            if found is None or not found.ended:
+                self.stride = max(1, self.stride // 2)
+                return
+            if found.nodes * EASY_PART < budget:
+                self.stride *= 2
+
+    def target(self) -> int | None:
+        """A sum between the bound and the cost, at most half way; None where there is none."""
+        gap, bound = self.best.gap(self.problem.goal) or 0, self.best.bound(self.problem.goal)
+        if gap < 2 or bound is None:
+            return None
+        self.stride = min(self.stride or gap // STRIDES, gap // 2) or 1
+        return bound + self.stride if self.problem.goal == "min" else bound - self.stride
+
+    def seek(self, budget: int, better: int | None, error: int = 0) -> Found | None:
+        """Runs the search for what is better than a sum. None where it was stopped."""
+        words = ["--budget", str(budget)]
+        words += ["--better", str(better)] if better is not None else []
+        words += ["--error", str(error)] if error else []
+        for cells in (self.cells,) if self.cells else SEARCH_CELLS:
+            given = [*words, "--cells", str(cells)] if cells else words
+            answer = self.ended(self.programs.seek(given, self.text, self.until, self.tick), self.until)
+            if answer.status not in (NO_MEMORY, -9):
+                break
+        if answer.status is None:
+            return None
+        found = read_found(answer, self.problem, better, error)
+        self.take_found(found, answer)
+        return found
+
+    def take_found(self, found: Found, answer: Answer) -> None:
+        """Takes what the search found. What it claims must not differ from what is added up."""
+        goal = self.problem.goal
+        if found.values is not None and self.problem.cost(found.values) != found.cost:
+            raise Trouble(f"{answer.who} printed a cost that its values do not have: don't trust this program")
+        if found.values is not None and (self.best.cost is None or is_better(found.cost or 0, self.best.cost, goal)):
+            self.best.values, self.best.cost = found.values, found.cost
+        if self.best.cost is not None and is_better(self.best.cost, found.bound, goal):
+            raise Trouble(f"{answer.who} says that no sum is better than {found.bound}, and one is {self.best.cost}: don't trust this program")
+        self.best.method, self.best.nodes = "search", self.best.nodes + found.nodes
+        self.best.searched = self.best.searched or self.best.proved is None or is_better(self.best.proved, found.bound, goal)
+        self.best.narrow(found.bound, goal)
+        self.best.settle(goal)
+
+    def by_cut(self) -> None:
         """Solves by a cut, in the narrower order where one was found. Too many turns are refused at once; a cut that takes
-        longer than its share of the time is stopped, and leaves the problem to the next way."""
+        longer than its part is stopped, and leaves the problem to the next way."""
         began = time.monotonic()
-        ordered = text if self.narrow is None else self.narrow
-        answer = self.run_cut(ordered, self.share(began, "cut", CUT_SECONDS, CUT_SHARE))
+        problem = self.narrow or self.problem
+        text = self.text if self.narrow is None else problem.text()
+        until = self.within(CUT_SECONDS, "cut")
+        answer = self.run_cut(text, until)
         if answer.status is None and not self.best.stopped:
-            self.best.cut_stopped = time.monotonic() - began
-        return self.taken(answer, ordered, self.problem if self.narrow is None else parse(ordered))
+            spent = time.monotonic() - began
+            self.best.notes.append(f"cut was stopped after {spent:.1f} s; with `--method cut` it has all of the time")
+        self.taken(answer, text, problem)
 
     def run_cut(self, text: str, until: float | None) -> Answer:
         """What a cut answers, with a certificate where `dcop` makes one."""
-        certificate = ["--certificate", "yes"]
-        for cells in CELLS:
+        certificate = self.certificate_words()
+        for cells in (min(self.cells, CELLS[0]),) if self.cells else CELLS:
             words = ["solve", "--method", "cut", "--cells", str(cells), *self.worker_words()]
             answer = self.run_until(until, [*words, *certificate], text)
             if certificate and (answer.unserved or answer.status == WIDE):
@@ -204,55 +385,35 @@ class Solver:
                 break
         return answer
 
-    def share(self, now: float, way: str, most: float, part: float) -> float | None:
-        """The moment at which a way is stopped: where it is the only one, or the time is over now, the end of the time."""
-        if self.method == way or (self.until is not None and self.until <= now):
-            return self.until
-        return now + (most if self.until is None else part * (self.until - now))
+    def by_adopt(self, budget: int) -> None:
+        words = ["solve", "--method", "adopt", "--error", str(self.aim.allowed(self.best)), "--budget", str(budget), *self.worker_words()]
+        answer = self.run([*words, *self.certificate_words()], self.text)
+        if answer.unserved:
+            self.certificate = False
+            answer = self.run(words, self.text)
+        if self.taken(answer, self.text, self.problem):
+            self.better(time.monotonic() + START_SECONDS)
 
-    def by_adopt(self, text: str) -> bool:
-        certificate = ["--certificate", "yes"]
-        for budget in BUDGETS:
-            words = ["solve", "--method", "adopt", "--error", str(self.error), "--budget", str(budget)]
-            answer = self.run([*words, *self.worker_words(), *certificate], text)
-            if answer.unserved:
-                certificate = []
-                answer = self.run([*words, *self.worker_words()], text)
-            if not self.taken(answer, text, self.problem):
-                return False
-            self.improve()
-            self.tell(f"adopt, {budget} messages", self.best)
-            if self.best.solved or self.best.stopped:
-                return True
-        return True
-
-    def improve(self) -> None:
-        """Betters a spent answer's assignment, a variable at a time. What it costs then is for `dcop` to say."""
-        if self.best.solved or self.best.values is None:
-            return
-        values = self.problem.improved(self.best.values, self.until)
-        if values != self.best.values:
-            self.best.take_better(values, cost_of(self.programs, self.problem, values), self.problem.goal)
+    def certificate_words(self) -> list[str]:
+        return ["--certificate", "yes"] if self.certificate else []
 
     def worker_words(self) -> list[str]:
         return ["--workers", str(self.workers)] if self.workers > 1 else []
 
     def taken(self, answer: Answer, text: str, problem: Problem) -> bool:
         """Takes an answer, where it is a report. A refusal for size leaves the problem to the next way."""
-        if answer.status in (None, WIDE, MANY) or answer.unserved:
-            if self.method != "auto" and answer.status is not None:
-                raise Refused(answer)
+        if answer.status in (None, WIDE, MANY, NO_MEMORY) or answer.unserved:
+            self.refused = self.refused if answer.status is None else answer
             return False
-        if answer.status not in (0, 1):
-            raise Refused(answer)
-        report = read_report(answer.text, problem)
+        report = report_of(answer, problem)
         if problem.cost(report.values) != report.cost:
-            raise Trouble("dcop printed a cost that its values do not have: don't trust this program")
-        if report.certificate is not None and self.checked(text, answer.text, report):
-            self.best.check(report, problem.goal)
-        self.best.take(in_order(report, problem, self.problem), self.problem.goal)
-        self.best.error = report.error
-        self.best.report, self.best.text = answer.text, text
+            raise Trouble(f"{answer.who} printed a cost that its values do not have: don't trust this program")
+        report_text, goal = answer.text, self.problem.goal
+        holds = report.certificate is not None and self.checked(text, report_text, report)
+        report = in_order(report, problem, self.problem)
+        if holds:
+            self.best.check(report, goal, report_text)
+        self.best.take(report, goal)
         return True
 
     def checked(self, text: str, report_text: str, report: Report) -> bool:
@@ -264,7 +425,38 @@ class Solver:
             return False
         if accepts(answer, report):
             return True
-        raise Trouble("dcop check does not accept the report that dcop printed: don't trust this program\n" + answer.text)
+        raise Trouble(f"dcop check does not accept the report that dcop printed: don't trust this program\n{answer.who} answered {answer.text}")
+
+
+def report_of(answer: Answer, problem: Problem) -> Report:
+    """The report that an answer of `dcop` is. What is none is told, with the program and what it answered."""
+    if crash(answer):
+        raise Crashed(crash(answer))
+    if answer.status not in (0, SPENT):
+        if answer.status == WORDS or not answer.text.startswith("refused "):
+            raise Wrong(answer, f"that is no report of `dcop solve`. {explain(answer.text)}")
+        raise Refused(answer)
+    try:
+        return read_report(answer.text, problem)
+    except Trouble as trouble:
+        raise Wrong(answer, str(trouble)) from None
+
+
+def reordered(problem: Problem, answer: Answer) -> Problem:
+    """The problem in the order of an answer of `dcop_order`, which must be the same problem."""
+    if crash(answer):
+        raise Crashed(crash(answer))
+    try:
+        told = parse(answer.text)
+    except TextFault:
+        raise Wrong(answer, "that is no problem in another order") from None
+    names = [v.name for v in told.variables]
+    if sorted(names) != sorted(v.name for v in problem.variables):
+        raise Wrong(answer, "that is no problem with the same variables")
+    wanted = problem.reordered(names)
+    if (told.goal, told.variables, told.tables) != (wanted.goal, wanted.variables, wanted.tables):
+        raise Wrong(answer, "that is another problem than the one that it was given")
+    return told
 
 
 def accepts(answer: Answer, report: Report) -> bool:
@@ -281,7 +473,7 @@ def cost_of(programs: Programs, problem: Problem, values: list[int]) -> int:
     if answer.status != 0:
         raise Refused(answer)
     if f"\ncost {problem.cost(values)}\n" not in answer.text:
-        raise Trouble("dcop printed a cost that its values do not have: don't trust this program")
+        raise Trouble(f"{answer.who} printed a cost that its values do not have: don't trust this program")
     return problem.cost(values)
 
 
@@ -298,7 +490,3 @@ class Refused(Exception):
     def __init__(self, answer: Answer):
         super().__init__(answer.text)
         self.answer = answer
-
-
-def deadline(seconds: float | None) -> float | None:
-    return None if seconds is None else time.monotonic() + seconds

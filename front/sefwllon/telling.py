@@ -6,17 +6,14 @@ import json
 from collections.abc import Callable
 from fractions import Fraction
 
-from .programs import VERIFIED, VERIFIED_UNPROVED
-from .solving import START, Best
+from .best import START, Best
+from .programs import VERIFIED, VERIFIED_UNPROVED, Programs
 from .translate import Translation, number
 
-SOLVED, OPEN, TEXT = 0, 1, 3
-"""The exit statuses: solved, or yes; not solved, or no; a text that is refused."""
+SOLVED, OPEN, TEXT, UNDECIDED = 0, 1, 3, 4
+"""The exit statuses: solved, or yes; not solved, or no; a text that is refused, or an output; a check that is not decided."""
 
-OWN_SEARCH = "found by a short search of sefwllon's own, since no method of dcop came to an assignment in time"
-NO_CERTIFICATE = "there is no certificate of it to check"
-UNCHECKED_CUT = "exact by the proved program, but no certificate of the cut was checked"
-UNPROVED_CUT = "exact by the program, which was compiled without proofs, and no certificate of the cut was checked"
+OWN_SEARCH = "found by a short search of sefwllon's own, as no program had come to an answer yet"
 
 
 def status_of(best: Best, told: Translation) -> int:
@@ -33,12 +30,19 @@ def as_text(best: Best, told: Translation) -> str:
         lines.append("broken, though it must hold: " + ", ".join(broken))
     if best.stopped:
         lines.append(f"stopped: {best.stopped}")
-    if not best.solved and best.cut_stopped is not None:
-        lines.append(cut_note(best.cut_stopped))
-    lines += [f"note: {line}" for line in told.notes(best.values)]
+    lines += [f"note: {line}" for line in (*notes_of(best), *told.notes(best.values))]
+    lines.append(by_line(best))
     width = max(len(name) for name in told.names)
     lines += [f"  {name:<{width}}  {value}" for name, value in told.told(best.values).items()]
     return "\n".join(lines) + "\n"
+
+
+def by_line(best: Best) -> str:
+    """The method, the time, and the messages or nodes."""
+    counts = ((best.nodes, "node"), (best.messages, "message"))
+    told = [f"{count:,} {what}{'' if count == 1 else 's'}" for count, what in counts if count]
+    method = "a short search of sefwllon's own" if best.method == START else best.method
+    return ", ".join([f"by {method} in {best.seconds:.1f} s", *told])
 
 
 def headline(best: Best, told: Translation) -> str:
@@ -46,14 +50,14 @@ def headline(best: Best, told: Translation) -> str:
     if told.broken(best.values):
         return hard_headline(best, told)
     goal = told.problem.goal
-    own = f"{noun(told)} {number(told.own_sum(best.values))}"
+    own, rests = told.own_sum(best.values), best.rests(goal)
     gap, checked = best.gap(goal), best.checked_gap
+    if gap is None:
+        return f"{noun(told)} {number(own)}"
     if gap == 0:
-        known = verified(best) if checked == 0 else f"not verified: {unchecked(best) or NO_CERTIFICATE}"
-        return f"{own}, and {from_best(gap, told)} ({known})"
-    worse = "" if gap is None else f", {from_best(gap, told)}"
-    shown = "" if checked is None else f" ({verified(best)}: {from_best(checked, told)})"
-    return f"{own}{worse}{f' ({OWN_SEARCH})' if best.method == START else shown}"
+        return f"{noun(told)} {number(own)}, and {from_best(gap, told)} ({rests})"
+    besides = f"; {verified(best)}: {from_best(checked, told)}" if checked is not None and checked != gap else ""
+    return f"{noun(told)} {number(own)}, {from_best(gap, told)}{percent(gap, own, told)} ({rests}{besides})"
 
 
 def from_best(gap: int, told: Translation) -> str:
@@ -63,16 +67,30 @@ def from_best(gap: int, told: Translation) -> str:
     return "none is better" if gap == 0 else f"at most {number(Fraction(gap, told.scale) + told.slack)} from the best"
 
 
+def percent(gap: int, own: Fraction, told: Translation) -> str:
+    """A gap as a part of the cost, in a hundred."""
+    return f", {hundredths(share(gap, own, told))} of it" if own else ""
+
+
+def hundredths(part: float) -> str:
+    """A part in a hundred, as it is told to people."""
+    return f"{part:.0f} %" if part >= 100 else f"{part:.3g} %" if part >= 0.001 else "less than 0.001 %"
+
+
+def share(gap: int, own: Fraction, told: Translation) -> float:
+    return float(100 * (Fraction(gap, told.scale) + told.slack) / abs(own))
+
+
 def verified(best: Best) -> str:
     """What is told of what was checked."""
     return VERIFIED_UNPROVED if best.quick else VERIFIED
 
 
 def known_by(holds: Callable[[int | None], bool], best: Best, told: Translation) -> str | None:
-    """How it is known what follows from a bound: verified or not; None where it is not known."""
+    """What it rests on that something follows from a bound, in a word; None where it does not follow from one that is known."""
     if holds(best.checked):
         return verified(best)
-    return "not verified" if holds(best.lower if told.problem.goal == "min" else best.upper) else None
+    return best.rests(told.problem.goal) if holds(best.bound(told.problem.goal)) else None
 
 
 def hard_headline(best: Best, told: Translation) -> str:
@@ -95,44 +113,31 @@ def none_was_found(told: Translation) -> str:
     return f"no solution of the WCSP was found, which is an assignment that costs less than its top {number(told.top)}"
 
 
-def unchecked(best: Best) -> str | None:
-    """Why an exact answer is not called verified, where that is known."""
-    if best.method == "cut" and best.checked_gap != 0:
-        return UNPROVED_CUT if best.quick else UNCHECKED_CUT
-    return OWN_SEARCH if best.method == START else None
+def notes_of(best: Best) -> list[str]:
+    """What else is to be known of how an answer was found."""
+    return [*best.notes, *([OWN_SEARCH] if best.method == START and not best.solved else [])]
 
 
-def cut_note(spent: float) -> str:
-    """That a cut was stopped after so many seconds."""
-    return f"cut was stopped after {spent:.1f} s, its share of the time; with `--method cut` it has all of it"
+def plain_number(cost: Fraction | None) -> float | int | None:
+    return None if cost is None else cost.numerator if cost.denominator == 1 else float(cost)
 
 
-def note(best: Best) -> str | None:
-    """What else is to be known of an answer."""
-    if best.solved or best.cut_stopped is None or best.method == START:
-        return unchecked(best)
-    return cut_note(best.cut_stopped)
-
-
-def as_json(best: Best, told: Translation) -> str:
+def as_json(best: Best, told: Translation, programs: Programs, more: dict[str, object] | None = None) -> str:
     """The answer for programs."""
     goal = told.problem.goal
     values = best.values
     broken = [] if values is None else told.broken(values)
-
-    def plain_number(cost: Fraction | None) -> float | int | None:
-        return None if cost is None else cost.numerator if cost.denominator == 1 else float(cost)
-
     checked = best.checked_gap is not None and best.checked_gap == best.gap(goal)
-    cost = None if values is None else told.own_sum(values)
+    cost, gap = None if values is None else told.own_sum(values), best.gap(goal)
     lower, upper = told.own_bounds(best.lower, best.upper)
     if cost is not None and not broken:
         lower, upper = (lower, cost) if goal == "min" else (cost, upper)
     if broken and told.top is not None:
         cost = upper = None  # what a WCSP's top forbids is worth the top, and is no solution
-    notes = [hard_headline(best, told) if broken else None, note(best), *([] if values is None else told.notes(values))]
-    answer = {
+    notes = [hard_headline(best, told) if broken else None, *notes_of(best), *([] if values is None else told.notes(values))]
+    answer: dict[str, object] = {
         "solved": best.solved and not broken,
+        "rests_on": None if values is None else best.rests(goal),
         "verified": checked,
         "verified_by": None if not checked else "a check that was compiled without proofs" if best.quick else "dcop check",
         "note": "; ".join(filter(None, notes)) or None,
@@ -141,11 +146,32 @@ def as_json(best: Best, told: Translation) -> str:
         "cost": plain_number(cost),
         "lower": plain_number(lower),
         "upper": plain_number(upper),
-        "deliveries": best.deliveries,
+        "gap_percent": None if broken or gap is None or not cost else round(share(gap, cost, told), 4),
+        "messages": best.messages,
+        "nodes": best.nodes,
+        "time": round(best.seconds, 3),
         "stopped": best.stopped,
         "broken": broken,
         "values": None if values is None else told.told(values),
+        **(more or {}),
+        "bounds": bounds_of(best, told),
+        "versions": programs.versions(),
     }
+    return shown(answer)
+
+
+def bounds_of(best: Best, told: Translation) -> list[dict[str, object]]:
+    """What was known over time, in the user's own costs."""
+    told_of = []
+    for moment in best.moments:
+        lower, upper = told.own_bounds(moment.lower, moment.upper)
+        cost = None if moment.cost is None else told.own_cost(moment.cost)
+        known = {"cost": plain_number(cost), "lower": plain_number(lower), "upper": plain_number(upper)}
+        told_of.append({"time": round(moment.seconds, 3), "method": moment.method, **known})
+    return told_of
+
+
+def shown(answer: dict[str, object]) -> str:
     return json.dumps(answer, ensure_ascii=False, default=str) + "\n"
 
 

@@ -3,6 +3,7 @@
 from __future__ import annotations
 
 import re
+from contextlib import suppress
 from dataclasses import dataclass, field, replace
 from fractions import Fraction
 from itertools import product
@@ -25,6 +26,20 @@ class Constraint:
     costs: list[Fraction | None]
 
 
+@dataclass(frozen=True)
+class Counter:
+    """A variable that counts, and follows from others: by one more than another counter where a variable has one of some values."""
+
+    before: int | None
+    counted: int
+    values: frozenset[int]
+
+    def value(self, assignment: list[int]) -> int:
+        """What it counts, where the variables before it have these values."""
+        so_far = 0 if self.before is None else assignment[self.before]
+        return so_far + (assignment[self.counted] in self.values)
+
+
 @dataclass
 class Source:
     """A problem as its user wrote it: names and values of any kind, costs of any size and sign."""
@@ -40,6 +55,8 @@ class Source:
     """A cost that the tool that the file is of counts as a violation, and leaves out of what it prints as the cost."""
     top: Fraction | None = None
     """The top of a WCSP, where it is one: only what costs less in all is a solution."""
+    counters: dict[int, Counter] = field(default_factory=dict)
+    """The variables that follow from those before them, and are no choice."""
 
 
 @dataclass
@@ -125,9 +142,19 @@ class Translation:
         """Whether no assignment keeps all hard constraints, and its sum below the top of a WCSP, by a bound as above."""
         return self.fewest_broken(bound) > 0 or (bound is not None and self.top is not None and self.own_cost(bound) >= self.top)
 
+    @property
+    def counters(self) -> dict[int, Counter]:
+        """The variables that follow from others."""
+        return {} if self.source is None else self.source.counters
+
+    def counted(self, place: int, assignment: list[int]) -> int:
+        """The value of a variable that follows from those before it; the greatest that it has, where it counts further."""
+        return min(self.counters[place].value(assignment), len(self.values[place]) - 1)
+
     def told(self, assignment: list[int]) -> dict[str, object]:
         """The assignment by the user's own names and values."""
-        return {name: values[value] for name, values, value in zip(self.names, self.values, assignment)}
+        pairs = enumerate(zip(self.names, self.values, assignment))
+        return {name: values[value] for at, (name, values, value) in pairs if at not in self.counters}
 
 
 def number(value: Fraction) -> str:
@@ -153,7 +180,7 @@ def translate(source: Source) -> Translation:
         Variable(name, len(values), value_names(values)) for name, values in zip(names, source.values)
     ]
     whole, shift = whole_costs(source, scale)
-    greatest = sum(max((c for c in costs if c is not None), default=0) for costs in whole)
+    greatest = sum(max((c for c in set(costs) if c is not None), default=0) for costs in whole)
     forbids = {at for at, costs in enumerate(whole) if None in costs}
     hard_cost = greatest + 1 if forbids else 0
     tables = []
@@ -167,7 +194,7 @@ def translate(source: Source) -> Translation:
         scale,
         shift,
         rounded,
-        {at: frozenset(i for i, c in enumerate(whole[at]) if c is None) for at in sorted(forbids)},
+        {at: frozenset(forbidden(whole[at])) for at in sorted(forbids)},
         {at: source.constraints[at].name for at in forbids},
         hard_cost,
         source,
@@ -177,12 +204,22 @@ def translate(source: Source) -> Translation:
     return result
 
 
+def forbidden(costs: list[int | None]) -> list[int]:
+    """Which cells are forbidden."""
+    found, at = [], -1
+    with suppress(ValueError):
+        while True:
+            at = costs.index(None, at + 1)
+            found.append(at)
+    return found
+
+
 def settled(costs: list[int | None], forbids: bool, hard_cost: int, goal: str) -> tuple[int, ...]:
     if not forbids:
         return tuple(c for c in costs if c is not None)
-    if goal == "min":
-        return tuple(hard_cost if c is None else c for c in costs)
-    return tuple(0 if c is None else c + hard_cost for c in costs)
+    told = {c: c if goal == "min" else c + hard_cost for c in set(costs) if c is not None}
+    told[None] = hard_cost if goal == "min" else 0  # type: ignore[index]
+    return tuple([told[c] for c in costs])  # type: ignore[index]
 
 
 def check_shape(source: Source) -> None:
@@ -199,6 +236,8 @@ def check_shape(source: Source) -> None:
 
 def without_forbidden_values(source: Source) -> Source:
     """The same problem without the values that a constraint of one variable forbids."""
+    if not any(len(constraint.scope) == 1 and FORBIDDEN in constraint.costs for constraint in source.constraints):
+        return source
     kept = [list(range(len(values))) for values in source.values]
     for constraint in source.constraints:
         if len(constraint.scope) == 1:
@@ -225,7 +264,7 @@ def scale_of(source: Source) -> tuple[int, bool]:
     """By what the costs are multiplied to be whole numbers, and whether they are rounded then."""
     scale = 1
     for constraint in source.constraints:
-        for cost in constraint.costs:
+        for cost in set(constraint.costs):
             if cost is not None:
                 scale = lcm(scale, cost.denominator)
                 if scale > 10**9:
@@ -238,10 +277,12 @@ def whole_costs(source: Source, scale: int) -> tuple[list[list[int | None]], Fra
     whole = []
     shift = Fraction(0)
     for constraint in source.constraints:
-        scaled = [None if c is None else round(c * scale) for c in constraint.costs]
-        least = min((c for c in scaled if c is not None), default=0)
+        scaled = {c: None if c is None else round(c * scale) for c in set(constraint.costs)}
+        least = min((c for c in scaled.values() if c is not None), default=0)
         shift += Fraction(least, scale)
-        whole.append([None if c is None else c - least for c in scaled])
+        moved = {c: None if told is None else told - least for c, told in scaled.items()}
+        same = all(type(c) is int and c == told for c, told in moved.items() if c is not None)
+        whole.append(constraint.costs if same else [moved[c] for c in constraint.costs])
     return whole, shift
 
 

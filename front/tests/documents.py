@@ -1,12 +1,13 @@
 """Runs the commands of README.md and docs/USE.md, and compares what they print with what stands below them.
 
-usage: front/python.sh front/tests/documents.py DCOP DCOP_ORDER [DCOP_SERVE]
+usage: front/python.sh front/tests/documents.py DCOP DCOP_ORDER [DCOP_SERVE [DCOP_SEARCH]]
 
-DCOP, DCOP_ORDER and DCOP_SERVE are the built programs `dcop`, `dcop_order` and `dcop_serve`. A command is a line behind `$ ` in a block of a document; what
-it has to print stands below it, up to the next command or the end of the block, and `..` alone stands for any lines; a text
+DCOP, DCOP_ORDER, DCOP_SERVE and DCOP_SEARCH are the built programs `dcop`, `dcop_order`, `dcop_serve` and `dcop_search`. A command is a line behind `$ ` in a block of a document; what
+it has to print stands below it, up to the next command or the end of the block, and `..` alone stands for any lines, `in 0.1 s` for
+any seconds; a text
 that is given by `<<'EOF'` goes up to that word. The
 commands of a document run one after the other in one folder, in which `examples` and `front` are those of the repository.
-Those that need what the machine has not (Graphviz, toulbar2, PyYAML) are passed over, which is said. Ends with 1 where an
+Those that need what the machine has not (Graphviz, toulbar2, PyYAML, python3-icalendar) are passed over, which is said. Ends with 1 where an
 answer differs, and prints both.
 """
 
@@ -63,17 +64,24 @@ def is_as_expected(printed: list[str], expected: list[str]) -> bool:
         return not printed
     if expected[0] == ANY:
         return any(is_as_expected(printed[start:], expected[1:]) for start in range(len(printed) + 1))
-    return bool(printed) and printed[0] == expected[0] and is_as_expected(printed[1:], expected[1:])
+    return bool(printed) and untimed(printed[0]) == untimed(expected[0]) and is_as_expected(printed[1:], expected[1:])
+
+
+def untimed(line: str) -> str:
+    """A line without the seconds that a run took."""
+    return re.sub(r" in \d+\.\d s\b", " in so many s", line)
 
 
 def missing(command: str, path: str) -> str | None:
     """What a command needs and these folders have not."""
     words = command.replace("|", " ").split()
-    for tool in ("dot", "toulbar2", "dcop_serve"):
+    for tool in ("dot", "toulbar2", "dcop_serve", "dcop_search"):
         if tool in words and shutil.which(tool, path=path) is None:
             return tool
     if any(word.endswith(".yaml") for word in words) and importlib.util.find_spec("yaml") is None:
         return "PyYAML"
+    if any(word.endswith(".ics") for word in words) and importlib.util.find_spec("icalendar") is None:
+        return "python3-icalendar"
     return None
 
 
@@ -107,10 +115,10 @@ def run(document: str, programs: dict[str, str], files: dict[str, str] | None = 
 
 
 def main() -> int:
-    if len(sys.argv) not in (3, 4):
+    if len(sys.argv) not in (3, 4, 5):
         print(__doc__, file=sys.stderr)
         return 2
-    programs = dict(zip(("dcop", "dcop_order", "dcop_serve"), sys.argv[1:]))
+    programs = dict(zip(("dcop", "dcop_order", "dcop_serve", "dcop_search"), sys.argv[1:]))
     count = 0
     for document in DOCUMENTS:
         differ, passed_over = run(document, programs)

@@ -5,10 +5,12 @@ names alone; heavy: its tables are too many where they may have above 65536 cell
 is served yet; lies: it prints a cost that is one too low; forges: its check says no; slow: it takes for ever,
 once it has written a word to the file FAKE_MARK; spends: adopt is spent below a budget of 100000, with an assignment
 that is worse each time; logs: adopt prints a log of eight events, and replay knows it; stuck: replay says that the
-third event is unlawful."""
+third event is unlawful; lingers: a search for an order takes for ever, once it has written a word to the file FAKE_MARK; drops: it
+leaves out a table; fails: it is ended by a signal. Each call writes its words to the file FAKE_CALLS, where that is named."""
 
 import itertools
 import os
+import signal
 import sys
 import time
 from pathlib import Path
@@ -23,6 +25,9 @@ FAKE = os.environ.get("FAKE", "").split()
 
 def main() -> int:
     words = sys.argv[1:]
+    if "FAKE_CALLS" in os.environ:
+        with open(os.environ["FAKE_CALLS"], "a") as calls:
+            calls.write(" ".join(words) + "\n")
     text = sys.stdin.read()
     if words[0] == "check":
         return check(text)
@@ -39,14 +44,18 @@ def main() -> int:
         return 0
     if words[0] == "--tries":
         problem = parse(text)
+        if "lingers" in FAKE:
+            linger()
+        if "fails" in FAKE:
+            os.kill(os.getpid(), signal.SIGKILL)
+        if "drops" in FAKE:
+            problem.tables.pop()
         print(problem.reordered([v.name for v in reversed(problem.variables)]).text(), end="")
         return 0
     options = dict(zip(words[1::2], words[2::2]))
     method = options.get("--method", "plain")
     if "slow" in FAKE:
-        if "FAKE_MARK" in os.environ:
-            Path(os.environ["FAKE_MARK"]).write_text("begun")
-        time.sleep(60)
+        linger()
     if method == "dpop" and "wide" in FAKE:
         print("refused wide agent a cells 2097152 limit 1048576")
         return 4
@@ -57,7 +66,13 @@ def main() -> int:
         refused = cut_refusal(text, int(options.get("--cells", "1048576")), "--certificate" in options)
         if refused is not None:
             return refused
-    return solve(text, method, int(options.get("--budget", "1000000")))
+    return solve(text, method, int(options.get("--budget", "1000000")), "--certificate" in options)
+
+
+def linger() -> None:
+    if "FAKE_MARK" in os.environ:
+        Path(os.environ["FAKE_MARK"]).write_text("begun")
+    time.sleep(60)
 
 
 def unserved(method: str, certificate: bool) -> bool:
@@ -80,7 +95,7 @@ def cut_refusal(text: str, cells: int, certified: bool) -> int | None:
     return None
 
 
-def solve(text: str, method: str, budget: int) -> int:
+def solve(text: str, method: str, budget: int, certified: bool) -> int:
     problem = parse(text)
     ranked = sorted(
         itertools.product(*(range(v.size) for v in problem.variables)),
@@ -97,9 +112,9 @@ def solve(text: str, method: str, budget: int) -> int:
     print(f"lower {0 if spent else cost}\nupper {cost}" if problem.goal == "min" else f"lower {cost}\nupper {cost}")
     for variable, value in zip(problem.variables, values):
         print(f"value {variable.name} {variable.value_name(value)}")
-    if method == "dpop":
+    if method == "dpop" and certified:
         print(f"certificate tables\nutil a - : : {best}")
-    if method == "adopt" and "logs" in FAKE:
+    if method == "adopt" and certified and "logs" in FAKE:
         print("certificate log")
         for stamp in range(1, 9):
             print(f"event x {stamp} y {stamp}" if stamp % 2 else f"event y {stamp} x 1")
@@ -139,4 +154,5 @@ def replay(text: str, after: int) -> int:
     return 0
 
 
-raise SystemExit(main())
+if __name__ == "__main__":
+    raise SystemExit(main())

@@ -10,7 +10,6 @@ import random
 import signal
 import subprocess
 import sys
-import tempfile
 import time
 import unittest
 from contextlib import redirect_stderr
@@ -19,20 +18,21 @@ from pathlib import Path
 from unittest import mock
 from xml.dom import minidom
 
-from sefwllon import draw, meetings, programs, pydcop, replay, wcsp
+from sefwllon import draw, programs, pydcop, replay, wcsp
 from sefwllon.arguments import seconds
+from sefwllon.best import Best
+from sefwllon.bettering import Bettering
 from sefwllon.cli import main
-from sefwllon.commands.meetings import timetable_headline
 from sefwllon.evaluator import Formula
 from sefwllon.explain import differs, explain
 from sefwllon.problem import Trouble, parse
 from sefwllon.programs import Programs
 from sefwllon.report import Node, Report, read_report
-from sefwllon.solving import Best, Solver
+from sefwllon.solving import Solver
 from sefwllon.translate import Constraint, Source, translate
 
 from . import documents
-from .case import EXAMPLES, FAKE, FRONT, HAS_YAML, HERE, ORDER, PROBLEMS, REAL, Case
+from .case import EXAMPLES, FAKE, FRONT, HAS_YAML, HERE, ORDER, PAIR, PROBLEMS, REAL, SEARCH, Case
 
 if HAS_YAML:
     from . import brute_pydcop
@@ -70,27 +70,26 @@ class Solving(Case):
             self.assertEqual((status, told), (3, ""))
             self.assertIn(why, said)
 
-    def test_an_answer_without_a_certificate_is_not_called_verified(self):
+    def test_an_answer_without_a_certificate_is_called_proved(self):
         status, told, _ = self.front("solve", "--method", "plain", str(PROBLEMS / "pair.dcop"))
-        self.assertEqual((status, told.splitlines()[0]), (0, "cost 2, and none is better (not verified: there is no certificate of it to check)"))
+        self.assertEqual((status, told.splitlines()[0]), (0, "cost 2, and none is better (proved)"))
 
     def test_adopt_keeps_the_best_of_growing_budgets(self):
         for fake in ("wide turns spends", "wide earlier spends"):
-            status, told, _ = self.front("solve", "--json", str(PROBLEMS / "pair.dcop"), fake=fake)
+            status, told, _ = self.front("solve", "--json", self.file("pair.dcop", PAIR), fake=fake)
             answer = json.loads(told)
-            self.assertEqual((status, answer["method"], answer["cost"]), (0, "adopt", 2))
-            self.assertEqual((answer["solved"], answer["verified"], answer["note"]), (True, False, None))
+            self.assertEqual((status, answer["method"], answer["cost"]), (0, "adopt", 3))
+            self.assertEqual((answer["solved"], answer["verified"], answer["rests_on"]), (True, False, "proved"))
+            self.assertIn("dcop_search is not built", answer["note"])
 
-    def test_a_cut_is_exact_and_not_called_verified(self):
-        pair = str(PROBLEMS / "pair.dcop")
-        known = "exact by the proved program, but no certificate of the cut was checked"
+    def test_a_cut_without_a_certificate_is_proved(self):
+        pair = self.file("pair.dcop", PAIR)
         for words in ((), ("--method", "cut")):
-            status, told, _ = self.front("solve", pair, *words, fake="wide")
-            self.assertEqual((status, told.splitlines()[0]), (0, f"cost 2, and none is better (not verified: {known})"))
-        status, told, _ = self.front("solve", "--json", pair, fake="wide heavy")
+            status, told, _ = self.front("solve", pair, *words, fake="wide spends")
+            self.assertEqual((status, told.splitlines()[0]), (0, "cost 3, and none is better (proved)"))
+        status, told, _ = self.front("solve", "--json", pair, fake="wide heavy spends")
         answer = json.loads(told)
-        self.assertEqual((status, answer["method"], answer["solved"], answer["verified"]), (0, "cut", True, False))
-        self.assertEqual(answer["note"], known)
+        self.assertEqual((status, answer["method"], answer["solved"], answer["rests_on"]), (0, "cut", True, "proved"))
         self.assertEqual(self.front("solve", pair, fake="wide lies")[0], 3)
 
     def test_a_refused_cut_is_told_where_it_is_the_only_way(self):
@@ -99,37 +98,29 @@ class Solving(Case):
         self.assertIn("1,048,576 turns", why)
 
     def test_a_cut_is_made_in_the_narrower_order(self):
-        report = self.file("report", "")
-        words = ("solve", "--json", "--report", report, str(PROBLEMS / "pair.dcop"))
-        status, told, _ = self.front(*words, fake="wide turned", order=FAKE)
+        status, told, _ = self.front("solve", "--json", self.file("pair.dcop", PAIR), fake="wide turned spends", order=FAKE)
         answer = json.loads(told)
-        self.assertEqual((status, answer["method"], answer["cost"], answer["values"]), (0, "cut", 2, {"x": "1", "y": "0"}))
-        self.assertIn("value y 0\nvalue x 1\n", Path(report).read_text())
+        self.assertEqual((status, answer["method"], answer["cost"], answer["values"]), (0, "cut", 3, {"x": "1", "y": "0"}))
 
-    def test_a_long_cut_is_stopped_after_its_share(self):
-        pair = str(PROBLEMS / "pair.dcop")
+    def test_a_long_cut_is_stopped_after_its_part(self):
+        pair = self.file("pair.dcop", PAIR)
         with mock.patch("sefwllon.solving.CUT_SECONDS", 0.2):
-            status, told, _ = self.front("solve", "--json", pair, fake="wide long")
-            self.assertEqual((status, json.loads(told)["method"], json.loads(told)["note"]), (0, "adopt", None))
-            with mock.patch("sefwllon.solving.BUDGETS", (1_000,)):
+            status, told, _ = self.front("solve", "--json", pair, fake="wide long spends")
+            self.assertEqual((status, json.loads(told)["method"]), (0, "adopt"))
+            with mock.patch("sefwllon.solving.MESSAGES", (1_000, 2_000)):
                 status, told, _ = self.front("solve", pair, fake="wide long spends")
         self.assertEqual(status, 1)
-        self.assertRegex(told, r"\ncut was stopped after \d+\.\d s, its share of the time; with `--method cut` it has all of it\n")
+        self.assertRegex(told, r"\nnote: cut was stopped after \d+\.\d s; with `--method cut` it has all of the time\n")
         tracking = str(PROBLEMS / "tracking.dcop")
-        status, told, _ = self.front("solve", "--method", "cut", "--time", "300ms", tracking, fake="long")
+        status, told, _ = self.front("solve", "--method", "cut", "--time", "1s", tracking, fake="long")
         self.assertEqual((status, told.splitlines()[1]), (1, "stopped: the time is over"))
-        problem = parse((PROBLEMS / "pair.dcop").read_text())
-        shares = {("auto", 30.0): 20.0, ("auto", None): 70.0, ("cut", 30.0): 30.0, ("cut", None): None}
-        for (method, until), moment in shares.items():
-            solver = Solver(Programs(FAKE), problem, method=method, until=until)
-            self.assertEqual(solver.share(10.0, "cut", 60, 0.5), moment)
 
     def test_each_way_is_told_as_it_is_tried(self):
         told: list[str] = []
-        problem = parse((PROBLEMS / "pair.dcop").read_text())
-        with mock.patch.dict(os.environ, FAKE="wide turns"):
-            Solver(Programs(FAKE, FAKE), problem, tell=lambda what, best: told.append(what)).solve()
-        self.assertEqual(told, ["dpop", "order", "cut", "adopt", "adopt, 1000 messages"])
+        with mock.patch.dict(os.environ, FAKE="wide turns spends", SEFWLLON_SEARCH=""):
+            Solver(Programs(FAKE, FAKE), parse(PAIR), tell=lambda what, best: told.append(what)).solve()
+        adopt = [f"adopt, {count} messages" for count in ("1,000", "10,000", "100,000")]
+        self.assertEqual(told, ["dpop", "order, 20,000 tries", *adopt[:2], "cut", adopt[2]])
 
     def test_an_assignment_is_no_dearer_than_the_bound_that_is_told(self):
         best = Best()
@@ -140,18 +131,25 @@ class Solving(Case):
         best.take_better([2], 12, "min")
         self.assertEqual((best.values, best.cost, best.lower, best.upper), ([2], 12, 9, 12))
         best.take(Report("solved", "cut", 0, 0, 12, 12, 12, [3]), "min")
-        self.assertEqual((best.values, best.solved, best.gap("min")), ([3], True, 0))
+        self.assertEqual((best.values, best.gap("min"), best.rests("min")), ([3], 0, "proved"))
         best = Best()
         best.take(Report("spent", "adopt", 0, 5, 10, 12, 20, [0]), "max")
         self.assertEqual((best.cost, best.lower, best.upper, best.gap("max")), (10, 10, 20, 10))
 
     def test_an_assignment_is_bettered_a_variable_at_a_time(self):
-        problem = parse((PROBLEMS / "tracking.dcop").read_text())
-        values = problem.improved([0] * 6)
-        self.assertLess(problem.cost(values), problem.cost([0] * 6))
-        for variable, value in itertools.product(range(6), range(2)):
-            other = [*values[:variable], value, *values[variable + 1 :]]
-            self.assertLessEqual(problem.cost(values), problem.cost(other))
+        for name in ("tracking", "sensors"):
+            problem = parse((PROBLEMS / f"{name}.dcop").read_text())
+            first = [0] * len(problem.variables)
+            bettering, sign = Bettering(problem, first), 1 if problem.goal == "min" else -1
+            values = list(bettering.descend())
+            self.assertLessEqual(sign * problem.cost(values), sign * problem.cost(first))
+            for variable, size in enumerate(v.size for v in problem.variables):
+                for value in range(size):
+                    other = [*values[:variable], value, *values[variable + 1 :]]
+                    self.assertLessEqual(sign * problem.cost(values), sign * problem.cost(other))
+            bettering.go(time.monotonic() + 0.1)
+            self.assertEqual(bettering.best_cost, problem.cost(bettering.best))
+            self.assertLessEqual(sign * bettering.best_cost, sign * problem.cost(values))
 
     def test_the_time_is_kept(self):
         began = time.monotonic()
@@ -217,8 +215,8 @@ class Solving(Case):
         self.assertIn(f"none breaks fewer (verified by {by})\n", self.front("meetings", clash, program=script)[1])
         self.front("solve", pair, "--method", "adopt", "--report", report, fake="logs", program=script)
         self.assertIn(f"none is better (verified by {by})</text>", self.front("draw", pair, report, fake="logs", program=script)[1])
-        _, told, _ = self.front("solve", pair, fake="wide", program=script)
-        self.assertIn("exact by the program, which was compiled without proofs, and no certificate", told)
+        _, told, _ = self.front("solve", self.file("tied.dcop", PAIR), fake="wide spends", program=script)
+        self.assertEqual(told.splitlines()[0], "cost 3, and none is better (by a program that was compiled without proofs)")
         answer = json.loads(self.front("solve", "--json", pair)[1])
         self.assertEqual((answer["verified"], answer["verified_by"]), (True, "dcop check"))
         answer = json.loads(self.front("solve", "--json", "--method", "plain", pair)[1])
@@ -239,7 +237,7 @@ class Solving(Case):
             status, told, _ = self.front("solve", "--json", "--time", "300ms", str(file), fake="slow")
             answer, problem = json.loads(told), parse(file.read_text())
             values = [v.value_of(answer["values"][v.name]) for v in problem.variables]
-            self.assertEqual((status, answer["method"], answer["verified"]), (1, "search", False))
+            self.assertEqual((status, answer["method"], answer["rests_on"]), (1, "start", "added up"))
             self.assertEqual(answer["cost"], problem.cost(values))
             self.assertEqual(answer["cost"], answer["upper" if problem.goal == "min" else "lower"])
             self.assertIn("search of sefwllon's own", answer["note"])
@@ -289,7 +287,7 @@ class Solving(Case):
 
     def test_that_a_wcsp_has_no_solution_is_told_no_better_than_it_is_known(self):
         file = self.file("torn.wcsp", TORN)
-        self.assertEqual(self.front("solve", file, fake="wide")[1].splitlines()[0], f"{NO_SOLUTION} (not verified)")
+        self.assertEqual(self.front("solve", file, fake="wide")[1].splitlines()[0], f"{NO_SOLUTION} (proved)")
         status, told, _ = self.front("solve", file, "--time", "300ms", fake="slow")
         self.assertEqual((status, told.splitlines()[0].split(",")[0]), (1, "no solution of the WCSP was found"))
 
@@ -365,17 +363,21 @@ class Solving(Case):
 
 
 class Documents(unittest.TestCase):
+    def programs(self) -> dict[str, str]:
+        built = {"dcop": REAL, "dcop_order": ORDER, "dcop_search": SEARCH}
+        return {name: path for name, path in built.items() if path}
+
     @unittest.skipUnless(REAL and ORDER, "no built programs")
     def test_the_answers_of_the_documents(self):
         for document in documents.DOCUMENTS:
-            differ, _ = documents.run(document, {"dcop": REAL, "dcop_order": ORDER})
+            differ, _ = documents.run(document, self.programs())
             self.assertEqual(differ, [])
 
     @unittest.skipUnless(REAL and ORDER, "no built programs")
     def test_the_answers_of_the_front_s_page(self):
         page = (FRONT / "README.md").read_text()
         week = page[page.index("slot,Mon 9,") : page.index("```", page.index("slot,Mon 9,"))]
-        differ, _ = documents.run("front/README.md", {"dcop": REAL, "dcop_order": ORDER}, {"week.csv": week})
+        differ, _ = documents.run("front/README.md", self.programs(), {"week.csv": week})
         self.assertEqual(differ, [])
 
 
@@ -534,134 +536,6 @@ class Translating(Case):
         for text, why in (("MARKOV 1 2 1 1 7 2 1 1", "not there"), ("MARKOV 1 2 1 1 0 2 1", "ends too early")):
             with self.assertRaisesRegex(Trouble, why):
                 wcsp.read_uai(text, "file")
-
-
-CROWD = (
-    "slot,Mon 18,2026-09-07 18:00\nslot,Mon 18:30,2026-09-07 18:30\nslot,Tue 18,2026-09-08 18:00\n"
-    "meeting,Board,Anna;Bero;Cleo\nmeeting,Programme,Anna;Dai;Erik\nmeeting,Money,Anna;Fritz\nmeeting,Tour,Cleo;Dai;Fritz\n"
-    "like,Board,Tue 18,3\ndislike,Erik,Tue 18,0.5\n"
-)
-"""Meetings of which no timetable keeps all rules."""
-
-
-class Meetings(Case):
-    def test_a_timetable_keeps_the_rules(self):
-        with tempfile.TemporaryDirectory() as folder:
-            calendar = Path(folder) / "week.ics"
-            status, told, _ = self.front("meetings", str(EXAMPLES / "meetings.csv"), "--ics", str(calendar))
-            text = calendar.read_bytes().decode()
-        self.assertEqual((status, told.splitlines()[0]), (0, "cost 0, and none is better (verified)"))
-        self.assertIn("Mon 9", told)
-        self.assertEqual(text.count("BEGIN:VEVENT\r\n"), 4)
-
-    def test_slots_that_overlap_are_not_both_given_to_one_person(self):
-        text = "slot,a,2026-03-02 09:00,120\nslot,b,2026-03-02 10:00\nslot,c,2026-03-02 11:00\n"
-        text += "meeting,m,Ann\nmeeting,n,Ann\nlike,Ann,a;b,1.5\n"
-        status, told, _ = self.front("meetings", self.file("week.csv", text))
-        self.assertEqual((status, told.splitlines()[0]), (0, "cost 1.5, and none is better (verified)"))
-        self.assertIn("\nc  ", told)
-
-    def test_that_there_is_no_timetable_is_told(self):
-        week = self.file("week.csv", "slot,a\nmeeting,m,Ann\nmeeting,n,Ann\n")
-        report = self.file("report", "")
-        status, told, _ = self.front("meetings", week, "--report", report)
-        wanted = ["no timetable keeps all the rules; this one breaks 1, and none breaks fewer (verified)"]
-        wanted += ["no assignment keeps all hard constraints (verified)", "broken: m and n are both in a, and share Ann"]
-        self.assertEqual((status, told.splitlines()[:3]), (1, wanted))
-        _, told, _ = self.front("check", week, report)
-        self.assertEqual(told, "yes, verified: no assignment keeps all hard constraints; this one breaks: m and n share Ann\n")
-
-    def test_broken_rules_are_told_no_better_than_they_are_known(self):
-        week = self.file("week.csv", CROWD)
-        told = self.front("meetings", week, fake="wide")[1]
-        self.assertEqual(told.splitlines()[0], "no timetable keeps all the rules; this one breaks 2, and none breaks fewer (not verified)")
-        told = self.front("meetings", week, "--time", "300ms", fake="slow")[1]
-        self.assertRegex(told, "^no timetable that keeps all the rules was found; this one breaks [0-9]\n")
-        self.assertIn("\nstopped: the time is over\n", told)
-        made = translate(meetings.source(meetings.read(CROWD), "crowd"))
-        best = Best(values=[0, 0, 0, 0], cost=made.problem.cost([0, 0, 0, 0]), lower=0, checked=made.hard_cost)
-        self.assertEqual(timetable_headline(best, made)[0], "no timetable keeps all the rules (verified); this one breaks 6")
-
-    def test_a_timetable_with_clashes_shows_them(self):
-        picture, calendar = self.file("week.svg", ""), self.file("week.ics", "")
-        self.assertEqual(self.front("meetings", self.file("week.csv", CROWD), "--svg", picture, "--ics", calendar)[0], 1)
-        svg, ics = minidom.parse(picture), Path(calendar).read_bytes().decode().replace("\r\n ", "")
-        sentences = ["Board and Tour are both in Tue 18, and share Cleo", "Programme and Money are both in Mon 18, and share Anna"]
-        red = [it.firstChild.data for it in svg.getElementsByTagName("text") if it.getAttribute("class") == "broken"]
-        self.assertEqual(red, [f"breaks a rule: {sentence}" for sentence in sentences])
-        boxes = [[float(it.getAttribute(name)) for name in ("x", "y", "width")] for it in svg.getElementsByTagName("rect")]
-        self.assertEqual(len(boxes), 11)
-        for (x, y, width), (other, below, _) in itertools.permutations(boxes, 2):
-            self.assertTrue(y != below or other >= x + width or other < x)
-        self.assertEqual([it.getAttribute("class") for it in svg.getElementsByTagName("rect")], ["clash"] * 11)
-        self.assertEqual(ics.count("SUMMARY:CLASH: "), 4)
-        for sentence in sentences:
-            self.assertEqual(ics.count(sentence.replace(",", "\\,")), 4)
-        self.assertIn("\r\nDESCRIPTION:Anna\\, Fritz\\nClash: Programme and Money", ics)
-        self.assertIn("\r\nDESCRIPTION:This timetable breaks rules:\\nBoard and Tour", ics)
-        overlap = meetings.read("slot,a,2026-03-02 09:00,120\nslot,b,2026-03-02 10:00\nmeeting,m,Ann;Bo\nmeeting,n,Bo;Ann\n")
-        told = [clash.sentence() for clash in meetings.clashes(overlap, {"m": "a", "n": "b"})]
-        self.assertEqual(told, ["m in a and n in b overlap, and share Ann, Bo"])
-
-    def test_the_clashes_are_the_broken_rules(self):
-        told = meetings.read(CROWD)
-        made = translate(meetings.source(told, "crowd"))
-        for values in itertools.product(range(3), repeat=4):
-            found = meetings.clashes(told, made.told(list(values)))
-            names = [f"{clash.first} and {clash.second} share {', '.join(clash.shared)}" for clash in found]
-            self.assertEqual(names, made.broken(list(values)))
-
-    def test_who_is_absent_is_so_in_slots_that_overlap(self):
-        text = "slot,a,2026-03-02 09:00\nslot,b,2026-03-02 09:30\nslot,c,2026-03-02 10:00\nmeeting,m,Ann;Bo\nabsent,Ann,a\nlike,m,a;b,3\n"
-        picture = self.file("week.svg", "")
-        status, told, _ = self.front("meetings", self.file("week.csv", text), "--svg", picture)
-        wanted = ["cost 3, and none is better (verified)", "c  m  (Ann, Bo)", "wish not met, costs 3: m is in c, and m likes a or b"]
-        self.assertEqual((status, told.splitlines()), (0, wanted))
-        grey = [it for it in minidom.parse(picture).getElementsByTagName("rect") if it.getAttribute("fill") == "#eee"]
-        self.assertEqual(len(grey), 2)
-        self.assertEqual(meetings.read(text).barred(), {"Ann": {"a", "b"}})
-        with self.assertRaisesRegex(Trouble, r"m has no slot: in each of them, or in one that overlaps it, somebody of Ann, Bo is absent \(Ann: a, b; Bo: b, c\)"):
-            meetings.source(meetings.read(text + "absent,Bo,c\n"), "file")
-
-    def test_what_is_not_met_sums_to_the_cost(self):
-        text = "slot,a\nslot,b\nslot,c\nmeeting,m,Ann;Bo\nmeeting,n,Ann\nlike,Ann,a;b,1.5\ndislike,Bo,a,2\nlike,n,a,0\nlike,m,c,0.25\n"
-        told = meetings.read(text)
-        made = translate(meetings.source(told, "file"))
-        for values in itertools.product(range(3), repeat=2):
-            lines = meetings.unmet(told, made.told(list(values)))
-            costs = [Fraction(line.split(":")[0].removeprefix("costs ")) for line in lines]
-            self.assertEqual(sum(costs, Fraction(0)), made.own_sum(list(values)))
-        wanted = ["costs 1.5: m is in c, and Ann likes a or b", "costs 1.5: n is in c, and Ann likes a or b"]
-        self.assertEqual(meetings.unmet(told, {"m": "c", "n": "c"}), wanted)
-        self.assertIn("costs 2: m is in a, which Bo dislikes", meetings.unmet(told, {"m": "a", "n": "b"}))
-
-    def test_a_csv_is_explained_as_one(self):
-        status, _, why = self.front("explain", self.file("week.csv", "slot,a\nmeeting,m,Ann\nabsent,Bo,a\n"))
-        self.assertEqual(status, 3)
-        self.assertIn("line 3: Bo is absent", why)
-        bad = self.file("week.csv", "")
-        Path(bad).write_bytes("slot,a\nmeeting,m,J\xfcrgen\n".encode("latin-1"))
-        self.assertIn("no UTF-8 text from line 2 on", self.front("meetings", bad)[2])
-
-    def test_faults_are_told_by_line(self):
-        for text, why in (
-            ("slot,a\nslot,a\n", "line 2: the slot a stands twice"),
-            ("slot,a,tomorrow\n", "line 1: tomorrow is no time"),
-            ("room,a\n", "line 1: a line begins with"),
-            ("slot,a\nmeeting,m,Ann\nabsent,Bo,a\n", "line 3: Bo is absent, and takes part in no meeting \\(`absent,Bo,a`"),
-            ("slot;a\n", "line 1: its cells are separated by semicolons"),
-            ("slot,a\nmeeting,,Ann\n", "line 2: a cell is missing, or is one too many: the line is meeting,NAME"),
-            ("slot,a\nmeeting,m,Ann\nlike,Ann,a,\n", "line 3: a cell is missing"),
-            ("slot,a\nmeeting,m,Ann\nlike,Ann,a,-2\n", "line 3: the cost -2 is negative"),
-            ("slot,a\nmeeting,m,Ann\nlike,Ann,3,a\n", "line 3: the last cell is the cost"),
-            ("slot,a,2026-03-02 09:00,²\n", "line 1: ² is no number of minutes"),
-            ("slot,a,2026-03-02 09:00+01:00\n", "line 1: .* names a time zone"),
-            ("slot,a\nmeeting,m,Ann;Bo\nabsent,Bo,a\n", "m has no slot: in each of them, or in one that overlaps it, somebody of Ann, Bo is absent"),
-            ("slot,a\nmeeting,m,Ann;Bo\nabsent,Ann; Bo,a\n", "line 3: a line `absent` is of one person .* for each of Ann, Bo"),
-            ("slot,a\nmeeting,m,Ann;Bo\nlike,Ann;Bo,a,2\n", "line 3: a line `like` is of one person or meeting"),
-        ):
-            with self.assertRaisesRegex(Trouble, why):
-                meetings.source(meetings.read(text), "file")
 
 
 class Telling(Case):

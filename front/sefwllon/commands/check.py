@@ -1,45 +1,104 @@
-"""`sefwllon check`: whether a report with a certificate holds."""
+"""`sefwllon check`: whether a report holds."""
 
 from __future__ import annotations
 
 import argparse
+import time
 
-from ..arguments import Commands
-from ..asking import Rejected, checked_report
-from ..files import load, read_text
+from ..arguments import Commands, add_time
+from ..asking import NOT, YES, Verdict, judged, loaded
+from ..best import Best, is_better
+from ..files import read_text
+from ..output import deliver, reading, undisturbed
 from ..programs import Programs
-from ..report import fitted
-from ..solving import in_order
-from ..telling import OPEN, SOLVED, from_best, none_keeps_all, noun
-from ..translate import number
+from ..telling import OPEN, SOLVED, TEXT, UNDECIDED, bounds_of, by_line, from_best, none_keeps_all, noun, plain_number, shown
+from ..translate import Translation, number
 
 
 def add(commands: Commands) -> None:
-    check = commands.add_parser("check", help="say whether a report with a certificate holds")
+    check = commands.add_parser(
+        "check",
+        help="say whether a report holds",
+        description="Says whether a report holds: by its certificate, and where it has none, by asking whether anything is better than it "
+        "says. Exit status: 0 yes, 1 no, 4 not decided.",
+    )
     check.add_argument("file", metavar="FILE")
     check.add_argument("report", metavar="REPORT")
+    check.add_argument("--json", action="store_true", help="the answer as JSON")
+    add_time(check)
     check.set_defaults(run=run)
 
 
 def run(options: argparse.Namespace) -> int:
-    options.text = read_text(options.file)
     programs = Programs()
-    told = load(options.file, options.text, programs)
-    report = read_text(options.report)
-    problem = fitted(told.problem, report)
-    try:
-        read = checked_report(programs, problem, report)
-    except Rejected as rejected:
-        print(f"no: {rejected.why}")
-        return OPEN
-    values = in_order(read, problem, told.problem).values
-    broken = told.broken(values)
-    bound = read.lower if told.problem.goal == "min" else read.upper
+    with reading(None if options.time is None else options.began + options.time):
+        options.text = read_text(options.file)
+        report = read_text(options.report)
+    told = loaded(options, programs)
+    verdict = judged(programs, told, report, options)
+    with undisturbed():
+        text = as_json(verdict, told, programs, options) if options.json else as_text(verdict, told)
+        good = deliver(text, [])
+    return {YES: SOLVED, NOT: OPEN}.get(verdict.answer, UNDECIDED) if good else TEXT
+
+
+def as_text(verdict: Verdict, told: Translation) -> str:
+    """The verdict for people."""
+    lines = [sentence(verdict, told)]
+    best = verdict.best
+    if best is not None and best.method:
+        lines.append(by_line(best))
+    if found(verdict, told):
+        assert best is not None and best.values is not None
+        width = max(len(name) for name in told.names)
+        lines += [f"  {name:<{width}}  {value}" for name, value in told.told(best.values).items()]
+    return "\n".join(lines) + "\n"
+
+
+def sentence(verdict: Verdict, told: Translation) -> str:
+    if verdict.answer == NOT:
+        if found(verdict, told):
+            assert verdict.best is not None and verdict.best.values is not None
+            own = number(told.own_sum(verdict.best.values))
+            return f"no, {verdict.rests}: these values are better than the report says that any are, with {noun(told)} {own}"
+        return f"no: {verdict.why}"
+    if verdict.answer != YES:
+        return f"not decided: nothing better was found; {verdict.why}"
+    broken = told.broken(verdict.values)
     if broken:
-        none = none_keeps_all(told) if told.none_keeps(bound) else "the report holds"
-        print(f"yes, {programs.verified}: {none}; this one breaks: {', '.join(broken)}")
-        return SOLVED
-    gap = abs(read.cost - bound)
-    own = number(told.own_sum(values))
-    print(f"yes, {programs.verified}: {noun(told)} {own}, {'and ' if gap == 0 else ''}{from_best(gap, told)}")
-    return SOLVED
+        none = none_keeps_all(told) if told.none_keeps(verdict.bound) else "the report holds"
+        return f"yes, {verdict.rests}: {none}; this one breaks: {', '.join(broken)}"
+    gap = abs(verdict.cost - verdict.bound)
+    own = number(told.own_sum(verdict.values))
+    return f"yes, {verdict.rests}: {noun(told)} {own}, {'and ' if gap == 0 else ''}{from_best(gap, told)}"
+
+
+def found(verdict: Verdict, told: Translation) -> bool:
+    """Whether something better was found than the report says that any is."""
+    best = verdict.best
+    return best is not None and best.values is not None and is_better(told.problem.cost(best.values), verdict.bound, told.problem.goal)
+
+
+def as_json(verdict: Verdict, told: Translation, programs: Programs, options: argparse.Namespace) -> str:
+    """The verdict for programs."""
+    goal, best = told.problem.goal, verdict.best or Best(began=options.began)
+    broken = told.broken(verdict.values)
+    bound = told.own_bounds(verdict.bound, verdict.bound)[goal == "max"]
+    answer = {
+        "answer": verdict.answer,
+        "rests_on": verdict.rests or None,
+        "why": verdict.why or None,
+        "method": best.method or "check",
+        "goal": goal,
+        "cost": plain_number(told.own_sum(verdict.values)),
+        "bound": plain_number(bound),
+        "broken": broken,
+        "better": told.told(best.values) if best.values is not None and found(verdict, told) else None,
+        "messages": best.messages,
+        "nodes": best.nodes,
+        "time": round(time.monotonic() - options.began, 3),
+        "stopped": best.stopped,
+        "bounds": bounds_of(best, told),
+        "versions": programs.versions(),
+    }
+    return shown(answer)

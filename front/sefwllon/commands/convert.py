@@ -7,8 +7,9 @@ from pathlib import Path
 
 from ..arguments import Commands
 from ..files import READERS, load, read_text
+from ..output import say
 from ..programs import Programs
-from ..telling import SOLVED
+from ..telling import SOLVED, TEXT
 from ..translate import translate
 from ..wcsp import write_wcsp
 
@@ -27,12 +28,12 @@ def add(commands: Commands) -> None:
 
 def run_from(options: argparse.Namespace) -> int:
     text = read_text(options.file)
-    print(translate(READERS[options.kind](text, Path(options.file).name)).problem.text(), end="")
-    return SOLVED
+    text = translate(READERS[options.kind](text, Path(options.file).name)).problem.text()
+    return SOLVED if say(text) else TEXT
 
 
 def run_to(options: argparse.Namespace) -> int:
     options.text = read_text(options.file)
     told = load(options.file, options.text, Programs())
-    print(write_wcsp(told.problem, Path(options.file).stem), end="")
-    return SOLVED
+    text = write_wcsp(told.problem, Path(options.file).stem)
+    return SOLVED if say(text) else TEXT

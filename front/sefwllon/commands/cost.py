@@ -3,73 +3,159 @@
 from __future__ import annotations
 
 import argparse
+import difflib
+import time
+from dataclasses import dataclass
 
-from ..arguments import Commands, amount
-from ..asking import checked_report
-from ..files import load, read_text
+from ..arguments import Commands, add_time, amount
+from ..asking import NOT, YES, Verdict, judged, loaded
+from ..files import read_text
+from ..output import deliver, reading, undisturbed
 from ..problem import Trouble
 from ..programs import Programs
-from ..report import fitted
-from ..solving import cost_of
-from ..telling import SOLVED, from_best, none_keeps_all, noun
+from ..report import fitted, printed, read_report
+from ..solving import cost_of, in_order
+from ..telling import SOLVED, TEXT, bounds_of, from_best, none_keeps_all, noun, plain_number, shown
 from ..translate import Translation, number
 
 
 def add(commands: Commands) -> None:
-    cost = commands.add_parser("cost", help="what an assignment costs: lines or words NAME=VALUE")
+    cost = commands.add_parser("cost", help="what an assignment costs: words NAME=VALUE, or files of them, or a report")
     cost.add_argument("file", metavar="FILE")
-    cost.add_argument("assignment", metavar="NAME=VALUE|ASSIGNMENT", nargs="+")
+    cost.add_argument("assignment", metavar="NAME=VALUE|ASSIGNMENT|REPORT", nargs="+")
     cost.add_argument("--bound", type=amount, metavar="B", help="say how far the cost is from this bound")
-    cost.add_argument("--report", metavar="REPORT", help="say how far the cost may be from the best one, by this report's certificate")
+    cost.add_argument("--report", metavar="REPORT", help="say how far the cost may be from the best one, by this report")
+    cost.add_argument("--json", action="store_true", help="the answer as JSON")
+    add_time(cost)
     cost.set_defaults(run=run)
 
 
 def run(options: argparse.Namespace) -> int:
     """An assignment's cost, told by dcop itself on the problem with each domain cut to the assignment's value."""
-    options.text = read_text(options.file)
     programs = Programs()
-    told = load(options.file, options.text, programs)
+    with reading(None if options.time is None else options.began + options.time):
+        options.text = read_text(options.file)
+    told = loaded(options, programs)
     values = assignment(options.assignment, told)
     total = cost_of(programs, told.problem, values)
-    for name in told.broken(values):
-        print(f"broken: {name}")
+    lines = [f"broken: {name}" for name in told.broken(values)]
     own = told.own_sum(values)
-    print(f"{noun(told)} {number(own)}")
+    lines.append(f"{noun(told)} {number(own)}")
     if options.bound is not None:
-        print(f"{number(abs(own - options.bound))} from the bound {number(options.bound)}")
-    if options.report:
-        print(from_the_best(programs, told, total, read_text(options.report)))
-    return SOLVED
+        lines.append(f"{number(abs(own - options.bound))} from the bound {number(options.bound)}")
+    verdict = judged(programs, told, read_text(options.report), options) if options.report else None
+    if verdict is not None:
+        lines.append(from_the_best(verdict, told, total))
+    with undisturbed():
+        text = as_json(told, values, total, verdict, programs, options) if options.json else "\n".join(lines) + "\n"
+        good = deliver(text, [])
+    return SOLVED if good and (verdict is None or verdict.answer != NOT) else TEXT
 
 
-def from_the_best(programs: Programs, told: Translation, total: int, report: str) -> str:
-    """How far a sum may be from the best one, by a report's certificate."""
-    problem = fitted(told.problem, report)
-    read = checked_report(programs, problem, report)
-    bound = read.lower if problem.goal == "min" else read.upper
-    if told.top is not None and told.none_keeps(bound):
-        return f"{none_keeps_all(told)} ({programs.verified})"
-    return f"{from_best(abs(total - bound), told)} ({programs.verified})"
+def from_the_best(verdict: Verdict, told: Translation, total: int) -> str:
+    """How far a sum may be from the best one, by a report."""
+    if verdict.answer == NOT:
+        return f"the report does not hold: {verdict.why}"
+    rests = verdict.rests if verdict.answer == YES else f"as the report says; that was not decided: {verdict.why}"
+    if told.top is not None and told.none_keeps(verdict.bound):
+        return f"{none_keeps_all(told)} ({rests})"
+    return f"{from_best(abs(total - verdict.bound), told)} ({rests})"
+
+
+def as_json(
+    told: Translation, values: list[int], total: int, verdict: Verdict | None, programs: Programs, options: argparse.Namespace
+) -> str:
+    """The answer for programs."""
+    holds, best = verdict is not None and verdict.answer == YES, None if verdict is None else verdict.best
+    gap = None if verdict is None else told.own_cost(total) - told.own_cost(verdict.bound)
+    answer = {
+        "cost": plain_number(told.own_sum(values)),
+        "goal": told.problem.goal,
+        "broken": told.broken(values),
+        "from_bound": None if options.bound is None else plain_number(abs(told.own_sum(values) - options.bound)),
+        "from_best": None if gap is None or verdict is None or verdict.answer == NOT else plain_number(abs(gap) + told.slack),
+        "rests_on": verdict.rests if verdict is not None and holds else "added up" if verdict is None else None,
+        "report": None if verdict is None else verdict.answer,
+        "why": None if verdict is None else verdict.why or None,
+        "method": "cost" if best is None or not best.method else best.method,
+        "messages": 0 if best is None else best.messages,
+        "nodes": 0 if best is None else best.nodes,
+        "time": round(time.monotonic() - options.began, 3),
+        "stopped": None if best is None else best.stopped,
+        "bounds": [] if best is None else bounds_of(best, told),
+        "versions": programs.versions(),
+    }
+    return shown(answer)
+
+
+@dataclass(frozen=True)
+class Pair:
+    """A value that a name is given, and where that is said."""
+
+    name: str
+    value: str
+    place: str
 
 
 def assignment(words: list[str], told: Translation) -> list[int]:
-    """Reads NAME=VALUE words, or files with lines `value NAME VALUE` or NAME=VALUE."""
-    pairs: dict[str, str] = {}
+    """Reads NAME=VALUE words, files with lines NAME=VALUE or `value NAME VALUE`, or a report."""
+    given: dict[int, Pair] = {}
     for word in words:
-        lines = [word] if "=" in word else read_text(word).splitlines()
-        for line in lines:
-            parts = line.split("=", 1) if "=" in line else line.split()[1:] if line.startswith("value ") else []
-            if len(parts) == 2:
-                pairs[parts[0].strip()] = parts[1].strip()
-    values = []
-    for place, (name, own) in enumerate(zip(told.names, told.values)):
-        variable = told.problem.variables[place]
-        word = pairs.get(name, pairs.get(variable.name))
-        if word is None:
-            raise Trouble(f"the assignment has no value for {name}")
-        shown = [str(value) for value in own]
-        value = shown.index(word) if word in shown else variable.value_of(word)
-        if value is None:
-            raise Trouble(f"{word} is no value of {name}")
-        values.append(value)
+        if "=" in word:
+            take(pair_of(word, f"`{word}`", told), told, given)
+            continue
+        text = read_text(word)
+        if text.startswith("status "):
+            problem = fitted(told.problem, text)
+            report = in_order(read_report(printed(text), problem), problem, told.problem)
+            for place, value in enumerate(report.values):
+                take(Pair(told.names[place], str(told.values[place][value]), word), told, given)
+            continue
+        for at, line in enumerate(text.splitlines(), 1):
+            if line.strip() and not line.lstrip().startswith("#"):
+                take(pair_of(line, f"{word}, line {at}, `{line.strip()[:80]}`", told), told, given)
+    missing = [name for place, name in enumerate(told.names) if place not in given and place not in told.counters]
+    if missing:
+        raise Trouble(f"the assignment has no value for {', '.join(missing[:5])}{' and others' if len(missing) > 5 else ''}")
+    values: list[int] = []
+    for place in range(len(told.names)):
+        values.append(value_of(given[place], place, told) if place in given else told.counted(place, values))
     return values
+
+
+def pair_of(line: str, place: str, told: Translation) -> Pair:
+    """What a word or a line gives to whom. A name may have `=` in it, where the file has such a name."""
+    if "=" in line:
+        cuts = [at for at, letter in enumerate(line) if letter == "="]
+        known = next((at for at in reversed(cuts) if line[:at].strip() in told.names), cuts[0])
+        return Pair(line[:known].strip(), line[known + 1 :].strip(), place)
+    parts = line.split(maxsplit=2)
+    if parts[0] == "value" and len(parts) == 3:
+        return Pair(parts[1], parts[2].strip(), place)
+    raise Trouble(f"{place}: a line is NAME=VALUE or `value NAME VALUE`, and this one is neither")
+
+
+def take(pair: Pair, told: Translation, given: dict[int, Pair]) -> None:
+    """Takes a pair, where its name is there and has no other value yet."""
+    own = [v.name for v in told.problem.variables]
+    place = told.names.index(pair.name) if pair.name in told.names else own.index(pair.name) if pair.name in own else None
+    if place is None:
+        raise Trouble(f"{pair.place}: there is no {pair.name}{meant(pair.name, told.names)}")
+    if place in given and given[place].value != pair.value:
+        raise Trouble(f"{pair.place}: {pair.name} has the value {given[place].value} already, by {given[place].place}")
+    given[place] = pair
+
+
+def value_of(pair: Pair, place: int, told: Translation) -> int:
+    variable, own = told.problem.variables[place], [str(value) for value in told.values[place]]
+    value = own.index(pair.value) if pair.value in own else variable.value_of(pair.value)
+    if value is None:
+        shown = f"; it has {', '.join(own)}" if len(own) <= 8 else ""
+        raise Trouble(f"{pair.place}: {pair.value} is no value of {pair.name}{meant(pair.value, own) or shown}")
+    return value
+
+
+def meant(word: str, known: list[str]) -> str:
+    """What a wrong word probably means."""
+    near = difflib.get_close_matches(word, known, 1)
+    return f": {near[0]}?" if near else ""

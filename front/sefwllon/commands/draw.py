@@ -9,12 +9,13 @@ from .. import draw, replay
 from ..arguments import Commands, natural
 from ..asking import checked_report
 from ..files import load, read_text
+from ..output import say
 from ..problem import Trouble
 from ..programs import Programs
 from ..progress import Progress
-from ..report import Report, fitted, read_report, read_tree
+from ..report import Report, certified, fitted, printed, read_report, read_tree
 from ..solving import Refused
-from ..telling import SOLVED, none_keeps_all, noun
+from ..telling import SOLVED, TEXT, none_keeps_all, noun
 from ..translate import Translation, number
 
 
@@ -44,16 +45,16 @@ def run(options: argparse.Namespace) -> int:
     if what is None:
         what = "bounds" if report is not None and "\ncertificate log" in report else "graph"
     if what == "tree":
-        print(tree_of(programs, told, report), end="")
+        picture = tree_of(programs, told, report)
     elif what == "graph":
-        print(graph_of(told, report), end="")
+        picture = graph_of(told, report)
     elif report is None:
         raise Trouble("the bounds of a run are drawn from a report with a log: name it behind the file")
     else:
-        problem = fitted(told.problem, report)
-        options.text = problem.text() + report
-        print(bounds_of(programs, told, report, Path(file).name, options.points), end="")
-    return SOLVED
+        report = certified(report) or report
+        options.text = fitted(told.problem, report).text() + report
+        picture = bounds_of(programs, told, report, Path(file).name, options.points)
+    return SOLVED if say(picture) else TEXT
 
 
 def graph_of(told: Translation, report: str | None) -> str:
@@ -61,9 +62,9 @@ def graph_of(told: Translation, report: str | None) -> str:
     if report is None:
         return draw.graph(told.problem, told.names, [f"{v.size} values" for v in told.problem.variables])
     problem = fitted(told.problem, report)
-    by_name = dict(zip((v.name for v in problem.variables), read_report(report, problem).values))
+    by_name = dict(zip((v.name for v in problem.variables), read_report(printed(report), problem).values))
     chosen = told.told([by_name[v.name] for v in told.problem.variables])
-    return draw.graph(told.problem, told.names, [str(value) for value in chosen.values()])
+    return draw.graph(told.problem, told.names, [str(chosen.get(name, "")) for name in told.names])
 
 
 def tree_of(programs: Programs, told: Translation, report: str | None) -> str:

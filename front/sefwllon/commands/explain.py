@@ -8,6 +8,7 @@ from pathlib import Path
 from ..arguments import Commands
 from ..explain import explain
 from ..files import KINDS, load, read_text
+from ..output import say
 from ..programs import Programs
 from ..telling import SOLVED, TEXT
 
@@ -28,7 +29,6 @@ def run(options: argparse.Namespace) -> int:
         options.text = load(options.file, options.text).problem.text()
     answer = read_text(options.answer) if options.answer else programs.run(words, options.text).text
     if not answer.startswith(("refused", "status no")):
-        print("dcop takes this file.")
-        return SOLVED
-    print(explain(answer, options.text))
+        return SOLVED if say("dcop takes this file.\n") else TEXT
+    say(explain(answer, options.text) + "\n")
     return TEXT

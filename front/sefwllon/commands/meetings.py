@@ -3,66 +3,210 @@
 from __future__ import annotations
 
 import argparse
+import json
+import os
+from collections.abc import Callable
+from fractions import Fraction
 from pathlib import Path
 
-from .. import draw, meetings
-from ..arguments import Commands, seconds, threads
-from ..asking import solved
-from ..files import read_text, write
-from ..programs import Programs
-from ..solving import Best
-from ..telling import OPEN, as_text, headline, known_by, status_of
-from ..translate import Translation, translate
+from .. import draw
+from ..arguments import Commands, add_solving, natural
+from ..asking import kept
+from ..best import ADDED_UP
+from ..files import read_text
+from ..output import OutOfTime, deliver, reading, test_outputs, undisturbed
+from ..problem import Trouble
+from ..telling import OPEN, SOLVED, TEXT, as_json, as_text, by_line, notes_of
+from ..timetable import calendars, earlier, impossible, lines, telling
+from ..timetable.earlier import Earlier
+from ..timetable.make import Aim
+from ..timetable.session import Plan, Session, opened
+
+
+CROWDED_SECONDS = 10.0
+"""How long a timetable is sought where somebody has more meetings than times for them, and no time is given."""
+OTHER_PROBLEM = (
+    "the report is not of the file alone, but of what was asked besides: `--problem OUT` writes that, and `check OUT REPORT` reads both"
+)
+"""What is told of a report where meetings are kept, rooms were learnt of, or calendars are read."""
 
 
 def add(commands: Commands) -> None:
     when = commands.add_parser(
         "meetings",
         help="a timetable from a CSV",
-        description="Makes a timetable from a CSV.\n\n" + (meetings.__doc__ or "").split("\n\n", 1)[1],
+        description="Makes a timetable from a CSV.\n\n" + (lines.__doc__ or ""),
         formatter_class=argparse.RawDescriptionHelpFormatter,
     )
     when.add_argument("file", metavar="CSV")
+    when.add_argument("--keep", metavar="OLD", help="move the fewest meetings from an earlier timetable: its calendar, its report, or what was printed")
+    when.add_argument("--alternatives", type=natural, default=0, metavar="N", help="so many further timetables at the same cost, as different as can be")
     when.add_argument("--ics", metavar="OUT", help="write the timetable there as iCalendar")
+    when.add_argument("--ics-each", metavar="FOLDER", help="write a calendar for each person into that folder")
     when.add_argument("--svg", metavar="OUT", help="write a picture of the timetable there, as SVG, which a browser opens")
-    when.add_argument("--report", metavar="OUT", help="write the report of dcop there, with its certificate")
-    when.add_argument("--time", type=seconds, metavar="30s", help="stop after this time with the best so far")
-    when.add_argument("--workers", type=threads, default=1, metavar="N", help="threads, 1 to 64")
+    when.add_argument("--problem", metavar="OUT", help="write the problem there that was solved, of which the report is")
+    add_busy(when)
+    add_solving(when)
     when.set_defaults(run=run)
 
 
+def add_busy(command: argparse.ArgumentParser) -> None:
+    command.add_argument("--busy", action="append", metavar="PERSON=ICS", help="somebody is busy, or a room taken, as this calendar says; once for each")
+
+
 def run(options: argparse.Namespace) -> int:
-    told = meetings.read(read_text(options.file))
-    made = translate(meetings.source(told, Path(options.file).name))
-    best = solved(Programs(), made, options)
-    if best.values is None:
-        print(as_text(best, made), end="")
+    test_outputs([options.file, *([options.keep] if options.keep else [])], options.report, options.ics, options.svg, options.problem)
+    session = Session.of(options, Path(options.file).name)
+    with reading(session.until):
+        told = opened(options)
+        before = earlier.read(told, read_text(options.keep), options.keep) if options.keep else None
+    if options.ics or options.ics_each:
+        calendars.check(told)
+        calendars.library()
+    if options.ics_each:
+        make_folder(options.ics_each)
+    crowded = impossible.too_many(told)
+    asked = session.within(CROWDED_SECONDS) if crowded and session.until is None else session
+    plan = asked.ask(told, Aim(keep=before.places if before else None))
+    if not plan.found:
+        print(as_text(plan.best, plan.problem), end="")
         return OPEN
-    chosen = made.told(best.values)
-    print("\n".join(timetable_headline(best, made)))
-    if best.stopped:
-        print(f"stopped: {best.stopped}")
-    for clash in meetings.clashes(told, chosen):
-        print(f"broken: {clash.sentence()}")
-    print(meetings.table(told, chosen), end="")
-    for line in meetings.unmet(told, chosen):
-        print(f"wish not met, {line}")
-    if options.ics:
-        write(options.ics, meetings.icalendar(told, chosen))
-    if options.svg:
-        write(options.svg, draw.timetable(told, chosen))
-    return status_of(best, made)
+    further, none = alternatives(session, plan, options.alternatives)
+    reason = impossible.find(session, told) if plan.breaches and (crowded or plan.impossible) else None
+    with undisturbed():
+        why = impossible.sentences(told, reason) if reason else []
+        text = as_object(session, plan, further, none, why) if options.json else as_table(options, plan, further, none, why, bool(crowded))
+        good = deliver(text, outputs(options, plan, before))
+    return TEXT if not good else SOLVED if plan.solved else OPEN
 
 
-def timetable_headline(best: Best, made: Translation) -> list[str]:
-    """What is known of a timetable: where it breaks rules in the words of who makes one, and then in exact ones."""
-    assert best.values is not None
-    count, exact = len(made.broken(best.values)), headline(best, made)
+def as_table(options: argparse.Namespace, plan: Plan, further: list[Plan], none: str | None, why: list[str], crowded: bool) -> str:
+    """The answer for people."""
+    told = telling.heads(plan, ADDED_UP if crowded else None)
+    told += [f"stopped: {plan.best.stopped}"] if plan.best.stopped else []
+    told += [*telling.details(plan), *why]
+    told += [f"note: {note}" for note in (*notes_of(plan.best), *plan.told.notes)]
+    if options.report and not (plan.made.aim.plain and not options.busy):
+        told.append(f"note: {OTHER_PROBLEM}")
+    told += telling.moves(plan)
+    text = "\n".join(told) + "\n" + telling.body(plan) + by_line(plan.best) + "\n"
+    for at, other in enumerate(further, 1):
+        apart = sum(place != plan.chosen[name] for name, place in other.chosen.items())
+        text += f"\nalternative {at}: {apart} of {len(plan.chosen)} meetings elsewhere, cost {telling.money(other.cost)}\n{telling.body(other)}"
+    return text + (f"\n{none}\n" if none else "")
+
+
+def alternatives(session: Session, plan: Plan, count: int) -> tuple[list[Plan], str | None]:
+    """Further timetables as good as one, as different as can be, and why there are no more."""
+    found: list[Plan] = []
     if not count:
-        return [exact]
-    none = known_by(made.none_keeps, best, made)
-    fewest = known_by(lambda bound: made.fewest_broken(bound) == count, best, made)
-    if none is None:
-        return [f"no timetable that keeps all the rules was found; this one breaks {count}", exact]
-    told = "no timetable keeps all the rules" + ("" if none == fewest else f" ({none})") + f"; this one breaks {count}"
-    return [told + (f", and none breaks fewer ({fewest})" if fewest else ""), exact]
+        return found, None
+    if not plan.exact:
+        return found, "no alternatives: the timetable is not known to be the best, so it is not known what others may cost"
+    while len(found) < count:
+        try:
+            other = next_alternative(session, plan, [plan, *found])
+        except (OutOfTime, KeyboardInterrupt):
+            other = None
+        if other is None or not as_good(other, plan, found):
+            known = other is not None and other.best.solved
+            what = "no further timetable is as good" if known else "no further timetable as good was found in time"
+            return found, f"{what}: {len(found)} of {count} alternatives"
+        found.append(other)
+    return found, None
+
+
+def next_alternative(session: Session, plan: Plan, before: list[Plan]) -> Plan:
+    """A timetable as good as one, as different as can be from all of these; where it is one of them, another one."""
+    aim, known = plan.made.aim, [other.names for other in before]
+    other = session.ask(plan.told, Aim(aim.keep, unlike=known, crowds=aim.crowds))
+    if other.names in known:
+        other = session.ask(plan.told, Aim(aim.keep, unlike=known, crowds=aim.crowds, others=known))
+    return other
+
+
+def as_good(other: Plan, plan: Plan, found: list[Plan]) -> bool:
+    new = other.names not in [plan.names, *(it.names for it in found)]
+    return other.keeps and new and other.cost <= plan.cost and len(other.moved) <= len(plan.moved)
+
+
+def as_object(session: Session, plan: Plan, further: list[Plan], none: str | None, why: list[str]) -> str:
+    """The answer for programs."""
+    more: dict[str, object] = {
+        "timetable": entries(plan),
+        "moved": plan.moved,
+        "costs": [cost.sentence() for cost in plan.costs],
+        "why": why,
+        "alternatives": [{"cost": plain(other.cost), "timetable": entries(other)} for other in further],
+        "alternatives_note": none,
+        "notes": plan.told.notes,
+    }
+    answer = json.loads(as_json(plan.best, plan.problem, session.programs, more))
+    answer |= {"solved": plan.solved, "cost": plain(plan.cost), "broken": [breach.sentence() for breach in plan.breaches]}
+    if plan.made.whole:  # the sum has moves in it
+        answer |= {"lower": plain(plan.cost) if plan.exact else None, "upper": plain(plan.cost), "bounds": [], "gap_percent": None}
+    return json.dumps(answer, ensure_ascii=False, default=str) + "\n"
+
+
+def plain(cost: Fraction) -> int | float:
+    return cost.numerator if cost.denominator == 1 else float(cost)
+
+
+def entries(plan: Plan) -> list[dict[str, object]]:
+    """A timetable for programs: an entry for each meeting."""
+    told, found = plan.told, []
+    for name, meeting in told.meetings.items():
+        slot = told.slot_of(plan.chosen, name)
+        end = slot.end(meeting.minutes)
+        found.append(
+            {
+                "meeting": name,
+                "slot": slot.name,
+                "week": told.place_of(meeting, plan.chosen[name]).week + 1 if told.weeks > 1 else None,
+                "begin": slot.begin.isoformat() if slot.begin else None,
+                "end": end.isoformat() if end else None,
+                "people": meeting.people,
+                "optional": list(meeting.optional),
+                "room": plan.rooms.get(name),
+            }
+        )
+    return found
+
+
+def outputs(options: argparse.Namespace, plan: Plan, before: Earlier | None) -> list[tuple[str, Callable[[], str]]]:
+    """The files that are to be written, each with how its text is made."""
+    told, title = plan.told, Path(options.file).name
+
+    def calendar(person: str | None = None) -> str:
+        return calendars.written(told, plan.chosen, title, plan.rooms, plan.breaches, before, person).decode()
+
+    made: list[tuple[str | None, Callable[[], str]]] = [
+        (options.report, lambda: kept(plan.best, plan.problem.problem)),
+        (options.problem, plan.problem.problem.text),
+        (options.ics, calendar),
+        (options.svg, lambda: draw.timetable(told, plan.chosen, plan.breaches, plan.rooms)),
+    ]
+    if options.ics_each:
+        names: set[str] = set()
+        for person in told.people():
+            path = str(Path(options.ics_each) / f"{file_name(person, names)}.ics")
+            made.append((path, lambda person=person: calendar(person)))  # type: ignore[misc]
+    return [(name, text) for name, text in made if name]
+
+
+def make_folder(folder: str) -> None:
+    try:
+        os.makedirs(folder, exist_ok=True)
+    except OSError as fault:
+        raise Trouble(f"the folder {folder} can't be made: {fault.strerror}") from None
+
+
+def file_name(person: str, taken: set[str]) -> str:
+    """A name of a file for somebody: without what a file's name can't have, and another for each."""
+    plain_name = "".join(letter if letter.isalnum() or letter in " ._-@+" else "_" for letter in person).strip(" .")[:80] or "_"
+    name, count = plain_name, 1
+    while name.lower() in taken:
+        count += 1
+        name = f"{plain_name}_{count}"
+    taken.add(name.lower())
+    return name

@@ -5,36 +5,43 @@ from __future__ import annotations
 import argparse
 from fractions import Fraction
 
-from ..arguments import Commands, distance, seconds, threads
-from ..asking import solved
-from ..files import load, read_text
+from ..arguments import Commands, add_solving, cells, distance
+from ..asking import kept, loaded, solved
+from ..files import read_text
+from ..output import deliver, reading, test_outputs, undisturbed
 from ..programs import Programs
-from ..telling import as_json, as_text, status_of
+from ..solving import METHODS
+from ..telling import TEXT, as_json, as_text, status_of
 
 
 def add(commands: Commands) -> None:
     solve = commands.add_parser("solve", help="solve a problem: .dcop, .wcsp, pyDCOP .yaml, meetings .csv, .uai")
     solve.add_argument("file", metavar="FILE")
-    solve.add_argument("--time", type=seconds, metavar="30s", help="stop after this time with the best so far")
-    solve.add_argument("--error", type=distance, default=Fraction(0), metavar="E", help="by how much the cost may miss the best (adopt)")
+    solve.add_argument("--error", type=distance, default=Fraction(0), metavar="E", help="by how much the cost may miss the best (adopt, search)")
     solve.add_argument(
         "--method",
-        choices=("auto", "plain", "dpop", "order", "cut", "adopt"),
+        choices=METHODS,
         default="auto",
-        help="auto, which is meant where none is named, tries dpop, order (dpop in an order by dcop_order), cut (dpop with some "
-        "variables fixed in turn: exact, with a certificate unless its tables are too many) and adopt, one behind the other",
+        help="auto, which is meant where none is named, tries dpop, order (dpop in an order by dcop_order) and search (dcop_search, in "
+        "growing budgets), one behind the other; cut (dpop with some variables fixed in turn) and adopt are tried where they are "
+        "named, or where dcop_search is not there",
     )
-    solve.add_argument("--workers", type=threads, default=1, metavar="N", help="threads, 1 to 64")
-    solve.add_argument("--json", action="store_true", help="the answer as JSON")
-    solve.add_argument("--report", metavar="OUT", help="write the report of dcop there, with its certificate where it has one")
+    solve.add_argument("--cells", type=cells, metavar="N", help="cells that a joined table of cut, or all bounds of search, may have at most")
+    solve.add_argument("--certificate", choices=("yes", "no"), default="yes", help="whether certificates are made and checked; yes by itself")
+    add_solving(solve)
     solve.set_defaults(run=run)
 
 
 def run(options: argparse.Namespace) -> int:
-    options.text = read_text(options.file)
+    test_outputs([options.file], options.report)
     programs = Programs()
-    told = load(options.file, options.text, programs)
+    with reading(None if options.time is None else options.began + options.time):
+        options.text = read_text(options.file)
+    told = loaded(options, programs)
     error = int(options.error * told.scale)
     best = solved(programs, told, options, error, options.method)
-    print(as_json(best, told) if options.json else as_text(best, told), end="")
-    return status_of(best, told)
+    with undisturbed():
+        text = as_json(best, told, programs) if options.json else as_text(best, told)
+        wanted = options.report and best.values is not None
+        good = deliver(text, [(options.report, lambda: kept(best, told.problem))] if wanted else [])
+    return status_of(best, told) if good else TEXT
