@@ -1,0 +1,7 @@
+mod PlaceLaws
+mod EstimateLaws
+mod RowLaws
+mod DescentLaws
+mod FirstLaws
+mod ScaleLaws
+mod SearchLaws
