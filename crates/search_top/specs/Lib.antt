@@ -1,6 +1,7 @@
 pub mod Words
 pub mod Report
 pub mod Text
+pub mod Outside
 pub mod Stages
 pub mod Turning
 pub mod Answering

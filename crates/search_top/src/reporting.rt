@@ -4,6 +4,7 @@ ghost use Rattle.std.specs.Prelude.{◌≡◌, length, IfOk, IfSome};
 ghost use Rattle.dcop_base.specs.Whole.{IsProblem};
 ghost use Rattle.dcop_base.specs.Table.{values_at};
 ghost use Rattle.problem_order.specs.Order.{IsOrder};
+ghost use Rattle.search_top.specs.Outside.{AreToldOutside};
 ghost use Rattle.search_top.specs.Report.{IsSearchReport};
 ghost use Rattle.search_top.specs.Text.{AreTold};
 ghost use Rattle.search_top.specs.Words.{IsServed};
@@ -48,22 +49,28 @@ fn found_outside(
     alloc: Global,
     order: &[VarId],
     found: Option<Found>,
-) -> Result<Option<Found>, NoMemory> {
+) -> Result<Option<Found>, NoMemory>
+    requires order { IsOrder (length order.now) order.now }
+    requires many { IfSome found (λ inside. length inside.values ≡ length order.now) }
+    ensures { IfOk result (AreToldOutside order.now found) }
+{
     match found {
         None => Ok(None),
-        Some(found) => Ok(Some(Found {
-            cost: found.cost,
-            values: values_outside(alloc, order, found.values.as_slice())?,
+        Some(inside) => Ok(Some(Found {
+            cost: inside.cost,
+            values: values_outside(alloc, order, inside.values.as_slice())?,
         })),
     }
 }
 
 /// The values of variables in this order, in the variables' own order.
 fn values_outside(alloc: Global, order: &[VarId], values: &[Val]) -> Result<ValList, NoMemory>
-    requires { IsOrder (length values.now) order.now }
-    ensures { IfOk result (λ outside. values_at order.now outside ≡ values.now) }
+    requires order { IsOrder (length order.now) order.now }
+    requires many { length values.now ≡ length order.now }
+    ensures many { IfOk result (λ outside. length outside ≡ length order.now) }
+    ensures same { IfOk result (λ outside. values_at order.now outside ≡ values.now) }
 {
-    let mut outside = vec![in alloc; Val(0); values.len()]?;
+    let mut outside = vec![in alloc; Val(0); order.len()]?;
     for (place, var) in order.iter().enumerate() {
         outside[var.0 as usize] = values[place];
     }

@@ -1,11 +1,9 @@
 //! A search in stages, whose tables grow.
 
-ghost use Rattle.std.specs.Prelude.{◌≡◌, ◌≤◌, false, List, IfOk};
+ghost use Rattle.std.specs.Prelude.{◌≡◌, ◌≤◌, false, IfOk};
 ghost use Rattle.shared_costs.specs.Shared.{AreSharedCosts};
 ghost use Rattle.bound_search.specs.Known.{IsKnown};
-ghost use Rattle.bound_search.specs.Searched.{IsSearched};
-ghost use Rattle.bucket_bounds.specs.declared.bucket.Bucket.{Bucket};
-ghost use Rattle.search_top.specs.Stages.{IsOutcome};
+ghost use Rattle.search_top.specs.Stages.{IsLowerBound, IsStage, IsOutcome};
 ghost use Rattle.search_top.specs.Words.{IsServed};
 
 use crate::words::Asked;
@@ -20,19 +18,20 @@ use std::alloc::Global;
 struct Stage {
     /// How many cells a joined table has at most.
     limit: u64,
-    /// How many nodes are visited in it.
+    /// How many nodes are visited in it, where that is at most a quarter of what is left of the budget.
     nodes: u64,
 }
 
-/// The stages before the last one, which goes on to the end of the budget.
+/// The stages before the last one, which goes on to the end of the budget. Of the limits and counts
+/// of nodes that were measured, no others were better on all problems.
 const STAGES: [Stage; 2] = [
     Stage {
         limit: 4_096,
-        nodes: 20_000,
+        nodes: 10_000,
     },
     Stage {
         limit: 65_536,
-        nodes: 500_000,
+        nodes: 1_000_000,
     },
 ];
 
@@ -64,59 +63,51 @@ pub(crate) fn outcome_of(
     requires { IsServed asked }
     ensures { IfOk result (IsOutcome problem.now asked best) }
 {
+    problem_is_whole(problem);
     let shared = shared_costs(alloc, problem)?;
-    let mut known = nothing_known(alloc, problem, best)?;
-    let mut lower = 0;
+    let mut outcome = nothing_known(alloc, problem, best)?;
     for stage in STAGES {
-        let budget = asked.budget.min(known.nodes.saturating_add(stage.nodes));
-        let ended = searched(
-            alloc,
-            problem,
-            &shared,
-            asked,
-            stage.limit,
-            budget,
-            &mut known,
-        )?;
-        lower = ended.lower.max(lower);
-        if !ended.spent || known.nodes >= asked.budget {
-            return Ok(Outcome {
-                known,
-                ended: Ended { lower, ..ended },
-            });
+        let budget = stage_budget(asked.budget, outcome.known.nodes, stage.nodes);
+        let limit = stage.limit;
+        outcome = searched(alloc, problem, &shared, asked, limit, budget, outcome)?;
+        if !outcome.ended.spent || outcome.known.nodes >= asked.budget {
+            return Ok(outcome);
         }
     }
-    let ended = searched(
-        alloc,
-        problem,
-        &shared,
-        asked,
-        LAST_LIMIT,
-        asked.budget,
-        &mut known,
-    )?;
-    let lower = ended.lower.max(lower);
-    Ok(Outcome {
-        known,
-        ended: Ended { lower, ..ended },
-    })
+    let budget = asked.budget;
+    searched(alloc, problem, &shared, asked, LAST_LIMIT, budget, outcome)
+}
+
+/// The budget of a stage, counted from the first node of the search: so many nodes more, but at most
+/// a quarter of what is left of the whole budget.
+fn stage_budget(budget: u64, visited: u64, nodes: u64) -> u64
+    ensures { result ≤ budget }
+{
+    let left = budget.saturating_sub(visited);
+    visited.saturating_add(nodes.min(left / 4)).min(budget)
 }
 
 /// What is known before a search.
-fn nothing_known(alloc: Global, problem: &Problem, best: Option<u64>) -> Result<Known, NoMemory>
-    ensures known { IfOk result (IsKnown problem.now) }
-    ensures best { IfOk result (λ known. (known.best ≡ best) × (known.found ≡ false) × (known.nodes ≡ 0)) }
+fn nothing_known(alloc: Global, problem: &Problem, best: Option<u64>) -> Result<Outcome, NoMemory>
+    ensures { IfOk result (λ o. (IsKnown problem.now o.known) × (o.known.best ≡ best)
+        × (o.known.found ≡ false) × (o.known.nodes ≡ 0) × (o.ended.lower ≡ 0)) }
 {
     let values = vec![in alloc; Val(0); problem.sizes.as_slice().len()]?;
-    Ok(Known {
-        best,
-        found: false,
-        values: ValList::from_vec(values),
-        nodes: 0,
+    Ok(Outcome {
+        known: Known {
+            best,
+            found: false,
+            values: ValList::from_vec(values),
+            nodes: 0,
+        },
+        ended: Ended {
+            lower: 0,
+            spent: true,
+        },
     })
 }
 
-/// One stage.
+/// What the search came to after one more stage, with bounds of at most this many cells a table.
 fn searched(
     alloc: Global,
     problem: &Problem,
@@ -124,14 +115,14 @@ fn searched(
     asked: Asked,
     limit: u64,
     budget: u64,
-    known: &mut Known,
-) -> Result<Ended, NoMemory>
+    before: Outcome,
+) -> Result<Outcome, NoMemory>
+    requires asked { IsServed asked }
     requires shared { AreSharedCosts problem.now shared.now }
-    requires known { IsKnown problem.now known.old }
-    requires few { known.old.nodes ≤ 1000000000000 }
-    requires cells { 1024 ≤ asked.cells }
-    ensures { IfOk result (λ ended. (buckets : List Bucket)
-        × IsSearched problem.now buckets asked.error budget known.old known.new ended) }
+    requires known { IsKnown problem.now before.known }
+    requires lower { IsLowerBound problem.now before.ended.lower }
+    requires few { before.known.nodes ≤ 1000000000000 }
+    ensures { IfOk result (IsStage problem.now asked budget before) }
 {
     problem_is_whole(problem);
     let sizes = problem.sizes.as_slice();
@@ -140,5 +131,23 @@ fn searched(
         error: asked.error,
         budget,
     };
-    search(alloc, problem, shared, buckets.as_slice(), limits, known)
+    let Outcome {
+        mut known,
+        ended: earlier,
+    } = before;
+    let ended = search(
+        alloc,
+        problem,
+        shared,
+        buckets.as_slice(),
+        limits,
+        &mut known,
+    )?;
+    Ok(Outcome {
+        known,
+        ended: Ended {
+            lower: ended.lower.max(earlier.lower),
+            spent: ended.spent,
+        },
+    })
 }

@@ -1,0 +1,4 @@
+mod StageLaws
+mod OutsideLaws
+mod ReorderLaws
+mod NameLaws
