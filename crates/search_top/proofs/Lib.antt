@@ -1,0 +1,6 @@
+mod TellLaws
+mod SearchLaws
+mod ShowLaws
+mod AnswerLaws
+mod PassLaws
+mod TextLaws
