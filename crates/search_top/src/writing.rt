@@ -1,6 +1,6 @@
 //! The text of the report of a search.
 
-ghost use Rattle.std.specs.Prelude.{◌≡◌, ◌++◌, Some, None, OnOk, IfOk, IfSome};
+ghost use Rattle.std.specs.Prelude.{◌≡◌, ◌∷◌, [], ◌++◌, Some, None, codes, OnOk, IfOk, IfSome};
 ghost use Rattle.std.specs.List.{flat_map};
 ghost use Rattle.std.specs.String.{string_bytes};
 ghost use Rattle.problem_text.specs.Canonical.{line};
@@ -54,11 +54,19 @@ fn write_head(text: &mut String, report: &SearchReport) -> Result<(), NoMemory>
     ensures { OnOk result (string_bytes text.new
         ≡ string_bytes text.old ++ flat_map line (head_lines report.now)) }
 {
-    let status = report.ending.word();
-    write!(text, "status {status}\nmethod search\n")?;
+    write_status(text, report.ending)?;
+    text.push_str("method search\n")?;
     write_goal(text, report.goal)?;
     write_number(text, "error", report.error)?;
     write_number(text, "nodes", report.nodes)
+}
+
+fn write_status(text: &mut String, ending: SearchEnding) -> Result<(), NoMemory>
+    ensures { OnOk result (string_bytes text.new
+        ≡ string_bytes text.old ++ line (codes "status" ∷ ending_word ending ∷ [])) }
+{
+    let status = ending.word();
+    Ok(write!(text, "status {status}\n")?)
 }
 
 fn write_bounds(text: &mut String, report: &SearchReport) -> Result<(), NoMemory>
