@@ -1,0 +1,89 @@
+use Rattle.std.proofs.Common.{◌≡◌, ◌+◌, ◌++◌, ◌-◌, ℕ, not, List, reverse, sym, ap₂, subst, ◌∙◌, arith}
+use Rattle.std.specs.List.{All, filter}
+use Rattle.dcop_base.specs.Table.{CostTable, has}
+use Rattle.bucket_bounds.specs.Bounds.{AreBounds}
+use Rattle.bucket_bounds.specs.Exact.{AreExactUnparted}
+use Rattle.bucket_bounds.specs.Made.{IsItem, IsBound}
+use Rattle.bucket_bounds.specs.Parts.{AreUncapped, IsBucketWith}
+use Rattle.bucket_bounds.specs.declared.bucket.Bucket.{Bucket}
+use Rattle.bucket_bounds.proofs.RestLaws.{are_bounds, are_exact}
+use Rattle.bucket_bounds.proofs.StepLaws.{IsChain, chain_at, next_items, next_bounds_are, next_uncapped, chain_next, chain_end, turned_more, turned_round}
+use Rattle.bucket_bounds.proofs.bounds.bounds_of.Goals as goal
+
+pub next_bucket-requires-clause-tables : goal.next_bucket-requires-clause-tables
+next_bucket-requires-clause-tables c =
+    let sizes = c.args.sizes.now in
+    let depths = c.args.depths.now in
+    let p : ℕ = c.loop-place.place - 1 in
+    let positive = c.loop-place-test.true in
+    let bs : List Bucket = reverse c.loop-place.last_first.items in
+    let chain = chain_at sizes depths c.args.cells c.loop-place.room c.loop-place.place (p + 1) bs c.loop-place.bounds.items (omega (arith, positive)) c.loop-place.invariant.0 in
+    let within = chain.within in
+    subst (λ (ts : List CostTable). All (IsItem sizes p) ts) (sym c.as_slice-tables.ensures)
+    (next_items sizes depths c.args.cells c.loop-place.room p bs c.loop-place.bounds.items c.index-depths-place.result c.requires.depths (omega (arith, within)) c.index-depths-place.is chain)
+
+pub next_bucket-requires-clause-bounds : goal.next_bucket-requires-clause-bounds
+next_bucket-requires-clause-bounds c =
+    let sizes = c.args.sizes.now in
+    let depths = c.args.depths.now in
+    let p : ℕ = c.loop-place.place - 1 in
+    let positive = c.loop-place-test.true in
+    let bs : List Bucket = reverse c.loop-place.last_first.items in
+    let chain = chain_at sizes depths c.args.cells c.loop-place.room c.loop-place.place (p + 1) bs c.loop-place.bounds.items (omega (arith, positive)) c.loop-place.invariant.0 in
+    let within = chain.within in
+    subst (λ (ts : List CostTable). All (IsBound sizes (p + 1)) ts) (sym c.as_slice.ensures.value)
+    (next_bounds_are sizes depths c.args.cells c.loop-place.room p bs c.loop-place.bounds.items c.index-depths-place.result c.requires.depths (omega (arith, within)) c.index-depths-place.is chain)
+
+pub next_bucket-requires-clause-capped : goal.next_bucket-requires-clause-capped
+next_bucket-requires-clause-capped c =
+    let sizes = c.args.sizes.now in
+    let depths = c.args.depths.now in
+    let p : ℕ = c.loop-place.place - 1 in
+    let positive = c.loop-place-test.true in
+    let bs : List Bucket = reverse c.loop-place.last_first.items in
+    let chain = chain_at sizes depths c.args.cells c.loop-place.room c.loop-place.place (p + 1) bs c.loop-place.bounds.items (omega (arith, positive)) c.loop-place.invariant.0 in
+    let within = chain.within in
+    subst (λ (ts : List CostTable). AreUncapped sizes (ts ++ filter (λ t. has t.scope p) c.as_slice.result.now)) (sym c.as_slice-tables.ensures)
+    (subst (λ (bounds : List CostTable). AreUncapped sizes (c.index-depths-place.result ++ filter (λ t. has t.scope p) bounds)) (sym c.as_slice.ensures.value)
+    (next_uncapped sizes depths c.args.cells c.loop-place.room p bs c.loop-place.bounds.items c.index-depths-place.result c.requires.depths (omega (arith, within)) c.index-depths-place.is chain))
+
+pub loop-place-preserved : goal.loop-place-preserved
+loop-place-preserved c =
+    let sizes = c.args.sizes.now in
+    let depths = c.args.depths.now in
+    let p : ℕ = c.loop-place.place - 1 in
+    let positive = c.loop-place-test.true in
+    let bs : List Bucket = reverse c.loop-place.last_first.items in
+    let bounds : List CostTable = c.loop-place.bounds.items in
+    let tables : List CostTable = c.index-depths-place.result in
+    let made = c.in_ok-made.made in
+    let next : List CostTable = c.in_ok-bounds.bounds.items in
+    let chain = chain_at sizes depths c.args.cells c.loop-place.room c.loop-place.place (p + 1) bs bounds (omega (arith, positive)) c.loop-place.invariant.0 in
+    let within = chain.within in
+    let is : IsBucketWith sizes p tables (filter (λ t. has t.scope p) bounds) c.loop-place.room made =
+    subst (λ (ts : List CostTable). IsBucketWith sizes p ts (filter (λ t. has t.scope p) bounds) c.loop-place.room made) c.as_slice-tables.ensures
+    (subst (λ (us : List CostTable). IsBucketWith sizes p c.as_slice-tables.result.now (filter (λ t. has t.scope p) us) c.loop-place.room made) c.as_slice.ensures.value c.in_ok-made.ensures) in
+    let now : next ≡ filter (λ t. not (has t.scope p)) bounds ++ made.bucket.sent =
+    c.in_ok-bounds.ensures ∙ ap₂ (λ (ts us : List CostTable). filter (λ t. not (has t.scope p)) ts ++ us) c.as_slice-in-loop-place.ensures.value c.as_slice-in-loop-place-2.ensures in (
+      subst (λ (bs : List Bucket). IsChain sizes depths c.args.cells p bs next made.room) (sym (turned_more c.loop-place.last_first.items c.push.new.self.items made.bucket c.in_ok-push.ensures.items))
+          (chain_next sizes depths c.args.cells c.loop-place.room p bs bounds tables c.requires.depths (omega (arith, within)) c.index-depths-place.is chain made next is now),
+      c.loop-place.invariant.1,
+    )
+
+pub returns-clause-bounds : goal.returns-clause-bounds
+returns-clause-bounds c =
+    let sizes = c.args.sizes.now in
+    let depths = c.args.depths.now in
+    let bs : List Bucket = reverse c.loop-place.last_first.items in
+    let end = chain_end sizes depths c.args.cells c.loop-place.room c.loop-place.place bs c.loop-place.bounds.items c.loop-place-test.false c.loop-place.invariant.0 in
+    let is = turned_round c.loop-place.last_first.items c.reverse.new.self c.as_mut_slice.result.now c.from_vec.result c.loop-place.last_first.len c.as_mut_slice.ensures.value c.reverse.ensures.after c.as_mut_slice.ensures.len c.from_vec.ensures in
+    subst (λ (bs : List Bucket). AreBounds sizes depths bs) (sym is) (are_bounds sizes depths bs end.0 c.requires.depths.many end.1)
+
+pub returns-clause-exact : goal.returns-clause-exact
+returns-clause-exact c =
+    let sizes = c.args.sizes.now in
+    let depths = c.args.depths.now in
+    let bs : List Bucket = reverse c.loop-place.last_first.items in
+    let end = chain_end sizes depths c.args.cells c.loop-place.room c.loop-place.place bs c.loop-place.bounds.items c.loop-place-test.false c.loop-place.invariant.0 in
+    let is = turned_round c.loop-place.last_first.items c.reverse.new.self c.as_mut_slice.result.now c.from_vec.result c.loop-place.last_first.len c.as_mut_slice.ensures.value c.reverse.ensures.after c.as_mut_slice.ensures.len c.from_vec.ensures in
+    subst (λ (bs : List Bucket). AreExactUnparted sizes depths bs) (sym is) (are_exact sizes depths bs end.0 c.requires.depths.many end.1)
