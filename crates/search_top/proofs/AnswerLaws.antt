@@ -1,5 +1,5 @@
 -- Which answer belongs to which words and input, and what its status says of the source.
-use Rattle.std.proofs.Common.{◌≡◌, ℕ, ◌<◌, List, Option, Some, Result, Ok, Err, IfOk, sym, ap, subst, arith, refl}
+use Rattle.std.proofs.Common.{◌≡◌, ℕ, ◌<◌, List, Option, Some, Result, Ok, Err, IfOk, ap, subst, arith, refl}
 use Rattle.dcop_edge.specs.Faults.{Rose}
 use Rattle.dcop_base.specs.declared.memory.NoMemory.{NoMemory}
 use Rattle.solve_words.specs.declared.fault.WordFault.{WordFault}

@@ -1,22 +1,12 @@
 -- What follows from how an answer was shown.
 use Rattle.std.proofs.Common.{◌≡◌, ◌≢◌, ℕ, ◌⊎◌, sym, subst, ◌∙◌, inl, inr}
 use Rattle.dcop_edge.specs.Faults.{Rose}
-use Rattle.solve_report.specs.declared.answer.Answer.{Answer}
 use Rattle.answer_edge.specs.declared.status.Status.{Status}
 use Rattle.answer_edge.specs.declared.status.Status.TheVariants.{ReadFault, WriteFault, NoMemory}
 use Rattle.answer_edge.specs.Output.{SinkState}
-use Rattle.answer_edge.specs.Showing.{Shows as ShowsRefusal}
 use Rattle.search_top.specs.Showing.{IsShown, IsCut, Shows, search_status_of}
 use Rattle.search_top.specs.declared.answer.SearchAnswer.{SearchAnswer}
-use Rattle.search_top.specs.declared.answer.SearchAnswer.TheVariants.{Refused}
 use Rattle.search_top.proofs.SearchLaws.{told-status}
-
--- a refusal that was shown is an answer that was
-pub refusal-shown : (refusal : Answer) (sink sink' : SinkState) (faults faults' : ℕ) (status : Status) → ShowsRefusal refusal sink sink' faults faults' status
-    → Shows (Refused refusal) sink sink' faults faults' status
-refusal-shown refusal sink sink' faults faults' status (inl none) = inl none
-refusal-shown refusal sink sink' faults faults' status (inr (inl shown)) = inr (inl (record { text = shown.0.text; finished = shown.0.finished; same = shown.0.same }, shown.1))
-refusal-shown refusal sink sink' faults faults' status (inr (inr cut)) = inr (inr (record { prefix = cut.0.prefix; fault = cut.0.fault }, cut.1))
 
 -- unless memory was wanted, the answer was shown or the sink failed
 pub shown-so : (answer : SearchAnswer) (sink sink' : SinkState) (faults faults' : ℕ) (status : Status) → Shows answer sink sink' faults faults' status → status ≢ NoMemory

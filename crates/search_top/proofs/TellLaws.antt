@@ -1,20 +1,19 @@
 -- What came of a search on the problem solved, told of the problem.
-use Rattle.std.proofs.Common.{◌≡◌, ℕ, ◌+◌, ◌-◌, ◌<◌, ◌≤◌, Bool, true, false, List, length, replicate, Option, Some, None, IfSome, option_map, if◌then◌else◌, refl, sym, ap, subst, ◌∙◌, arith, inl, inr}
+use Rattle.std.proofs.Common.{◌≡◌, ℕ, ◌+◌, ◌<◌, ◌≤◌, Bool, true, false, List, length, replicate, Option, Some, None, IfSome, option_map, if◌then◌else◌, refl, sym, ap, subst, ◌∙◌, arith, inl, inr}
 use Rattle.std.proofs.lemmas.List.Elements.{All-weaker}
 use Rattle.dcop_base.specs.Problem.{Dcop, IsAssignment, cost}
 use Rattle.dcop_base.specs.Whole.{IsProblem}
 use Rattle.dcop_base.specs.Limits.{size_limit}
 use Rattle.dcop_base.proofs.ProblemLaws.{cost-le-greatest_sum}
-use Rattle.dcop_optimum.specs.Goal.{top_of, turned}
+use Rattle.dcop_optimum.specs.Goal.{top_of}
 use Rattle.dcop_optimum.proofs.PlaceLaws.{zeros_within}
 use Rattle.dcop_optimum.proofs.TurnLaws.{sum_to_top}
 use Rattle.problem_text.specs.declared.file.Goal.{Goal}
 use Rattle.problem_text.specs.declared.file.Goal.TheVariants.{Min, Max}
 use Rattle.problem_solved.specs.Goal.{solved, IsAtMostWorse}
-use Rattle.bound_search.specs.Known.{IsFound, IsKnown, IsBelow}
-use Rattle.bound_search.specs.Searched.{HasEnded, IsSpent, EndsSo}
-use Rattle.bound_search.specs.declared.known.Known.{Known}
-use Rattle.search_top.specs.Report.{IsBetterSum, IsFoundIn, IsBoundOf, HasSolved, HasNoneBetter, EndsBy, IsSearchReport}
+use Rattle.bound_search.specs.Known.{IsBelow}
+use Rattle.bound_search.specs.Searched.{HasEnded, EndsSo}
+use Rattle.search_top.specs.Report.{IsBetterSum, IsFoundIn, IsBoundOf, EndsBy, IsSearchReport}
 use Rattle.search_top.specs.Stages.{IsOutcome}
 use Rattle.search_top.specs.Turning.{told_sum, found_told, ending_told}
 use Rattle.search_top.specs.declared.report.Found.{Found}

@@ -1,5 +1,5 @@
 -- The text of the report of a search: its lines in order, each the words of that line.
-use Rattle.std.specs.Prelude.{◌≡◌, ℕ, List, [], ◌∷◌, ◌++◌, length, codes, Option, Some, None, IfSome}
+use Rattle.std.specs.Prelude.{◌≡◌, ℕ, List, [], ◌∷◌, ◌++◌, length, codes, Option, Some, None}
 use Rattle.std.specs.List.{AllZip, flat_map}
 use Rattle.std.specs.Fmt.{decimal}
 use Rattle.problem_text.specs.Canonical.{line, goal_lines}

@@ -1,5 +1,5 @@
 -- What came of a search on the problem solved, told of the problem.
-use Rattle.std.specs.Prelude.{◌≡◌, ℕ, ◌-◌, Bool, Option, None, option_map, if◌then◌else◌}
+use Rattle.std.specs.Prelude.{ℕ, ◌-◌, Bool, Option, None, option_map, if◌then◌else◌}
 use Rattle.problem_text.specs.declared.file.Goal.{Goal}
 use Rattle.problem_text.specs.declared.file.Goal.TheVariants.{Min, Max}
 use Rattle.bound_search.specs.declared.known.Known.{Known}

@@ -1,4 +1,3 @@
-use Rattle.search_top.proofs.ShowLaws.{refusal-shown}
 use Rattle.search_top.proofs.showing.show_answer.Goals as goal
 
 pub returns-in-Searched-clause-shows : goal.returns-in-Searched-clause-shows
