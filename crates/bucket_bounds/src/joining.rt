@@ -45,8 +45,8 @@ fn joined_of(alloc: Global, sizes: &[u16], group: &Group) -> Result<Table, NoMem
     Ok(table)
 }
 
-/// A joined table of zeros over the variables of a group, the last one first: the tables that are
-/// added name it, so the cells to which one of their cells is added then lie side by side.
+/// A joined table of zeros over the variables of a group, the last one first: all tables that are
+/// added name it, so more of the cells to which one of their cells is added lie side by side.
 fn zeros_for(alloc: Global, sizes: &[u16], group: &Group) -> Result<Joined, NoMemory>
     requires group { IsGroup sizes.now group.now }
     requires few { group.now.cells ≤ joined_limit }
