@@ -69,7 +69,7 @@ def is_as_expected(printed: list[str], expected: list[str]) -> bool:
 def missing(command: str, path: str) -> str | None:
     """What a command needs and these folders have not."""
     words = command.replace("|", " ").split()
-    for tool in ("dot", "toulbar2", "dcop_serve"):
+    for tool in ("dot", "toulbar2", "dcop_serve", "dcop_search"):
         if tool in words and shutil.which(tool, path=path) is None:
             return tool
     if any(word.endswith(".yaml") for word in words) and importlib.util.find_spec("yaml") is None:
