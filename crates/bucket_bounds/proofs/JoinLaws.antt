@@ -15,6 +15,8 @@ use Rattle.shared_costs.specs.Tables.{IsTableOver, IsOfDepth}
 use Rattle.bucket_bounds.specs.Groups.{IsHeld, IsGroup, IsGroupAt, groups_cost}
 use Rattle.bucket_bounds.specs.Joining.{IsCostOf, HasGained, IsZeroFor, IsJoin, AreJoined}
 use Rattle.bucket_bounds.specs.declared.group.Group.{Group}
+use Rattle.bucket_bounds.specs.Union.{IsTurned}
+use Rattle.bucket_bounds.proofs.GroupLaws.{all_had, had_of}
 use Rattle.bucket_bounds.proofs.KeptLaws.{cost_more}
 use Rattle.bucket_bounds.proofs.ProjectLaws.{read_map, within_map}
 
@@ -90,24 +92,32 @@ read_each f over (v ∷ vs) all =
 pub held_lies : (sizes vars : List ℕ) (zero t : CostTable) → IsZeroFor sizes vars zero → IsHeld sizes vars t → LiesIn zero.scope zero.sizes t
 held_lies sizes vars zero t is held =
     let f : ℕ → ℕ = λ v. slice_index sizes v in
-    let lies : LiesIn vars (map f vars) t = record { among = held.among; sized = held.table.sized ∙ read_each f vars t.scope held.among } in
-    subst (λ (vs : List ℕ). LiesIn vs zero.sizes t) (sym is.same_scope) (subst (λ (ss : List ℕ). LiesIn vars ss t) (sym is.same_sizes) lies)
+    let over = is.over in
+    let among : All (λ v. has over v ≡ true) t.scope = λ k d lt. is.turned.same (get_or t.scope k d) ∙ held.among k d lt in
+    let lies : LiesIn over (map f over) t = record { among = among; sized = held.table.sized ∙ read_each f over t.scope among } in
+    subst (λ (vs : List ℕ). LiesIn vs zero.sizes t) (sym is.zero.same_scope) (subst (λ (ss : List ℕ). LiesIn over ss t) (sym is.zero.same_sizes) lies)
+
+-- what holds of variables holds of them in another order
+pub turned_all : (P : ℕ → Type 0) (vars over : List ℕ) → IsTurned vars over → All P vars → All P over
+turned_all P vars over turned all = all_had P over (λ u h. had_of P vars u all (sym (turned.same u) ∙ h))
 
 -- what was made of zeros by adding the tables of a group is its joined table
 pub join_is : (sizes : List ℕ) (g : Group) (zero t : CostTable) → IsGroup sizes g → IsZeroFor sizes g.vars zero → HasGained g.tables.items zero t → IsTable t → IsJoin sizes g t
 join_is sizes g zero t group is gained whole =
     let f : ℕ → ℕ = λ v. slice_index sizes v in
-    let cost = gains g.vars (map f g.vars) (λ value. 0) g.tables.items zero t is gained in
+    let over = is.over in
+    let cost = gains over (map f over) (λ value. 0) g.tables.items zero t is.zero gained in
+    let within = turned_all (λ v. v < length sizes) g.vars over is.turned group.within in
     record {
       table = record {
         whole = whole;
-        within = subst (λ (vs : List ℕ). All (λ v. v < length sizes) vs) (sym cost.same_scope) group.within;
+        within = subst (λ (vs : List ℕ). All (λ v. v < length sizes) vs) (sym cost.same_scope) within;
         sized = cost.same_sizes ∙ ap (λ (vs : List ℕ). map f vs) (sym cost.same_scope);
       };
-      cost = λ value are small. let cell = cost.cells value (within_map sizes value g.vars are group.within) in omega (arith, cell, small);
+      cost = λ value are small. let cell = cost.cells value (within_map sizes value over are within) in omega (arith, cell, small);
       depth = λ p at. record {
-        names = ap (λ (vs : List ℕ). has vs p) cost.same_scope ∙ at.names;
-        last = subst (λ (vs : List ℕ). All (λ v. v ≤ p) vs) (sym cost.same_scope) at.last;
+        names = ap (λ (vs : List ℕ). has vs p) cost.same_scope ∙ is.turned.same p ∙ at.names;
+        last = subst (λ (vs : List ℕ). All (λ v. v ≤ p) vs) (sym cost.same_scope) (turned_all (λ v. v ≤ p) g.vars over is.turned at.last);
       };
     }
 

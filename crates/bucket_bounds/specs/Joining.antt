@@ -6,6 +6,7 @@ use Rattle.dcop_base.specs.Table.{CostTable, AreWithin}
 use Rattle.dcop_base.specs.Values.{cell_with, cost_with}
 use Rattle.shared_costs.specs.Values.{AreValues}
 use Rattle.shared_costs.specs.Tables.{IsTableOver, IsOfDepth}
+use Rattle.bucket_bounds.specs.Union.{IsTurned}
 use Rattle.bucket_bounds.specs.Groups.{IsGroupAt, groups_cost}
 use Rattle.bucket_bounds.specs.declared.group.Group.{Group}
 
@@ -21,9 +22,11 @@ pub record HasGained (ts : List CostTable) (old new : CostTable) : Type 0 where
   pub same_sizes : new.sizes ≡ old.sizes
   pub costs : (costs : (ℕ → ℕ) → ℕ) → IsCostOf old.scope old.sizes costs old → IsCostOf old.scope old.sizes (λ value. costs value + cost_with ts value) new
 
--- a joined table of zeros over variables that have these sizes
-abbrev pub IsZeroFor : List ℕ → List ℕ → CostTable → Type 0
-IsZeroFor sizes vars t = IsCostOf vars (map (λ v. slice_index sizes v) vars) (λ value. 0) t
+-- a joined table of zeros over these variables, in some order, that have these sizes
+pub record IsZeroFor (sizes vars : List ℕ) (t : CostTable) : Type 0 where
+  pub over : List ℕ
+  pub turned : IsTurned vars over
+  pub zero : IsCostOf over (map (λ v. slice_index sizes v) over) (λ value. 0) t
 
 -- the joined table of a group: at each values it costs what the tables of the group cost, where that is no capped sum
 pub record IsJoin (sizes : List ℕ) (g : Group) (t : CostTable) : Type 0 where

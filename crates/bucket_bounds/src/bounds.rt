@@ -67,7 +67,8 @@ fn next_bucket(
     requires var { var < length sizes.now }
     requires tables { All (IsItem sizes.now var) tables.now }
     requires bounds { All (IsBound sizes.now (var + 1)) bounds.now }
-    requires capped { AreUncapped sizes.now (tables.now ++ filter (λ t. has t.scope var) bounds.now) }
+    requires capped { AreUncapped sizes.now
+        (tables.now ++ filter (λ t. has t.scope var) bounds.now) }
     requires widest { widest ≤ joined_limit }
     ensures { IfOk result
         (IsBucketWith sizes.now var tables.now (filter (λ t. has t.scope var) bounds.now) room) }

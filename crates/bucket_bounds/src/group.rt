@@ -48,7 +48,6 @@ pub(crate) fn groups_of(
 
 /// The place of the first group with which variables of a scope may be joined.
 fn place_of(sizes: &[u16], groups: &[Group], scope: &[VarId], limit: u64) -> Option<usize>
-    requires scope { All (λ v. v < length sizes.now) scope.now }
     requires limit { limit ≤ joined_limit }
     ensures { IfSome result (λ k. (k < length groups.now)
         × ((none : Group) → Fits sizes.now scope.now limit (slice_index_or groups.now k none))) }

@@ -83,8 +83,8 @@ fn parts_of(
     shared_tables(alloc, sizes, joined, var)
 }
 
-/// What is sent of the parts of the bucket of a variable: their projections, the smallest ones first
-/// where there is not room for all.
+/// What is sent of the parts of the bucket of a variable: their projections, the smallest ones
+/// first where there is not room for all.
 fn sent_of(alloc: Global, var: VarId, parts: &[Table], room: u64) -> Result<Kept, NoMemory>
     requires { All (λ t. has t.scope var ≡ true) parts.now }
     ensures { IfOk result (AreSentOf var parts.now room) }
