@@ -1,5 +1,5 @@
 -- The report of a search on a file in another order is one on the file, with what was found told in its own order.
-use Rattle.std.proofs.Common.{◌≡◌, ℕ, ◌+◌, ◌<◌, ◌≤◌, max, List, [], ◌∷◌, length, map, Option, Some, None, IfSome, refl, sym, ap, subst, ◌∙◌}
+use Rattle.std.proofs.Common.{◌≡◌, ℕ, ◌+◌, ◌<◌, ◌≤◌, List, [], ◌∷◌, length, map, Option, Some, None, IfSome, refl, sym, ap, subst, ◌∙◌}
 use Rattle.std.specs.List.{AllZip, slice_index}
 use Rattle.std.proofs.lemmas.List.Elements.{length_all_zip}
 use Rattle.std.proofs.lemmas.List.Sums.{sum_by-cons}
@@ -14,7 +14,7 @@ use Rattle.problem_solved.specs.Goal.{IsAtMostWorse}
 use Rattle.problem_order.specs.Reordered.{IsTableFor, IsReordered}
 use Rattle.problem_order.specs.Costs.{CostTheSame}
 use Rattle.search_top.specs.Outside.{AreToldOutside}
-use Rattle.search_top.specs.Report.{IsBetterSum, IsFoundIn, IsBoundOf, EndsBy, IsSearchReport}
+use Rattle.search_top.specs.Report.{IsBetterSum, IsFoundIn, IsBoundOf, EndsBy, IsSearchReport, most_visited}
 use Rattle.search_top.specs.declared.report.Found.{Found}
 use Rattle.search_top.specs.declared.report.SearchEnding.{SearchEnding}
 use Rattle.search_top.specs.declared.report.SearchEnding.TheVariants.{Solved, Spent, NoneBetter}
@@ -113,5 +113,5 @@ module _ (old new : TextFile) (order : List ℕ) (reordered : IsReordered old or
       within = (let top : top_of new.problem ≡ top_of old.problem = greatest_sum_same order old.problem.tables new.problem.tables reordered.tables in
           subst (λ (n : ℕ). inside.bound ≤ n) top is.within);
       ends = ends_outside inside found told inside.ending is.ends;
-      nodes = subst (λ (n : ℕ). inside.nodes ≤ max asked.budget n) (count_same ∙ reordered.is_order.many) is.nodes;
+      nodes = subst (λ (n : ℕ). inside.nodes ≤ most_visited asked.budget n asked.better) (count_same ∙ reordered.is_order.many) is.nodes;
     }

@@ -1,11 +1,12 @@
 -- What stages of a search come to, one behind the other.
 use Rattle.std.proofs.Common.{◌≡◌, ℕ, ◌≤◌, ◌⊎◌, max, Bool, true, false, length, Option, Some, None, refl, sym, subst, ◌∙◌, inl, inr, arith}
 use Rattle.std.proofs.lemmas.Bool.{cases_Bool}
-use Rattle.dcop_base.specs.Problem.{Dcop}
+use Rattle.dcop_base.specs.Problem.{Dcop, cost}
 use Rattle.bound_search.specs.Known.{IsKnown, IsNoWorse, IsBelow}
 use Rattle.bound_search.specs.Searched.{EndsSo, most_nodes}
 use Rattle.bound_search.specs.declared.known.Known.{Known}
 use Rattle.bound_search.specs.declared.searching.Ended.{Ended}
+use Rattle.search_top.specs.Report.{most_visited}
 use Rattle.search_top.specs.Stages.{IsStage, IsSoFar, IsOutcome}
 use Rattle.search_top.specs.declared.stages.Outcome.{Outcome}
 use Rattle.search_top.specs.declared.words.Asked.{Asked}
@@ -26,6 +27,20 @@ most_within : (budget whole count : ℕ) (best : Option ℕ) (before after : ℕ
     → after ≤ most_nodes budget count best before → after ≤ max whole count
 most_within budget whole count None before after few within first most = let zero_is = first refl in omega (arith, few, zero_is, most)
 most_within budget whole count (Some b) before after few within first most = omega (arith, few, within, most)
+
+budget_visited : (budget count : ℕ) (best : Option ℕ) → budget ≤ most_visited budget count best
+budget_visited budget count None = omega arith
+budget_visited budget count (Some b) = omega arith
+
+most_still : (budget whole count : ℕ) (best known : Option ℕ) (before after : ℕ) → budget ≤ whole → before ≤ most_visited whole count best → (known ≡ None → (before ≡ 0) × (best ≡ None))
+    → after ≤ most_nodes budget count known before → after ≤ most_visited whole count best
+most_still budget whole count best None before after few within first most =
+    let none = first refl in
+    let zero_is = none.0 in
+    let so_many : after ≤ max whole count = omega (arith, few, zero_is, most) in
+    subst (λ (b : Option ℕ). after ≤ most_visited whole count b) (sym none.1) so_many
+most_still budget whole count best (Some b) before after few within first most =
+    let least = budget_visited whole count best in omega (arith, few, within, least, most)
 
 -- something is known at the end of a stage
 something_known : (error budget : ℕ) (known : Known) (ended : Ended) → EndsSo error budget known ended → known.best ≡ None → ⊥
@@ -53,6 +68,7 @@ module _ (p : Dcop) (asked : Asked) (best : Option ℕ) where
     better = λ h. absurd (not_both o.known.found none h);
     lower = λ values within. omega (arith, zero_lower);
     first = λ h. zero_nodes;
+    few = omega (arith, zero_nodes);
     nodes = omega (arith, zero_nodes);
   }
 
@@ -78,6 +94,15 @@ module _ (p : Dcop) (asked : Asked) (best : Option ℕ) where
       | inr none ↦ stage.found (so_far.same none ∙ any)
     ]
 
+    nothing_before : before.known.best ≡ None → (before.known.nodes ≡ 0) × (best ≡ None)
+    nothing_before none = (
+      so_far.first none,
+      elim (cases_Bool before.known.found) [
+        | inl had ↦ absurd (some_not_none before.known.best (cost p before.known.values) (so_far.known.found had).cost none)
+        | inr had_none ↦ sym (so_far.same had_none) ∙ none
+      ],
+    )
+
     -- after one more stage
     pub so_far_more : IsSoFar p asked best after
     so_far_more = record {
@@ -86,7 +111,8 @@ module _ (p : Dcop) (asked : Asked) (best : Option ℕ) where
       better = better_still;
       lower = stage.lower;
       first = λ none. absurd (something_known asked.error budget after.known after.ended stage.ends none);
-      nodes = most_within budget asked.budget (length p.sizes) before.known.best before.known.nodes after.known.nodes few so_far.nodes so_far.first stage.nodes;
+      few = most_within budget asked.budget (length p.sizes) before.known.best before.known.nodes after.known.nodes few so_far.few so_far.first stage.nodes;
+      nodes = most_still budget asked.budget (length p.sizes) best before.known.best before.known.nodes after.known.nodes few so_far.nodes nothing_before stage.nodes;
     }
 
     -- after the last one

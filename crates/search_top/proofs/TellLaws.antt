@@ -13,7 +13,7 @@ use Rattle.problem_text.specs.declared.file.Goal.TheVariants.{Min, Max}
 use Rattle.problem_solved.specs.Goal.{solved, IsAtMostWorse}
 use Rattle.bound_search.specs.Known.{IsBelow}
 use Rattle.bound_search.specs.Searched.{HasEnded, EndsSo}
-use Rattle.search_top.specs.Report.{IsBetterSum, IsFoundIn, IsBoundOf, EndsBy, IsSearchReport}
+use Rattle.search_top.specs.Report.{IsBetterSum, IsFoundIn, IsBoundOf, EndsBy, IsSearchReport, most_visited}
 use Rattle.search_top.specs.Stages.{IsOutcome}
 use Rattle.search_top.specs.Turning.{told_sum, found_told, ending_told}
 use Rattle.search_top.specs.declared.report.Found.{Found}
@@ -166,6 +166,17 @@ bound-told goal p lower whole below values is =
     subst (λ (sum : ℕ). IsAtMostWorse goal 0 (told_sum goal (top_of p) lower) sum) (sum-told goal p values whole is)
     (worse-told goal (top_of p) 0 lower (cost (solved goal p) values) (omega (arith, least)))
 
+-- what is to be bettered is told as a sum, where something is
+most-visited : (told : ℕ → ℕ) (budget count : ℕ) (better : Option ℕ) → most_visited budget count (option_map told better) ≡ most_visited budget count better
+most-visited told budget count None = refl
+most-visited told budget count (Some sum) = refl
+
+visited-told : (goal : Goal) (p : Dcop) (budget nodes : ℕ) (better : Option ℕ) → nodes ≤ most_visited budget (length (solved goal p).sizes) (option_map (told_sum goal (top_of p)) better)
+    → nodes ≤ most_visited budget (length p.sizes) better
+visited-told goal p budget nodes better few =
+    subst (λ (most : ℕ). nodes ≤ most) (most-visited (told_sum goal (top_of p)) budget (length p.sizes) better)
+    (subst (λ (count : ℕ). nodes ≤ most_visited budget count (option_map (told_sum goal (top_of p)) better)) (sizes-solved goal p) few)
+
 -- what came of a search is told as the report of one on the problem
 pub outcome-told : (goal : Goal) (p : Dcop) (asked : Asked) (o : Outcome) → IsProblem p
     → IsOutcome (solved goal p) asked (option_map (told_sum goal (top_of p)) asked.better) o → IsSearchReport goal p asked (report_told goal (top_of p) asked o)
@@ -177,5 +188,5 @@ outcome-told goal p asked o whole is = record {
   bound = bound-told goal p o.ended.lower whole is.lower;
   within = within-told goal p o.ended.lower whole is.lower;
   ends = ends-told goal p asked o is o.known.found o.ended.spent refl refl;
-  nodes = rw (← sizes-solved goal p) is.nodes;
+  nodes = visited-told goal p asked.budget o.known.nodes asked.better is.nodes;
 }

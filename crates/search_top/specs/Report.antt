@@ -26,6 +26,11 @@ pub record IsFoundIn (goal : Goal) (p : Dcop) (better : Option ℕ) (found : Fou
 abbrev pub IsBoundOf : Goal → Dcop → ℕ → Type 0
 IsBoundOf goal p bound = (values : List ℕ) → IsAssignment p values → IsAtMostWorse goal 0 bound (cost p values)
 
+-- how many nodes a search visits at most: as many as the budget allows; where nothing is to be bettered, also one for each variable, for a first assignment
+abbrev pub most_visited : ℕ → ℕ → Option ℕ → ℕ
+most_visited budget count None = max budget count
+most_visited budget count (Some better) = budget
+
 -- a search that has ended with an assignment: its cost is at most the error worse than the bound
 pub record HasSolved (asked : Asked) (r : SearchReport) : Type 0 where
   pub found : Found
@@ -54,4 +59,4 @@ pub record IsSearchReport (goal : Goal) (p : Dcop) (asked : Asked) (r : SearchRe
   pub bound : IsBoundOf goal p r.bound
   pub within : r.bound ≤ top_of p
   pub ends : EndsBy asked r r.ending
-  pub nodes : r.nodes ≤ max asked.budget (length p.sizes)
+  pub nodes : r.nodes ≤ most_visited asked.budget (length p.sizes) asked.better

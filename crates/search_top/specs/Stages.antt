@@ -3,6 +3,7 @@ use Rattle.std.specs.Prelude.{◌≡◌, ℕ, ◌≤◌, max, true, false, List,
 use Rattle.dcop_base.specs.Problem.{Dcop, IsAssignment, cost}
 use Rattle.bound_search.specs.Known.{IsKnown, KnowsMore, IsBelow}
 use Rattle.bound_search.specs.Searched.{EndsSo, most_nodes}
+use Rattle.search_top.specs.Report.{most_visited}
 use Rattle.search_top.specs.declared.stages.Outcome.{Outcome}
 use Rattle.search_top.specs.declared.words.Asked.{Asked}
 
@@ -26,7 +27,8 @@ pub record IsSoFar (p : Dcop) (asked : Asked) (best : Option ℕ) (o : Outcome) 
   pub better : o.known.found ≡ true → IsBelow o.known.best best
   pub lower : IsLowerBound p o.ended.lower
   pub first : o.known.best ≡ None → o.known.nodes ≡ 0
-  pub nodes : o.known.nodes ≤ max asked.budget (length p.sizes)
+  pub few : o.known.nodes ≤ max asked.budget (length p.sizes)
+  pub nodes : o.known.nodes ≤ most_visited asked.budget (length p.sizes) best
 
 -- what came of a search for an assignment that costs less than this, where something is to be bettered
 pub record IsOutcome (p : Dcop) (asked : Asked) (best : Option ℕ) (o : Outcome) : Type 0 where
@@ -36,4 +38,4 @@ pub record IsOutcome (p : Dcop) (asked : Asked) (best : Option ℕ) (o : Outcome
   pub better : o.known.found ≡ true → IsBelow o.known.best best
   pub lower : (values : List ℕ) → IsAssignment p values → o.ended.lower ≤ cost p values
   pub ends : EndsSo asked.error asked.budget o.known o.ended
-  pub nodes : o.known.nodes ≤ max asked.budget (length p.sizes)
+  pub nodes : o.known.nodes ≤ most_visited asked.budget (length p.sizes) best

@@ -8,7 +8,7 @@ ghost use Rattle.search_top.specs.Words.{IsServed};
 
 use crate::words::Asked;
 use bound_search::{Ended, Known, Limits, search};
-use bucket_bounds::bounds_of;
+use bucket_bounds::{bounds_of, limit_within};
 use dcop_base::{NoMemory, Problem, Val, ValList, problem_is_whole};
 use shared_costs::{SharedCosts, shared_costs};
 use std::alloc::Global;
@@ -49,7 +49,7 @@ pub struct Outcome {
 
 /// Searches a problem for an assignment that costs less than `best`, where there is such a sum, in
 /// stages: once a stage has visited its nodes, the next one begins anew with larger tables, and with
-/// what is known.
+/// what is known. A stage whose tables would be no larger is left out.
 ///
 /// # Errors
 ///
@@ -66,16 +66,37 @@ pub(crate) fn outcome_of(
     problem_is_whole(problem);
     let shared = shared_costs(alloc, problem)?;
     let mut outcome = nothing_known(alloc, problem, best)?;
+    let mut earlier = 0;
     for stage in STAGES {
+        let limit = limit_of(alloc, problem, &shared, stage.limit, asked.cells)?;
+        if limit == earlier {
+            continue;
+        }
+        earlier = limit;
         let budget = stage_budget(asked.budget, outcome.known.nodes, stage.nodes);
-        let limit = stage.limit;
         outcome = searched(alloc, problem, &shared, asked, limit, budget, outcome)?;
         if !outcome.ended.spent || outcome.known.nodes >= asked.budget {
             return Ok(outcome);
         }
     }
-    let budget = asked.budget;
-    searched(alloc, problem, &shared, asked, LAST_LIMIT, budget, outcome)
+    let limit = limit_of(alloc, problem, &shared, LAST_LIMIT, asked.cells)?;
+    searched(alloc, problem, &shared, asked, limit, asked.budget, outcome)
+}
+
+/// The limit of a stage: as many cells as this, but at least 2, or fewer, so that no bounds are lost
+/// for want of room.
+fn limit_of(
+    alloc: Global,
+    problem: &Problem,
+    shared: &SharedCosts,
+    most: u64,
+    cells: u64,
+) -> Result<u64, NoMemory>
+    requires { AreSharedCosts problem.now shared.now }
+{
+    problem_is_whole(problem);
+    let sizes = problem.sizes.as_slice();
+    limit_within(alloc, sizes, shared.depths.as_slice(), most.max(2), cells)
 }
 
 /// The budget of a stage, counted from the first node of the search: so many nodes more, but at most
