@@ -1,7 +1,7 @@
 -- Laws of joined tables: zeros, tables that are added one by one, and what the joined table of a group is.
 use Rattle.std.proofs.Common.{◌≡◌, ℕ, ◌+◌, ◌<◌, ◌≤◌, true, min, List, [], ◌∷◌, ◌++◌, map, length, take, get_or, replicate, slice_index, refl, sym, ap, ap₂, subst, ◌∙◌, arith}
 use Rattle.std.specs.List.{All}
-use Rattle.std.proofs.lemmas.List.{take_more, get_or-replicate}
+use Rattle.std.proofs.lemmas.List.{length-append, take_more, get_or-replicate}
 use Rattle.std.proofs.lemmas.List.Elements.{All-nil, All-cons, All-head, All-tail, All-append}
 use Rattle.std.proofs.lemmas.List.Sums.{sum_by-append, sum_by-cons}
 use Rattle.dcop_base.specs.Limits.{amount_limit}
@@ -139,6 +139,10 @@ joined_more sizes groups k g ts news t lt is before join e =
       depth = λ p all.
           let parts = groups_end (IsGroupAt p) (take k groups) g (subst (λ (gs : List Group). All (IsGroupAt p) gs) next all) in
           subst (λ (us : List CostTable). All (IsOfDepth p) us) (sym e) (All-append (IsOfDepth p) ts (t ∷ []) (before.depth p parts.0) (All-cons (IsOfDepth p) t [] (join.depth p parts.1) (All-nil (IsOfDepth p))));
+      many =
+          let own = ap (λ (us : List CostTable). length us) e ∙ length-append ts (t ∷ []) in
+          let all = ap (λ (gs : List Group). length gs) next ∙ length-append (take k groups) (g ∷ []) in
+          omega (arith, own, all, before.many);
     }
   where
     groups_end : (P : Group → Type 0) (gs : List Group) (g : Group) → All P (gs ++ g ∷ []) → All P gs × P g

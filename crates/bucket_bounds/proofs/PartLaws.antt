@@ -17,11 +17,13 @@ use Rattle.bucket_bounds.specs.Groups.{AreGroups}
 use Rattle.bucket_bounds.specs.Joining.{AreJoined}
 use Rattle.bucket_bounds.specs.Kept.{IsWithin, AreKept, kept_cost}
 use Rattle.bucket_bounds.specs.Made.{IsItem, IsBound}
+use Rattle.bucket_bounds.specs.Parting.{AreTooWide, ArePartedDuly}
 use Rattle.bucket_bounds.specs.Parts.{AreShared, AreUncapped, AreSentOf, IsBucketWith}
 use Rattle.bucket_bounds.specs.declared.group.Group.{Group}
 use Rattle.bucket_bounds.specs.declared.keeping.Kept.{Kept}
 use Rattle.bucket_bounds.specs.declared.making.Made.{Made}
 use Rattle.bucket_bounds.proofs.CellLaws.{own_values}
+use Rattle.bucket_bounds.proofs.PartingLaws.{parted_wide}
 use Rattle.bucket_bounds.proofs.ProjectLaws.{table_within, projections_bound, projections_low, projections_at}
 
 -- tables with the scopes of others have their depth
@@ -68,6 +70,12 @@ module _ (sizes : List ℕ) (p : ℕ) (tables came none first items : List CostT
 
   pub items_cost : (value : ℕ → ℕ) → cost_with items value ≡ cost_with (tables ++ came) value
   items_cost value = sum_by-IsPermutation (λ (t : CostTable). cell_with t value) (tables ++ came) items order
+
+  pub parted_is : (limit : ℕ) (groups : List Group) (joined parts : List CostTable) → ArePartedDuly sizes limit items groups → AreJoined sizes groups joined → length parts ≡ length joined → 2 ≤ length parts → AreTooWide sizes limit (tables ++ came)
+  parted_is limit groups joined parts duly join long two =
+      let all = All-append (IsItem sizes p) tables came own bounds in
+      let many = join.many in
+      parted_wide sizes limit (tables ++ came) items groups order (λ k d lt. (all k d lt).0) duly (omega (arith, two, long, many))
 
   module _ (groups : List Group) (joined : List CostTable) (parted : AreGroups sizes items groups) (join : AreJoined sizes groups joined) where
     pub joined_cost : (value : ℕ → ℕ) → AreValues sizes value → cost_with joined value ≡ cost_with (tables ++ came) value

@@ -1,5 +1,5 @@
 -- Joined tables of groups.
-use Rattle.std.specs.Prelude.{◌≡◌, ℕ, ◌+◌, ◌≤◌, min, List, map, slice_index}
+use Rattle.std.specs.Prelude.{◌≡◌, ℕ, ◌+◌, ◌≤◌, min, List, map, length, slice_index}
 use Rattle.std.specs.List.{All}
 use Rattle.dcop_base.specs.Limits.{amount_limit}
 use Rattle.dcop_base.specs.Table.{CostTable, AreWithin}
@@ -39,3 +39,4 @@ pub record AreJoined (sizes : List ℕ) (groups : List Group) (ts : List CostTab
   pub tables : All (IsTableOver sizes) ts
   pub costs : (value : ℕ → ℕ) → AreValues sizes value → groups_cost groups value ≤ amount_limit → cost_with ts value ≡ groups_cost groups value
   pub depth : (p : ℕ) → All (IsGroupAt p) groups → All (IsOfDepth p) ts
+  pub many : length ts ≡ length groups

@@ -1,6 +1,6 @@
 //! The bounds of all depths.
 
-ghost use Rattle.std.specs.Prelude.{◌≡◌, ◌+◌, ◌++◌, ◌<◌, ◌≤◌, not, length, IfOk};
+ghost use Rattle.std.specs.Prelude.{◌≡◌, ◌+◌, ◌++◌, ◌<◌, ◌≤◌, min, not, length, IfOk};
 ghost use Rattle.std.specs.List.{All, filter};
 ghost use Rattle.dcop_base.specs.Limits.{joined_limit, variable_limit};
 ghost use Rattle.dcop_base.specs.Table.{has};
@@ -8,6 +8,7 @@ ghost use Rattle.shared_costs.specs.Tables.{AreDepths};
 ghost use Rattle.bucket_bounds.specs.Bounds.{AreBounds, kept_cells};
 ghost use Rattle.bucket_bounds.specs.Exact.{AreExactUnparted};
 ghost use Rattle.bucket_bounds.specs.Made.{IsItem, IsBound};
+ghost use Rattle.bucket_bounds.specs.Parting.{IsPartedDuly};
 ghost use Rattle.bucket_bounds.specs.Parts.{AreUncapped, IsBucketWith};
 
 use crate::bucket::BucketList;
@@ -35,6 +36,7 @@ pub fn bounds_of(
     ensures bounds { IfOk result (AreBounds sizes.now depths.now) }
     ensures kept { IfOk result (λ buckets. kept_cells buckets ≤ cells) }
     ensures exact { IfOk result (AreExactUnparted sizes.now depths.now) }
+    ensures parted { IfOk result (All (IsPartedDuly sizes.now (min limit joined_limit))) }
 {
     let widest = limit.min(MAX_JOINED_CELLS);
     let mut room = cells - sizes.len() as u64;
@@ -70,8 +72,9 @@ fn next_bucket(
     requires capped { AreUncapped sizes.now
         (tables.now ++ filter (λ t. has t.scope var) bounds.now) }
     requires widest { widest ≤ joined_limit }
-    ensures { IfOk result
+    ensures made { IfOk result
         (IsBucketWith sizes.now var tables.now (filter (λ t. has t.scope var) bounds.now) room) }
+    ensures parted { IfOk result (λ made. IsPartedDuly sizes.now widest made.bucket) }
 {
     let tables = TableList::from_vec(clones_of(alloc, tables)?);
     let came = TableList::from_vec(naming(alloc, bounds, var)?);
