@@ -7,7 +7,7 @@ ghost use Rattle.dcop_base.specs.Table.{has};
 ghost use Rattle.shared_costs.specs.Tables.{AreDepths};
 ghost use Rattle.bucket_bounds.specs.Bounds.{AreBounds, kept_cells};
 ghost use Rattle.bucket_bounds.specs.Exact.{AreExactUnparted};
-ghost use Rattle.bucket_bounds.specs.Made.{IsItem, IsBound};
+ghost use Rattle.bucket_bounds.specs.Made.{IsItem, IsBound, AreMade};
 ghost use Rattle.bucket_bounds.specs.Parting.{IsPartedDuly};
 ghost use Rattle.bucket_bounds.specs.Parts.{AreUncapped, IsBucketWith};
 
@@ -35,6 +35,7 @@ pub fn bounds_of(
     requires cells { length sizes.now ≤ cells }
     ensures bounds { IfOk result (AreBounds sizes.now depths.now) }
     ensures kept { IfOk result (λ buckets. kept_cells buckets ≤ cells) }
+    ensures made { IfOk result (AreMade sizes.now 0) }
     ensures exact { IfOk result (AreExactUnparted sizes.now depths.now) }
     ensures parted { IfOk result (All (IsPartedDuly sizes.now (min limit joined_limit))) }
 {

@@ -5,7 +5,7 @@ use Rattle.dcop_base.specs.Limits.{joined_limit}
 use Rattle.dcop_base.specs.Table.{CostTable, has}
 use Rattle.bucket_bounds.specs.Bounds.{AreBounds}
 use Rattle.bucket_bounds.specs.Exact.{AreExactUnparted}
-use Rattle.bucket_bounds.specs.Made.{IsItem, IsBound}
+use Rattle.bucket_bounds.specs.Made.{IsItem, IsBound, AreMade}
 use Rattle.bucket_bounds.specs.Parting.{IsPartedDuly}
 use Rattle.bucket_bounds.specs.Parts.{AreUncapped, IsBucketWith}
 use Rattle.bucket_bounds.specs.declared.bucket.Bucket.{Bucket}
@@ -100,3 +100,12 @@ returns-clause-parted c =
     let is = turned_round c.loop-place.last_first.items c.reverse.new.self c.as_mut_slice.result.now c.from_vec.result c.loop-place.last_first.len c.as_mut_slice.ensures.value c.reverse.ensures.after c.as_mut_slice.ensures.len c.from_vec.ensures in
     subst (λ (bs : List Bucket). All (IsPartedDuly sizes (min c.args.limit joined_limit)) bs) (sym is)
     (subst (λ (limit : ℕ). All (IsPartedDuly sizes limit) (reverse c.loop-place.last_first.items)) c.loop-place.invariant.2 c.loop-place.invariant.3)
+
+pub returns-clause-made : goal.returns-clause-made
+returns-clause-made c =
+    let sizes = c.args.sizes.now in
+    let depths = c.args.depths.now in
+    let bs : List Bucket = reverse c.loop-place.last_first.items in
+    let end = chain_end sizes depths c.args.cells c.loop-place.room c.loop-place.place bs c.loop-place.bounds.items c.loop-place-test.false c.loop-place.invariant.0 in
+    let is = turned_round c.loop-place.last_first.items c.reverse.new.self c.as_mut_slice.result.now c.from_vec.result c.loop-place.last_first.len c.as_mut_slice.ensures.value c.reverse.ensures.after c.as_mut_slice.ensures.len c.from_vec.ensures in
+    subst (λ (bs : List Bucket). AreMade sizes 0 bs) (sym is) end.1
