@@ -13,6 +13,7 @@ use Rattle.util_kernel.specs.Lanes.{plus}
 use Rattle.util_join.specs.Join.{IsSum, LiesIn}
 use Rattle.shared_costs.specs.Tables.{IsTableOver, IsOfDepth}
 use Rattle.bucket_bounds.specs.Groups.{IsHeld, IsGroup, IsGroupAt, groups_cost}
+use Rattle.bucket_bounds.specs.Parting.{LiesAmong}
 use Rattle.bucket_bounds.specs.Joining.{IsCostOf, HasGained, IsZeroFor, IsJoin, AreJoined}
 use Rattle.bucket_bounds.specs.declared.group.Group.{Group}
 use Rattle.bucket_bounds.specs.Union.{IsTurned}
@@ -119,6 +120,7 @@ join_is sizes g zero t group is gained whole =
         names = ap (λ (vs : List ℕ). has vs p) cost.same_scope ∙ is.turned.same p ∙ at.names;
         last = subst (λ (vs : List ℕ). All (λ v. v ≤ p) vs) (sym cost.same_scope) (turned_all (λ v. v ≤ p) g.vars over is.turned at.last);
       };
+      among = subst (λ (vs : List ℕ). All (λ v. has g.vars v ≡ true) vs) (sym cost.same_scope) (all_had (λ v. has g.vars v ≡ true) over (λ u h. sym (is.turned.same u) ∙ h));
     }
 
 -- the joined tables of groups, one more
@@ -143,6 +145,10 @@ joined_more sizes groups k g ts news t lt is before join e =
           let own = ap (λ (us : List CostTable). length us) e ∙ length-append ts (t ∷ []) in
           let all = ap (λ (gs : List Group). length gs) next ∙ length-append (take k groups) (g ∷ []) in
           omega (arith, own, all, before.many);
+      named = λ vars all.
+          let parts = groups_end (λ (g : Group). All (λ v. has vars v ≡ true) g.vars) (take k groups) g (subst (λ (gs : List Group). All (λ (g : Group). All (λ v. has vars v ≡ true) g.vars) gs) next all) in
+          let own : LiesAmong vars t = λ j d lt. had_of (λ v. has vars v ≡ true) g.vars (get_or t.scope j d) parts.1 (join.among j d lt) in
+          subst (λ (us : List CostTable). All (LiesAmong vars) us) (sym e) (All-append (LiesAmong vars) ts (t ∷ []) (before.named vars parts.0) (All-cons (LiesAmong vars) t [] own (All-nil (LiesAmong vars))));
     }
   where
     groups_end : (P : Group → Type 0) (gs : List Group) (g : Group) → All P (gs ++ g ∷ []) → All P gs × P g

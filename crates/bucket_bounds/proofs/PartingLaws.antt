@@ -1,8 +1,8 @@
 -- Laws of parting: a group that has no room for a scope shows that all together are too wide.
 use Rattle.std.proofs.Common.{◌≡◌, ℕ, ◌+◌, ◌*◌, ◌<◌, ◌≤◌, ◌||◌, min, Bool, true, false, cond, eqb, List, [], ◌∷◌, ◌++◌, map, length, set, take, get_or, slice_index, refl, sym, ap, subst, ◌∙◌, inl, inr, mul-le-mul_left, arith}
-use Rattle.std.specs.List.{All, list_any}
+use Rattle.std.specs.List.{All, AllZip, list_any}
 use Rattle.std.specs.List.Sorted.{IsPermutation}
-use Rattle.std.proofs.lemmas.Bool.{cases_Bool, cond-true, cond-false, eqb-true, or_cases, or_from, or_parts, or_left, or_right, true≢false}
+use Rattle.std.proofs.lemmas.Bool.{cases_Bool, cond-true, cond-false, eqb-true, ne_eqb, or_cases, or_from, or_parts, or_left, or_right, true≢false}
 use Rattle.std.proofs.lemmas.List.{take_more, length-append, length-set}
 use Rattle.std.proofs.lemmas.List.Elements.{All-nil, All-cons, All-head, All-tail, All-append, All-set}
 use Rattle.std.proofs.lemmas.List.Sorted.{All-permutation}
@@ -10,13 +10,19 @@ use Rattle.dcop_base.specs.Limits.{count_limit}
 use Rattle.dcop_base.specs.Table.{CostTable, product, has, has_repeat}
 use Rattle.dcop_base.proofs.TableLaws.{none-passes, parts-of}
 use Rattle.dcop_base.proofs.JointLaws.{eqb-swap}
+use Rattle.cost_table.specs.Cells.{place_in}
+use Rattle.cost_table.proofs.SliceLaws.{All-remove}
+use Rattle.util_project.specs.Projection.{IsProjection}
 use Rattle.shared_costs.specs.Tables.{IsTableOver}
 use Rattle.bucket_bounds.specs.Union.{cells_over, times_more}
 use Rattle.bucket_bounds.specs.Groups.{IsGroup, IsGroupOf, AddsTo}
-use Rattle.bucket_bounds.specs.Parting.{AreTooWide, LiesAmong, IsTooWideFor, ArePartedDuly}
+use Rattle.bucket_bounds.specs.Parting.{IsScopeOf, AreTooWide, AreReplacedDuly, LiesAmong, IsTooWideFor, ArePartedDuly}
+use Rattle.bucket_bounds.specs.Made.{IsItem}
+use Rattle.bucket_bounds.specs.declared.bucket.Bucket.{Bucket}
 use Rattle.bucket_bounds.specs.declared.group.Group.{Group}
 use Rattle.bucket_bounds.proofs.GroupLaws.{all_had, had_of, union_all, scope_positive}
 use Rattle.bucket_bounds.proofs.KeptLaws.{all_end}
+use Rattle.bucket_bounds.proofs.ProjectLaws.{projection_bound}
 
 -- a list without the first of its items that is this
 abbrev without : List ℕ → ℕ → List ℕ
@@ -180,9 +186,42 @@ named_of P (t ∷ ts) u all h = elim (or_cases (has t.scope u) (list_any (λ (t 
   | inr later ↦ named_of P ts u (All-tail (λ (t : CostTable). All P t.scope) t ts all) later
 ]
 
+-- the variables that tables name
+pub scope_named : (ts : List CostTable) (vars : List ℕ) → IsScopeOf ts vars → All (LiesAmong vars) ts
+scope_named ts vars is = named_all (λ v. has vars v ≡ true) ts (λ u h. is.both u ∙ h)
+
+pub scope_sizes : (sizes : List ℕ) (ts : List CostTable) (vars : List ℕ) → All (IsTableOver sizes) ts → IsScopeOf ts vars → All (λ v. 1 ≤ slice_index sizes v) vars
+scope_sizes sizes ts vars over is =
+    all_had (λ v. 1 ≤ slice_index sizes v) vars (λ u h. named_of (λ v. 1 ≤ slice_index sizes v) ts u (λ k d lt. scope_positive sizes (get_or ts k d) (over k d lt)) (sym (is.both u) ∙ h))
+
 -- tables that were parted, in some order, into two groups or more
 pub parted_wide : (sizes : List ℕ) (limit : ℕ) (ts items : List CostTable) (groups : List Group) → IsPermutation ts items → All (IsTableOver sizes) ts → ArePartedDuly sizes limit items groups → 2 ≤ length groups → AreTooWide sizes limit ts
-parted_wide sizes limit ts items groups order over duly two vars is = duly.wide two vars (record {
-  positive = all_had (λ v. 1 ≤ slice_index sizes v) vars (λ u h. named_of (λ v. 1 ≤ slice_index sizes v) ts u (λ k d lt. scope_positive sizes (get_or ts k d) (over k d lt)) (sym (is.both u) ∙ h));
-  named = All-permutation (LiesAmong vars) ts items order (named_all (λ v. has vars v ≡ true) ts (λ u h. is.both u ∙ h));
-})
+parted_wide sizes limit ts items groups order over duly two vars is =
+    duly.wide two vars (record { positive = scope_sizes sizes ts vars over is; named = All-permutation (LiesAmong vars) ts items order (scope_named ts vars is) })
+
+-- a projection by p of a table among p and others has at most as many cells as a table over these
+projection_few : (sizes : List ℕ) (p : ℕ) (others : List ℕ) (t less : CostTable) → IsItem sizes p t → IsProjection t p less → LiesAmong (p ∷ others) t → All (λ v. 1 ≤ slice_index sizes v) others → length less.cells ≤ cells_over sizes others
+projection_few sizes p others t less item is named positive =
+    let bound = projection_bound sizes p t less item is in
+    let parts = parts-of less.scope less.sizes less.cells bound.0.whole in
+    let all : All (λ v. has (p ∷ others) v ≡ true) less.scope = subst (λ (vs : List ℕ). All (λ v. has (p ∷ others) v ≡ true) vs) (sym is.same_scope) (All-remove (λ v. has (p ∷ others) v ≡ true) t.scope (place_in t.scope p) named) in
+    let among : All (λ v. has others v ≡ true) less.scope = λ k d lt.
+    ap (λ (b : Bool). b || has others (get_or less.scope k d)) (sym (ne_eqb p (get_or less.scope k d) (λ e. (let below = bound.1 k d lt in omega (arith, below, e))))) ∙ all k d lt in
+    let low = product-among (λ v. slice_index sizes v) less.scope others parts.apart among positive in
+    let count : length less.cells ≡ cells_over sizes less.scope = parts.full ∙ ap product bound.0.sized in
+    omega (arith, low, count)
+
+pub projections_few : (sizes : List ℕ) (p : ℕ) (others : List ℕ) (ts ls : List CostTable) → All (IsItem sizes p) ts → AllZip (λ t l. IsProjection t p l) ts ls → All (LiesAmong (p ∷ others)) ts → All (λ v. 1 ≤ slice_index sizes v) others
+    → All (λ t. length t.cells ≤ cells_over sizes others) ls
+projections_few sizes p others [] [] items are named positive = All-nil (λ t. length t.cells ≤ cells_over sizes others)
+projections_few sizes p others [] (l ∷ ls) items are named positive = absurd are
+projections_few sizes p others (t ∷ ts) [] items are named positive = absurd are
+projections_few sizes p others (t ∷ ts) (l ∷ ls) items are named positive =
+    All-cons (λ (t : CostTable). length t.cells ≤ cells_over sizes others) l ls
+    (projection_few sizes p others t l (All-head (IsItem sizes p) t ts items) are.0 (All-head (LiesAmong (p ∷ others)) t ts named) positive)
+    (projections_few sizes p others ts ls (All-tail (IsItem sizes p) t ts items) are.1 (All-tail (LiesAmong (p ∷ others)) t ts named) positive)
+
+-- less room
+pub less_room : (sizes : List ℕ) (more less p : ℕ) (bs : List Bucket) → less ≤ more → AreReplacedDuly sizes more p bs → AreReplacedDuly sizes less p bs
+less_room sizes more less p [] le are = tt
+less_room sizes more less p (b ∷ bs) le are = ((λ some others scope. (let full = are.0 some others scope in omega (arith, full, le))), less_room sizes more less (p + 1) bs le are.1)

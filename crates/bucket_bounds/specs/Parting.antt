@@ -1,5 +1,5 @@
 -- Buckets that are parted only where they have to be.
-use Rattle.std.specs.Prelude.{◌≡◌, ℕ, ◌*◌, ◌<◌, ◌≤◌, true, false, List, ◌++◌, length, slice_index}
+use Rattle.std.specs.Prelude.{◌≡◌, ℕ, ◌+◌, ◌*◌, ◌<◌, ◌≤◌, true, false, List, [], ◌∷◌, ◌++◌, length, slice_index}
 use Rattle.std.specs.List.{All, list_any}
 use Rattle.dcop_base.specs.Table.{CostTable, has, has_repeat}
 use Rattle.bucket_bounds.specs.Union.{cells_over, times_more}
@@ -18,6 +18,15 @@ AreTooWide sizes limit ts = (vars : List ℕ) → IsScopeOf ts vars → limit < 
 -- a bucket that is parted only where the joined table of its tables and of what came to it has more cells than the limit
 abbrev pub IsPartedDuly : List ℕ → ℕ → Bucket → Type 0
 IsPartedDuly sizes limit bucket = 2 ≤ bucket.groups → AreTooWide sizes limit (bucket.tables ++ bucket.came)
+
+-- a bucket of variable p of which a bound is replaced only where a table over its other variables has more cells than there is room for
+abbrev pub IsReplacedDuly : List ℕ → ℕ → ℕ → Bucket → Type 0
+IsReplacedDuly sizes room p bucket = 1 ≤ bucket.replaced → (others : List ℕ) → IsScopeOf (bucket.tables ++ bucket.came) (p ∷ others) → room < cells_over sizes others
+
+-- buckets of the variables from p on, of which a bound is replaced only where there is not room for it
+abbrev pub AreReplacedDuly : List ℕ → ℕ → ℕ → List Bucket → Type 0
+AreReplacedDuly sizes room p [] = Unit {0}
+AreReplacedDuly sizes room p (bucket ∷ later) = IsReplacedDuly sizes room p bucket × AreReplacedDuly sizes room (p + 1) later
 
 -- a table of which each variable stands among these
 abbrev pub LiesAmong : List ℕ → CostTable → Type 0

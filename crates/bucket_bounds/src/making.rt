@@ -5,7 +5,7 @@ ghost use Rattle.std.specs.List.{All};
 ghost use Rattle.dcop_base.specs.Limits.{joined_limit};
 ghost use Rattle.dcop_base.specs.Table.{has};
 ghost use Rattle.bucket_bounds.specs.Made.{IsItem};
-ghost use Rattle.bucket_bounds.specs.Parting.{AreTooWide, IsPartedDuly};
+ghost use Rattle.bucket_bounds.specs.Parting.{AreTooWide, IsPartedDuly, IsReplacedDuly};
 ghost use Rattle.bucket_bounds.specs.Parts.{AreShared, AreUncapped, AreSentOf, IsBucketWith};
 
 use crate::bucket::Bucket;
@@ -44,6 +44,7 @@ pub(crate) fn bucket_with(
     requires limit { limit ≤ joined_limit }
     ensures made { IfOk result (λ made. IsBucketWith sizes.now var tables came room made) }
     ensures parted { IfOk result (λ made. IsPartedDuly sizes.now limit made.bucket) }
+    ensures replaced { IfOk result (λ made. IsReplacedDuly sizes.now made.room var made.bucket) }
 {
     let parts = parts_of(alloc, sizes, var, tables.as_slice(), came.as_slice(), limit)?;
     let kept = sent_of(alloc, var, parts.as_slice(), room)?;

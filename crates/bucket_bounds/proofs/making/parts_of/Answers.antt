@@ -37,7 +37,8 @@ returns-clause-parts c =
     (λ parts is. parts_are c.args.sizes.now c.args.var c.args.tables.now c.args.came.now c.new-items.result.items c.put_by_cells.new.among.items c.put_by_cells-2.new.among.items
     c.new-items.ensures.items c.in_ok-put_by_cells.ensures c.in_ok-put_by_cells-2.ensures c.requires.tables c.requires.came c.requires.capped
     c.in_ok-groups.groups.items c.in_ok-joined.joined.items (subst (λ (ts : List CostTable). AreGroups c.args.sizes.now ts c.in_ok-groups.groups.items) c.as_slice.ensures.value c.in_ok-groups.ensures.groups)
-    (subst (λ (gs : List Group). AreJoined c.args.sizes.now gs c.in_ok-joined.joined.items) c.as_slice-2.ensures.value c.in_ok-joined.ensures) parts.items is) c.shared_tables.ensures.shared
+    (subst (λ (gs : List Group). AreJoined c.args.sizes.now gs c.in_ok-joined.joined.items) c.as_slice-2.ensures.value c.in_ok-joined.ensures) parts.items c.args.limit
+    (subst (λ (ts : List CostTable). ArePartedDuly c.args.sizes.now c.args.limit ts c.in_ok-groups.groups.items) c.as_slice.ensures.value c.in_ok-groups.ensures.parted) is) c.shared_tables.ensures.shared
 
 pub returns-clause-parted : goal.returns-clause-parted
 returns-clause-parted c =
