@@ -1,7 +1,8 @@
 -- Laws of what is kept of projections.
-use Rattle.std.proofs.Common.{◌≡◌, ℕ, ◌+◌, ◌-◌, ◌<◌, ◌≤◌, min, List, [], ◌∷◌, ◌++◌, map, length, take, get_or, refl, sym, ap, subst, ◌∙◌, inl, inr, arith}
+use Rattle.std.proofs.Common.{◌≡◌, ℕ, ◌+◌, ◌-◌, ◌<◌, ◌≤◌, min, List, [], ◌∷◌, ◌++◌, map, length, take, get_or, refl, sym, ap, subst, ◌∙◌, inl, inr, mul-le-mul_left, arith}
+use Rattle.std.proofs.lemmas.Bool.{cases_lt}
 use Rattle.std.specs.List.{All}
-use Rattle.std.proofs.lemmas.List.{take_more}
+use Rattle.std.proofs.lemmas.List.{take_more, get_or_default}
 use Rattle.std.proofs.lemmas.List.Elements.{All-append, All-cons, All-nil, All-head, All-tail}
 use Rattle.std.proofs.lemmas.List.Sums.{sum_by-append, sum_by-cons}
 use Rattle.dcop_base.specs.Table.{CostTable, IsTable, product, cell_place}
@@ -9,7 +10,7 @@ use Rattle.dcop_base.specs.Faults.{cell_count}
 use Rattle.dcop_base.specs.Values.{cell_with, cost_with}
 use Rattle.dcop_base.proofs.TableLaws.{parts-of, cell_place-lt}
 use Rattle.bucket_bounds.specs.Made.{IsBound}
-use Rattle.bucket_bounds.specs.Kept.{IsWithin, IsKept, AreKept, kept_cost}
+use Rattle.bucket_bounds.specs.Kept.{IsWithin, IsLeastOf, IsKept, AreKept, kept_cost}
 use Rattle.bucket_bounds.specs.declared.keeping.Kept.{Kept}
 
 -- one table more
@@ -41,11 +42,37 @@ only_cell t value whole none =
     let sizes : t.sizes ≡ [] = none_in t.sizes (parts.sized ∙ ap length none) in
     (parts.full ∙ ap product sizes, ap (λ (ss : List ℕ). get_or t.cells (cell_place ss (map value t.scope)) 0) sizes)
 
+-- a table with sizes has a cell
+product_some : (ss : List ℕ) → All (λ s. 1 ≤ s) ss → 1 ≤ product ss
+product_some [] all = omega arith
+product_some (s ∷ ss) all =
+    let one = All-head (λ s. 1 ≤ s) s ss all in
+    let rest = mul-le-mul_left s (product_some ss (All-tail (λ s. 1 ≤ s) s ss all)) in
+    omega (arith, one, rest)
+
+-- the least of one number more
+pub least_more : (xs : List ℕ) (k x least new : ℕ) → k < length xs → x ≡ get_or xs k x → new ≡ min least x → (k ≡ 0 → x ≤ least) → (1 ≤ k → (j : ℕ) × (j < k) × (get_or xs j 0 ≡ least)) → (j : ℕ) × (j < k + 1) × (get_or xs j 0 ≡ new)
+least_more xs k x least new lt is now first before = elim (cases_lt least x) [
+  | inl high ↦
+      let early = before (elim (cases_lt 0 k) [ inl some ↦ some | inr none ↦ absurd (let low = first (omega (arith, none)) in omega (arith, low, high)) ]) in
+      let below = early.1 in
+      (early.0, omega (arith, below), early.2 ∙ (omega (arith, now, high)))
+  | inr low ↦ (k, omega arith, get_or_default xs k 0 x lt ∙ sym is ∙ (omega (arith, now, low)))
+]
+
 -- a table that was replaced or kept
-module _ (old : Kept) (t : CostTable) (least fixed : ℕ) (whole : IsTable t) (low : All (λ c. least ≤ c) t.cells) (adds : fixed ≡ min (old.fixed + least) 18446744073709551615) where
+module _ (old : Kept) (t : CostTable) (least fixed : ℕ) (whole : IsTable t) (low : All (λ c. least ≤ c) t.cells) (lowest : 1 ≤ length t.cells → IsLeastOf t.cells least) (adds : fixed ≡ min (old.fixed + least) 18446744073709551615) where
+  some_cell : 1 ≤ length t.cells
+  some_cell =
+      let parts = parts-of t.scope t.sizes t.cells whole in
+      let some = product_some t.sizes parts.positive in
+      let full = parts.full in
+      omega (arith, some, full)
+
   pub keeps_amount : t.scope ≡ [] → (length t.cells ≡ 1 → least ≡ get_or t.cells 0 0) → IsKept old t (record { sent = old.sent; fixed = fixed; replaced = old.replaced; room = old.room })
   keeps_amount none only = record {
     among = inl refl;
+    fixed = inr (record { least = least; is = lowest some_cell; sent = refl; fixed = adds });
     cells = refl;
     room = omega arith;
     wide = inl refl;
@@ -60,6 +87,7 @@ module _ (old : Kept) (t : CostTable) (least fixed : ℕ) (whole : IsTable t) (l
   pub keeps_least : (replaced : ℕ) → old.room < length t.cells → replaced ≡ min (old.replaced + 1) 18446744073709551615 → IsKept old t (record { sent = old.sent; fixed = fixed; replaced = replaced; room = old.room })
   keeps_least replaced full more = record {
     among = inl refl;
+    fixed = inr (record { least = least; is = lowest some_cell; sent = refl; fixed = adds });
     cells = refl;
     room = omega arith;
     wide = inr full;
@@ -75,6 +103,7 @@ keeps_table old new t copy same sent fits room fixed replaced =
     λ value. (let sum = ap (λ (ts : List CostTable). cost_with ts value) more in let one = cost_more old.sent.items t value in omega (arith, sum, one, fixed)) in
     record {
       among = inr more;
+      fixed = inl (more, fixed);
       cells = let count = ap cell_count more in let one = count_more old.sent.items t in omega (arith, count, one, room, fits);
       room = omega (arith, room);
       wide = inl replaced;

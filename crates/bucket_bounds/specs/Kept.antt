@@ -1,7 +1,7 @@
 -- What is kept of projections.
-use Rattle.std.specs.Prelude.{◌≡◌, ℕ, ◌+◌, ◌<◌, ◌≤◌, ◌⊎◌, List, [], ◌∷◌, ◌++◌, map, length}
+use Rattle.std.specs.Prelude.{◌≡◌, ℕ, ◌+◌, ◌<◌, ◌≤◌, ◌⊎◌, List, [], ◌∷◌, ◌++◌, map, length, min, slice_index}
 use Rattle.std.specs.List.{All}
-use Rattle.dcop_base.specs.Limits.{amount_limit}
+use Rattle.dcop_base.specs.Limits.{amount_limit, count_limit}
 use Rattle.dcop_base.specs.Table.{CostTable, AreWithin}
 use Rattle.dcop_base.specs.Faults.{cell_count}
 use Rattle.dcop_base.specs.Values.{cell_with, cost_with}
@@ -16,9 +16,22 @@ IsWithin value t = AreWithin t.sizes (map value t.scope)
 abbrev pub kept_cost : Kept → (ℕ → ℕ) → ℕ
 kept_cost kept value = kept.fixed + cost_with kept.sent.items value
 
+-- the least of these numbers: one of them, and none is less
+pub record IsLeastOf (xs : List ℕ) (least : ℕ) : Type 0 where
+  pub attained : (k : ℕ) × (k < length xs) × (slice_index xs k ≡ least)
+  pub lower : All (λ x. least ≤ x) xs
+
+-- a table was replaced by its least cell
+pub record IsReplacedBy (old : Kept) (t : CostTable) (new : Kept) : Type 0 where
+  pub least : ℕ
+  pub is : IsLeastOf t.cells least
+  pub sent : new.sent.items ≡ old.sent.items
+  pub fixed : new.fixed ≡ min (old.fixed + least) count_limit
+
 -- a table was kept, or replaced by its least cell
 pub record IsKept (old : Kept) (t : CostTable) (new : Kept) : Type 0 where
   pub among : (new.sent.items ≡ old.sent.items) ⊎ (new.sent.items ≡ old.sent.items ++ t ∷ [])
+  pub fixed : ((new.sent.items ≡ old.sent.items ++ t ∷ []) × (new.fixed ≡ old.fixed)) ⊎ IsReplacedBy old t new
   pub cells : cell_count new.sent.items + new.room ≡ cell_count old.sent.items + old.room
   pub low : (value : ℕ → ℕ) → IsWithin value t → kept_cost new value ≤ kept_cost old value + cell_with t value
   pub room : new.room ≤ old.room

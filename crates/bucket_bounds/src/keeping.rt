@@ -2,7 +2,7 @@
 
 ghost use Rattle.std.specs.Prelude.{◌≡◌, ◌<◌, ◌≤◌, min, length, OnOk, IfOk, slice_index};
 ghost use Rattle.std.specs.List.{All};
-ghost use Rattle.bucket_bounds.specs.Kept.{IsKept, AreKept};
+ghost use Rattle.bucket_bounds.specs.Kept.{IsLeastOf, IsKept, AreKept};
 
 use dcop_base::{NoMemory, Table};
 use std::alloc::Global;
@@ -60,6 +60,7 @@ fn keep(kept: &mut Kept, table: &Table) -> Result<(), NoMemory>
 /// The least cell; `u64::MAX` of none.
 fn least_of(cells: &[u64]) -> u64
     ensures lower { All (λ c. result ≤ c) cells.now }
+    ensures least { 1 ≤ length cells.now → IsLeastOf cells.now result }
     ensures only { length cells.now ≡ 1 → result ≡ slice_index cells.now 0 }
 {
     let mut least = u64::MAX;
