@@ -7,6 +7,7 @@ import json
 import os
 from collections.abc import Callable
 from fractions import Fraction
+from functools import partial
 from pathlib import Path
 
 from .. import draw
@@ -154,7 +155,8 @@ def plain(cost: Fraction) -> int | float:
 
 def entries(plan: Plan) -> list[dict[str, object]]:
     """A timetable for programs: an entry for each meeting."""
-    told, found = plan.told, []
+    told = plan.told
+    found: list[dict[str, object]] = []
     for name, meeting in told.meetings.items():
         slot = told.slot_of(plan.chosen, name)
         end = slot.end(meeting.minutes)
@@ -190,7 +192,7 @@ def outputs(options: argparse.Namespace, plan: Plan, before: Earlier | None) -> 
         names: set[str] = set()
         for person in told.people():
             path = str(Path(options.ics_each) / f"{file_name(person, names)}.ics")
-            made.append((path, lambda person=person: calendar(person)))  # type: ignore[misc]
+            made.append((path, partial(calendar, person)))
     return [(name, text) for name, text in made if name]
 
 

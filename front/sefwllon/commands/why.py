@@ -4,6 +4,7 @@ from __future__ import annotations
 
 import argparse
 from dataclasses import replace
+from collections.abc import Iterable
 from difflib import get_close_matches
 from pathlib import Path
 
@@ -59,7 +60,7 @@ def run(options: argparse.Namespace) -> int:
     return SOLVED if held.impossible else OPEN
 
 
-def named(word: str, names: dict[str, object] | dict[str, int], what: str) -> str:
+def named(word: str, names: Iterable[str], what: str) -> str:
     if word in names:
         return word
     near = get_close_matches(word, list(names), 1, 0.6)

@@ -4,6 +4,7 @@ from __future__ import annotations
 
 import argparse
 import time
+from collections.abc import Callable
 from dataclasses import dataclass, field, replace
 from fractions import Fraction
 
@@ -95,9 +96,9 @@ class Plan:
     def names(self) -> Same:
         return {name: str(place) for name, place in self.chosen.items()}
 
-    def known(self, holds: object) -> str | None:
+    def known(self, holds: Callable[[int | None], bool]) -> str | None:
         """By what it is known that something follows from a bound; None where it is not known."""
-        return known_by(holds, self.best, self.problem)  # type: ignore[arg-type]
+        return known_by(holds, self.best, self.problem)
 
 
 def better(one: Plan, other: Plan) -> Plan:
@@ -187,7 +188,8 @@ class Session:
         left = None if self.until is None else self.until - self.options.began
         gap = getattr(self.options, "gap", None) if aim.plain else None
         options = argparse.Namespace(**{**vars(self.options), "time": left, "gap": gap})
-        plan, crowds = Plan(told, made, problem, solved_apart(self.programs, problem, options)), []
+        crowds: list[Crowd] = []
+        plan = Plan(told, made, problem, solved_apart(self.programs, problem, options))
         if plan.best.values is None:
             return plan, crowds
         with undisturbed():
