@@ -527,6 +527,9 @@ class Keeping(Case):
         _, told, _ = self.front("meetings", week, "--alternatives", "2")
         self.assertEqual(told.count("alternative "), 2)
         self.assertIn("\nalternative 1: 2 of 2 meetings elsewhere, cost 0\n", told)
+        for only in ("slot,a\nmeeting,m,Ann\n", "slot,a\nslot,b\nmeeting,m,Ann\nmeeting,n,Ann\nfixed,m,a\n"):
+            status, told, _ = self.front("meetings", self.file("week.csv", only), "--alternatives", "2")
+            self.assertEqual((status, told.splitlines()[-1]), (0, "no further timetable is as good: 0 of 2 alternatives"))
         single = self.file("week.csv", "slot,a\nslot,b\nmeeting,m,Ann\nlike,m,b,1\n")
         _, told, _ = self.front("meetings", single, "--alternatives", "2")
         self.assertTrue(told.endswith("\nno further timetable is as good: 0 of 2 alternatives\n"), told)

@@ -14,6 +14,7 @@ from typing import TypeVar
 
 from ..best import ADDED_UP
 from ..output import OutOfTime
+from ..problem import Trouble
 from . import rules
 from .make import Aim, NoPlace
 from .model import Meeting, Room, Timetable
@@ -177,6 +178,9 @@ class Search:
             return True
         except (OutOfTime, KeyboardInterrupt):
             self.session.stopped, self.decided = True, False
+            return None
+        except Trouble:
+            self.decided = False
             return None
         if plan.keeps:
             return False

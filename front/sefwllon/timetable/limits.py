@@ -115,7 +115,11 @@ def add_other(source: Source, name: str, values: dict[int, int]) -> None:
         source.constraints.append(Constraint(name, scope, costs))
         before = counter
     same = [None if it == wanted else 0 for it in range(len(source.values[last]))]
-    if before is None:
-        source.constraints.append(Constraint(name, (last,), same))
+    if before is None:  # a value that is forbidden alone would be left out, and there may be no other
+        before = len(source.names)
+        source.names.append(f"{name}, 0")
+        source.values.append([0])
+        source.counters[before] = Counter(None, last, frozenset())
+        source.constraints.append(Constraint(name, (before, last), same))
     else:
         source.constraints.append(Constraint(name, (before, last), [*same, *([0] * len(same))]))

@@ -49,6 +49,7 @@ class Plan:
     rooms: dict[str, str] = field(default_factory=dict)
     breaches: list[Breach] = field(default_factory=list)
     costs: list[Cost] = field(default_factory=list)
+    notes: list[str] = field(default_factory=list)
     none: str | None = None
     """By what it is known that no timetable keeps all rules, where another problem of the same file told it."""
 
@@ -147,10 +148,11 @@ class Session:
         for turn in range(_ROUNDS):
             try:
                 plan, crowds = self.ask_once(told, aim)
-            except (OutOfTime, KeyboardInterrupt):
-                self.stopped = True
+            except (Trouble, KeyboardInterrupt) as fault:
                 if best is None:
                     raise
+                best.notes.append(f"rooms could not be asked for further: {fault or 'interrupted'}")
+                self.stopped = self.stopped or not isinstance(fault, Trouble) or isinstance(fault, OutOfTime)
                 break
             if turn == 0 and crowds and not plan.problem.counters:
                 plan = self.repaired(plan)
