@@ -24,6 +24,8 @@ COMMANDS = (
     "why",
     "draw",
     "cost",
+    "web",
+    "serve",
 )
 """The modules of `commands`, in the order in which help names what they add."""
 

@@ -1,5 +1,5 @@
 -- Laws of a descent.
-use Rattle.std.proofs.Common.{◌≡◌, ℕ, ◌+◌, ◌*◌, ◌-◌, ◌/◌, ◌<◌, ◌≤◌, ◌⊎◌, Bool, true, false, min, max, List, length, get_or, set, Option, Some, None, refl, sym, ap, subst, ◌∙◌, inl, inr, arith}
+use Rattle.std.proofs.Common.{◌≡◌, ℕ, ◌+◌, ◌*◌, ◌-◌, ◌/◌, ◌<◌, ◌≤◌, ◌⊎◌, Bool, true, false, min, max, List, length, get_or, set, drop, Option, Some, None, refl, sym, ap, subst, ◌∙◌, inl, inr, arith}
 use Rattle.std.proofs.lemmas.Bool.{cases_Bool, cases_lt, cases_eq}
 use Rattle.std.proofs.lemmas.List.{length-set, get_or-set_same, get_or-set_other}
 use Rattle.dcop_base.specs.Limits.{amount_limit}
@@ -11,17 +11,14 @@ use Rattle.bucket_bounds.specs.Exact.{AreExact}
 use Rattle.bucket_bounds.specs.declared.bucket.Bucket.{Bucket}
 use Rattle.bound_search.specs.Estimate.{estimate, unscaled, IsPassedOver}
 use Rattle.bound_search.specs.Known.{IsBelow, IsNoWorse}
-use Rattle.bound_search.specs.Searched.{most_nodes}
+use Rattle.bound_search.specs.Searched.{most_nodes, tree_nodes}
 use Rattle.bound_search.specs.Grounds.{AreGrounds, scaled_cost}
 use Rattle.bound_search.specs.Descent.{IsRoom, IsStanding, IsFurther, IsStraight, HasDescended, IsOpened}
 use Rattle.bound_search.specs.declared.progress.Progress.{Progress}
 use Rattle.bound_search.specs.declared.rules.Rules.{Rules}
 use Rattle.bound_search.proofs.EstimateLaws.{estimate_agrees, estimate_within, estimate_all, estimate_behind, own_agrees, own_values, least_next}
+use Rattle.bound_search.proofs.TreeLaws.{done, to_visit, to_visit_first, to_visit_next, tree_left, tree_first, tree_next, tree_end}
 use Rattle.bound_search.proofs.ScaleLaws.{cost_back, unscaled_is}
-
--- an entry of a row whose value was visited
-abbrev pub done : ℕ
-done = 18446744073709551615
 
 -- the best is no worse than itself, and than what is no worse than it
 pub no_worse_same : (best : Option ℕ) → IsNoWorse best best
@@ -126,6 +123,7 @@ pub record IsVisiting (sizes : List ℕ) (buckets : List Bucket) (rules : Rules)
   pub further : IsFurther old now
   pub entries : (a : ℕ) → a < length row → get_or row a 0 < done → get_or row a 0 ≡ estimate (depth + 1) buckets (with_own depth a value)
   pub low : (other : ℕ → ℕ) → AreValues sizes other → AgreeBelow depth value other → min now.lower (get_or row (other depth) 0) ≤ scaled_cost buckets other
+  pub tree : now.nodes + to_visit row * (1 + tree_nodes (drop (depth + 1) sizes)) ≤ old.nodes + tree_nodes (drop depth sizes)
   pub begun : IsFresh sizes buckets f row old now ⊎ HasBegun sizes buckets rules depth f row old now
 
 most_least : (budget count before nodes : ℕ) (best : Option ℕ) → nodes ≤ budget → nodes ≤ most_nodes budget count best before
@@ -157,6 +155,9 @@ module _ (sizes : List ℕ) (buckets : List Bucket) (rules : Rules) (grounds : A
         let entry = each (other depth) here in
         let low = estimate_behind sizes rules.scale buckets grounds depth value other lt within agree in
         omega (arith, entry, low));
+    tree = (let later = tree_nodes (drop (depth + 1) sizes) in
+        let most = tree_first (to_visit row) (get_or sizes depth 0) later old.nodes (omega (arith, to_visit_first row, long)) in
+        subst (λ (n : ℕ). old.nodes + to_visit row * (1 + later) ≤ old.nodes + n) (sym (tree_left sizes depth lt)) most);
     begun = inl (record {
       same = refl;
       within = λ a h. (let entry = each a h in
@@ -169,10 +170,10 @@ module _ (sizes : List ℕ) (buckets : List Bucket) (rules : Rules) (grounds : A
   }
 
   -- a value more was visited
-  pub visiting_next : (depth f : ℕ) (value behind : ℕ → ℕ) (row : List ℕ) (old now mid new : Progress) (a m : ℕ) → depth < length sizes → a < length row → m ≡ get_or row a 0 → ((k : ℕ) → k < length row → m ≤ get_or row k 0)
+  pub visiting_next : (depth f : ℕ) (value behind : ℕ → ℕ) (row : List ℕ) (old now mid new : Progress) (a m : ℕ) → depth < length sizes → now.room ≤ done → a < length row → m ≡ get_or row a 0 → ((k : ℕ) → k < length row → m ≤ get_or row k 0)
       → IsVisiting sizes buckets rules depth f value row old now → IsOpened rules.budget m now mid true → AgreeBelow depth value behind → behind depth ≡ a
       → HasDescended sizes buckets rules (depth + 1) m behind mid new → IsVisiting sizes buckets rules depth f value (set row a done) old new
-  visiting_next depth f value behind row old now mid new a m lt inside at least visiting opened agree own descended =
+  visiting_next depth f value behind row old now mid new a m lt room_most inside at least visiting opened agree own descended =
       let nodes : mid.nodes ≡ now.nodes + 1 = ap (λ (q : Progress). q.nodes) opened.2 in
       let lower : mid.lower ≡ now.lower = ap (λ (q : Progress). q.lower) opened.2 in
       let best : mid.best ≡ now.best = ap (λ (q : Progress). q.best) opened.2 in
@@ -197,6 +198,10 @@ module _ (sizes : List ℕ) (buckets : List Bucket) (rules : Rules) (grounds : A
           | inr ne ↦ (let is = get_or-set_other row a (other depth) done 0 ne in
               omega (arith, is, visiting.low other within behind_too, descended.further.lower, lower))
         ];
+        tree = (let below : get_or row a 0 < done = omega (arith, at, opened.0, room_most) in
+            let later = tree_nodes (drop (depth + 1) sizes) in
+            let mine : new.nodes ≤ now.nodes + 1 + later = omega (arith, descended.tree, nodes) in
+            tree_next (to_visit row) (to_visit (set row a done)) later now.nodes new.nodes (old.nodes + tree_nodes (drop depth sizes)) (to_visit_next row a inside below) visiting.tree mine);
         begun = inr (record {
           known = descended.known;
           found = λ none. elim visiting.begun [
@@ -273,6 +278,7 @@ module _ (sizes : List ℕ) (buckets : List Bucket) (rules : Rules) (grounds : A
               subst (λ (n : ℕ). n ≤ most_nodes rules.budget (length sizes - depth) old.best old.nodes) (sym (nodes ∙ before)) (most_before rules.budget (length sizes - depth) old.nodes old.best))
           | inr begun ↦ subst (λ (n : ℕ). n ≤ most_nodes rules.budget (length sizes - depth) old.best old.nodes) (sym nodes) begun.nodes
         ];
+        tree = subst (λ (n : ℕ). n ≤ old.nodes + tree_nodes (drop depth sizes)) (sym nodes) (tree_end now.nodes (to_visit row * (1 + tree_nodes (drop (depth + 1) sizes))) (old.nodes + tree_nodes (drop depth sizes)) visiting.tree);
         straight = λ exact few. elim visiting.begun [
           | inl fresh ↦ absurd (let first = fresh.least exact in
               let before : now.nodes ≡ old.nodes = ap (λ (q : Progress). q.nodes) fresh.same in
@@ -339,6 +345,7 @@ module _ (sizes : List ℕ) (buckets : List Bucket) (rules : Rules) (grounds : A
         known = (f / rules.scale, best);
         found = λ h. found;
         nodes = subst (λ (n : ℕ). n ≤ most_nodes rules.budget (length sizes - length sizes) old.best old.nodes) (sym nodes) (most_before rules.budget (length sizes - length sizes) old.nodes old.best);
+        tree = omega (arith, nodes);
         straight = λ exact few. record { whole = spent; few = omega (arith, nodes); room = room_now };
       }
 

@@ -108,5 +108,6 @@ searched_none sizes buckets rules grounds first old new is over room top unspent
       known = λ h. absurd (let both = sym unspent ∙ h in cc);
       found = λ none. absurd (subst (λ (b : Option ℕ). IsPassedOver rules.scale rules.error b first) none (room.above first (omega (arith, is, within)) over));
       nodes = most_before rules.budget (length sizes) old.nodes old.best;
+      tree = omega arith;
       straight = λ exact few. (unspent, omega arith);
     })

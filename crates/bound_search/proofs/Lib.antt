@@ -1,6 +1,7 @@
 mod PlaceLaws
 mod EstimateLaws
 mod RowLaws
+mod TreeLaws
 mod DescentLaws
 mod FirstLaws
 mod ScaleLaws

@@ -43,7 +43,7 @@ pub struct Ended {
 /// Searches a problem for an assignment that is better than what is known, by the bounds of its shared
 /// costs. Values of the next variable are visited by what they cost at least, the least one first; a
 /// value is passed over where that, with the error, is no better than the best that is known. Where
-/// nothing is known before, the first descent is not cut short by the budget.
+/// nothing is known before, the first descent is not cut short by the budget. No node is visited twice.
 ///
 /// # Errors
 ///

@@ -28,7 +28,7 @@ had_of P (x ∷ xs) u all h = elim (or_cases (eqb x u) (has xs u) h) [
 ]
 
 -- what holds of the variables of both lists holds of their union
-union_all : (P : ℕ → Type 0) (old scope new : List ℕ) → IsUnion old scope new → All P old → All P scope → All P new
+pub union_all : (P : ℕ → Type 0) (old scope new : List ℕ) → IsUnion old scope new → All P old → All P scope → All P new
 union_all P old scope new is olds scopes = all_had P new (λ u h. elim (or_cases (has old u) (has scope u) (sym (is.both u) ∙ h)) [
   | inl early ↦ had_of P old u olds early
   | inr late ↦ had_of P scope u scopes late
@@ -46,7 +46,7 @@ sizes_positive f [] all = All-nil (λ v. 1 ≤ f v)
 sizes_positive f (v ∷ vs) all =
     All-cons (λ v. 1 ≤ f v) v vs (All-head (λ s. 1 ≤ s) (f v) (map f vs) all) (sizes_positive f vs (All-tail (λ s. 1 ≤ s) (f v) (map f vs) all))
 
-scope_positive : (sizes : List ℕ) (t : CostTable) → IsTableOver sizes t → All (λ v. 1 ≤ slice_index sizes v) t.scope
+pub scope_positive : (sizes : List ℕ) (t : CostTable) → IsTableOver sizes t → All (λ v. 1 ≤ slice_index sizes v) t.scope
 scope_positive sizes t is =
     sizes_positive (λ v. slice_index sizes v) t.scope (subst (λ (ss : List ℕ). All (λ s. 1 ≤ s) ss) is.sized (parts-of t.scope t.sizes t.cells is.whole).positive)
 

@@ -1,7 +1,7 @@
 -- Laws of joined tables: zeros, tables that are added one by one, and what the joined table of a group is.
 use Rattle.std.proofs.Common.{◌≡◌, ℕ, ◌+◌, ◌<◌, ◌≤◌, true, min, List, [], ◌∷◌, ◌++◌, map, length, take, get_or, replicate, slice_index, refl, sym, ap, ap₂, subst, ◌∙◌, arith}
 use Rattle.std.specs.List.{All}
-use Rattle.std.proofs.lemmas.List.{take_more, get_or-replicate}
+use Rattle.std.proofs.lemmas.List.{length-append, take_more, get_or-replicate}
 use Rattle.std.proofs.lemmas.List.Elements.{All-nil, All-cons, All-head, All-tail, All-append}
 use Rattle.std.proofs.lemmas.List.Sums.{sum_by-append, sum_by-cons}
 use Rattle.dcop_base.specs.Limits.{amount_limit}
@@ -13,8 +13,11 @@ use Rattle.util_kernel.specs.Lanes.{plus}
 use Rattle.util_join.specs.Join.{IsSum, LiesIn}
 use Rattle.shared_costs.specs.Tables.{IsTableOver, IsOfDepth}
 use Rattle.bucket_bounds.specs.Groups.{IsHeld, IsGroup, IsGroupAt, groups_cost}
+use Rattle.bucket_bounds.specs.Parting.{LiesAmong}
 use Rattle.bucket_bounds.specs.Joining.{IsCostOf, HasGained, IsZeroFor, IsJoin, AreJoined}
 use Rattle.bucket_bounds.specs.declared.group.Group.{Group}
+use Rattle.bucket_bounds.specs.Union.{IsTurned}
+use Rattle.bucket_bounds.proofs.GroupLaws.{all_had, had_of}
 use Rattle.bucket_bounds.proofs.KeptLaws.{cost_more}
 use Rattle.bucket_bounds.proofs.ProjectLaws.{read_map, within_map}
 
@@ -90,25 +93,34 @@ read_each f over (v ∷ vs) all =
 pub held_lies : (sizes vars : List ℕ) (zero t : CostTable) → IsZeroFor sizes vars zero → IsHeld sizes vars t → LiesIn zero.scope zero.sizes t
 held_lies sizes vars zero t is held =
     let f : ℕ → ℕ = λ v. slice_index sizes v in
-    let lies : LiesIn vars (map f vars) t = record { among = held.among; sized = held.table.sized ∙ read_each f vars t.scope held.among } in
-    subst (λ (vs : List ℕ). LiesIn vs zero.sizes t) (sym is.same_scope) (subst (λ (ss : List ℕ). LiesIn vars ss t) (sym is.same_sizes) lies)
+    let over = is.over in
+    let among : All (λ v. has over v ≡ true) t.scope = λ k d lt. is.turned.same (get_or t.scope k d) ∙ held.among k d lt in
+    let lies : LiesIn over (map f over) t = record { among = among; sized = held.table.sized ∙ read_each f over t.scope among } in
+    subst (λ (vs : List ℕ). LiesIn vs zero.sizes t) (sym is.zero.same_scope) (subst (λ (ss : List ℕ). LiesIn over ss t) (sym is.zero.same_sizes) lies)
+
+-- what holds of variables holds of them in another order
+pub turned_all : (P : ℕ → Type 0) (vars over : List ℕ) → IsTurned vars over → All P vars → All P over
+turned_all P vars over turned all = all_had P over (λ u h. had_of P vars u all (sym (turned.same u) ∙ h))
 
 -- what was made of zeros by adding the tables of a group is its joined table
 pub join_is : (sizes : List ℕ) (g : Group) (zero t : CostTable) → IsGroup sizes g → IsZeroFor sizes g.vars zero → HasGained g.tables.items zero t → IsTable t → IsJoin sizes g t
 join_is sizes g zero t group is gained whole =
     let f : ℕ → ℕ = λ v. slice_index sizes v in
-    let cost = gains g.vars (map f g.vars) (λ value. 0) g.tables.items zero t is gained in
+    let over = is.over in
+    let cost = gains over (map f over) (λ value. 0) g.tables.items zero t is.zero gained in
+    let within = turned_all (λ v. v < length sizes) g.vars over is.turned group.within in
     record {
       table = record {
         whole = whole;
-        within = subst (λ (vs : List ℕ). All (λ v. v < length sizes) vs) (sym cost.same_scope) group.within;
+        within = subst (λ (vs : List ℕ). All (λ v. v < length sizes) vs) (sym cost.same_scope) within;
         sized = cost.same_sizes ∙ ap (λ (vs : List ℕ). map f vs) (sym cost.same_scope);
       };
-      cost = λ value are small. let cell = cost.cells value (within_map sizes value g.vars are group.within) in omega (arith, cell, small);
+      cost = λ value are small. let cell = cost.cells value (within_map sizes value over are within) in omega (arith, cell, small);
       depth = λ p at. record {
-        names = ap (λ (vs : List ℕ). has vs p) cost.same_scope ∙ at.names;
-        last = subst (λ (vs : List ℕ). All (λ v. v ≤ p) vs) (sym cost.same_scope) at.last;
+        names = ap (λ (vs : List ℕ). has vs p) cost.same_scope ∙ is.turned.same p ∙ at.names;
+        last = subst (λ (vs : List ℕ). All (λ v. v ≤ p) vs) (sym cost.same_scope) (turned_all (λ v. v ≤ p) g.vars over is.turned at.last);
       };
+      among = subst (λ (vs : List ℕ). All (λ v. has g.vars v ≡ true) vs) (sym cost.same_scope) (all_had (λ v. has g.vars v ≡ true) over (λ u h. sym (is.turned.same u) ∙ h));
     }
 
 -- the joined tables of groups, one more
@@ -129,6 +141,14 @@ joined_more sizes groups k g ts news t lt is before join e =
       depth = λ p all.
           let parts = groups_end (IsGroupAt p) (take k groups) g (subst (λ (gs : List Group). All (IsGroupAt p) gs) next all) in
           subst (λ (us : List CostTable). All (IsOfDepth p) us) (sym e) (All-append (IsOfDepth p) ts (t ∷ []) (before.depth p parts.0) (All-cons (IsOfDepth p) t [] (join.depth p parts.1) (All-nil (IsOfDepth p))));
+      many =
+          let own = ap (λ (us : List CostTable). length us) e ∙ length-append ts (t ∷ []) in
+          let all = ap (λ (gs : List Group). length gs) next ∙ length-append (take k groups) (g ∷ []) in
+          omega (arith, own, all, before.many);
+      named = λ vars all.
+          let parts = groups_end (λ (g : Group). All (λ v. has vars v ≡ true) g.vars) (take k groups) g (subst (λ (gs : List Group). All (λ (g : Group). All (λ v. has vars v ≡ true) g.vars) gs) next all) in
+          let own : LiesAmong vars t = λ j d lt. had_of (λ v. has vars v ≡ true) g.vars (get_or t.scope j d) parts.1 (join.among j d lt) in
+          subst (λ (us : List CostTable). All (LiesAmong vars) us) (sym e) (All-append (LiesAmong vars) ts (t ∷ []) (before.named vars parts.0) (All-cons (LiesAmong vars) t [] own (All-nil (LiesAmong vars))));
     }
   where
     groups_end : (P : Group → Type 0) (gs : List Group) (g : Group) → All P (gs ++ g ∷ []) → All P gs × P g

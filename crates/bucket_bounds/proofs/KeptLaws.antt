@@ -47,6 +47,8 @@ module _ (old : Kept) (t : CostTable) (least fixed : ℕ) (whole : IsTable t) (l
   keeps_amount none only = record {
     among = inl refl;
     cells = refl;
+    room = omega arith;
+    wide = inl refl;
     low = λ value within. (let below = least_low t least value whole low within in omega (arith, adds, below));
     before = λ h. h;
     exact = λ h value within most.
@@ -55,10 +57,12 @@ module _ (old : Kept) (t : CostTable) (least fixed : ℕ) (whole : IsTable t) (l
         omega (arith, adds, is, cell.1, most);
   }
 
-  pub keeps_least : (replaced : ℕ) → replaced ≡ min (old.replaced + 1) 18446744073709551615 → IsKept old t (record { sent = old.sent; fixed = fixed; replaced = replaced; room = old.room })
-  keeps_least replaced more = record {
+  pub keeps_least : (replaced : ℕ) → old.room < length t.cells → replaced ≡ min (old.replaced + 1) 18446744073709551615 → IsKept old t (record { sent = old.sent; fixed = fixed; replaced = replaced; room = old.room })
+  keeps_least replaced full more = record {
     among = inl refl;
     cells = refl;
+    room = omega arith;
+    wide = inr full;
     low = λ value within. (let below = least_low t least value whole low within in omega (arith, adds, below));
     before = λ h. absurd (omega (arith, h, more));
     exact = λ h value within most. absurd (omega (arith, h, more));
@@ -72,6 +76,8 @@ keeps_table old new t copy same sent fits room fixed replaced =
     record {
       among = inr more;
       cells = let count = ap cell_count more in let one = count_more old.sent.items t in omega (arith, count, one, room, fits);
+      room = omega (arith, room);
+      wide = inl replaced;
       low = λ value within. (let is = cost value in omega (arith, is));
       before = λ h. omega (arith, h, replaced);
       exact = λ h value within most. cost value;
@@ -91,6 +97,7 @@ kept_none sent room kept none fixed replaced same =
     record {
       among = λ sizes p all. subst (λ (ts : List CostTable). All (IsBound sizes p) ts) (sym none) all;
       cells = let e = ap cell_count none in omega (arith, e, same);
+      wide = λ h. absurd (omega (arith, h, replaced));
       low = λ value within. omega (arith, cost value);
       exact = λ h value within most. cost value;
     }
@@ -112,6 +119,14 @@ kept_more ts k room t old new lt is before now =
             | inr sent ↦ subst (λ (us : List CostTable). All (IsBound sizes p) us) (sym sent) (All-append (IsBound sizes p) old.sent.items (t ∷ []) early (All-cons (IsBound sizes p) t [] both.1 (All-nil (IsBound sizes p))))
           ];
       cells = now.cells ∙ before.cells;
+      wide = λ some most small.
+          let both = next (λ t. length t.cells ≤ most) small in
+          let shrunk = now.room in
+          let last = both.1 in
+          elim now.wide [
+            | inl same ↦ (let early = before.wide (omega (arith, some, same)) most both.0 in omega (arith, early, shrunk))
+            | inr full ↦ omega (arith, full, shrunk, last)
+          ];
       low = λ value within.
           let both = next (IsWithin value) within in
           omega (arith, before.low value both.0, now.low value both.1, sum value);

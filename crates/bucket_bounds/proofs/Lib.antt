@@ -6,6 +6,7 @@ pub mod ItemLaws
 pub mod KeptLaws
 pub mod ProjectLaws
 pub mod GroupLaws
+pub mod PartingLaws
 pub mod JoinLaws
 pub mod PartLaws
 pub mod StepLaws

@@ -1,5 +1,5 @@
 -- Laws of the parts of a bucket.
-use Rattle.std.proofs.Common.{◌≡◌, ℕ, ◌+◌, ◌<◌, ◌≤◌, List, [], ◌∷◌, ◌++◌, map, length, take, drop, get_or, slice_index, refl, sym, ap, subst, ◌∙◌, arith}
+use Rattle.std.proofs.Common.{◌≡◌, ℕ, true, ◌+◌, ◌<◌, ◌≤◌, List, [], ◌∷◌, ◌++◌, map, length, take, drop, get_or, slice_index, refl, sym, ap, subst, ◌∙◌, arith}
 use Rattle.std.specs.List.{All, AllZip}
 use Rattle.std.specs.List.Sorted.{IsPermutation}
 use Rattle.std.proofs.lemmas.List.{take_all, drop_all, append-nil, length-map}
@@ -13,15 +13,18 @@ use Rattle.util_project.specs.Projection.{IsProjection}
 use Rattle.shared_costs.specs.Values.{AreValues}
 use Rattle.shared_costs.specs.Tables.{IsTableOver, AreTablesOver, IsOfDepth}
 use Rattle.shared_costs.specs.Sharing.{IsSharing}
+use Rattle.bucket_bounds.specs.Union.{cells_over}
 use Rattle.bucket_bounds.specs.Groups.{AreGroups}
 use Rattle.bucket_bounds.specs.Joining.{AreJoined}
 use Rattle.bucket_bounds.specs.Kept.{IsWithin, AreKept, kept_cost}
 use Rattle.bucket_bounds.specs.Made.{IsItem, IsBound}
+use Rattle.bucket_bounds.specs.Parting.{AreTooWide, ArePartedDuly, LiesAmong, IsScopeOf}
 use Rattle.bucket_bounds.specs.Parts.{AreShared, AreUncapped, AreSentOf, IsBucketWith}
 use Rattle.bucket_bounds.specs.declared.group.Group.{Group}
 use Rattle.bucket_bounds.specs.declared.keeping.Kept.{Kept}
 use Rattle.bucket_bounds.specs.declared.making.Made.{Made}
 use Rattle.bucket_bounds.proofs.CellLaws.{own_values}
+use Rattle.bucket_bounds.proofs.PartingLaws.{parted_wide, scope_sizes, scope_named, projections_few}
 use Rattle.bucket_bounds.proofs.ProjectLaws.{table_within, projections_bound, projections_low, projections_at}
 
 -- tables with the scopes of others have their depth
@@ -35,6 +38,15 @@ depth_same p (u ∷ us) (t ∷ ts) same all =
     All-cons (IsOfDepth p) t ts
     (record { names = ap (λ (vs : List ℕ). has vs p) first ∙ deep.names; last = subst (λ (vs : List ℕ). All (λ v. v ≤ p) vs) (sym first) deep.last })
     (depth_same p us ts rest (All-tail (IsOfDepth p) u us all))
+
+-- tables with the scopes of others stand among the same variables
+among_same : (vars : List ℕ) (old new : List CostTable) → map (λ (t : CostTable). t.scope) new ≡ map (λ (t : CostTable). t.scope) old → All (LiesAmong vars) old → All (LiesAmong vars) new
+among_same vars old [] same all = All-nil (LiesAmong vars)
+among_same vars [] (t ∷ ts) same all = absurd (cc)
+among_same vars (u ∷ us) (t ∷ ts) same all =
+    let first : t.scope ≡ u.scope = ap (λ (vss : List (List ℕ)). get_or vss 0 []) same in
+    let rest : map (λ (t : CostTable). t.scope) ts ≡ map (λ (t : CostTable). t.scope) us = ap (λ (vss : List (List ℕ)). drop 1 vss) same in
+    All-cons (LiesAmong vars) t ts (subst (λ (vs : List ℕ). All (λ v. has vars v ≡ true) vs) (sym first) (All-head (LiesAmong vars) u us all)) (among_same vars us ts rest (All-tail (LiesAmong vars) u us all))
 
 both_items : (sizes : List ℕ) (p : ℕ) (ts : List CostTable) → All (IsTableOver sizes) ts → All (IsOfDepth p) ts → All (IsItem sizes p) ts
 both_items sizes p ts over deep k d lt = (over k d lt, deep k d lt)
@@ -51,10 +63,11 @@ pub shared_is : (sizes : List ℕ) (p : ℕ) (old new : List CostTable) → All 
 shared_is sizes p old new deep is = record {
   each = both_items sizes p new is.tables.each (depth_same p old new is.scopes deep);
   costs = is.sums;
+  named = λ vars all. among_same vars old new is.scopes all;
 }
 
 pub shared_none : (sizes : List ℕ) (p : ℕ) (ts : List CostTable) → AreTablesOver sizes ts → All (IsOfDepth p) ts → AreShared sizes p ts ts
-shared_none sizes p ts over deep = record { each = both_items sizes p ts over.each deep; costs = λ value are. refl }
+shared_none sizes p ts over deep = record { each = both_items sizes p ts over.each deep; costs = λ value are. refl; named = λ vars all. all }
 
 -- a bucket's tables and bounds, by falling number of cells
 module _ (sizes : List ℕ) (p : ℕ) (tables came none first items : List CostTable) (empty : none ≡ []) (put : IsPermutation (none ++ tables) first) (more : IsPermutation (first ++ came) items) (own : All (IsItem sizes p) tables) (bounds : All (IsItem sizes p) came) (uncapped : AreUncapped sizes (tables ++ came)) where
@@ -69,6 +82,12 @@ module _ (sizes : List ℕ) (p : ℕ) (tables came none first items : List CostT
   pub items_cost : (value : ℕ → ℕ) → cost_with items value ≡ cost_with (tables ++ came) value
   items_cost value = sum_by-IsPermutation (λ (t : CostTable). cell_with t value) (tables ++ came) items order
 
+  pub parted_is : (limit : ℕ) (groups : List Group) (joined parts : List CostTable) → ArePartedDuly sizes limit items groups → AreJoined sizes groups joined → length parts ≡ length joined → 2 ≤ length parts → AreTooWide sizes limit (tables ++ came)
+  parted_is limit groups joined parts duly join long two =
+      let all = All-append (IsItem sizes p) tables came own bounds in
+      let many = join.many in
+      parted_wide sizes limit (tables ++ came) items groups order (λ k d lt. (all k d lt).0) duly (omega (arith, two, long, many))
+
   module _ (groups : List Group) (joined : List CostTable) (parted : AreGroups sizes items groups) (join : AreJoined sizes groups joined) where
     pub joined_cost : (value : ℕ → ℕ) → AreValues sizes value → cost_with joined value ≡ cost_with (tables ++ came) value
     joined_cost value are =
@@ -81,8 +100,12 @@ module _ (sizes : List ℕ) (p : ℕ) (tables came none first items : List CostT
     pub joined_over : AreTablesOver sizes joined
     joined_over = record { each = join.tables; capped = λ value are. (let same = joined_cost value are in omega (arith, same, uncapped value are)) }
 
-    pub parts_are : (parts : List CostTable) → AreShared sizes p joined parts → AreShared sizes p (tables ++ came) parts
-    parts_are parts is = record { each = is.each; costs = λ value are. is.costs value are ∙ joined_cost value are }
+    pub parts_are : (parts : List CostTable) (limit : ℕ) → ArePartedDuly sizes limit items groups → AreShared sizes p joined parts → AreShared sizes p (tables ++ came) parts
+    parts_are parts limit duly is = record {
+      each = is.each;
+      costs = λ value are. is.costs value are ∙ joined_cost value are;
+      named = λ vars all. is.named vars (join.named vars (duly.named vars (All-permutation (LiesAmong vars) (tables ++ came) items order all)));
+    }
 
 -- what is sent of the parts
 module _ (sizes : List ℕ) (p : ℕ) (parts : List CostTable) (room : ℕ) (sent : Kept) (lt : p < length sizes) (items : All (IsItem sizes p) parts) (uncapped : AreUncapped sizes parts) (is : AreSentOf p parts room sent) where
@@ -111,6 +134,17 @@ module _ (sizes : List ℕ) (p : ℕ) (parts : List CostTable) (room : ℕ) (sen
       let same = ordered_cost value in
       let kept = is.kept.exact none value (ordered_within value are) (omega (arith, same, best.2, small)) in
       (best.0, best.1, best.2 ∙ sym same ∙ sym kept)
+
+-- a bound that was replaced was one for which there was not room
+pub replaced_is : (sizes : List ℕ) (p : ℕ) (tables came parts : List CostTable) (room : ℕ) (sent : Kept) → All (IsItem sizes p) tables → All (IsItem sizes p) came → AreShared sizes p (tables ++ came) parts → AreSentOf p parts room sent
+    → 1 ≤ sent.replaced → (others : List ℕ) → IsScopeOf (tables ++ came) (p ∷ others) → sent.room < cells_over sizes others
+replaced_is sizes p tables came parts room sent own bounds shared is some others scope =
+    let most = cells_over sizes others in
+    let all = All-append (IsItem sizes p) tables came own bounds in
+    let positive = All-tail (λ v. 1 ≤ slice_index sizes v) p others (scope_sizes sizes (tables ++ came) (p ∷ others) (λ k d lt. (all k d lt).0) scope) in
+    let named = shared.named (p ∷ others) (scope_named (tables ++ came) (p ∷ others) scope) in
+    let few = projections_few sizes p others parts is.projections shared.each is.each named positive in
+    is.kept.wide some most (All-permutation (λ (t : CostTable). length t.cells ≤ most) is.projections is.ordered is.same few)
 
 -- the bucket of all that
 pub bucket_is : (sizes : List ℕ) (p : ℕ) (tables came parts : List CostTable) (room : ℕ) (sent : Kept) (made : Made) → p < length sizes → AreUncapped sizes (tables ++ came) → AreShared sizes p (tables ++ came) parts → AreSentOf p parts room sent

@@ -74,8 +74,14 @@ module _ (sizes : List ℕ) (depths : List (List CostTable)) (buckets : List Buc
       let before = bounds_before sizes p (drop p buckets) (sent_from p) in
       ap (λ (n : ℕ). fixed_at p buckets + n) (cost_agrees p (bounds_at p buckets) value other (λ k d lt. (before k d lt).1) agree)
 
-  pub at_most_rest : (p : ℕ) (value : ℕ → ℕ) (least : ℕ) → p ≤ length sizes → IsRest sizes depths p value least → bound_at p buckets value ≤ least
-  at_most_rest p value least le rest =
-      let best = rest.attained in
-      let low = bounds.low p best.0 le best.1 in
-      omega (arith, low, best.3, same_bound p value best.0 best.2)
+-- what buckets send that are each made of their tables and of what came to them sums to at most the rest
+pub at_most_rest : (sizes : List ℕ) (buckets : List Bucket) → AreMade sizes 0 buckets → (p : ℕ) (value : ℕ → ℕ) (least : ℕ) → IsRest sizes (tables_in buckets) p value least → bound_at p buckets value ≤ least
+at_most_rest sizes buckets made p value least rest =
+    let best = rest.attained in
+    let other = best.0 in
+    let from = made_drop sizes 0 p p buckets (omega arith) made in
+    let before = bounds_before sizes p (drop p buckets) (sent_of_made sizes p (drop p buckets) from) in
+    let same = cost_agrees p (bounds_at p buckets) value other (λ k d lt. (before k d lt).1) best.2 in
+    let low = low_from sizes p (drop p buckets) other from best.1 in
+    let behind = ap (λ (tss : List (List CostTable)). depths_cost tss other) (drop-map (λ (b : Bucket). b.tables) p buckets) in
+    omega (arith, low, same, behind, best.3)

@@ -1,5 +1,5 @@
 -- Laws of buckets that are made one after the other, the last one first.
-use Rattle.std.proofs.Common.{◌≡◌, ℕ, ◌+◌, ◌<◌, ◌≤◌, Bool, not, List, [], ◌∷◌, ◌++◌, length, take, drop, get_or, reverse, refl, sym, ap, ap₂, subst, ◌∙◌, arith}
+use Rattle.std.proofs.Common.{◌≡◌, ℕ, ◌+◌, ◌-◌, ◌<◌, ◌≤◌, Bool, not, List, [], ◌∷◌, ◌++◌, length, take, drop, get_or, reverse, refl, sym, ap, ap₂, subst, ◌∙◌, arith}
 use Rattle.std.specs.List.{All, filter}
 use Rattle.std.proofs.lemmas.List.{drop_more, drop_all, take_all, take-append-drop, append-nil, reverse-append, length-reverse, get_or_default}
 use Rattle.std.proofs.lemmas.List.Elements.{All-filter, filter_passes}
@@ -11,9 +11,11 @@ use Rattle.dcop_base.specs.Values.{cell_with, cost_with, with_own}
 use Rattle.shared_costs.specs.Tables.{AreDepths, depths_cost}
 use Rattle.bucket_bounds.specs.Bounds.{bounds_from, tables_in, kept_cells}
 use Rattle.bucket_bounds.specs.Made.{IsItem, IsBound, AreMade}
+use Rattle.bucket_bounds.specs.Parting.{IsReplacedDuly, AreReplacedDuly}
 use Rattle.bucket_bounds.specs.Parts.{AreUncapped, IsBucketWith}
 use Rattle.bucket_bounds.specs.declared.bucket.Bucket.{Bucket}
 use Rattle.bucket_bounds.specs.declared.making.Made.{Made}
+use Rattle.bucket_bounds.proofs.PartingLaws.{less_room}
 use Rattle.bucket_bounds.proofs.ChainLaws.{sent_of_made, bounds_before, low_from}
 
 -- the buckets from a variable on, with the bounds that stand before them and the room that is left
@@ -23,6 +25,7 @@ pub record IsChain (sizes : List ℕ) (depths : List (List CostTable)) (cells p 
   pub made : AreMade sizes p buckets
   pub now : bounds ≡ bounds_from p buckets
   pub kept : kept_cells buckets + (p + room) ≡ cells
+  pub replaced : AreReplacedDuly sizes room p buckets
 
 -- the bounds that come to the bucket of p
 pub come_items : (sizes : List ℕ) (p : ℕ) (bounds : List CostTable) → All (IsBound sizes (p + 1)) bounds → All (IsItem sizes p) (filter (λ t. has t.scope p) bounds)
@@ -39,6 +42,7 @@ chain_none sizes depths cells room are e = record {
   made = tt;
   now = refl;
   kept = omega (arith, e);
+  replaced = tt;
 }
 
 -- the bucket before these
@@ -67,9 +71,9 @@ module _ (sizes : List ℕ) (depths : List (List CostTable)) (cells room p : ℕ
       let whole = sym (sum_by-append cost (take p depths) (drop p depths)) ∙ ap (λ (tss : List (List CostTable)). depths_cost tss value) (take-append-drop p depths) in
       omega (arith, low, now, parts, behind, all, whole, are.capped value values, sum_by-append (λ (t : CostTable). cell_with t value) tables come)
 
-  pub chain_next : (made : Made) (next : List CostTable) → IsBucketWith sizes p tables (filter (λ t. has t.scope p) bounds) room made → next ≡ filter (λ t. not (has t.scope p)) bounds ++ made.bucket.sent
+  pub chain_next : (made : Made) (next : List CostTable) → IsBucketWith sizes p tables (filter (λ t. has t.scope p) bounds) room made → IsReplacedDuly sizes made.room p made.bucket → next ≡ filter (λ t. not (has t.scope p)) bounds ++ made.bucket.sent
       → IsChain sizes depths cells p (made.bucket ∷ buckets) next made.room
-  chain_next made next is e = record {
+  chain_next made next is full e = record {
     within = omega (arith, lt);
     tables = ap₂ (λ (ts : List CostTable) (tss : List (List CostTable)). ts ∷ tss) is.tables chain.tables ∙ sym deep;
     made = (
@@ -95,6 +99,7 @@ module _ (sizes : List ℕ) (depths : List (List CostTable)) (cells room p : ℕ
     kept =
         let more : kept_cells (made.bucket ∷ buckets) ≡ (1 + cell_count made.bucket.sent) + kept_cells buckets = sum_by-cons (λ (b : Bucket). 1 + cell_count b.sent) made.bucket buckets in
         omega (arith, more, is.cells, chain.kept);
+    replaced = (full, less_room sizes room made.room (p + 1) buckets (let cells = is.cells in omega (arith, cells)) chain.replaced);
   }
 
 -- one more at the end is one more at the front of the list turned round
@@ -114,7 +119,8 @@ turned_round falling turned now all len same turns long e =
     e ∙ ap (λ (bs : List Bucket). take len (turned ++ bs)) (drop_all (length turned) falling (omega (arith, many)))
     ∙ ap (λ (bs : List Bucket). take len bs) (append-nil turned) ∙ take_all len turned (omega (arith, many, count)) ∙ is
 
-pub chain_end : (sizes : List ℕ) (depths : List (List CostTable)) (cells room p : ℕ) (buckets : List Bucket) (bounds : List CostTable) → p ≤ 0 → IsChain sizes depths cells p buckets bounds room → (tables_in buckets ≡ depths) × AreMade sizes 0 buckets
+pub chain_end : (sizes : List ℕ) (depths : List (List CostTable)) (cells room p : ℕ) (buckets : List Bucket) (bounds : List CostTable) → p ≤ 0 → IsChain sizes depths cells p buckets bounds room → (tables_in buckets ≡ depths) × AreMade sizes 0 buckets × AreReplacedDuly sizes (cells - kept_cells buckets) 0 buckets
 chain_end sizes depths cells room p buckets bounds none chain =
     let first = chain_at sizes depths cells room p 0 buckets bounds (omega (arith, none)) chain in
-    (first.tables, first.made)
+    let kept = first.kept in
+    (first.tables, first.made, less_room sizes room (cells - kept_cells buckets) 0 buckets (omega (arith, kept)) first.replaced)

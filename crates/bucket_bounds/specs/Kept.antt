@@ -1,5 +1,5 @@
 -- What is kept of projections.
-use Rattle.std.specs.Prelude.{◌≡◌, ℕ, ◌+◌, ◌≤◌, ◌⊎◌, List, [], ◌∷◌, ◌++◌, map}
+use Rattle.std.specs.Prelude.{◌≡◌, ℕ, ◌+◌, ◌<◌, ◌≤◌, ◌⊎◌, List, [], ◌∷◌, ◌++◌, map, length}
 use Rattle.std.specs.List.{All}
 use Rattle.dcop_base.specs.Limits.{amount_limit}
 use Rattle.dcop_base.specs.Table.{CostTable, AreWithin}
@@ -21,6 +21,8 @@ pub record IsKept (old : Kept) (t : CostTable) (new : Kept) : Type 0 where
   pub among : (new.sent.items ≡ old.sent.items) ⊎ (new.sent.items ≡ old.sent.items ++ t ∷ [])
   pub cells : cell_count new.sent.items + new.room ≡ cell_count old.sent.items + old.room
   pub low : (value : ℕ → ℕ) → IsWithin value t → kept_cost new value ≤ kept_cost old value + cell_with t value
+  pub room : new.room ≤ old.room
+  pub wide : (new.replaced ≡ old.replaced) ⊎ (old.room < length t.cells)
   pub before : new.replaced ≡ 0 → old.replaced ≡ 0
   pub exact : new.replaced ≡ 0 → (value : ℕ → ℕ) → IsWithin value t → kept_cost old value + cell_with t value ≤ amount_limit → kept_cost new value ≡ kept_cost old value + cell_with t value
 
@@ -28,5 +30,6 @@ pub record IsKept (old : Kept) (t : CostTable) (new : Kept) : Type 0 where
 pub record AreKept (ts : List CostTable) (room : ℕ) (kept : Kept) : Type 0 where
   pub among : (sizes : List ℕ) (p : ℕ) → All (IsBound sizes p) ts → All (IsBound sizes p) kept.sent.items
   pub cells : cell_count kept.sent.items + kept.room ≡ room
+  pub wide : 1 ≤ kept.replaced → (most : ℕ) → All (λ t. length t.cells ≤ most) ts → kept.room < most
   pub low : (value : ℕ → ℕ) → All (IsWithin value) ts → kept_cost kept value ≤ cost_with ts value
   pub exact : kept.replaced ≡ 0 → (value : ℕ → ℕ) → All (IsWithin value) ts → cost_with ts value ≤ amount_limit → kept_cost kept value ≡ cost_with ts value

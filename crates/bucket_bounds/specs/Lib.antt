@@ -8,3 +8,4 @@ pub mod Kept
 pub mod Groups
 pub mod Joining
 pub mod Parts
+pub mod Parting

@@ -11,6 +11,7 @@ use Rattle.shared_costs.specs.Values.{AreValues}
 use Rattle.bucket_bounds.specs.Made.{IsItem, IsBound}
 use Rattle.bucket_bounds.specs.Exact.{IsUnparted}
 use Rattle.bucket_bounds.specs.Kept.{AreKept}
+use Rattle.bucket_bounds.specs.Parting.{LiesAmong}
 use Rattle.bucket_bounds.specs.declared.making.Made.{Made}
 use Rattle.bucket_bounds.specs.declared.keeping.Kept.{Kept}
 
@@ -18,6 +19,7 @@ use Rattle.bucket_bounds.specs.declared.keeping.Kept.{Kept}
 pub record AreShared (sizes : List ℕ) (p : ℕ) (old new : List CostTable) : Type 0 where
   pub each : All (IsItem sizes p) new
   pub costs : (value : ℕ → ℕ) → AreValues sizes value → cost_with new value ≡ cost_with old value
+  pub named : (vars : List ℕ) → All (LiesAmong vars) old → All (LiesAmong vars) new
 
 -- no sum of these tables is capped
 abbrev pub AreUncapped : List ℕ → List CostTable → Type 0

@@ -1,13 +1,14 @@
 //! The bounds of all depths.
 
-ghost use Rattle.std.specs.Prelude.{◌≡◌, ◌+◌, ◌++◌, ◌<◌, ◌≤◌, not, length, IfOk};
+ghost use Rattle.std.specs.Prelude.{◌≡◌, ◌+◌, ◌-◌, ◌++◌, ◌<◌, ◌≤◌, min, not, length, IfOk};
 ghost use Rattle.std.specs.List.{All, filter};
 ghost use Rattle.dcop_base.specs.Limits.{joined_limit, variable_limit};
 ghost use Rattle.dcop_base.specs.Table.{has};
 ghost use Rattle.shared_costs.specs.Tables.{AreDepths};
 ghost use Rattle.bucket_bounds.specs.Bounds.{AreBounds, kept_cells};
 ghost use Rattle.bucket_bounds.specs.Exact.{AreExactUnparted};
-ghost use Rattle.bucket_bounds.specs.Made.{IsItem, IsBound};
+ghost use Rattle.bucket_bounds.specs.Made.{IsItem, IsBound, AreMade};
+ghost use Rattle.bucket_bounds.specs.Parting.{IsPartedDuly, IsReplacedDuly, AreReplacedDuly};
 ghost use Rattle.bucket_bounds.specs.Parts.{AreUncapped, IsBucketWith};
 
 use crate::bucket::BucketList;
@@ -34,7 +35,11 @@ pub fn bounds_of(
     requires cells { length sizes.now ≤ cells }
     ensures bounds { IfOk result (AreBounds sizes.now depths.now) }
     ensures kept { IfOk result (λ buckets. kept_cells buckets ≤ cells) }
+    ensures made { IfOk result (AreMade sizes.now 0) }
     ensures exact { IfOk result (AreExactUnparted sizes.now depths.now) }
+    ensures parted { IfOk result (All (IsPartedDuly sizes.now (min limit joined_limit))) }
+    ensures replaced { IfOk result
+        (λ buckets. AreReplacedDuly sizes.now (cells - kept_cells buckets) 0 buckets) }
 {
     let widest = limit.min(MAX_JOINED_CELLS);
     let mut room = cells - sizes.len() as u64;
@@ -67,10 +72,13 @@ fn next_bucket(
     requires var { var < length sizes.now }
     requires tables { All (IsItem sizes.now var) tables.now }
     requires bounds { All (IsBound sizes.now (var + 1)) bounds.now }
-    requires capped { AreUncapped sizes.now (tables.now ++ filter (λ t. has t.scope var) bounds.now) }
+    requires capped { AreUncapped sizes.now
+        (tables.now ++ filter (λ t. has t.scope var) bounds.now) }
     requires widest { widest ≤ joined_limit }
-    ensures { IfOk result
+    ensures made { IfOk result
         (IsBucketWith sizes.now var tables.now (filter (λ t. has t.scope var) bounds.now) room) }
+    ensures parted { IfOk result (λ made. IsPartedDuly sizes.now widest made.bucket) }
+    ensures replaced { IfOk result (λ made. IsReplacedDuly sizes.now made.room var made.bucket) }
 {
     let tables = TableList::from_vec(clones_of(alloc, tables)?);
     let came = TableList::from_vec(naming(alloc, bounds, var)?);

@@ -1,10 +1,11 @@
 //! Groups of the tables of a bucket.
 
-ghost use Rattle.std.specs.Prelude.{◌≡◌, ℕ, ◌*◌, ◌<◌, ◌≤◌, [], ◌∷◌, ◌++◌, true, length, IfOk, IfSome, OnOk, slice_index_or};
+ghost use Rattle.std.specs.Prelude.{◌≡◌, ℕ, ◌*◌, ◌<◌, ◌≤◌, [], ◌∷◌, ◌++◌, true, length, IfOk, IfNone, IfSome, OnOk, slice_index_or};
 ghost use Rattle.std.specs.List.{All};
 ghost use Rattle.dcop_base.specs.Limits.{joined_limit};
 ghost use Rattle.shared_costs.specs.Tables.{IsTableOver};
 ghost use Rattle.bucket_bounds.specs.Groups.{IsGroupOf, AddsTo, AreGroups, Fits};
+ghost use Rattle.bucket_bounds.specs.Parting.{IsTooWideFor, ArePartedDuly};
 
 use crate::union::{add_vars, cells_with};
 use dcop_base::{NoMemory, Table, VarId, VarList};
@@ -31,7 +32,9 @@ pub(crate) fn groups_of(
 ) -> Result<Vec<Group>, NoMemory>
     requires tables { All (IsTableOver sizes.now) tables.now }
     requires limit { limit ≤ joined_limit }
-    ensures { IfOk result (λ groups. AreGroups sizes.now tables.now groups.items) }
+    ensures groups { IfOk result (λ groups. AreGroups sizes.now tables.now groups.items) }
+    ensures parted { IfOk result
+        (λ groups. ArePartedDuly sizes.now limit tables.now groups.items) }
 {
     let mut groups = Vec::new(alloc);
     for table in tables {
@@ -48,10 +51,10 @@ pub(crate) fn groups_of(
 
 /// The place of the first group with which variables of a scope may be joined.
 fn place_of(sizes: &[u16], groups: &[Group], scope: &[VarId], limit: u64) -> Option<usize>
-    requires scope { All (λ v. v < length sizes.now) scope.now }
     requires limit { limit ≤ joined_limit }
-    ensures { IfSome result (λ k. (k < length groups.now)
+    ensures fits { IfSome result (λ k. (k < length groups.now)
         × ((none : Group) → Fits sizes.now scope.now limit (slice_index_or groups.now k none))) }
+    ensures full { IfNone result (All (IsTooWideFor sizes.now scope.now limit) groups.now) }
 {
     for (place, group) in groups.iter().enumerate() {
         let cells = cells_with(sizes, group.vars.as_slice(), group.cells, scope);

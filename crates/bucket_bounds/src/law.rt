@@ -2,8 +2,8 @@
 
 ghost use Rattle.bucket_bounds.specs.Laws.{BoundsAreAtMostTheRest, FirstBoundIsAtMostTheOptimum};
 
-/// Whatever the groups, the bounds of each depth sum to at most what the tables of that depth and more
-/// cost at least.
+/// Where each bucket sends at most what its tables and what came to it cost, whatever its groups, the
+/// bounds of each depth sum to at most what the tables of that depth and more cost at least.
 pub fn bounds_are_at_most_the_rest()
     ensures { BoundsAreAtMostTheRest }
 {}

@@ -5,6 +5,7 @@ ghost use Rattle.std.specs.List.{All};
 ghost use Rattle.dcop_base.specs.Limits.{joined_limit};
 ghost use Rattle.dcop_base.specs.Table.{has};
 ghost use Rattle.bucket_bounds.specs.Made.{IsItem};
+ghost use Rattle.bucket_bounds.specs.Parting.{AreTooWide, IsPartedDuly, IsReplacedDuly};
 ghost use Rattle.bucket_bounds.specs.Parts.{AreShared, AreUncapped, AreSentOf, IsBucketWith};
 
 use crate::bucket::Bucket;
@@ -41,7 +42,9 @@ pub(crate) fn bucket_with(
     requires came { All (IsItem sizes.now var) came }
     requires capped { AreUncapped sizes.now (tables ++ came) }
     requires limit { limit ≤ joined_limit }
-    ensures { IfOk result (λ made. IsBucketWith sizes.now var tables came room made) }
+    ensures made { IfOk result (λ made. IsBucketWith sizes.now var tables came room made) }
+    ensures parted { IfOk result (λ made. IsPartedDuly sizes.now limit made.bucket) }
+    ensures replaced { IfOk result (λ made. IsReplacedDuly sizes.now made.room var made.bucket) }
 {
     let parts = parts_of(alloc, sizes, var, tables.as_slice(), came.as_slice(), limit)?;
     let kept = sent_of(alloc, var, parts.as_slice(), room)?;
@@ -73,7 +76,10 @@ fn parts_of(
     requires came { All (IsItem sizes.now var) came.now }
     requires capped { AreUncapped sizes.now (tables.now ++ came.now) }
     requires limit { limit ≤ joined_limit }
-    ensures { IfOk result (λ parts. AreShared sizes.now var (tables.now ++ came.now) parts.items) }
+    ensures parts { IfOk result
+        (λ parts. AreShared sizes.now var (tables.now ++ came.now) parts.items) }
+    ensures parted { IfOk result
+        (λ parts. 2 ≤ length parts.items → AreTooWide sizes.now limit (tables.now ++ came.now)) }
 {
     let mut items = Vec::new(alloc);
     put_by_cells(&mut items, tables)?;
@@ -83,8 +89,8 @@ fn parts_of(
     shared_tables(alloc, sizes, joined, var)
 }
 
-/// What is sent of the parts of the bucket of a variable: their projections, the smallest ones first
-/// where there is not room for all.
+/// What is sent of the parts of the bucket of a variable: their projections, the smallest ones
+/// first where there is not room for all.
 fn sent_of(alloc: Global, var: VarId, parts: &[Table], room: u64) -> Result<Kept, NoMemory>
     requires { All (λ t. has t.scope var ≡ true) parts.now }
     ensures { IfOk result (AreSentOf var parts.now room) }

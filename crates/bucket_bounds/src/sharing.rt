@@ -20,7 +20,8 @@ pub(crate) fn shared_tables(
     requires tables { AreTablesOver sizes.now tables.items }
     requires depth { All (IsOfDepth var) tables.items }
     requires var { var < length sizes.now }
-    ensures { IfOk result (λ shared. AreShared sizes.now var tables.items shared.items) }
+    ensures shared { IfOk result (λ shared. AreShared sizes.now var tables.items shared.items) }
+    ensures many { IfOk result (λ shared. length shared.items ≡ length tables.items) }
 {
     if tables.len() < 2 {
         return Ok(tables);

@@ -7,7 +7,7 @@ use Rattle.bound_search.specs.Descent.{HasDescended}
 use Rattle.bound_search.specs.declared.progress.Progress.{Progress}
 use Rattle.bound_search.proofs.RowLaws.{values_of, within_set, agree_set, agree_more, agree_less, row_agrees, sum_left}
 use Rattle.bound_search.proofs.EstimateLaws.{estimate_agrees}
-use Rattle.bound_search.proofs.DescentLaws.{visiting_start, visiting_next, visiting_end, descent_taken, standing_taken, standing_opened, few_left, entry_is}
+use Rattle.bound_search.proofs.DescentLaws.{visiting_start, visiting_next, visiting_end, descent_taken, standing_taken, standing_opened, standing_stopped, few_left, entry_is}
 use Rattle.bound_search.proofs.descent.+descend.Goals as goal
 
 pub returns-then-depth-sizes-clause-standing : goal.returns-then-depth-sizes-clause-standing
@@ -56,6 +56,9 @@ visits-init t c =
           (λ a lt. c.fill_estimates.ensures a (omega (arith, lt, c.fill_estimates.auto.row)) ∙ row_agrees c.args.sizes.now c.args.rules.scale c.args.buckets.now c.requires.grounds c.args.values.now c.args.depth a 0 inside);
       rest = omega (arith, sum_left c.args.sizes.now c.args.depth inside, c.requires.rows, c.split_at_mut-row.ensures.back_len, c.from.ensures);
     }
+
+pub returns-then-not-opens-clause-standing : goal.returns-then-not-opens-clause-standing
+returns-then-not-opens-clause-standing t c = standing_stopped c.args.sizes.now c.args.buckets.now c.args.rules c.requires.grounds c.least_of-value.result.1 c.visits.found c.visits.progress c.opens.new.progress c.visits.invariant.standing c.if-not-opens.ensures
 
 pub returns-then-not-opens-clause-descended : goal.returns-then-not-opens-clause-descended
 returns-then-not-opens-clause-descended t c =
@@ -124,7 +127,7 @@ visits-preserved t c =
       within = c.descend.ensures.within;
       same = agree_less c.args.depth value behind (λ v. get_or c.descend.new.values v 0) agree c.descend.ensures.same;
       standing = c.descend.ensures.standing;
-      visiting = visiting_next c.args.sizes.now c.args.buckets.now c.args.rules c.requires.grounds c.args.depth c.args.least value behind c.visits.row c.args.progress.now c.visits.progress c.opens.new.progress c.descend.new.progress a c.least_of-value.result.1 inside
+      visiting = visiting_next c.args.sizes.now c.args.buckets.now c.args.rules c.requires.grounds c.args.depth c.args.least value behind c.visits.row c.args.progress.now c.visits.progress c.opens.new.progress c.descend.new.progress a c.least_of-value.result.1 inside c.visits.invariant.standing.room.counted
           c.least_of-value.ensures.place c.least_of-value.ensures.entry c.least_of-value.ensures.least c.visits.invariant.visiting c.if-not-opens.ensures agree own c.descend.ensures.descended;
       rest = omega (arith, c.visits.invariant.rest, c.descend.auto.rows);
     }

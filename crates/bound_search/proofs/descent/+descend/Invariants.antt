@@ -1,16 +1,17 @@
-use Rattle.std.proofs.Common.{◌+◌, ◌-◌, ◌≤◌, drop, length, slice_index, ltb}
-use Rattle.std.specs.List.{sum, count_by}
+use Rattle.std.proofs.Common.{◌+◌, ◌-◌, ◌≤◌, drop, length, slice_index}
+use Rattle.std.specs.List.{sum}
 use Rattle.dcop_base.specs.Table.{AreWithin}
 use Rattle.shared_costs.specs.Values.{AgreeBelow}
 use Rattle.bound_search.specs.Descent.{IsStanding}
-use Rattle.bound_search.proofs.DescentLaws.{IsVisiting, done}
+use Rattle.bound_search.proofs.DescentLaws.{IsVisiting}
+use Rattle.bound_search.proofs.TreeLaws.{to_visit}
 use Rattle.bound_search.proofs.descent.+descend.Given as goal
 
 abbrev pub decreases-descend : goal.decreases-descend
 decreases-descend l = length l.sizes.now - l.depth
 
 abbrev pub decreases-visits : goal.decreases-visits
-decreases-visits l = count_by (λ n. ltb n done) l.row
+decreases-visits l = to_visit l.row
 
 abbrev pub invariant-visits : goal.invariant-visits
 invariant-visits l = record {

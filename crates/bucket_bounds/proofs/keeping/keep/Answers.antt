@@ -24,7 +24,7 @@ returns-then-kept-cells c =
     let least = c.least_of-least.result in
     keeps_least c.args.kept.now t least c.saturating_add-kept-then-kept-cells.result (subst IsTable c.table.view_is c.table.invariant)
     (subst (λ (cs : List ℕ). All (λ c. least ≤ c) cs) cells c.least_of-least.ensures.lower) c.saturating_add-kept-then-kept-cells.ensures
-    c.saturating_add-kept-then-kept-cells-2.result c.saturating_add-kept-then-kept-cells-2.ensures
+    c.saturating_add-kept-then-kept-cells-2.result (let full = c.if-kept-cells.true in let count = ap (λ (cs : List ℕ). length cs) (c.as_slice-3.ensures ∙ ap (λ (t : CostTable). t.cells) c.table.view_is) in omega (arith, full, count)) c.saturating_add-kept-then-kept-cells-2.ensures
 
 pub returns : goal.returns
 returns c =

@@ -6,8 +6,8 @@ use Rattle.bucket_bounds.specs.Parts.{AreShared}
 use Rattle.bucket_bounds.proofs.PartLaws.{rewritten, sharing_long, shared_is}
 use Rattle.bucket_bounds.proofs.sharing.shared_tables.Goals as goal
 
-pub returns : goal.returns
-returns c =
+pub returns-clause-shared : goal.returns-clause-shared
+returns-clause-shared c =
     let old : List CostTable = c.args.tables.items in
     let copies : List CostTable = c.in_ok-shared.shared.items in
     let new : List CostTable = c.share_all.new.tables in

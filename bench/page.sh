@@ -1,0 +1,24 @@
+#!/usr/bin/env bash
+# How long the page takes to answer while it solves a timetable of 200 meetings, in milliseconds.
+#
+# usage: bench/page.sh PROGRAM [SEARCH]
+# PROGRAM is the built program `dcop`, SEARCH `dcop_search`. Opens the page in Chromium without a window, gives it a timetable of 200
+# meetings and 40 slots from a seed, has it solved, and measures in the page meanwhile: the longest of twenty frames, a click on
+# another part and back, a cell that is typed, and the service's own health. Fails where one is above 100. Needs Debian's python3-flask,
+# node-d3, chromium, chromium-driver and python3-selenium. The gate allows ten times as long.
+set -eu
+program=$(realpath "${1:?usage: bench/page.sh PROGRAM [SEARCH]}")
+search=${2:+$(realpath "$2")}
+. "$(dirname "$0")/common.sh"
+cd "$top/front"
+SEFWLLON_MEASURED="$folder/measured" SEFWLLON_DCOP="$program" SEFWLLON_SEARCH="$search" PYTHONDONTWRITEBYTECODE=1 \
+    ./python.sh -m unittest -q tests.test_web.Large
+[ -f "$folder/measured" ] || { echo "nothing was measured: the browser or Flask is missing"; exit 1; }
+./python.sh - "$folder/measured" <<'PY'
+import json, sys
+
+found = json.load(open(sys.argv[1]))
+for what, milliseconds in found.items():
+    print(f"{milliseconds:8.1f} ms  {what}")
+sys.exit(max(found.values()) > 100)
+PY
