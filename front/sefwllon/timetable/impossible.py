@@ -9,9 +9,12 @@ from __future__ import annotations
 
 from collections.abc import Callable
 from dataclasses import dataclass, field, replace
+from functools import partial
+from typing import TypeVar
 
 from ..best import ADDED_UP
 from ..output import OutOfTime
+from ..problem import Trouble
 from . import rules
 from .make import Aim, NoPlace
 from .model import Meeting, Room, Timetable
@@ -19,6 +22,7 @@ from .session import Session
 
 _SECONDS = 20.0
 """How long reasons are looked for where no time is given."""
+Thing = TypeVar("Thing", str, int)
 ANOTHER_ROOM = "to have another room that suits all"
 _MOST_RELAXED = 40
 """How many ways to relax a week are tried."""
@@ -70,8 +74,7 @@ def without_others(meeting: Meeting, people: set[str], lines: list[int]) -> Meet
 
 def rule_lines(told: Timetable) -> list[int]:
     """The lines that can be left out: absences, times, and the rules of meetings and people."""
-    rules = (*told.absences, *told.busy, *told.sequences, *told.together, *told.most)
-    return list(dict.fromkeys(rule.line for rule in rules))
+    return list(dict.fromkeys(rule.line for rule in told.rules()))
 
 
 def too_many(told: Timetable, people: list[str] | None = None) -> tuple[str, list[str]] | None:
@@ -176,6 +179,9 @@ class Search:
         except (OutOfTime, KeyboardInterrupt):
             self.session.stopped, self.decided = True, False
             return None
+        except Trouble:
+            self.decided = False
+            return None
         if plan.keeps:
             return False
         known = plan.none_keeps
@@ -223,13 +229,13 @@ class Search:
     def concerns(self, line: int, meetings: list[str], people: list[str]) -> bool:
         """Whether a line is about these."""
         told = self.told
-        if any(it.line == line and (it.who in people or it.who in told.rooms) for it in (*told.absences, *told.busy, *told.most)):
+        if any(it.line == line and (it.who in people or it.who in told.rooms) for it in told.of_people()):
             return True
         if any(it.line == line and it.first in meetings for it in told.sequences):
             return True
         return any(it.line == line and any(name in meetings for name in it.names) for it in told.together)
 
-    def least(self, its: list, fails: Callable[[list], bool]) -> list:  # type: ignore[type-arg]
+    def least(self, its: list[Thing], fails: Callable[[list[Thing]], bool]) -> list[Thing]:
         """What is left of a list when all that is not needed is left out: first in halves, then in smaller pieces, then one by one."""
         size = max(1, len(its) // 2)
         while True:
@@ -252,17 +258,17 @@ class Search:
         if reason.rooms:
             things = list(dict.fromkeys(it for meeting in told.meetings.values() for it in meeting.needs))
             more = {**told.rooms, "another room": Room("another room", None, things)}
-            ways.append((ANOTHER_ROOM, lambda: replace(told, rooms=more, wishes=[])))
+            ways.append((ANOTHER_ROOM, partial(replace, told, rooms=more, wishes=[])))
         for line in reason.lines:
-            ways.append((f"the line {told.line(line)}", lambda line=line: reduced(told, names, everybody, [it for it in lines if it != line])))  # type: ignore[misc]
+            ways.append((f"the line {told.line(line)}", partial(reduced, told, names, everybody, [it for it in lines if it != line])))
         for name in reason.meetings:
             meeting = told.meetings[name]
             for person in (it for it in meeting.people if it in reason.people):
-                ways.append((f"{person} in {name}", lambda name=name, person=person: leave(told, name, person)))  # type: ignore[misc]
+                ways.append((f"{person} in {name}", partial(leave, told, name, person)))
             if meeting.fixed:
-                ways.append((f"that {name} is fixed", lambda name=name: loosen(told, name)))  # type: ignore[misc]
+                ways.append((f"that {name} is fixed", partial(loosen, told, name)))
         for name in reason.meetings:
-            ways.append((f"the meeting {name}", lambda name=name: reduced(told, [it for it in names if it != name], everybody, lines)))  # type: ignore[misc]
+            ways.append((f"the meeting {name}", partial(reduced, told, [it for it in names if it != name], everybody, lines)))
         for words, made in ways[:_MOST_RELAXED]:
             fails = self.fails_told(made())
             if fails is False:

@@ -4,6 +4,7 @@ from __future__ import annotations
 
 import argparse
 import time
+from collections.abc import Callable
 from dataclasses import dataclass, field, replace
 from fractions import Fraction
 
@@ -48,6 +49,7 @@ class Plan:
     rooms: dict[str, str] = field(default_factory=dict)
     breaches: list[Breach] = field(default_factory=list)
     costs: list[Cost] = field(default_factory=list)
+    notes: list[str] = field(default_factory=list)
     none: str | None = None
     """By what it is known that no timetable keeps all rules, where another problem of the same file told it."""
 
@@ -95,9 +97,9 @@ class Plan:
     def names(self) -> Same:
         return {name: str(place) for name, place in self.chosen.items()}
 
-    def known(self, holds: object) -> str | None:
+    def known(self, holds: Callable[[int | None], bool]) -> str | None:
         """By what it is known that something follows from a bound; None where it is not known."""
-        return known_by(holds, self.best, self.problem)  # type: ignore[arg-type]
+        return known_by(holds, self.best, self.problem)
 
 
 def better(one: Plan, other: Plan) -> Plan:
@@ -146,10 +148,11 @@ class Session:
         for turn in range(_ROUNDS):
             try:
                 plan, crowds = self.ask_once(told, aim)
-            except (OutOfTime, KeyboardInterrupt):
-                self.stopped = True
+            except (Trouble, KeyboardInterrupt) as fault:
                 if best is None:
                     raise
+                best.notes.append(f"rooms could not be asked for further: {fault or 'interrupted'}")
+                self.stopped = self.stopped or not isinstance(fault, Trouble) or isinstance(fault, OutOfTime)
                 break
             if turn == 0 and crowds and not plan.problem.counters:
                 plan = self.repaired(plan)
@@ -187,7 +190,8 @@ class Session:
         left = None if self.until is None else self.until - self.options.began
         gap = getattr(self.options, "gap", None) if aim.plain else None
         options = argparse.Namespace(**{**vars(self.options), "time": left, "gap": gap})
-        plan, crowds = Plan(told, made, problem, solved_apart(self.programs, problem, options)), []
+        crowds: list[Crowd] = []
+        plan = Plan(told, made, problem, solved_apart(self.programs, problem, options))
         if plan.best.values is None:
             return plan, crowds
         with undisturbed():
