@@ -63,7 +63,7 @@ class Page(Case):
         from selenium.webdriver.chrome.service import Service
 
         options = webdriver.ChromeOptions()
-        words = ["--headless=new", "--disable-gpu", "--disable-extensions", "--disable-background-networking", "--disable-dev-shm-usage", f"--window-size={os.environ.get('SEFWLLON_WINDOW', '1500,1000')}", f"--user-data-dir={cls.folder}/profile"]
+        words = ["--headless=new", "--disable-extensions", "--disable-background-networking", "--disable-dev-shm-usage", f"--window-size={os.environ.get('SEFWLLON_WINDOW', '1500,1000')}", f"--user-data-dir={cls.folder}/profile"]
         for word in words + (["--no-sandbox"] if os.geteuid() == 0 else []):
             options.add_argument(word)
         options.binary_location = shutil.which("chromium")
@@ -72,6 +72,7 @@ class Page(Case):
         return webdriver.Chrome(service=Service(shutil.which("chromedriver")), options=options)
 
     def setUp(self):
+        super().setUp()
         self.browser.get("about:blank")
         self.browser.get(self.served.link)
         self.until("document.documentElement.dataset.ready")

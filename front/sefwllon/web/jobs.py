@@ -25,8 +25,10 @@ Told = dict[str, Any]
 
 PACKAGES = Path(__file__).resolve().parents[2]
 """The folder that has this package: a worker finds it there."""
-END_SECONDS = 2.0
+END_SECONDS = 0.3
 """How long a worker has to end by itself when it is told to."""
+JOIN_SECONDS = 3.0
+"""How long is waited for what a thread still does behind that."""
 GRACE_SECONDS = 60.0
 """How much longer than its time a job may take, for what is done before and behind the search."""
 OVER = ("done", "refused", "failed", "cancelled")
@@ -240,7 +242,7 @@ class Pool:
             if not job.over:
                 self.cancel(job.id)
         for thread in self.threads:
-            thread.join(timeout=2 * END_SECONDS)
+            thread.join(timeout=JOIN_SECONDS)
 
     def next(self) -> Job | None:
         """The job that runs next: of those that wait, one of whose owner the fewest run, and of these the first."""
@@ -283,7 +285,7 @@ class Pool:
                 printed = b""
             finally:
                 end(process)
-            listener.join(timeout=END_SECONDS)
+            listener.join(timeout=JOIN_SECONDS)
             self.take(job, printed, process.returncode)
 
     def limit(self, job: Job) -> float:
@@ -299,7 +301,7 @@ class Pool:
             stdin=subprocess.PIPE,
             stdout=subprocess.PIPE,
             stderr=writing,
-            start_new_session=True,
+            process_group=0,
         )
         with self.changed:
             job.process = process

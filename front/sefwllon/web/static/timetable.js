@@ -38,7 +38,7 @@ export class Timetable {
     this.grids = {
       slots: grid("slots", "Slots", [
         { key: "name", title: "Slot", hint: "Mon 9" },
-        { key: "begin", title: "Begins", hint: "2026-03-02 09:00" },
+        { key: "begin", title: "Begins", hint: "2026-03-02 09:00", wide: true },
         { key: "minutes", title: "Minutes", hint: "60" },
       ]),
       meetings: grid("meetings", "Meetings", [
