@@ -430,16 +430,21 @@ class Solver:
 
 def report_of(answer: Answer, problem: Problem) -> Report:
     """The report that an answer of `dcop` is. What is none is told, with the program and what it answered."""
-    if crash(answer):
-        raise Crashed(crash(answer))
     if answer.status not in (0, SPENT):
-        if answer.status == WORDS or not answer.text.startswith("refused "):
-            raise Wrong(answer, f"that is no report of `dcop solve`. {explain(answer.text)}")
-        raise Refused(answer)
+        raise refusal(answer, "no report of `dcop solve`")
     try:
         return read_report(answer.text, problem)
     except Trouble as trouble:
         raise Wrong(answer, str(trouble)) from None
+
+
+def refusal(answer: Answer, wanted: str, text: str = "") -> Exception:
+    """What an answer is that is not the wanted one: a refusal, or the end of a program that crashed, or that of another program."""
+    if crash(answer):
+        return Crashed(crash(answer))
+    if answer.status == WORDS or not answer.text.startswith("refused "):
+        return Wrong(answer, f"that is {wanted}. {explain(answer.text, text)}")
+    return Refused(answer)
 
 
 def reordered(problem: Problem, answer: Answer) -> Problem:
@@ -471,9 +476,9 @@ def cost_of(programs: Programs, problem: Problem, values: list[int]) -> int:
     tables = [Table(t.scope, (problem.cell(t, values),)) for t in problem.tables]
     answer = programs.run(["solve", "--method", "plain"], Problem(problem.goal, variables, tables).text())
     if answer.status != 0:
-        raise Refused(answer)
+        raise refusal(answer, "no report of `dcop solve`")
     if f"\ncost {problem.cost(values)}\n" not in answer.text:
-        raise Trouble(f"{answer.who} printed a cost that its values do not have: don't trust this program")
+        raise Wrong(answer, f"its values cost {problem.cost(values)}: don't trust this program")
     return problem.cost(values)
 
 

@@ -11,10 +11,10 @@ from ..asking import checked_report
 from ..files import load, read_text
 from ..output import say
 from ..problem import Trouble
-from ..programs import Programs
+from ..programs import Programs, Wrong
 from ..progress import Progress
 from ..report import Report, certified, fitted, printed, read_report, read_tree
-from ..solving import Refused
+from ..solving import refusal
 from ..telling import SOLVED, TEXT, none_keeps_all, noun
 from ..translate import Translation, number
 
@@ -72,9 +72,13 @@ def tree_of(programs: Programs, told: Translation, report: str | None) -> str:
     problem = told.problem if report is None else fitted(told.problem, report)
     answer = programs.run(["tree"], problem.text())
     if answer.status != 0:
-        raise Refused(answer)
+        raise refusal(answer, "no answer of `dcop tree`")
+    try:
+        nodes = read_tree(answer.text)
+    except Trouble as trouble:
+        raise Wrong(answer, str(trouble)) from None
     own = dict(zip((v.name for v in told.problem.variables), told.names))
-    return draw.tree(problem, read_tree(answer.text), own)
+    return draw.tree(problem, nodes, own)
 
 
 def bounds_of(programs: Programs, told: Translation, report: str, title: str, points: int) -> str:
