@@ -3,8 +3,8 @@
 #
 # usage: bench/page.sh PROGRAM [SEARCH]
 # PROGRAM is the built program `dcop`, SEARCH `dcop_search`. Opens the page in Chromium without a window, gives it a timetable of 200
-# meetings and 40 slots from a seed, has it solved, and measures in the page meanwhile: the longest of twenty frames, a click on
-# another part and back, a cell that is typed, and the service's own health. Fails where one is above 100. Needs Debian's python3-flask,
+# meetings and 40 slots from a seed, has it solved, and measures in the page meanwhile, the middle one of several each: a frame, a click on
+# another part or back, a cell that is typed, and the service's own health. Fails where one is above 100. Needs Debian's python3-flask,
 # node-d3, chromium, chromium-driver and python3-selenium. The gate allows ten times as long.
 set -eu
 program=$(realpath "${1:?usage: bench/page.sh PROGRAM [SEARCH]}")
