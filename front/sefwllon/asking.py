@@ -11,10 +11,10 @@ from .explain import differs, explain
 from .files import load
 from .output import reading
 from .problem import Problem, Trouble
-from .programs import Programs, Wrong, crash
+from .programs import Programs, Wrong
 from .progress import Progress
 from .report import Report, certified, fitted, printed, read_report, written
-from .solving import NO, Aim, Solver, accepts, in_order
+from .solving import NO, Aim, Refused, Solver, accepts, in_order, refusal
 from .translate import Translation
 
 
@@ -112,15 +112,12 @@ def checked_report(programs: Programs, problem: Problem, report: str) -> Report:
     answer = programs.run(["check"], text)
     if answer.status == NO:
         raise Rejected(differs(answer.text))
-    if crash(answer):
-        raise Trouble(crash(answer))
-    if answer.status != 0 and answer.text.startswith("refused report"):
-        raise Trouble(explain(answer.text, text))
     if answer.status != 0:
-        raise Wrong(answer, f"that is no answer of `dcop check`. {explain(answer.text, text)}")
+        why = refusal(answer, "no answer of `dcop check`", text)
+        raise Trouble(explain(answer.text, text)) if isinstance(why, Refused) else why
     read = read_report(report, problem)
     if not accepts(answer, read):
-        raise Trouble("dcop check says yes to another cost than the report's: don't trust this program")
+        raise Wrong(answer, f"that is no answer of `dcop check` to a report with the cost {read.cost}: don't trust this program")
     return read
 
 

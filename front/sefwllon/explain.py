@@ -102,19 +102,19 @@ def explained(answer: str, text: str, words: list[str] | None) -> str:
         case ["refused", "wide", "agent", name, "cells", cells, "limit", limit]:
             return (
                 f"DPOP would need a table of {int(cells):,} cells at {name}, and {int(limit):,} are the most. "
-                "Change the order of the `var` lines, take fewer values or drop a table, or use cut or adopt."
+                "Change the order of the `var` lines, take fewer values or drop a table, or use dcop_search, cut or adopt."
             )
         case ["refused", "wide", "total", "cells", cells, "limit", limit]:
             return (
                 f"DPOP, or one turn of cut, with a certificate all turns, would send {int(cells):,} cells in all, and "
                 f"{int(limit):,} are the most. Change the order of the `var` lines, take fewer values, use cut, with a smaller "
-                "`--cells` or without a certificate, or use adopt."
+                "`--cells` or without a certificate, or use dcop_search or adopt."
             )
         case ["refused", "many", "turns", count, "limit", limit]:
             return (
                 f"To keep its tables small, cut would fix so many variables that it had {int(count):,} turns, one for each choice "
                 f"of their values, and {int(limit):,} are the most. Larger tables mean fewer turns: give a larger `--cells`, "
-                "up to 1,048,576, where it was less. Else try another order of the `var` lines, as dcop_order finds it, or use adopt."
+                "up to 1,048,576, where it was less. Else try another order of the `var` lines, as dcop_order finds it, or use dcop_search or adopt."
             )
         case ["refused", "many", what, count, "limit", limit]:
             return f"There are {int(count):,} {what} to try, and {int(limit):,} are the most: use another method."

@@ -8,7 +8,7 @@ from pathlib import Path
 from . import pydcop, timetable, wcsp
 from .problem import MOST_BYTES, TextFault, Trouble, parse
 from .programs import Programs
-from .solving import Refused
+from .solving import refusal
 from .translate import Translation, plain, translate
 
 READERS = {
@@ -58,4 +58,4 @@ def refuse(programs: Programs, text: str) -> None:
     """Lets dcop itself say what is wrong with a text."""
     answer = programs.run(["upgrade"], text)
     if answer.status not in (0, None):
-        raise Refused(answer)
+        raise refusal(answer, "no answer of `dcop upgrade`", text)

@@ -94,13 +94,14 @@ def write(name: str, text: str) -> None:
 
 def test_outputs(read: list[str], *names: str | None) -> None:
     """Tests before a long run whether files can be written behind it, as far as that can be known."""
-    wanted = [name for name in names if name]
-    for at, name in enumerate(wanted):
-        if os.path.realpath(name) in map(os.path.realpath, read):
+    taken, seen = [os.path.realpath(name) for name in read], set()
+    for name in (name for name in names if name):
+        path = os.path.realpath(name)
+        if path in taken:
             raise Trouble(f"{name} would be written over, and it is what is read: name another file")
-        if os.path.isfile(name) or not os.path.exists(name):
-            if os.path.realpath(name) in map(os.path.realpath, wanted[:at]):
-                raise Trouble(f"{name} is to be written twice: name another file for one of them")
+        if path in seen and (os.path.isfile(name) or not os.path.exists(name)):
+            raise Trouble(f"{name} is to be written twice: name another file for one of them")
+        seen.add(path)
         why = unwritable(Path(name))
         if why:
             raise Trouble(f"{name} can't be written: {why}")

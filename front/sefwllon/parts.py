@@ -50,7 +50,8 @@ def solved_apart(programs: Programs, told: Translation, options: argparse.Namesp
     groups = parts_of(told.problem)
     if len(groups) == 1 or told.problem.goal != "min":
         return solved(programs, told, options)
-    until, answers = deadline(options), []
+    until = deadline(options)
+    answers: list[Best] = []
     for at, group in enumerate(groups):
         now = time.monotonic()
         end = until if until is None or at == len(groups) - 1 else now + max(0.0, until - now) * share(groups[at:])
@@ -69,7 +70,8 @@ def share(groups: list[list[int]]) -> float:
 def part(told: Translation, group: list[int]) -> Translation:
     """The part of a problem over these variables."""
     place = {variable: at for at, variable in enumerate(group)}
-    tables, hard = [], {}
+    tables: list[Table] = []
+    hard: dict[int, frozenset[int]] = {}
     for at, table in enumerate(told.problem.tables):
         if table.scope[0] in place:
             if at in told.hard:

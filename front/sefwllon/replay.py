@@ -8,7 +8,7 @@ from dataclasses import dataclass
 from .explain import differs
 from .problem import Problem, Trouble
 from .programs import Programs
-from .solving import NO, Refused
+from .solving import NO, refusal
 
 POINTS = 64
 """How often a log is replayed for a picture, at most."""
@@ -75,7 +75,7 @@ def replayed(programs: Programs, problem: Problem, report: str, events: int, del
     if answer.status == NO:
         raise Trouble("the log is that of no run: " + differs(answer.text))
     if answer.status != 0:
-        raise Refused(answer)
+        raise refusal(answer, "no answer of `dcop replay`")
     root = problem.variables[0].name
     for line in answer.text.splitlines():
         words = line.split()

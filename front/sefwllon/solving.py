@@ -12,6 +12,7 @@ from functools import cached_property
 from .best import START, Best, is_better
 from .bettering import Bettering
 from .explain import explain
+from .output import undisturbed
 from .problem import MOST_BYTES, Problem, Table, TextFault, Trouble, Variable, parse
 from .programs import Answer, Crashed, Programs, Wrong, crash, missing
 from .report import Report, read_report
@@ -115,11 +116,20 @@ class Solver:
             self.by_steps()
         except KeyboardInterrupt:
             self.best.stopped = "interrupted"
+        with undisturbed():
+            self.finish()
+        return self.best
+
+    def finish(self) -> None:
+        """Puts together what is known, whenever it was stopped."""
+        goal = self.problem.goal
         if self.best.stopped:
             self.start()
-        self.best.solved = self.best.values is not None and self.aim.reached(self.best, self.problem.goal)
-        self.best.seconds = time.monotonic() - self.best.began
-        return self.best
+        if self.best.values is not None:
+            self.best.cost = self.problem.cost(self.best.values)
+            self.best.settle(goal)
+        self.best.solved = self.best.values is not None and self.aim.reached(self.best, goal)
+        self.best.seconds = self.elapsed
 
     @property
     def decided(self) -> bool:
@@ -140,6 +150,8 @@ class Solver:
                 self.take(last)
             except (Crashed, Wrong) as fault:
                 self.failed(last, fault)
+            except MemoryError:
+                self.failed(last, Crashed("there was not enough memory"))
             if self.best.stopped or self.decided:
                 return
             if self.method == "auto":
@@ -277,9 +289,13 @@ class Solver:
         began, seconds = time.monotonic(), max(ORDER_SECONDS, self.elapsed / 2)
         until = self.within(seconds, "order")
         answer = self.programs.reorder(self.text, tries, until, self.tick)
-        if answer is None and self.method == "order":
-            raise Trouble(missing("dcop_order"))
-        if answer is None or self.ended(answer, until).status in (None, NO_MEMORY):
+        if answer is None:
+            if self.method == "order":
+                raise Trouble(missing("dcop_order"))
+            self.best.notes.append(f"{missing('dcop_order')}; without it DPOP was not tried in other orders")
+            self.ordered = len(TRIES)
+            return
+        if self.ended(answer, until).status in (None, NO_MEMORY):
             self.order_takes = 4 * seconds
             return
         self.ordered += 1
@@ -359,7 +375,7 @@ class Solver:
     def run_cut(self, text: str, until: float | None) -> Answer:
         """What a cut answers, with a certificate where `dcop` makes one."""
         certificate = self.certificate_words()
-        for cells in (self.cells,) if self.cells else CELLS:
+        for cells in (min(self.cells, CELLS[0]),) if self.cells else CELLS:
             words = ["solve", "--method", "cut", "--cells", str(cells), *self.worker_words()]
             answer = self.run_until(until, [*words, *certificate], text)
             if certificate and (answer.unserved or answer.status == WIDE):
@@ -414,16 +430,21 @@ class Solver:
 
 def report_of(answer: Answer, problem: Problem) -> Report:
     """The report that an answer of `dcop` is. What is none is told, with the program and what it answered."""
-    if crash(answer):
-        raise Crashed(crash(answer))
     if answer.status not in (0, SPENT):
-        if answer.status == WORDS or not answer.text.startswith("refused "):
-            raise Wrong(answer, f"that is no report of `dcop solve`. {explain(answer.text)}")
-        raise Refused(answer)
+        raise refusal(answer, "no report of `dcop solve`")
     try:
         return read_report(answer.text, problem)
     except Trouble as trouble:
         raise Wrong(answer, str(trouble)) from None
+
+
+def refusal(answer: Answer, wanted: str, text: str = "") -> Exception:
+    """What an answer is that is not the wanted one: a refusal, or the end of a program that crashed, or that of another program."""
+    if crash(answer):
+        return Crashed(crash(answer))
+    if answer.status == WORDS or not answer.text.startswith("refused "):
+        return Wrong(answer, f"that is {wanted}. {explain(answer.text, text)}")
+    return Refused(answer)
 
 
 def reordered(problem: Problem, answer: Answer) -> Problem:
@@ -455,9 +476,9 @@ def cost_of(programs: Programs, problem: Problem, values: list[int]) -> int:
     tables = [Table(t.scope, (problem.cell(t, values),)) for t in problem.tables]
     answer = programs.run(["solve", "--method", "plain"], Problem(problem.goal, variables, tables).text())
     if answer.status != 0:
-        raise Refused(answer)
+        raise refusal(answer, "no report of `dcop solve`")
     if f"\ncost {problem.cost(values)}\n" not in answer.text:
-        raise Trouble(f"{answer.who} printed a cost that its values do not have: don't trust this program")
+        raise Wrong(answer, f"its values cost {problem.cost(values)}: don't trust this program")
     return problem.cost(values)
 
 

@@ -135,7 +135,7 @@ def as_json(best: Best, told: Translation, programs: Programs, more: dict[str, o
     if broken and told.top is not None:
         cost = upper = None  # what a WCSP's top forbids is worth the top, and is no solution
     notes = [hard_headline(best, told) if broken else None, *notes_of(best), *([] if values is None else told.notes(values))]
-    answer = {
+    answer: dict[str, object] = {
         "solved": best.solved and not broken,
         "rests_on": None if values is None else best.rests(goal),
         "verified": checked,

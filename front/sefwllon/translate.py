@@ -3,11 +3,13 @@
 from __future__ import annotations
 
 import re
+from collections.abc import Sequence
 from contextlib import suppress
 from dataclasses import dataclass, field, replace
 from fractions import Fraction
 from itertools import product
 from math import lcm, prod
+from typing import cast
 
 from .problem import MOST_CELLS, MOST_NAME, MOST_SCOPE, Problem, Table, Trouble, Variable, is_name
 
@@ -23,7 +25,7 @@ class Constraint:
 
     name: str
     scope: tuple[int, ...]
-    costs: list[Fraction | None]
+    costs: Sequence[Fraction | int | None]
 
 
 @dataclass(frozen=True)
@@ -86,7 +88,7 @@ class Translation:
         assert self.source is not None
         pairs = zip(self.problem.tables, self.source.constraints)
         told = (constraint.costs[self.problem.place(table, assignment)] for table, constraint in pairs)
-        return [cost for cost in told if cost is not None]
+        return [Fraction(cost) for cost in told if cost is not None]
 
     def own_sum(self, assignment: list[int]) -> Fraction:
         """What an assignment costs in the user's costs; what it breaks costs nothing here."""
@@ -108,8 +110,8 @@ class Translation:
         """What is to be known besides of an assignment."""
         if self.source is None:
             return []
-        infinite = self.own_costs(assignment).count(self.source.infinity) if self.source.infinity is not None else 0
-        if not infinite:
+        infinite = 0 if self.source.infinity is None else self.own_costs(assignment).count(self.source.infinity)
+        if not infinite or self.source.infinity is None:
             return self.source.notes
         rest = self.own_sum(assignment) - infinite * self.source.infinity
         return [*self.source.notes, f"{infinite} of the constraints cost {self.source.infinity}, which the other tool counts as "
@@ -204,7 +206,7 @@ def translate(source: Source) -> Translation:
     return result
 
 
-def forbidden(costs: list[int | None]) -> list[int]:
+def forbidden(costs: Sequence[int | None]) -> list[int]:
     """Which cells are forbidden."""
     found, at = [], -1
     with suppress(ValueError):
@@ -214,7 +216,7 @@ def forbidden(costs: list[int | None]) -> list[int]:
     return found
 
 
-def settled(costs: list[int | None], forbids: bool, hard_cost: int, goal: str) -> tuple[int, ...]:
+def settled(costs: Sequence[int | None], forbids: bool, hard_cost: int, goal: str) -> tuple[int, ...]:
     if not forbids:
         return tuple(c for c in costs if c is not None)
     told = {c: c if goal == "min" else c + hard_cost for c in set(costs) if c is not None}
@@ -272,9 +274,9 @@ def scale_of(source: Source) -> tuple[int, bool]:
     return scale, False
 
 
-def whole_costs(source: Source, scale: int) -> tuple[list[list[int | None]], Fraction]:
+def whole_costs(source: Source, scale: int) -> tuple[list[Sequence[int | None]], Fraction]:
     """The costs of each constraint as whole numbers from 0 up, and what they were shifted by, unscaled."""
-    whole = []
+    whole: list[Sequence[int | None]] = []
     shift = Fraction(0)
     for constraint in source.constraints:
         scaled = {c: None if c is None else round(c * scale) for c in set(constraint.costs)}
@@ -282,7 +284,7 @@ def whole_costs(source: Source, scale: int) -> tuple[list[list[int | None]], Fra
         shift += Fraction(least, scale)
         moved = {c: None if told is None else told - least for c, told in scaled.items()}
         same = all(type(c) is int and c == told for c, told in moved.items() if c is not None)
-        whole.append(constraint.costs if same else [moved[c] for c in constraint.costs])
+        whole.append(cast("Sequence[int | None]", constraint.costs) if same else [moved[c] for c in constraint.costs])
     return whole, shift
 
 

@@ -275,6 +275,16 @@ class Programming(Case):
                 status, told, why = self.front("solve", pair, fake="slow", **named)
                 self.assertEqual((status, told, f"{variable} names {wrong}, which is no program that can be run" in why), (3, "", True))
 
+    def test_each_command_names_a_wrong_program(self):
+        pair, report = self.file("p.dcop", PAIR), self.file("report", "")
+        self.front("solve", pair, "--report", report)
+        program = self.file("program", "#!/bin/sh\necho hello\n")
+        os.chmod(program, 0o755)
+        for words in (("check", pair, report), ("cost", pair, "x=0", "y=0"), ("draw", "tree", pair), ("meetings", str(EXAMPLES / "meetings.csv"))):
+            status, told, why = self.front(*words, program=program)
+            self.assertEqual((words, status, told), (words, 3, ""))
+            self.assertIn(f"SEFWLLON_DCOP names {program}, which answered `hello`", why)
+
     def test_an_order_of_another_problem_is_not_taken(self):
         status, told, why = self.front("solve", self.file("p.dcop", PAIR), fake="wide drops", order=FAKE, search=FAKE_SEARCH)
         self.assertEqual((status, told), (3, ""))

@@ -277,6 +277,23 @@ class Meetings(Case):
         self.assertEqual((rooms["o"][0], rooms["o"][2]), ("Blue", ["Cy"]))
         self.assertEqual(answer["solved"], True)
 
+    @real_test
+    def test_rooms_are_given_out_behind_the_slots(self):
+        rooms = "room,Blue\nroom,Red\n"
+        text = "slot,a\nslot,b\nslot,c\n" + "".join(f"meeting,m{at},p{at}\nlike,m{at},a,{at + 1}\n" for at in range(6)) + rooms
+        status, told, _ = self.front("meetings", self.file("week.csv", text), program=REAL)
+        self.assertEqual((status, told.splitlines()[0]), (0, "cost 10, and none is better (verified)"))
+        self.assertEqual([len(re.findall(f"^{slot} .* in (?:Blue|Red)$", told, re.MULTILINE)) for slot in "abc"], [2, 2, 2])
+        even = "".join(f"slot,s{at}\n" for at in range(8)) + "".join(f"meeting,m{at},p{at}\n" for at in range(16)) + rooms
+        status, told, _ = self.front("meetings", self.file("week.csv", even), program=REAL)
+        self.assertEqual((status, told.splitlines()[0]), (0, "cost 0, and none is better (verified)"))
+        few = "slot,a\nslot,b\n" + "".join(f"meeting,m{at},p{at}\n" for at in range(5)) + rooms
+        status, told, _ = self.front("meetings", self.file("week.csv", few), program=REAL)
+        self.assertEqual((status, told.splitlines()[0]), (1, "no timetable keeps all the rules (verified); this one breaks 1"))
+        self.assertRegex(told, r"\nbroken: m\d is in [ab], and has no room there: (Blue|Red) is taken by m\d, (Blue|Red) is taken by m\d\n")
+        self.assertIn("\nwhy: with the rooms Blue, Red\n", told)
+        self.assertIn("\nto relax: it is enough to have another room that suits all, or to leave out one of the meeting m0; ", told)
+
     def test_why_a_meeting_has_no_place(self):
         for lines, why in (
             ("room,Blue,1\nmeeting,m,Ann;Bo\n", r"no room has what m needs, 2 seats \(Blue: 1 seats\)"),
@@ -510,6 +527,9 @@ class Keeping(Case):
         _, told, _ = self.front("meetings", week, "--alternatives", "2")
         self.assertEqual(told.count("alternative "), 2)
         self.assertIn("\nalternative 1: 2 of 2 meetings elsewhere, cost 0\n", told)
+        for only in ("slot,a\nmeeting,m,Ann\n", "slot,a\nslot,b\nmeeting,m,Ann\nmeeting,n,Ann\nfixed,m,a\n"):
+            status, told, _ = self.front("meetings", self.file("week.csv", only), "--alternatives", "2")
+            self.assertEqual((status, told.splitlines()[-1]), (0, "no further timetable is as good: 0 of 2 alternatives"))
         single = self.file("week.csv", "slot,a\nslot,b\nmeeting,m,Ann\nlike,m,b,1\n")
         _, told, _ = self.front("meetings", single, "--alternatives", "2")
         self.assertTrue(told.endswith("\nno further timetable is as good: 0 of 2 alternatives\n"), told)
@@ -533,8 +553,13 @@ class Keeping(Case):
         self.assertIn("is in Wed 10 in the best timetable that was found, which costs 0 (verified)", self.front("why", week, "Retro", "Wed 10")[1])
         tight = self.file("week.csv", TWO + "meeting,m,Ann\nmeeting,n,Ann\nfixed,n,a\n")
         _, told, _ = self.front("why", tight, "m", "a")
-        self.assertEqual(told.splitlines()[0], "m can't be in a: no timetable keeps all the rules then (verified)")
+        self.assertEqual(told.splitlines()[0], "m can't be in a: no timetable keeps all the rules then (added up)")
         self.assertIn("\nwhy: with m fixed in a\n", told)
+        ring = self.file("week.csv", RING + "slot,c\nfixed,m,a;b\nfixed,n,a;b\n")
+        _, told, _ = self.front("why", ring, "o", "b")
+        self.assertEqual(told.splitlines()[0], "o can't be in b: no timetable keeps all the rules then (verified)")
+        crowd = self.file("week.csv", CROWD)
+        self.assertIn("no timetable keeps all the rules (added up), so it is not asked what Board", self.front("why", crowd, "Board", "Tue 18")[1])
         for words, why in ((("Retr", "Mon 9"), "Retr is no meeting of the file: is Retro meant?"), (("Retro", "Mon 10"), "Mon 10 is no slot of the file: is Mon 11 meant?")):
             status, _, told = self.front("why", week, *words)
             self.assertEqual(status, 3)

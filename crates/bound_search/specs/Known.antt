@@ -1,5 +1,5 @@
 -- What is known of the best assignment of a problem.
-use Rattle.std.specs.Prelude.{◌≡◌, ℕ, ◌≤◌, true, false, Option, Some, None, length}
+use Rattle.std.specs.Prelude.{◌≡◌, ℕ, ◌<◌, ◌≤◌, true, false, Option, Some, None, length}
 use Rattle.dcop_base.specs.Problem.{Dcop, IsAssignment, cost}
 use Rattle.bound_search.specs.declared.known.Known.{Known}
 
@@ -19,8 +19,15 @@ IsNoWorse new None = Unit {0}
 IsNoWorse None (Some old) = ⊥
 IsNoWorse (Some new) (Some old) = new ≤ old
 
--- what was known before is not lost: the best is as good or better, what was found stays found, and where nothing is found the best is as it was
+-- strictly better: nothing known is the worst
+abbrev pub IsBelow : Option ℕ → Option ℕ → Type 0
+IsBelow None old = ⊥
+IsBelow (Some new) None = Unit {0}
+IsBelow (Some new) (Some old) = new < old
+
+-- what was known before is not lost: the best is as good or better, what was found stays found, where nothing is found the best is as it was, and what is found first is strictly better than what was asked for
 pub record KnowsMore (old new : Known) : Type 0 where
   pub best : IsNoWorse new.best old.best
   pub still : old.found ≡ true → new.found ≡ true
   pub same : new.found ≡ false → new.best ≡ old.best
+  pub better : old.found ≡ false → new.found ≡ true → IsBelow new.best old.best

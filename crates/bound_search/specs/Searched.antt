@@ -1,5 +1,5 @@
 -- What a search comes to.
-use Rattle.std.specs.Prelude.{◌≡◌, ℕ, ◌+◌, ◌≤◌, ◌⊎◌, max, true, false, Bool, List, Option, Some, None, length, IfSome}
+use Rattle.std.specs.Prelude.{◌≡◌, ℕ, ◌+◌, ◌*◌, ◌≤◌, ◌⊎◌, max, true, false, List, [], ◌∷◌, Option, Some, None, length}
 use Rattle.dcop_base.specs.Problem.{Dcop, IsAssignment, cost}
 use Rattle.bucket_bounds.specs.Exact.{AreExact}
 use Rattle.bucket_bounds.specs.declared.bucket.Bucket.{Bucket}
@@ -28,6 +28,11 @@ abbrev pub most_nodes : ℕ → ℕ → Option ℕ → ℕ → ℕ
 most_nodes budget count None before = max budget (before + count)
 most_nodes budget count (Some best) before = max budget before
 
+-- how many nodes there are in all: each value of a variable, behind each choice of values of the variables before
+abbrev pub tree_nodes : List ℕ → ℕ
+tree_nodes [] = 0
+tree_nodes (s ∷ ss) = s * (1 + tree_nodes ss)
+
 -- a search with bounds that lose nothing and budget enough ends, and visits at most a node for each variable
 pub record GoesStraight (count : ℕ) (old new : Known) (ended : Ended) : Type 0 where
   pub whole : ended.spent ≡ false
@@ -42,4 +47,5 @@ pub record IsSearched (p : Dcop) (buckets : List Bucket) (error budget : ℕ) (o
   pub ends : EndsSo error budget new ended
   pub counted : old.nodes ≤ new.nodes
   pub nodes : new.nodes ≤ most_nodes budget (length p.sizes) old.best old.nodes
+  pub tree : new.nodes ≤ old.nodes + tree_nodes p.sizes
   pub straight : AreExact p.sizes (tables_in buckets) buckets → old.nodes + length p.sizes ≤ budget → GoesStraight (length p.sizes) old new ended

@@ -3,7 +3,12 @@
 //! `bucket_bounds`.
 #![tactic(auto)]
 
+mod descent;
 mod known;
+mod progress;
+mod room;
+mod row;
+mod rules;
 mod searching;
 
 pub use known::Known;

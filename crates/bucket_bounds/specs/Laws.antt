@@ -1,19 +1,18 @@
 -- Laws of bounds.
-use Rattle.std.specs.Prelude.{◌≡◌, ℕ, ◌*◌, ◌≤◌, List, length}
-use Rattle.dcop_base.specs.Table.{CostTable}
+use Rattle.std.specs.Prelude.{ℕ, ◌*◌, ◌≤◌, List}
 use Rattle.dcop_base.specs.Problem.{Dcop}
 use Rattle.dcop_optimum.specs.Optimum.{IsOptimum}
-use Rattle.shared_costs.specs.Values.{AreValues}
 use Rattle.shared_costs.specs.Shared.{AreSharedCosts}
 use Rattle.shared_costs.specs.declared.shared.SharedCosts.{SharedCosts}
 use Rattle.bucket_bounds.specs.Rest.{IsRest}
-use Rattle.bucket_bounds.specs.Bounds.{bound_at, AreBounds}
+use Rattle.bucket_bounds.specs.Bounds.{bound_at, tables_in, AreBounds}
+use Rattle.bucket_bounds.specs.Made.{AreMade}
 use Rattle.bucket_bounds.specs.declared.bucket.Bucket.{Bucket}
 
--- whatever the groups, the bounds of each depth sum to at most the rest
+-- where each bucket sends at most what its tables and what came to it cost, whatever its groups, the bounds of each depth sum to at most the rest
 abbrev pub BoundsAreAtMostTheRest : Type 0
-BoundsAreAtMostTheRest = (sizes : List ℕ) (depths : List (List CostTable)) (buckets : List Bucket) → AreBounds sizes depths buckets
-    → (p : ℕ) (value : ℕ → ℕ) (least : ℕ) → p ≤ length sizes → AreValues sizes value → IsRest sizes depths p value least → bound_at p buckets value ≤ least
+BoundsAreAtMostTheRest = (sizes : List ℕ) (buckets : List Bucket) → AreMade sizes 0 buckets
+    → (p : ℕ) (value : ℕ → ℕ) (least : ℕ) → IsRest sizes (tables_in buckets) p value least → bound_at p buckets value ≤ least
 
 -- the bound of depth 0 is at most the scaled optimum
 abbrev pub FirstBoundIsAtMostTheOptimum : Type 0

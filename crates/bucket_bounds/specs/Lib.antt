@@ -2,3 +2,10 @@ pub mod Rest
 pub mod Bounds
 pub mod Exact
 pub mod Laws
+pub mod Made
+pub mod Union
+pub mod Kept
+pub mod Groups
+pub mod Joining
+pub mod Parts
+pub mod Parting

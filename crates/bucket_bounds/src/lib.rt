@@ -10,6 +10,18 @@
 
 mod bounds;
 mod bucket;
+mod by_cells;
+mod group;
+mod joining;
+mod keeping;
+mod law;
+mod limit;
+mod making;
+mod projecting;
+mod sharing;
+mod union;
 
 pub use bounds::bounds_of;
 pub use bucket::{Bucket, BucketList};
+pub use law::{bounds_are_at_most_the_rest, first_bound_is_at_most_the_optimum};
+pub use limit::limit_within;

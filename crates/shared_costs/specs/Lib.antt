@@ -2,3 +2,8 @@ pub mod Values
 pub mod Tables
 pub mod Sharing
 pub mod Shared
+pub mod Runs
+pub mod Moves
+pub mod Scales
+pub mod Rows
+pub mod Depths

@@ -8,6 +8,10 @@
 //! 2007). [`share`] is one step of that, for one variable.
 #![tactic(auto)]
 
+mod depths;
+mod rounds;
+mod runs;
+mod scale;
 mod shared;
 mod sharing;
 mod table;

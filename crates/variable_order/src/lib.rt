@@ -6,6 +6,8 @@
 //! Computing, 1972), and gives them backwards: what is eliminated first is searched last.
 #![tactic(auto)]
 
+mod graph;
 mod order;
+mod var_set;
 
 pub use order::search_order;

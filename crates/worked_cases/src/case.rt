@@ -10,6 +10,8 @@ pub enum Program {
     Dcop,
     /// `dcop_order`
     DcopOrder,
+    /// `dcop_search`
+    DcopSearch,
 }
 
 /// A worked case: what a program is given, and what it has to answer.

@@ -6,6 +6,7 @@ use crate::input::{case_at, input_of};
 use anyhow::{Result, bail};
 use dcop_edge::{MemorySink, MemorySource, OpenGate};
 use order_top::order;
+use search_top::search;
 use solve_top::{Status, solve};
 use std::net::Net;
 use std::random::RandomSource;
@@ -77,6 +78,7 @@ fn found_on<R: Threads + Wait + Clock + RandomSource + Net + AllocGlobal + Sync>
     let status = match case.program {
         Program::Dcop => solved(rt, case, &mut source, &mut sink)?,
         Program::DcopOrder => order(alloc, &case.words, &mut source, &mut sink),
+        Program::DcopSearch => search(alloc, &case.words, &mut source, &mut sink),
     };
     Ok(Found {
         status: status.code(),

@@ -182,6 +182,7 @@ fn program(name: &str) -> Result<Program> {
     match name {
         "dcop" => Ok(Program::Dcop),
         "dcop_order" => Ok(Program::DcopOrder),
+        "dcop_search" => Ok(Program::DcopSearch),
         _ => bail!("{name} is no program"),
     }
 }

@@ -11,10 +11,10 @@ from ..asking import checked_report
 from ..files import load, read_text
 from ..output import say
 from ..problem import Trouble
-from ..programs import Programs
+from ..programs import Programs, Wrong
 from ..progress import Progress
 from ..report import Report, certified, fitted, printed, read_report, read_tree
-from ..solving import Refused
+from ..solving import refusal
 from ..telling import SOLVED, TEXT, none_keeps_all, noun
 from ..translate import Translation, number
 
@@ -64,7 +64,7 @@ def graph_of(told: Translation, report: str | None) -> str:
     problem = fitted(told.problem, report)
     by_name = dict(zip((v.name for v in problem.variables), read_report(printed(report), problem).values))
     chosen = told.told([by_name[v.name] for v in told.problem.variables])
-    return draw.graph(told.problem, told.names, [str(value) for value in chosen.values()])
+    return draw.graph(told.problem, told.names, [str(chosen.get(name, "")) for name in told.names])
 
 
 def tree_of(programs: Programs, told: Translation, report: str | None) -> str:
@@ -72,9 +72,13 @@ def tree_of(programs: Programs, told: Translation, report: str | None) -> str:
     problem = told.problem if report is None else fitted(told.problem, report)
     answer = programs.run(["tree"], problem.text())
     if answer.status != 0:
-        raise Refused(answer)
+        raise refusal(answer, "no answer of `dcop tree`")
+    try:
+        nodes = read_tree(answer.text)
+    except Trouble as trouble:
+        raise Wrong(answer, str(trouble)) from None
     own = dict(zip((v.name for v in told.problem.variables), told.names))
-    return draw.tree(problem, read_tree(answer.text), own)
+    return draw.tree(problem, nodes, own)
 
 
 def bounds_of(programs: Programs, told: Translation, report: str, title: str, points: int) -> str:

@@ -7,6 +7,7 @@ import json
 import os
 from collections.abc import Callable
 from fractions import Fraction
+from functools import partial
 from pathlib import Path
 
 from .. import draw
@@ -85,7 +86,7 @@ def as_table(options: argparse.Namespace, plan: Plan, further: list[Plan], none:
     told = telling.heads(plan, ADDED_UP if crowded else None)
     told += [f"stopped: {plan.best.stopped}"] if plan.best.stopped else []
     told += [*telling.details(plan), *why]
-    told += [f"note: {note}" for note in (*notes_of(plan.best), *plan.told.notes)]
+    told += [f"note: {note}" for note in (*notes_of(plan.best), *plan.notes, *plan.told.notes)]
     if options.report and not (plan.made.aim.plain and not options.busy):
         told.append(f"note: {OTHER_PROBLEM}")
     told += telling.moves(plan)
@@ -108,6 +109,8 @@ def alternatives(session: Session, plan: Plan, count: int) -> tuple[list[Plan], 
             other = next_alternative(session, plan, [plan, *found])
         except (OutOfTime, KeyboardInterrupt):
             other = None
+        except Trouble as trouble:
+            return found, f"no further timetable can be asked for: {trouble}"
         if other is None or not as_good(other, plan, found):
             known = other is not None and other.best.solved
             what = "no further timetable is as good" if known else "no further timetable as good was found in time"
@@ -139,7 +142,7 @@ def as_object(session: Session, plan: Plan, further: list[Plan], none: str | Non
         "why": why,
         "alternatives": [{"cost": plain(other.cost), "timetable": entries(other)} for other in further],
         "alternatives_note": none,
-        "notes": plan.told.notes,
+        "notes": [*plan.notes, *plan.told.notes],
     }
     answer = json.loads(as_json(plan.best, plan.problem, session.programs, more))
     answer |= {"solved": plan.solved, "cost": plain(plan.cost), "broken": [breach.sentence() for breach in plan.breaches]}
@@ -154,7 +157,8 @@ def plain(cost: Fraction) -> int | float:
 
 def entries(plan: Plan) -> list[dict[str, object]]:
     """A timetable for programs: an entry for each meeting."""
-    told, found = plan.told, []
+    told = plan.told
+    found: list[dict[str, object]] = []
     for name, meeting in told.meetings.items():
         slot = told.slot_of(plan.chosen, name)
         end = slot.end(meeting.minutes)
@@ -190,7 +194,7 @@ def outputs(options: argparse.Namespace, plan: Plan, before: Earlier | None) -> 
         names: set[str] = set()
         for person in told.people():
             path = str(Path(options.ics_each) / f"{file_name(person, names)}.ics")
-            made.append((path, lambda person=person: calendar(person)))  # type: ignore[misc]
+            made.append((path, partial(calendar, person)))
     return [(name, text) for name, text in made if name]
 
 

@@ -4,10 +4,12 @@ from __future__ import annotations
 
 import argparse
 from dataclasses import replace
+from collections.abc import Iterable
 from difflib import get_close_matches
 from pathlib import Path
 
 from ..arguments import Commands, add_time, threads
+from ..best import ADDED_UP
 from ..output import reading, say
 from ..problem import Trouble
 from ..telling import OPEN, SOLVED, as_text
@@ -44,22 +46,38 @@ def run(options: argparse.Namespace) -> int:
     if barred:
         say(f"{name} can't be in {slot}: {'; '.join(barred)}" + "\n")
         return OPEN
+    if impossible.too_many(told):
+        say(no_base(ADDED_UP, name, slot))
+        return OPEN
+    fixed = replace(told, meetings={**told.meetings, name: replace(told.meetings[name], fixed=[slot])})
+    if impossible.too_many(fixed):
+        say("\n".join(refused(session, fixed, name, slot, ADDED_UP)) + "\n")
+        return SOLVED
     best = session.ask(told)
     if not best.found:
         say(as_text(best.best, best.problem))
         return OPEN
     if best.breaches:
-        say("\n".join([*telling.heads(best)[:1], f"so it is not asked what {name} in {slot} costs: `sefwllon meetings` says what is in the way"]) + "\n")
+        say(no_base(best.none_keeps, name, slot))
         return OPEN
     held = session.ask(told, Aim(held={name: slot}, like=best.names, crowds=best.made.aim.crowds))
     if held.keeps:
         say("\n".join(compared(told, best, held, name, slot)) + "\n")
         return SOLVED if best.exact and held.exact else OPEN
-    say("\n".join(refused(session, held, name, slot)) + "\n")
-    return SOLVED if held.impossible else OPEN
+    if held.impossible:
+        say("\n".join(refused(session, fixed, name, slot, held.none_keeps or "")) + "\n")
+        return SOLVED
+    say("\n".join([f"no timetable with {name} in {slot} was found, and it is not known that there is none: give it more --time", *telling.details(held)]) + "\n")
+    return OPEN
 
 
-def named(word: str, names: dict[str, object] | dict[str, int], what: str) -> str:
+def no_base(known: str | None, name: str, slot: str) -> str:
+    """That there is no timetable to compare with."""
+    none = f"no timetable keeps all the rules ({known})" if known else "no timetable that keeps all the rules was found"
+    return f"{none}, so it is not asked what {name} in {slot} costs: `sefwllon meetings` says what is in the way\n"
+
+
+def named(word: str, names: Iterable[str], what: str) -> str:
     if word in names:
         return word
     near = get_close_matches(word, list(names), 1, 0.6)
@@ -117,13 +135,8 @@ def met(told: Timetable, best: Plan, held: Plan, name: str) -> list[str]:
     return lines
 
 
-def refused(session: Session, held: Plan, name: str, slot: str) -> list[str]:
+def refused(session: Session, fixed: Timetable, name: str, slot: str, known: str) -> list[str]:
     """That a meeting can't be in a slot beside all others, and why."""
-    told = held.told
-    if not held.impossible:
-        return [f"no timetable with {name} in {slot} was found, and it is not known that there is none: give it more --time", *telling.details(held)]
-    fixed = replace(told, meetings={**told.meetings, name: replace(told.meetings[name], fixed=[slot])})
     reason = impossible.find(session, fixed)
-    known = held.known(held.problem.none_keeps)
     lines = [f"{name} can't be in {slot}: no timetable keeps all the rules then ({known})"]
-    return lines + (impossible.sentences(fixed, reason) if reason else telling.details(held))
+    return lines + (impossible.sentences(fixed, reason) if reason else [])

@@ -9,16 +9,21 @@ from __future__ import annotations
 
 from collections.abc import Callable
 from dataclasses import dataclass, field, replace
+from functools import partial
+from typing import TypeVar
 
 from ..best import ADDED_UP
 from ..output import OutOfTime
+from ..problem import Trouble
 from . import rules
 from .make import Aim, NoPlace
-from .model import Meeting, Timetable
+from .model import Meeting, Room, Timetable
 from .session import Session
 
 _SECONDS = 20.0
 """How long reasons are looked for where no time is given."""
+Thing = TypeVar("Thing", str, int)
+ANOTHER_ROOM = "to have another room that suits all"
 _MOST_RELAXED = 40
 """How many ways to relax a week are tried."""
 
@@ -38,6 +43,8 @@ class Reason:
     """What alone makes a week possible."""
     tried: bool = True
     """Whether all ways to relax one thing were tried."""
+    rooms: bool = False
+    """Whether it is since rooms are too few."""
 
 
 def reduced(told: Timetable, meetings: list[str], people: list[str], lines: list[int]) -> Timetable:
@@ -67,8 +74,7 @@ def without_others(meeting: Meeting, people: set[str], lines: list[int]) -> Meet
 
 def rule_lines(told: Timetable) -> list[int]:
     """The lines that can be left out: absences, times, and the rules of meetings and people."""
-    rules = (*told.absences, *told.busy, *told.sequences, *told.together, *told.most)
-    return list(dict.fromkeys(rule.line for rule in rules))
+    return list(dict.fromkeys(rule.line for rule in told.rules()))
 
 
 def too_many(told: Timetable, people: list[str] | None = None) -> tuple[str, list[str]] | None:
@@ -173,9 +179,12 @@ class Search:
         except (OutOfTime, KeyboardInterrupt):
             self.session.stopped, self.decided = True, False
             return None
+        except Trouble:
+            self.decided = False
+            return None
         if plan.keeps:
             return False
-        known = plan.known(plan.problem.none_keeps)
+        known = plan.none_keeps
         if known is None:
             self.decided = False
             return None
@@ -195,7 +204,10 @@ class Search:
         lines = self.least([line for line in lines if self.concerns(line, meetings, people)], lambda its: self.fails(meetings, people, its))
         if not self.fails(meetings, people, lines):
             return None
-        return Reason(meetings, people, lines, self.decided, self.known)
+        reason = Reason(meetings, people, lines, self.decided, self.known)
+        if told.rooms:
+            reason.rooms = self.fails_told(replace(reduced(told, meetings, people, lines), rooms={})) is False
+        return reason
 
     def start(self, lines: list[int]) -> tuple[list[str], list[str]]:
         """Meetings that have no timetable: those of one person, where these are enough, or all."""
@@ -217,13 +229,13 @@ class Search:
     def concerns(self, line: int, meetings: list[str], people: list[str]) -> bool:
         """Whether a line is about these."""
         told = self.told
-        if any(it.line == line and (it.who in people or it.who in told.rooms) for it in (*told.absences, *told.busy, *told.most)):
+        if any(it.line == line and (it.who in people or it.who in told.rooms) for it in told.of_people()):
             return True
         if any(it.line == line and it.first in meetings for it in told.sequences):
             return True
         return any(it.line == line and any(name in meetings for name in it.names) for it in told.together)
 
-    def least(self, its: list, fails: Callable[[list], bool]) -> list:  # type: ignore[type-arg]
+    def least(self, its: list[Thing], fails: Callable[[list[Thing]], bool]) -> list[Thing]:
         """What is left of a list when all that is not needed is left out: first in halves, then in smaller pieces, then one by one."""
         size = max(1, len(its) // 2)
         while True:
@@ -243,16 +255,20 @@ class Search:
         told, lines = self.told, rule_lines(self.told)
         everybody, names = list(told.meetings_of), list(told.meetings)
         ways: list[tuple[str, Callable[[], Timetable]]] = []
+        if reason.rooms:
+            things = list(dict.fromkeys(it for meeting in told.meetings.values() for it in meeting.needs))
+            more = {**told.rooms, "another room": Room("another room", None, things)}
+            ways.append((ANOTHER_ROOM, partial(replace, told, rooms=more, wishes=[])))
         for line in reason.lines:
-            ways.append((f"the line {told.line(line)}", lambda line=line: reduced(told, names, everybody, [it for it in lines if it != line])))  # type: ignore[misc]
+            ways.append((f"the line {told.line(line)}", partial(reduced, told, names, everybody, [it for it in lines if it != line])))
         for name in reason.meetings:
             meeting = told.meetings[name]
             for person in (it for it in meeting.people if it in reason.people):
-                ways.append((f"{person} in {name}", lambda name=name, person=person: leave(told, name, person)))  # type: ignore[misc]
+                ways.append((f"{person} in {name}", partial(leave, told, name, person)))
             if meeting.fixed:
-                ways.append((f"that {name} is fixed", lambda name=name: loosen(told, name)))  # type: ignore[misc]
+                ways.append((f"that {name} is fixed", partial(loosen, told, name)))
         for name in reason.meetings:
-            ways.append((f"the meeting {name}", lambda name=name: reduced(told, [it for it in names if it != name], everybody, lines)))  # type: ignore[misc]
+            ways.append((f"the meeting {name}", partial(reduced, told, [it for it in names if it != name], everybody, lines)))
         for words, made in ways[:_MOST_RELAXED]:
             fails = self.fails_told(made())
             if fails is False:
@@ -278,9 +294,13 @@ def loosen(told: Timetable, name: str) -> Timetable:
 def find(session: Session, told: Timetable) -> Reason | None:
     """Why a timetable can't be, and what to relax; None where that is not found in time."""
     search = Search(session, told)
-    reason = search.reason()
-    if reason is not None:
-        search.relax(reason)
+    reason = None
+    try:
+        reason = search.reason()
+        if reason is not None:
+            search.relax(reason)
+    except KeyboardInterrupt:
+        session.stopped = True
     return reason
 
 
@@ -298,10 +318,15 @@ def sentences(told: Timetable, reason: Reason) -> list[str]:
     for name in reason.meetings:
         if told.meetings[name].fixed:
             lines.append(f"why: with {name} fixed in {' or '.join(told.meetings[name].fixed)}")
+    if reason.rooms:
+        lines.append(f"why: with the rooms {', '.join(told.rooms)}")
     least = "without any of these it could" if reason.least else "less than this may be enough, which was not decided in time"
     lines.append(f"why: {least} ({reason.known})")
     if reason.relaxed:
-        lines.append(f"to relax: it is enough to leave out one of {'; '.join(reason.relaxed)}")
+        more = [words for words in reason.relaxed if words.startswith(ANOTHER_ROOM)]
+        less = [words for words in reason.relaxed if words not in more]
+        ways = [*more, *([f"to leave out one of {'; '.join(less)}"] if less else [])]
+        lines.append(f"to relax: it is enough {', or '.join(ways)}")
     elif reason.tried:
         lines.append("to relax: no single one of these is enough, so more than one thing is in the way; relax one, and ask again")
     return lines

@@ -67,7 +67,7 @@ def add(source: Source, limit: Limit) -> None:
 def add_tables(source: Source, limit: Limit) -> None:
     for scope in combinations(limit.group, limit.count + 1):
         choices = product(*([value in limit.group[v] for value in range(len(source.values[v]))] for v in scope))
-        source.constraints.append(Constraint(limit.name, scope, [None if all(choice) else 0 for choice in choices]))  # type: ignore[list-item]
+        source.constraints.append(Constraint(limit.name, scope, [None if all(choice) else 0 for choice in choices]))
 
 
 def add_chain(source: Source, limit: Limit) -> None:
@@ -87,7 +87,7 @@ def add_chain(source: Source, limit: Limit) -> None:
             for value in range(len(source.values[variable]))
             for count in range(counts)
         ]
-        source.constraints.append(Constraint(limit.name, scope, costs))  # type: ignore[arg-type]
+        source.constraints.append(Constraint(limit.name, scope, costs))
         before = counter
     assert before is not None
     last = variables[-1]
@@ -96,7 +96,7 @@ def add_chain(source: Source, limit: Limit) -> None:
         for so_far in range(len(source.values[before]))
         for value in range(len(source.values[last]))
     ]
-    source.constraints.append(Constraint(limit.name, (before, last), full))  # type: ignore[arg-type]
+    source.constraints.append(Constraint(limit.name, (before, last), full))
 
 
 def add_other(source: Source, name: str, values: dict[int, int]) -> None:
@@ -112,10 +112,14 @@ def add_other(source: Source, name: str, values: dict[int, int]) -> None:
         scope = (variable, counter) if before is None else (before, variable, counter)
         known = (0,) if before is None else (0, 1)
         costs = [0 if max(so_far, it != value) == told else None for so_far in known for it in range(size) for told in (0, 1)]
-        source.constraints.append(Constraint(name, scope, costs))  # type: ignore[arg-type]
+        source.constraints.append(Constraint(name, scope, costs))
         before = counter
     same = [None if it == wanted else 0 for it in range(len(source.values[last]))]
-    if before is None:
-        source.constraints.append(Constraint(name, (last,), same))  # type: ignore[arg-type]
+    if before is None:  # a value that is forbidden alone would be left out, and there may be no other
+        before = len(source.names)
+        source.names.append(f"{name}, 0")
+        source.values.append([0])
+        source.counters[before] = Counter(None, last, frozenset())
+        source.constraints.append(Constraint(name, (before, last), same))
     else:
-        source.constraints.append(Constraint(name, (before, last), [*same, *([0] * len(same))]))  # type: ignore[arg-type]
+        source.constraints.append(Constraint(name, (before, last), [*same, *([0] * len(same))]))

@@ -36,7 +36,7 @@ semicolons or tabs between its cells, as spreadsheets write it.
 from __future__ import annotations
 
 import re
-from collections.abc import Callable
+from collections.abc import Callable, Iterable
 from dataclasses import dataclass, field
 from difflib import get_close_matches
 from fractions import Fraction
@@ -190,9 +190,9 @@ def wrong_form(kind: str, row: list[str]) -> str:
     return f"a cell is missing, or is one too many: the line is {FORMS[kind]}"
 
 
-def meant(name: str, names: object) -> str:
+def meant(name: str, names: Iterable[str]) -> str:
     """A name that is near to one that is not there."""
-    near = get_close_matches(name, list(names), 1, 0.75)  # type: ignore[call-overload]
+    near = get_close_matches(name, list(names), 1, 0.75)
     return f": is {near[0]} meant?" if near else ""
 
 
@@ -417,13 +417,15 @@ def check_whole(reading: Reading) -> None:
     timed = [slot for slot in told.slots if slot.begin is not None]
     untimed = next((slot for slot in told.slots if slot.begin is None), None)
     needing = [
-        *((rule.line, "days are those of the slots' times") for rule in (*told.together, *told.most)),
+        *((rule.line, "days are those of the slots' times") for rule in told.together),
+        *((rule.line, "days are those of the slots' times") for rule in told.most),
         *((meeting.line, "its minutes count from the slot's time") for meeting in told.meetings.values() if meeting.minutes),
         *((busy.line, "a time is compared with those of the slots") for busy in told.busy),
         *((untimed.line, "a week that recurs needs times") for _ in range(1) if untimed and told.weeks > 1),
     ]
-    for line, why in needing if untimed else []:
-        reading.fault(line, f"{why}, and the slot {untimed.name} has none: write it as slot,{untimed.name},2026-03-02 09:00")
+    for line, why in needing:
+        if untimed is not None:
+            reading.fault(line, f"{why}, and the slot {untimed.name} has none: write it as slot,{untimed.name},2026-03-02 09:00")
     if told.weeks > 1 and len(timed) > 1:
         begins = [instant(slot.begin) for slot in timed if slot.begin is not None]
         first, last = min(begins), max(begins)

@@ -115,7 +115,7 @@ def make(told: Timetable, title: str, aim: Aim | None = None) -> Made:
     index = {name: at for at, name in enumerate(told.meetings)}
     for rule in pairs:
         scope = index[rule.first], index[rule.second]
-        problem.constraints.append(Constraint(rule.name, scope, pair_cells(made, rule.first, rule.second, rule.forbids, None)))  # type: ignore[arg-type]
+        problem.constraints.append(Constraint(rule.name, scope, pair_cells(made, rule.first, rule.second, rule.forbids, None)))
     add_soft(made, soft, index)
     wanted = list(limits_of(told, made, index))
     check_limits(problem, wanted)
@@ -229,7 +229,7 @@ def weighed(
     behind = 1 + sum(max(its) for its in late.values())
     greatest = sum((max(its) for its in alone.values()), Fraction(0)) + sum(sums, Fraction(0))
     move = behind * (int(greatest * scale) + 1) if aim.keep else 0
-    made = Made(told, aim, Source("min", list(told.meetings), list(names.values()), [], title, list(told.notes)), places)  # type: ignore[arg-type]
+    made = Made(told, aim, Source("min", list(told.meetings), [list(its) for its in names.values()], [], title, list(told.notes)), places)
     made.scale, made.behind, made.move, made.whole = scale, behind, move, aim.keep is not None or behind > 1
     for at, name in enumerate(told.meetings):
         moved = [move if aim.keep and name in aim.keep and aim.keep[name] != place else 0 for place in names[name]]
@@ -245,16 +245,17 @@ def counted_behind(aim: Aim, name: str, place: str) -> int:
     return count + (aim.like is not None and name in aim.like and aim.like[name] != place)
 
 
-def pair_cells(made: Made, first: str, second: str, where: list[list[bool]], cost: object) -> list[object]:
+def pair_cells(made: Made, first: str, second: str, where: list[list[bool]], cost: Fraction | int | None) -> list[Fraction | int | None]:
     """The cells of two meetings: this cost where it is told, and else 0."""
     told, places = made.told, made.places
     rows = [told.clock.at(told.meetings[first], place) for place in places[first]]
     columns = [told.clock.at(told.meetings[second], place) for place in places[second]]
-    pick = itemgetter(*columns) if len(columns) > 1 else lambda row: (row[columns[0]],)
-    cells: list[object] = []
+    cells: list[Fraction | int | None] = []
     costs = (0, cost)
+    pick = itemgetter(*columns)
     for row in rows:
-        cells += [costs[hit] for hit in pick(where[row])]
+        hits = pick(where[row])
+        cells += [costs[hit] for hit in (hits if len(columns) > 1 else (hits,))]
     return cells
 
 
@@ -264,7 +265,7 @@ def add_soft(made: Made, soft: dict[tuple[str, str], dict[str, Fraction]], index
         meets = made.told.clock.meets(made.told.meetings[first], made.told.meetings[second])
         cells = pair_cells(made, first, second, meets, sum(people.values(), Fraction(0)) * made.factor)
         name = f"{first} and {second} at once, without {', '.join(people)}"
-        made.source.constraints.append(Constraint(name, (index[first], index[second]), cells))  # type: ignore[arg-type]
+        made.source.constraints.append(Constraint(name, (index[first], index[second]), cells))
 
 
 def limits_of(told: Timetable, made: Made, index: dict[str, int]) -> Iterable[Limit]:

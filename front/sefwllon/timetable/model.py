@@ -10,6 +10,7 @@ from collections.abc import Iterator
 from dataclasses import dataclass, field
 from fractions import Fraction
 from functools import cached_property
+from typing import Protocol
 
 from .words import instant
 
@@ -53,6 +54,23 @@ class Slot:
     @property
     def day(self) -> datetime.date | None:
         return None if self.begin is None else self.begin.date()
+
+
+class OfSomebody(Protocol):
+    """What a line says of somebody, or of a room."""
+
+    @property
+    def who(self) -> str: ...
+
+    @property
+    def line(self) -> int: ...
+
+
+class Ruled(Protocol):
+    """A rule of a line."""
+
+    @property
+    def line(self) -> int: ...
 
 
 def spans_meet(one: Span, other: Span) -> bool:
@@ -194,6 +212,18 @@ class Timetable:
     lines: list[str] = field(default_factory=list)
     """The lines of the file."""
 
+    def aways(self) -> list[OfSomebody]:
+        """When who can't."""
+        return [*self.absences, *self.busy]
+
+    def of_people(self) -> list[OfSomebody]:
+        """What is said of somebody, but for wishes."""
+        return [*self.absences, *self.busy, *self.most]
+
+    def rules(self) -> list[Ruled]:
+        """What can be left out of a file, but for meetings and people."""
+        return [*self.absences, *self.busy, *self.sequences, *self.together, *self.most]
+
     def people(self) -> list[str]:
         """Who takes part in a meeting, in the order of the file."""
         return list(dict.fromkeys(person for meeting in self.meetings.values() for person in meeting.everybody))
@@ -270,7 +300,7 @@ class Timetable:
         whole = Meeting("")
         return {
             who: {slot.name for at, slot in enumerate(self.slots) if self.clock.why_away(who, whole, Place(at))}
-            for who in dict.fromkeys(away.who for away in (*self.absences, *self.busy))
+            for who in dict.fromkeys(away.who for away in self.aways())
         }
 
 

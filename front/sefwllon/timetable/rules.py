@@ -245,10 +245,9 @@ def both_costs(told: Timetable) -> dict[tuple[str, str], dict[str, Fraction]]:
     found: dict[tuple[str, str], dict[str, Fraction]] = {}
     for person, its in part.items():
         for (first, a), (second, b) in combinations(sorted(its, key=lambda it: told.meetings[it[0]].line), 2):
-            costs = [cost for cost in (a, b) if cost is not None]
-            apart = set(told.meetings[first].people) & set(told.meetings[second].people)
-            if costs and min(costs) and not apart:
-                found.setdefault((first, second), {})[person] = min(costs)
+            least = min((cost for cost in (a, b) if cost is not None), default=Fraction(0))
+            if least and not set(told.meetings[first].people) & set(told.meetings[second].people):
+                found.setdefault((first, second), {})[person] = least
     return found
 
 

@@ -4,13 +4,14 @@ from __future__ import annotations
 
 import argparse
 import time
+from collections.abc import Callable
 from dataclasses import dataclass, field, replace
 from fractions import Fraction
 
 from ..asking import deadline
 from ..best import Best
 from ..files import read_text
-from ..output import OutOfTime, reading
+from ..output import OutOfTime, reading, undisturbed
 from ..parts import solved_apart
 from ..problem import Trouble
 from ..programs import Programs
@@ -48,6 +49,9 @@ class Plan:
     rooms: dict[str, str] = field(default_factory=dict)
     breaches: list[Breach] = field(default_factory=list)
     costs: list[Cost] = field(default_factory=list)
+    notes: list[str] = field(default_factory=list)
+    none: str | None = None
+    """By what it is known that no timetable keeps all rules, where another problem of the same file told it."""
 
     @property
     def found(self) -> bool:
@@ -82,15 +86,20 @@ class Plan:
     @property
     def impossible(self) -> bool:
         """Whether it is known that no timetable keeps all rules."""
-        return self.known(self.problem.none_keeps) is not None
+        return self.none_keeps is not None
+
+    @property
+    def none_keeps(self) -> str | None:
+        """By what that is known."""
+        return self.none or self.known(self.problem.none_keeps)
 
     @property
     def names(self) -> Same:
         return {name: str(place) for name, place in self.chosen.items()}
 
-    def known(self, holds: object) -> str | None:
+    def known(self, holds: Callable[[int | None], bool]) -> str | None:
         """By what it is known that something follows from a bound; None where it is not known."""
-        return known_by(holds, self.best, self.problem)  # type: ignore[arg-type]
+        return known_by(holds, self.best, self.problem)
 
 
 def better(one: Plan, other: Plan) -> Plan:
@@ -105,7 +114,7 @@ def better(one: Plan, other: Plan) -> Plan:
                 setattr(best, what, min(cost, max(bound, getattr(best, what) or 0)))
         best.solved = best.solved or best.gap("min") == 0
     best.stopped = best.stopped or one.best.stopped
-    return replace(other, best=best)
+    return replace(other, best=best, none=other.none_keeps or one.none_keeps)
 
 
 @dataclass
@@ -139,10 +148,11 @@ class Session:
         for turn in range(_ROUNDS):
             try:
                 plan, crowds = self.ask_once(told, aim)
-            except (OutOfTime, KeyboardInterrupt):
-                self.stopped = True
+            except (Trouble, KeyboardInterrupt) as fault:
                 if best is None:
                     raise
+                best.notes.append(f"rooms could not be asked for further: {fault or 'interrupted'}")
+                self.stopped = self.stopped or not isinstance(fault, Trouble) or isinstance(fault, OutOfTime)
                 break
             if turn == 0 and crowds and not plan.problem.counters:
                 plan = self.repaired(plan)
@@ -150,7 +160,8 @@ class Session:
             if best.exact:
                 break
             self.stopped = self.stopped or plan.best.stopped == "interrupted"
-            if not crowds or plan.best.stopped or self.over:
+            crowds = [crowd for crowd in crowds if crowd not in aim.crowds]
+            if not crowds or plan.best.stopped or plan.none_keeps or self.over:
                 break
             aim = replace(aim, crowds=[*aim.crowds, *crowds])
         assert best is not None
@@ -158,7 +169,10 @@ class Session:
 
     def repaired(self, plan: Plan) -> Plan:
         """A timetable in which all have rooms, found from one in which some have none; the same where none is found so."""
-        values = rooms.repaired(plan.told, plan.made.places, plan.problem, plan.best.values or [])
+        try:
+            values = rooms.repaired(plan.told, plan.made.places, plan.problem, plan.best.values or [])
+        except KeyboardInterrupt:
+            self.stopped, values = True, None
         if values is None:
             return plan
         best = replace(plan.best, moments=list(plan.best.moments))
@@ -176,15 +190,16 @@ class Session:
         left = None if self.until is None else self.until - self.options.began
         gap = getattr(self.options, "gap", None) if aim.plain else None
         options = argparse.Namespace(**{**vars(self.options), "time": left, "gap": gap})
+        crowds: list[Crowd] = []
         plan = Plan(told, made, problem, solved_apart(self.programs, problem, options))
         if plan.best.values is None:
-            return plan, []
-        plan.chosen = problem.told(plan.best.values)
-        plan.breaches, plan.costs = rules.breaches(told, plan.chosen), rules.costs(told, plan.chosen)
-        if not told.rooms:
-            return plan, []
-        plan.rooms, crowds, missing = rooms.give(told, plan.chosen)
-        if plan.breaches:
-            crowds = []
-        plan.breaches = plan.breaches + missing
+            return plan, crowds
+        with undisturbed():
+            plan.chosen = problem.told(plan.best.values)
+            plan.breaches, plan.costs = rules.breaches(told, plan.chosen), rules.costs(told, plan.chosen)
+            if told.rooms:
+                broken = bool(plan.breaches)
+                plan.rooms, crowds, missing = rooms.give(told, plan.chosen)
+                plan.breaches = plan.breaches + missing
+                crowds = [] if broken else crowds
         return plan, crowds

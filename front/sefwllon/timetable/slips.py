@@ -23,7 +23,7 @@ def near_names(told: Timetable) -> list[str]:
     lines: Counter[str] = Counter()
     where: dict[str, int] = {}
     seen = [(person, meeting.line) for meeting in told.meetings.values() for person in meeting.everybody]
-    seen += [(it.who, it.line) for it in (*told.absences, *told.busy, *told.most, *told.wishes) if it.who not in told.meetings]
+    seen += [(it.who, it.line) for it in told.of_people()] + [(it.who, it.line) for it in told.wishes if it.who not in told.meetings]
     for person, line in seen:
         lines[person] += 1
         where.setdefault(person, line)

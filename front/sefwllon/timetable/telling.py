@@ -37,18 +37,15 @@ def heads(plan: Plan, counted: str | None = None) -> list[str]:
     if not plan.breaches:
         return [kept(plan) if plan.made.aim.keep is not None else headline(plan.best, plan.problem)]
     broken = plan.problem.broken(plan.best.values or [])
-    if not broken:
-        return [f"no timetable that keeps all the rules was found; this one breaks {len(plan.breaches)}"]
-    count = len(plan.breaches)
-    pairs = len(broken) == count and not plan.told.most and not plan.told.rooms
-    by_bound = plan.known(plan.problem.none_keeps)
+    count, exact = len(plan.breaches), [headline(plan.best, plan.problem)] if broken else []
+    by_bound = plan.none_keeps
     none = by_bound or counted
-    fewest = plan.known(lambda bound: plan.problem.fewest_broken(bound) == len(broken)) if pairs else None
-    exact = headline(plan.best, plan.problem)
     if none is None:
-        return [f"no timetable that keeps all the rules was found; this one breaks {count}", exact]
+        return [f"no timetable that keeps all the rules was found; this one breaks {count}", *exact]
+    pairs = len(broken) == count and not plan.told.most and not plan.told.rooms
+    fewest = plan.known(lambda bound: plan.problem.fewest_broken(bound) == len(broken)) if pairs else None
     told = "no timetable keeps all the rules" + ("" if none == fewest else f" ({none})") + f"; this one breaks {count}"
-    return [told + (f", and none breaks fewer ({fewest})" if fewest else ""), *([exact] if by_bound else [])]
+    return [told + (f", and none breaks fewer ({fewest})" if fewest else ""), *(exact if by_bound else [])]
 
 
 def kept(plan: Plan) -> str:

@@ -1,0 +1,6 @@
+use Rattle.std.proofs.Common.{◌≡◌, drop}
+use Rattle.util_join.specs.Strides.{stride}
+use Rattle.bound_search.proofs.row.stride_of.Given as goal
+
+abbrev pub invariant-loop-k : goal.invariant-loop-k
+invariant-loop-k l = stride l.scope l.sizes l.var ≡ stride (drop l.k l.scope) (drop l.k l.sizes) l.var

@@ -1,0 +1,19 @@
+use Rattle.std.proofs.Common.{ℕ, List, get_or, refl, sym, subst, ◌∙◌}
+use Rattle.dcop_base.specs.Table.{AreWithin}
+use Rattle.bound_search.proofs.FirstLaws.{first_is, first_within, zeros_are_values, searched_none}
+use Rattle.bound_search.proofs.searching.search_from_top.Goals as goal
+
+pub first_estimate-first-requires : goal.first_estimate-first-requires
+first_estimate-first-requires c = record { within = first_within c.args.sizes.now c.args.rules.scale c.args.buckets.now c.requires.grounds }
+
+pub returns-then-first-progress-clause-searched : goal.returns-then-first-progress-clause-searched
+returns-then-first-progress-clause-searched c =
+    searched_none c.args.sizes.now c.args.buckets.now c.args.rules c.requires.grounds c.first_estimate-first.result c.args.progress.now _ c.first_estimate-first.ensures c.if-first-progress.true c.requires.standing.room c.requires.new.0 c.requires.new.1 refl
+
+pub descend-requires-clause-within : goal.descend-requires-clause-within
+descend-requires-clause-within c =
+    let zeros = c.as_mut_slice.ensures.value ∙ c.in_ok-values.ensures.items_if_clones_equal (λ y h. h) in
+    subst (λ (xs : List ℕ). AreWithin c.args.sizes.now xs) (sym zeros) (zeros_are_values c.args.sizes.now c.args.rules.scale c.args.buckets.now c.requires.grounds)
+
+pub descend-requires-clause-least : goal.descend-requires-clause-least
+descend-requires-clause-least c = c.first_estimate-first.ensures ∙ first_is c.args.sizes.now c.args.rules.scale c.args.buckets.now c.requires.grounds (λ v. get_or c.as_mut_slice.result.now v 0)

@@ -1,0 +1,32 @@
+-- The first estimate, and what a search has come to at its end.
+use Rattle.std.specs.Prelude.{◌≡◌, ℕ, ◌+◌, ◌≤◌, ◌==◌, false, true, List, length, Some, None}
+use Rattle.std.specs.List.{filter, sum_by}
+use Rattle.dcop_base.specs.Table.{CostTable}
+use Rattle.dcop_base.specs.Values.{cost_with}
+use Rattle.shared_costs.specs.Values.{AreValues}
+use Rattle.bucket_bounds.specs.Bounds.{tables_in}
+use Rattle.bucket_bounds.specs.Exact.{AreExact}
+use Rattle.bucket_bounds.specs.declared.bucket.Bucket.{Bucket}
+use Rattle.bound_search.specs.Searched.{most_nodes, tree_nodes}
+use Rattle.bound_search.specs.Grounds.{scaled_cost}
+use Rattle.bound_search.specs.Descent.{IsFurther}
+use Rattle.bound_search.specs.declared.progress.Progress.{Progress}
+use Rattle.bound_search.specs.declared.rules.Rules.{Rules}
+
+-- what those of the tables cost that have no variables
+abbrev pub constants_cost : List CostTable → ℕ
+constants_cost ts = cost_with (filter (λ t. length t.scope == 0) ts) (λ v. 0)
+
+-- what the buckets send that names no variable
+abbrev pub first_sum : List Bucket → ℕ
+first_sum buckets = sum_by (λ bucket. bucket.fixed + constants_cost bucket.sent) buckets
+
+-- all assignments were searched
+pub record HasSearched (sizes : List ℕ) (buckets : List Bucket) (rules : Rules) (old new : Progress) : Type 0 where
+  pub further : IsFurther old new
+  pub lower : (other : ℕ → ℕ) → AreValues sizes other → new.lower ≤ scaled_cost buckets other
+  pub known : new.spent ≡ true → (best : ℕ) × (new.best ≡ Some best)
+  pub found : old.best ≡ None → new.found ≡ true
+  pub nodes : new.nodes ≤ most_nodes rules.budget (length sizes) old.best old.nodes
+  pub tree : new.nodes ≤ old.nodes + tree_nodes sizes
+  pub straight : AreExact sizes (tables_in buckets) buckets → old.nodes + length sizes ≤ rules.budget → (new.spent ≡ false) × (new.nodes ≤ old.nodes + length sizes)

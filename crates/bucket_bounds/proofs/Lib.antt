@@ -1,0 +1,12 @@
+pub mod CellLaws
+pub mod ChainLaws
+pub mod RestLaws
+pub mod UnionLaws
+pub mod ItemLaws
+pub mod KeptLaws
+pub mod ProjectLaws
+pub mod GroupLaws
+pub mod PartingLaws
+pub mod JoinLaws
+pub mod PartLaws
+pub mod StepLaws

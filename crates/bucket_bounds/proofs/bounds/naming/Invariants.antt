@@ -1,0 +1,7 @@
+use Rattle.std.proofs.Common.{◌≡◌, take}
+use Rattle.std.specs.List.{filter}
+use Rattle.dcop_base.specs.Table.{has}
+use Rattle.bucket_bounds.proofs.bounds.naming.Given as goal
+
+abbrev pub invariant-loop-table : goal.invariant-loop-table
+invariant-loop-table l = l.clones.items ≡ filter (λ t. has t.scope l.var) (take l.table-index l.tables)

@@ -1,0 +1,101 @@
+//! Joined tables of groups.
+
+ghost use Rattle.std.specs.Prelude.{◌≡◌, ◌≤◌, ◌∷◌, IfOk};
+ghost use Rattle.std.specs.List.{All};
+ghost use Rattle.dcop_base.specs.Limits.{joined_limit};
+ghost use Rattle.dcop_base.specs.Table.{IsTable};
+ghost use Rattle.util_join.specs.Join.{LiesIn};
+ghost use Rattle.bucket_bounds.specs.Groups.{IsGroup};
+ghost use Rattle.bucket_bounds.specs.Union.{IsTurned};
+ghost use Rattle.bucket_bounds.specs.Joining.{HasGained, IsJoin, IsZeroFor, AreJoined};
+
+use crate::group::Group;
+use dcop_base::{NoMemory, Table, VarId, VarList, sizes_of};
+use std::alloc::Global;
+use util_join::{JoinFault, Joined};
+
+/// The joined tables of these groups, in their order.
+pub(crate) fn joined_tables(
+    alloc: Global,
+    sizes: &[u16],
+    groups: &[Group],
+) -> Result<Vec<Table>, NoMemory>
+    requires { All (IsGroup sizes.now) groups.now }
+    ensures { IfOk result (λ tables. AreJoined sizes.now groups.now tables.items) }
+{
+    let mut tables = Vec::new(alloc);
+    for group in groups {
+        tables.push(joined_of(alloc, sizes, group)?)?;
+    }
+    Ok(tables)
+}
+
+/// The joined table of a group: the sum of its tables; that of one table is the table.
+fn joined_of(alloc: Global, sizes: &[u16], group: &Group) -> Result<Table, NoMemory>
+    requires { IsGroup sizes.now group.now }
+    ensures { IfOk result (IsJoin sizes.now group.now) }
+{
+    if let [table] = group.tables.as_slice() {
+        return Ok(table.clone()?);
+    }
+    let mut joined = zeros_for(alloc, sizes, group)?;
+    add_all(&mut joined, group.tables.as_slice());
+    let table = joined.table();
+    table_is_whole(&table);
+    Ok(table)
+}
+
+/// A joined table of zeros over the variables of a group, the last one first: all tables that are
+/// added name it, so more of the cells to which one of their cells is added lie side by side.
+fn zeros_for(alloc: Global, sizes: &[u16], group: &Group) -> Result<Joined, NoMemory>
+    requires group { IsGroup sizes.now group.now }
+    requires few { group.now.cells ≤ joined_limit }
+    ensures { IfOk result (IsZeroFor sizes.now group.now.vars) }
+{
+    let over = last_first(alloc, group.vars.as_slice())?;
+    let own = sizes_of(alloc, sizes, over.as_slice())?;
+    match Joined::new(alloc, over, own) {
+        Ok(joined) => Ok(joined),
+        Err(JoinFault::TooWide { .. }) => unreachable!(),
+        Err(JoinFault::NoMemory) => Err(NoMemory),
+    }
+}
+
+/// These variables, the last one first.
+fn last_first(alloc: Global, vars: &[VarId]) -> Result<VarList, NoMemory>
+    ensures { IfOk result (IsTurned vars.now) }
+{
+    match vars.split_last() {
+        Some((last, others)) => with_first(alloc, *last, others),
+        None => Ok(VarList::new(alloc)),
+    }
+}
+
+/// A variable, and then the others.
+fn with_first(alloc: Global, first: VarId, others: &[VarId]) -> Result<VarList, NoMemory>
+    ensures { IfOk result (λ vars. vars ≡ first ∷ others.now) }
+{
+    let mut vars = VarList::new(alloc);
+    vars.push(first)?;
+    for var in others {
+        vars.push(*var)?;
+    }
+    Ok(vars)
+}
+
+/// Adds these tables.
+fn add_all(joined: &mut Joined, tables: &[Table])
+    requires { All (LiesIn joined.old.scope joined.old.sizes) tables.now }
+    ensures { HasGained tables.now joined.old joined.new }
+{
+    for table in tables {
+        joined.add(table);
+    }
+}
+
+/// A table that is read is known to be whole, so this does no more.
+fn table_is_whole(table: &Table)
+    ensures { IsTable table.now }
+{
+    let _ = table.scope.as_slice();
+}

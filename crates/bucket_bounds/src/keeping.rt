@@ -1,0 +1,71 @@
+//! What a bucket sends of its projections.
+
+ghost use Rattle.std.specs.Prelude.{◌≡◌, ◌<◌, ◌≤◌, min, length, OnOk, IfOk, slice_index};
+ghost use Rattle.std.specs.List.{All};
+ghost use Rattle.bucket_bounds.specs.Kept.{IsLeastOf, IsKept, AreKept};
+
+use dcop_base::{NoMemory, Table};
+use std::alloc::Global;
+
+/// What a bucket sends, where its bounds may keep so many cells and no more.
+#[derive(Drop)]
+pub(crate) struct Kept {
+    /// The projections that are kept.
+    pub sent: Vec<Table>,
+    /// What the others cost at least, all together.
+    pub fixed: u64,
+    /// How many of the others have variables.
+    pub replaced: u64,
+    /// How many more cells may be kept.
+    pub room: u64,
+}
+
+/// Keeps projections while there is room for so many cells, the first ones first, and replaces the
+/// others by their least cell. Those without variables are always replaced, by their only cell.
+pub(crate) fn kept_of(alloc: Global, projections: &[Table], room: u64) -> Result<Kept, NoMemory>
+    ensures { IfOk result (AreKept projections.now room) }
+{
+    let mut kept = Kept {
+        sent: Vec::new(alloc),
+        fixed: 0,
+        replaced: 0,
+        room,
+    };
+    for table in projections {
+        keep(&mut kept, table)?;
+    }
+    Ok(kept)
+}
+
+/// Keeps a projection, or replaces it by its least cell.
+fn keep(kept: &mut Kept, table: &Table) -> Result<(), NoMemory>
+    ensures { OnOk result (IsKept kept.old table.now kept.new) }
+{
+    let least = least_of(table.cells.as_slice());
+    if table.scope.as_slice().is_empty() {
+        kept.fixed = kept.fixed.saturating_add(least);
+        return Ok(());
+    }
+    let cells = table.cells.as_slice().len() as u64;
+    if kept.room < cells {
+        kept.fixed = kept.fixed.saturating_add(least);
+        kept.replaced = kept.replaced.saturating_add(1);
+        return Ok(());
+    }
+    kept.sent.push(table.clone()?)?;
+    kept.room -= cells;
+    Ok(())
+}
+
+/// The least cell; `u64::MAX` of none.
+fn least_of(cells: &[u64]) -> u64
+    ensures lower { All (λ c. result ≤ c) cells.now }
+    ensures least { 1 ≤ length cells.now → IsLeastOf cells.now result }
+    ensures only { length cells.now ≡ 1 → result ≡ slice_index cells.now 0 }
+{
+    let mut least = u64::MAX;
+    for cell in cells {
+        least = least.min(*cell);
+    }
+    least
+}

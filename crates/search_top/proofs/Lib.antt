@@ -1,0 +1,10 @@
+mod StageLaws
+mod OutsideLaws
+mod ReorderLaws
+mod NameLaws
+mod TellLaws
+mod SearchLaws
+mod ShowLaws
+mod AnswerLaws
+mod PassLaws
+mod TextLaws

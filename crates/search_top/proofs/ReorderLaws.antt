@@ -1,0 +1,117 @@
+-- The report of a search on a file in another order is one on the file, with what was found told in its own order.
+use Rattle.std.proofs.Common.{◌≡◌, ℕ, ◌+◌, ◌<◌, ◌≤◌, List, [], ◌∷◌, length, map, Option, Some, None, IfSome, refl, sym, ap, subst, ◌∙◌}
+use Rattle.std.specs.List.{AllZip, slice_index}
+use Rattle.std.proofs.lemmas.List.Elements.{length_all_zip}
+use Rattle.std.proofs.lemmas.List.Sums.{sum_by-cons}
+use Rattle.problem_text.proofs.NamesLaws.{length-map}
+use Rattle.dcop_base.specs.Table.{CostTable, AreWithin, values_at, greatest}
+use Rattle.dcop_base.specs.Problem.{IsAssignment, cost}
+use Rattle.dcop_base.specs.Faults.{greatest_sum}
+use Rattle.dcop_optimum.specs.Goal.{top_of}
+use Rattle.problem_text.specs.File.{TextFile}
+use Rattle.problem_text.specs.declared.file.Goal.{Goal}
+use Rattle.problem_solved.specs.Goal.{IsAtMostWorse}
+use Rattle.problem_order.specs.Reordered.{IsTableFor, IsReordered}
+use Rattle.problem_order.specs.Costs.{CostTheSame}
+use Rattle.search_top.specs.Outside.{AreToldOutside}
+use Rattle.search_top.specs.Report.{IsBetterSum, IsFoundIn, IsBoundOf, EndsBy, IsSearchReport, most_visited}
+use Rattle.search_top.specs.declared.report.Found.{Found}
+use Rattle.search_top.specs.declared.report.SearchEnding.{SearchEnding}
+use Rattle.search_top.specs.declared.report.SearchEnding.TheVariants.{Solved, Spent, NoneBetter}
+use Rattle.search_top.specs.declared.report.SearchReport.{SearchReport}
+use Rattle.search_top.specs.declared.words.Asked.{Asked}
+use Rattle.search_top.proofs.OutsideLaws.{within_outside}
+
+-- the same tables in another order have the same greatest cells
+greatest_sum_same : (order : List ℕ) (ts us : List CostTable) → AllZip (IsTableFor order) ts us → greatest_sum us ≡ greatest_sum ts
+greatest_sum_same order [] [] are = refl
+greatest_sum_same order [] (u ∷ us) are = absurd are
+greatest_sum_same order (t ∷ ts) [] are = absurd are
+greatest_sum_same order (t ∷ ts) (u ∷ us) are =
+    sum_by-cons (λ (w : CostTable). greatest w.cells) u us
+    ∙ ap (λ (cs : List ℕ). greatest cs + greatest_sum us) are.0.cells
+    ∙ ap (λ (n : ℕ). greatest t.cells + n) (greatest_sum_same order ts us are.1)
+    ∙ sym (sum_by-cons (λ (w : CostTable). greatest w.cells) t ts)
+
+some_is_some : {A : Type 0} (x y : A) → Some x ≡ Some y → x ≡ y
+some_is_some x y same = cc
+
+-- the report with this found in place of its own
+abbrev pub with_found : SearchReport → Option Found → SearchReport
+with_found r found = record { ending = r.ending; goal = r.goal; error = r.error; nodes = r.nodes; bound = r.bound; found = found }
+
+-- what is found inside has a value for each variable
+pub found_many : (order : List ℕ) (new : TextFile) (asked : Asked) (found : Option Found) → length new.problem.sizes ≡ length order → IfSome found (IsFoundIn new.goal new.problem asked.better)
+    → IfSome found (λ inside. length inside.values ≡ length order)
+found_many order new asked None many is = tt
+found_many order new asked (Some found) many is = sym (length_all_zip (λ s v. v < s) new.problem.sizes found.values is.assignment) ∙ many
+
+some_told : (order : List ℕ) (inside outside : Option Found) → AreToldOutside order inside outside → (one : Found) → inside ≡ Some one → (other : Found) × (outside ≡ Some other) × (other.cost ≡ one.cost)
+some_told order None outside told one is = absurd (let never = is in cc)
+some_told order (Some inside) None told one is = absurd told
+some_told order (Some inside) (Some outside) told one is = (outside, refl, told.cost ∙ ap (λ (f : Found). f.cost) (some_is_some inside one is))
+
+none_told : (order : List ℕ) (inside outside : Option Found) → AreToldOutside order inside outside → inside ≡ None → outside ≡ None
+none_told order None None told is = refl
+none_told order None (Some outside) told is = absurd told
+none_told order (Some inside) outside told is = absurd (let never = is in cc)
+
+better_same : (goal goal' : Goal) (cost cost' : ℕ) (better : Option ℕ) → goal ≡ goal' → cost ≡ cost' → IfSome better (λ asked. IsBetterSum goal cost asked) → IfSome better (λ asked. IsBetterSum goal' cost' asked)
+better_same goal goal' cost cost' better same equal is =
+    subst (λ (g : Goal). IfSome better (λ asked. IsBetterSum g cost' asked)) same
+    (subst (λ (n : ℕ). IfSome better (λ asked. IsBetterSum goal n asked)) equal is)
+
+module _ (old new : TextFile) (order : List ℕ) (reordered : IsReordered old order new) where
+  pub count_same : length new.problem.sizes ≡ length order
+  count_same = ap length reordered.sizes ∙ length-map (λ v. slice_index old.problem.sizes v) order
+
+  module _ (same : CostTheSame old new order) (asked : Asked) where
+    found_outside : (inside outside : Option Found) → AreToldOutside order inside outside → IfSome inside (IsFoundIn new.goal new.problem asked.better) → IfSome outside (IsFoundIn old.goal old.problem asked.better)
+    found_outside None None told is = tt
+    found_outside None (Some outside) told is = absurd told
+    found_outside (Some inside) None told is = absurd told
+    found_outside (Some inside) (Some outside) told is =
+        let there : AreWithin (map (λ v. slice_index old.problem.sizes v) order) (values_at order outside.values) =
+        subst (λ (ss : List ℕ). AreWithin ss (values_at order outside.values)) reordered.sizes
+        (subst (λ (vs : List ℕ). AreWithin new.problem.sizes vs) (sym told.values) is.assignment) in
+        let here : IsAssignment old.problem outside.values = within_outside old.problem.sizes order outside.values reordered.is_order told.many there in
+        record {
+          assignment = here;
+          sum = told.cost ∙ is.sum ∙ ap (λ (vs : List ℕ). cost new.problem vs) (sym told.values) ∙ (same.by_names outside.values here).cost;
+          sought = better_same new.goal old.goal inside.cost outside.cost asked.better reordered.goal (sym told.cost) is.sought;
+        }
+
+    bound_outside : (bound : ℕ) → IsBoundOf new.goal new.problem bound → IsBoundOf old.goal old.problem bound
+    bound_outside bound is values within =
+        let one = same.by_names values within in
+        subst (λ (g : Goal). IsAtMostWorse g 0 bound (cost old.problem values)) reordered.goal
+        (subst (λ (n : ℕ). IsAtMostWorse new.goal 0 bound n) one.cost (is (values_at order values) one.assignment))
+
+    ends_outside : (inside : SearchReport) (found : Option Found) → AreToldOutside order inside.found found → (ending : SearchEnding) → EndsBy asked inside ending → EndsBy asked (with_found inside found) ending
+    ends_outside inside found told Solved is =
+        let one = some_told order inside.found found told is.found is.known in
+        record {
+          found = one.0;
+          known = one.1;
+          within = subst (λ (n : ℕ). IsAtMostWorse inside.goal asked.error n inside.bound) (sym one.2) is.within;
+        }
+    ends_outside inside found told Spent is = is
+    ends_outside inside found told NoneBetter is = record {
+      none = none_told order inside.found found told is.none;
+      better = is.better;
+      sought = is.sought;
+      within = is.within;
+    }
+
+    pub report_outside : (inside : SearchReport) (found : Option Found) → IsSearchReport new.goal new.problem asked inside → AreToldOutside order inside.found found → IsSearchReport old.goal old.problem asked (with_found inside found)
+    report_outside inside found is told = record {
+      same_goal = is.same_goal ∙ reordered.goal;
+      error = is.error;
+      found = found_outside inside.found found told is.found;
+      some = λ any. (let one = is.some any in let other = some_told order inside.found found told one.0 one.1 in (other.0, other.1));
+      bound = bound_outside inside.bound is.bound;
+      within = (let top : top_of new.problem ≡ top_of old.problem = greatest_sum_same order old.problem.tables new.problem.tables reordered.tables in
+          subst (λ (n : ℕ). inside.bound ≤ n) top is.within);
+      ends = ends_outside inside found told inside.ending is.ends;
+      nodes = subst (λ (n : ℕ). inside.nodes ≤ most_visited asked.budget n asked.better) (count_same ∙ reordered.is_order.many) is.nodes;
+    }

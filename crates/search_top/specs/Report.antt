@@ -1,0 +1,62 @@
+-- The report of a search, and what it promises.
+use Rattle.std.specs.Prelude.{◌≡◌, ℕ, ◌<◌, ◌≤◌, max, List, length, Option, Some, None, IfSome}
+use Rattle.dcop_base.specs.Problem.{Dcop, IsAssignment, cost}
+use Rattle.dcop_optimum.specs.Goal.{top_of}
+use Rattle.problem_text.specs.declared.file.Goal.{Goal}
+use Rattle.problem_text.specs.declared.file.Goal.TheVariants.{Min, Max}
+use Rattle.problem_solved.specs.Goal.{IsAtMostWorse}
+use Rattle.search_top.specs.declared.words.Asked.{Asked}
+use Rattle.search_top.specs.declared.report.Found.{Found}
+use Rattle.search_top.specs.declared.report.SearchEnding.{SearchEnding}
+use Rattle.search_top.specs.declared.report.SearchEnding.TheVariants.{Solved, Spent, NoneBetter}
+use Rattle.search_top.specs.declared.report.SearchReport.{SearchReport}
+
+-- a sum is better than another one: less, or for goal max greater
+abbrev pub IsBetterSum : Goal → ℕ → ℕ → Type 0
+IsBetterSum Min sum other = sum < other
+IsBetterSum Max sum other = other < sum
+
+-- an assignment that was found: it is one of the problem, its cost is its sum there, and it is better than what was asked for
+pub record IsFoundIn (goal : Goal) (p : Dcop) (better : Option ℕ) (found : Found) : Type 0 where
+  pub assignment : IsAssignment p found.values
+  pub sum : found.cost ≡ cost p found.values
+  pub sought : IfSome better (λ asked. IsBetterSum goal found.cost asked)
+
+-- no assignment's sum is better than the bound; so the best sum is not
+abbrev pub IsBoundOf : Goal → Dcop → ℕ → Type 0
+IsBoundOf goal p bound = (values : List ℕ) → IsAssignment p values → IsAtMostWorse goal 0 bound (cost p values)
+
+-- how many nodes a search visits at most: as many as the budget allows; where nothing is to be bettered, also one for each variable, for a first assignment
+abbrev pub most_visited : ℕ → ℕ → Option ℕ → ℕ
+most_visited budget count None = max budget count
+most_visited budget count (Some better) = budget
+
+-- a search that has ended with an assignment: its cost is at most the error worse than the bound
+pub record HasSolved (asked : Asked) (r : SearchReport) : Type 0 where
+  pub found : Found
+  pub known : r.found ≡ Some found
+  pub within : IsAtMostWorse r.goal asked.error found.cost r.bound
+
+-- a search that has ended without one, of those that are better than what was asked for: that is at most the error worse than the bound
+pub record HasNoneBetter (asked : Asked) (r : SearchReport) : Type 0 where
+  pub none : r.found ≡ None
+  pub better : ℕ
+  pub sought : asked.better ≡ Some better
+  pub within : IsAtMostWorse r.goal asked.error better r.bound
+
+-- how a search ended: it is spent only where the nodes have reached the budget
+abbrev pub EndsBy : Asked → SearchReport → SearchEnding → Type 0
+EndsBy asked r Solved = HasSolved asked r
+EndsBy asked r Spent = asked.budget ≤ r.nodes
+EndsBy asked r NoneBetter = HasNoneBetter asked r
+
+-- the report of a search that was asked for, on a problem with this goal; without a sum to be bettered there always is an assignment
+pub record IsSearchReport (goal : Goal) (p : Dcop) (asked : Asked) (r : SearchReport) : Type 0 where
+  pub same_goal : r.goal ≡ goal
+  pub error : r.error ≡ asked.error
+  pub found : IfSome r.found (IsFoundIn goal p asked.better)
+  pub some : asked.better ≡ None → (found : Found) × (r.found ≡ Some found)
+  pub bound : IsBoundOf goal p r.bound
+  pub within : r.bound ≤ top_of p
+  pub ends : EndsBy asked r r.ending
+  pub nodes : r.nodes ≤ most_visited asked.budget (length p.sizes) asked.better

@@ -1,0 +1,22 @@
+-- What came of a search on the problem solved, told of the problem.
+use Rattle.std.specs.Prelude.{ℕ, ◌-◌, Bool, Option, None, option_map, if◌then◌else◌}
+use Rattle.problem_text.specs.declared.file.Goal.{Goal}
+use Rattle.problem_text.specs.declared.file.Goal.TheVariants.{Min, Max}
+use Rattle.bound_search.specs.declared.known.Known.{Known}
+use Rattle.search_top.specs.declared.report.Found.{Found}
+use Rattle.search_top.specs.declared.report.SearchEnding.{SearchEnding}
+use Rattle.search_top.specs.declared.report.SearchEnding.TheVariants.{Solved, Spent, NoneBetter}
+
+-- a cost of the problem solved as a sum of the problem, and the other way round: for goal max what it leaves of the top sum, 0 where it is above that
+abbrev pub told_sum : Goal → ℕ → ℕ → ℕ
+told_sum Min top cost = cost
+told_sum Max top cost = top - cost
+
+-- the assignment that is known as found, with its sum
+abbrev pub found_told : Goal → ℕ → Known → Option Found
+found_told goal top known =
+    if known.found then option_map (λ best. record { cost = told_sum goal top best; values = known.values }) known.best else None
+
+-- how a search ended that found an assignment or not, and is spent or not
+abbrev pub ending_told : Bool → Bool → SearchEnding
+ending_told found spent = if spent then Spent else (if found then Solved else NoneBetter)

@@ -1,0 +1,24 @@
+//! The top call of `dcop_search`: words and a source of bytes in, the report of a search or a refusal
+//! into a sink, and a status.
+//!
+//! [`search`] reads a problem, puts its variables in an order in which bounds are small, shares its
+//! costs among its tables, makes bounds, and searches by them, in stages whose tables grow. An answer
+//! is told on the file as it was read.
+#![tactic(auto)]
+
+mod answer;
+mod answering;
+mod report;
+mod reporting;
+mod showing;
+mod stages;
+mod top;
+mod turning;
+mod words;
+mod writing;
+
+pub use answer::SearchAnswer;
+pub use answer_edge::Status;
+pub use report::{Found, SearchEnding, SearchReport};
+pub use top::search;
+pub use words::Asked;

@@ -1,0 +1,41 @@
+//! The report of a search.
+
+use dcop_base::ValList;
+use problem_text::Goal;
+
+/// How a search ended.
+#[derive(Clone, Copy, Debug, PartialEq, Eq)]
+pub enum SearchEnding {
+    /// An assignment was found, and the search has ended.
+    Solved,
+    /// The budget was reached before it had ended.
+    Spent,
+    /// The search has ended, and no assignment is better than what was asked for.
+    NoneBetter,
+}
+
+/// An assignment that was found.
+#[derive(Debug, Drop)]
+pub struct Found {
+    /// What it sums to in the file's own tables.
+    pub cost: u64,
+    /// The values, one for each variable, in order.
+    pub values: ValList,
+}
+
+/// What a search found: an assignment, and a bound on the best sum.
+#[derive(Debug, Drop)]
+pub struct SearchReport {
+    /// How the search ended.
+    pub ending: SearchEnding,
+    /// Whether the least or the greatest sum was sought.
+    pub goal: Goal,
+    /// The requested error: by how much the sum of a solved answer may miss the best one.
+    pub error: u64,
+    /// How many nodes were visited, in all stages.
+    pub nodes: u64,
+    /// No assignment's sum is better: it is a lower bound, or for goal max an upper one.
+    pub bound: u64,
+    /// The best assignment that was found, where one was.
+    pub found: Option<Found>,
+}

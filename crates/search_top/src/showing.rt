@@ -1,0 +1,86 @@
+//! Showing an answer of `dcop_search`.
+
+ghost use Rattle.std.specs.Prelude.{◌≡◌, true, OnOk, OnErr, IfSome};
+ghost use Rattle.dcop_edge.specs.Faults.{HasCause};
+ghost use Rattle.dcop_edge.specs.Sink.{Adds};
+ghost use Rattle.answer_edge.specs.Output.{AddsPrefix, sink_state};
+ghost use Rattle.search_top.specs.Answering.{IsTellable};
+ghost use Rattle.search_top.specs.Showing.{Shows, status_of_ending};
+ghost use Rattle.search_top.specs.Text.{AreTold};
+ghost use Rattle.search_top.specs.declared.answer.SearchAnswer.TheVariants.{Searched};
+
+use crate::answer::SearchAnswer;
+use crate::report::{SearchEnding, SearchReport};
+use crate::writing::write_search;
+use answer_edge::{Status, show};
+use dcop_edge::{Failed, Sink};
+use problem_text::ProblemFile;
+use std::alloc::Global;
+
+/// Writes the whole text of an answer, finishes the sink, and says how it went. With
+/// [`Status::WriteFault`] a prefix of the text is written, with [`Status::NoMemory`], where memory
+/// was wanted and not had, nothing.
+pub(crate) fn show_answer<K: Sink>(alloc: Global, answer: &SearchAnswer, sink: &mut K) -> Status
+    requires { IsTellable answer.now }
+    ensures shows { Shows answer.now
+        (sink_state (K.held sink.old) (K.finished sink.old))
+        (sink_state (K.held sink.new) (K.finished sink.new))
+        (K.faults sink.old) (K.faults sink.new) result }
+    ensures unwritten { result ≡ Status.NoMemory → sink.new ≡ sink.old }
+{
+    match answer {
+        SearchAnswer::Searched { report, file } => show_report(alloc, report, file, sink),
+        SearchAnswer::Refused(refusal) => show(alloc, refusal, sink),
+    }
+}
+
+/// [`show_answer`] of a report on a file.
+fn show_report<K: Sink>(
+    alloc: Global,
+    report: &SearchReport,
+    file: &ProblemFile,
+    sink: &mut K,
+) -> Status
+    requires { IfSome report.now.found (AreTold file.now) }
+    ensures shows { Shows (Searched report.now file.now)
+        (sink_state (K.held sink.old) (K.finished sink.old))
+        (sink_state (K.held sink.new) (K.finished sink.new))
+        (K.faults sink.old) (K.faults sink.new) result }
+    ensures unwritten { result ≡ Status.NoMemory → sink.new ≡ sink.old }
+{
+    let Ok(text) = write_search(alloc, report, file) else {
+        return Status::NoMemory;
+    };
+    match write_all(sink, text.as_slice()) {
+        Ok(()) => report.ending.status(),
+        Err(_) => Status::WriteFault,
+    }
+}
+
+impl SearchEnding {
+    /// The status of the ending; [`Status::No`] where there is none better.
+    fn status(self) -> Status
+        ensures { result ≡ status_of_ending self }
+    {
+        match self {
+            SearchEnding::Solved => Status::Solved,
+            SearchEnding::Spent => Status::Spent,
+            SearchEnding::NoneBetter => Status::No,
+        }
+    }
+}
+
+/// Writes the whole text and finishes the sink. Where the sink fails, a prefix of the text was
+/// written.
+fn write_all<K: Sink>(sink: &mut K, text: &[u8]) -> Result<(), Failed>
+    ensures written { OnOk result (Adds (K.held sink.old) text.now (K.held sink.new)) }
+    ensures finished { OnOk result (K.finished sink.new ≡ true) }
+    ensures prefix { OnErr result (AddsPrefix (K.held sink.old) text.now (K.held sink.new)) }
+    ensures cause { HasCause (K.faults sink.old) (K.faults sink.new) result }
+{
+    let mut at = 0;
+    while at < text.len() {
+        at += sink.write(&text[at..])?;
+    }
+    sink.finish()
+}

@@ -1,0 +1,174 @@
+//! A search in stages, whose tables grow.
+
+ghost use Rattle.std.specs.Prelude.{◌≡◌, ◌≤◌, false, IfOk};
+ghost use Rattle.shared_costs.specs.Shared.{AreSharedCosts};
+ghost use Rattle.bound_search.specs.Known.{IsKnown};
+ghost use Rattle.search_top.specs.Stages.{IsLowerBound, IsStage, IsOutcome};
+ghost use Rattle.search_top.specs.Words.{IsServed};
+
+use crate::words::Asked;
+use bound_search::{Ended, Known, Limits, search};
+use bucket_bounds::{bounds_of, limit_within};
+use dcop_base::{NoMemory, Problem, Val, ValList, problem_is_whole};
+use shared_costs::{SharedCosts, shared_costs};
+use std::alloc::Global;
+
+/// A stage of a search.
+#[derive(Clone, Copy, Debug, PartialEq, Eq)]
+struct Stage {
+    /// How many cells a joined table has at most.
+    limit: u64,
+    /// How many nodes are visited in it, where that is at most a quarter of what is left of the budget.
+    nodes: u64,
+}
+
+/// The stages before the last one, which goes on to the end of the budget. Of the limits and counts
+/// of nodes that were measured, no others were better on all problems.
+const STAGES: [Stage; 2] = [
+    Stage {
+        limit: 4_096,
+        nodes: 10_000,
+    },
+    Stage {
+        limit: 65_536,
+        nodes: 1_000_000,
+    },
+];
+
+/// How many cells a joined table has at most in the last stage.
+const LAST_LIMIT: u64 = 1_048_576;
+
+/// What a search came to.
+#[derive(Debug, Drop)]
+pub struct Outcome {
+    /// What is known of the best assignment.
+    pub known: Known,
+    /// How the search ended, with the greatest bound of its stages.
+    pub ended: Ended,
+}
+
+/// Searches a problem for an assignment that costs less than `best`, where there is such a sum, in
+/// stages: once a stage has visited its nodes, the next one begins anew with larger tables, and with
+/// what is known. A stage whose tables would be no larger is left out.
+///
+/// # Errors
+///
+/// [`NoMemory`] where memory was wanted and not had.
+pub(crate) fn outcome_of(
+    alloc: Global,
+    problem: &Problem,
+    asked: Asked,
+    best: Option<u64>,
+) -> Result<Outcome, NoMemory>
+    requires { IsServed asked }
+    ensures { IfOk result (IsOutcome problem.now asked best) }
+{
+    problem_is_whole(problem);
+    let shared = shared_costs(alloc, problem)?;
+    let mut outcome = nothing_known(alloc, problem, best)?;
+    let mut earlier = 0;
+    for stage in STAGES {
+        let limit = limit_of(alloc, problem, &shared, stage.limit, asked.cells)?;
+        if limit == earlier {
+            continue;
+        }
+        earlier = limit;
+        let budget = stage_budget(asked.budget, outcome.known.nodes, stage.nodes);
+        outcome = searched(alloc, problem, &shared, asked, limit, budget, outcome)?;
+        if !outcome.ended.spent || outcome.known.nodes >= asked.budget {
+            return Ok(outcome);
+        }
+    }
+    let limit = limit_of(alloc, problem, &shared, LAST_LIMIT, asked.cells)?;
+    searched(alloc, problem, &shared, asked, limit, asked.budget, outcome)
+}
+
+/// The limit of a stage: as many cells as this, but at least 2, or fewer, so that no bounds are lost
+/// for want of room.
+fn limit_of(
+    alloc: Global,
+    problem: &Problem,
+    shared: &SharedCosts,
+    most: u64,
+    cells: u64,
+) -> Result<u64, NoMemory>
+    requires { AreSharedCosts problem.now shared.now }
+{
+    problem_is_whole(problem);
+    let sizes = problem.sizes.as_slice();
+    limit_within(alloc, sizes, shared.depths.as_slice(), most.max(2), cells)
+}
+
+/// The budget of a stage, counted from the first node of the search: so many nodes more, but at most
+/// a quarter of what is left of the whole budget.
+fn stage_budget(budget: u64, visited: u64, nodes: u64) -> u64
+    ensures { result ≤ budget }
+{
+    let left = budget.saturating_sub(visited);
+    visited.saturating_add(nodes.min(left / 4)).min(budget)
+}
+
+/// What is known before a search.
+fn nothing_known(alloc: Global, problem: &Problem, best: Option<u64>) -> Result<Outcome, NoMemory>
+    ensures { IfOk result (λ o. (IsKnown problem.now o.known) × (o.known.best ≡ best)
+        × (o.known.found ≡ false) × (o.known.nodes ≡ 0) × (o.ended.lower ≡ 0)) }
+{
+    let values = vec![in alloc; Val(0); problem.sizes.as_slice().len()]?;
+    Ok(Outcome {
+        known: Known {
+            best,
+            found: false,
+            values: ValList::from_vec(values),
+            nodes: 0,
+        },
+        ended: Ended {
+            lower: 0,
+            spent: true,
+        },
+    })
+}
+
+/// What the search came to after one more stage, with bounds of at most this many cells a table.
+fn searched(
+    alloc: Global,
+    problem: &Problem,
+    shared: &SharedCosts,
+    asked: Asked,
+    limit: u64,
+    budget: u64,
+    before: Outcome,
+) -> Result<Outcome, NoMemory>
+    requires asked { IsServed asked }
+    requires shared { AreSharedCosts problem.now shared.now }
+    requires known { IsKnown problem.now before.known }
+    requires lower { IsLowerBound problem.now before.ended.lower }
+    requires few { before.known.nodes ≤ 1000000000000 }
+    ensures { IfOk result (IsStage problem.now asked budget before) }
+{
+    problem_is_whole(problem);
+    let sizes = problem.sizes.as_slice();
+    let buckets = bounds_of(alloc, sizes, shared.depths.as_slice(), limit, asked.cells)?;
+    let limits = Limits {
+        error: asked.error,
+        budget,
+    };
+    let Outcome {
+        mut known,
+        ended: earlier,
+    } = before;
+    let ended = search(
+        alloc,
+        problem,
+        shared,
+        buckets.as_slice(),
+        limits,
+        &mut known,
+    )?;
+    Ok(Outcome {
+        known,
+        ended: Ended {
+            lower: ended.lower.max(earlier.lower),
+            spent: ended.spent,
+        },
+    })
+}

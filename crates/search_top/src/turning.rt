@@ -1,0 +1,97 @@
+//! The report of a search on a problem, from what came of it on the problem that is solved.
+
+ghost use Rattle.std.specs.Prelude.{◌≡◌, ◌≤◌, true, IfOk, option_map};
+ghost use Rattle.dcop_base.specs.Whole.{IsProblem};
+ghost use Rattle.dcop_optimum.specs.Goal.{top_of};
+ghost use Rattle.problem_solved.specs.Goal.{solved};
+ghost use Rattle.search_top.specs.Report.{IsSearchReport};
+ghost use Rattle.search_top.specs.Stages.{IsOutcome};
+ghost use Rattle.search_top.specs.Turning.{told_sum, found_told, ending_told};
+ghost use Rattle.search_top.specs.Words.{IsServed};
+
+use crate::report::{Found, SearchEnding, SearchReport};
+use crate::stages::{Outcome, outcome_of};
+use crate::words::Asked;
+use bound_search::Known;
+use dcop_base::{NoMemory, Problem, problem_is_whole};
+use dcop_optimum::top_sum;
+use problem_solved::ProblemSolved;
+use problem_text::{Goal, ProblemFile};
+use std::alloc::Global;
+
+/// The report of a search on a file whose variables stand in the order of the search.
+///
+/// # Errors
+///
+/// [`NoMemory`] where memory was wanted and not had.
+pub(crate) fn search_report(
+    alloc: Global,
+    file: &ProblemFile,
+    asked: Asked,
+) -> Result<SearchReport, NoMemory>
+    requires { IsServed asked }
+    ensures { IfOk result (IsSearchReport file.now.goal file.now.problem asked) }
+{
+    problem_is_whole(&file.problem);
+    let solved = ProblemSolved::of(alloc, file)?;
+    let top = top_sum(&file.problem);
+    let best = asked.better.map(|sum| told_sum(file.goal, top, sum));
+    let outcome = outcome_of(alloc, solved.problem(), asked, best)?;
+    Ok(told(&file.problem, file.goal, asked, outcome))
+}
+
+/// What came of a search, told of the problem: for goal max each sum is what the problem solved leaves
+/// of the top sum.
+fn told(problem: &Problem, goal: Goal, asked: Asked, outcome: Outcome) -> SearchReport
+    requires whole { IsProblem problem.now }
+    requires outcome { IsOutcome (solved goal problem.now) asked
+        (option_map (told_sum goal (top_of problem.now)) asked.better) outcome }
+    ensures { IsSearchReport goal problem.now asked result }
+{
+    let top = top_sum(problem);
+    let Outcome { known, ended } = outcome;
+    SearchReport {
+        ending: ending_of(known.found, ended.spent),
+        goal,
+        error: asked.error,
+        nodes: known.nodes,
+        bound: told_sum(goal, top, ended.lower),
+        found: found_of(goal, top, known),
+    }
+}
+
+/// How a search ended.
+fn ending_of(found: bool, spent: bool) -> SearchEnding
+    ensures { result ≡ ending_told found spent }
+{
+    if spent {
+        SearchEnding::Spent
+    } else if found {
+        SearchEnding::Solved
+    } else {
+        SearchEnding::NoneBetter
+    }
+}
+
+/// A cost of the problem solved, as a sum of the problem, and the other way round.
+fn told_sum(goal: Goal, top: u64, cost: u64) -> u64
+    ensures { result ≡ told_sum goal top cost }
+{
+    match goal {
+        Goal::Min => cost,
+        Goal::Max => top.saturating_sub(cost),
+    }
+}
+
+/// The assignment that is known as found.
+fn found_of(goal: Goal, top: u64, known: Known) -> Option<Found>
+    ensures { result ≡ found_told goal top known }
+{
+    match known.best {
+        Some(best) if known.found => Some(Found {
+            cost: told_sum(goal, top, best),
+            values: known.values,
+        }),
+        _ => None,
+    }
+}

@@ -1,0 +1,9 @@
+pub mod RunLaws
+pub mod MoveLaws
+pub mod ScaleLaws
+pub mod GiveLaws
+pub mod PartLaws
+pub mod ShareLaws
+pub mod RowLaws
+pub mod DepthLaws
+pub mod SharedLaws
