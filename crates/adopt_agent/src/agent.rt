@@ -114,6 +114,13 @@ impl AdoptAgent {
         })
     }
 
+    /// What the agent knows of the values of its path: its context.
+    pub fn context(&self) -> &AgentContext
+        ensures { result.now ≡ self.now.known }
+    {
+        &self.known
+    }
+
     /// The lowest value of least LB(d).
     pub(crate) fn best_lower(&self) -> Val
         ensures best { result ≡ best_lower self.now }

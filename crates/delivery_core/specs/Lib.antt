@@ -8,6 +8,7 @@ pub mod Takes
 pub mod Starts
 pub mod Kinds
 pub mod Shown
+pub mod Exchanges
 pub mod PlayedOut
 pub mod Queues
 pub mod Letters

@@ -4,7 +4,8 @@ use Rattle.std.specs.List.{find, last_or}
 use Rattle.dcop_base.specs.Table.{CostTable}
 use Rattle.pseudotree.specs.declared.agent.Place.{Place}
 use Rattle.protocol_steps.specs.declared.message.Message.{Message}
-use Rattle.protocol_steps.specs.View.{View, place_of, table_of}
+use Rattle.adopt_context.specs.Context.{Context}
+use Rattle.protocol_steps.specs.View.{View, context_of, place_of, table_of}
 
 -- what one sender sent to an agent: the last letter that was taken, and the letters that wait
 pub record LinkView : Type 0 where
@@ -76,6 +77,10 @@ view_at s i = slice_get (views_of s.seats) i
 abbrev pub place_in : Option View → Option Place
 place_in None = None
 place_in (Some v) = place_of v
+
+abbrev pub context_in : Option View → Option Context
+context_in None = None
+context_in (Some v) = context_of v
 
 abbrev pub table_in : Option View → Option CostTable
 table_in None = None

@@ -6,12 +6,13 @@ ghost use Rattle.dcop_base.specs.Limits.{amount_limit};
 ghost use Rattle.protocol_steps.specs.Token.{new_token};
 ghost use Rattle.protocol_steps.specs.Dpop.{new_dpop};
 ghost use Rattle.protocol_steps.specs.Adopt.{new_adopt};
-ghost use Rattle.protocol_steps.specs.View.{TokenKind, DpopKind, AdoptKind, made_of, ended_of, value_of, standing_of, table_of, place_of};
+ghost use Rattle.protocol_steps.specs.View.{TokenKind, DpopKind, AdoptKind, made_of, ended_of, value_of, standing_of, table_of, place_of, context_of};
 ghost use Rattle.protocol_steps.specs.Knowledge.{IsKnowledge};
 ghost use Rattle.protocol_steps.specs.Placing.{IsPlaceFor};
 ghost use Rattle.protocol_steps.specs.Machine.{MayStart, MayReact, IsBatch, IsStart, IsStep, IsToNeighbour};
 
 use adopt_agent::AdoptAgent;
+use adopt_context::AgentContext;
 use dcop_base::{CAP, NoMemory, Private, Table, Val};
 use dfs_agent::TokenAgent;
 use dpop_agent::DpopAgent;
@@ -146,6 +147,16 @@ impl Agent {
             Kind::Token(agent) => agent.standing(),
             Kind::Dpop(agent) => agent.standing(),
             Kind::Adopt(agent) => agent.standing(),
+        }
+    }
+
+    /// The context of an ADOPT agent.
+    pub(crate) fn context(&self) -> Option<&AgentContext>
+        ensures { MatchOption result (context_of self.now ≡ None) (λ c. context_of self.now ≡ Some c.now) }
+    {
+        match &self.kind {
+            Kind::Token(_) | Kind::Dpop(_) => None,
+            Kind::Adopt(agent) => Some(agent.context()),
         }
     }
 

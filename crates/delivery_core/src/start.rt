@@ -7,6 +7,7 @@ ghost use Rattle.dcop_base.specs.Problem.{Dcop};
 ghost use Rattle.dcop_base.specs.Whole.{IsProblem};
 ghost use Rattle.dcop_base.specs.Knowledge.{private_of};
 ghost use Rattle.protocol_steps.specs.Placing.{IsPlaceFor};
+ghost use Rattle.protocol_steps.specs.Step.{start_of};
 ghost use Rattle.protocol_steps.specs.View.{View};
 ghost use Rattle.protocol_steps.specs.TreeAgents.{place_at};
 ghost use Rattle.delivery_core.specs.Agents.{IsTreeFor, IsStartFor, agents_of};
@@ -20,7 +21,7 @@ use crate::inbox::new_links;
 use crate::seat::Seat;
 use dcop_base::{MAX_VARIABLES, NoMemory, Private, Problem, VarId, problem_is_whole};
 use problem_parts::{acquaintances, privates};
-use protocol_steps::{Parcel, acquaintance_is_knowledge, places_fit, private_is_knowledge};
+use protocol_steps::{Outbox, Parcel, acquaintance_is_knowledge, places_fit, private_is_knowledge};
 use pseudotree::{Place, Tree, place};
 use std::alloc::Global;
 
@@ -117,6 +118,24 @@ pub(crate) fn make(alloc: Global, problem: &Problem, start: &Start) -> Result<Ve
         seats.push(make_seat(alloc, problem, start, own)?)?;
     }
     Ok(seats)
+}
+
+/// What each agent of a start sends as it starts, in order: the item of agent 0 first. A tree of the
+/// start is a pseudotree of the problem, and linked; an error is at most 2^62.
+///
+/// # Errors
+///
+/// [`NoMemory`] where memory was wanted and not had.
+pub fn first_parcels(
+    alloc: Global,
+    problem: &Problem,
+    start: &Start,
+) -> Result<Vec<Outbox>, NoMemory>
+    requires { IsStartFor problem.now start.now }
+    ensures { IfOk result (λ parcels. parcels.items
+        ≡ map (λ v. (start_of v).sends) (agents_of problem.now start.now)) }
+{
+    Err(NoMemory)
 }
 
 /// An agent starts, after those before it. What it sends lies in the room of `parcels`.

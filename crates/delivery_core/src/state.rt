@@ -6,17 +6,20 @@ ghost use Rattle.std.specs.List.{list_all};
 ghost use Rattle.dcop_base.specs.Limits.{variable_limit};
 ghost use Rattle.protocol_steps.specs.View.{ended_of, value_of, standing_of};
 ghost use Rattle.delivery_core.specs.Agents.{IsStartFor, network_of};
-ghost use Rattle.delivery_core.specs.State.{SeatView, view_at, place_in, table_in, last_sent, count_waiting, views_of};
+ghost use Rattle.delivery_core.specs.State.{SeatView, view_at, context_in, place_in, table_in, last_sent, count_waiting, views_of};
 ghost use Rattle.delivery_core.specs.SeatEvents.{core_fault};
 ghost use Rattle.delivery_core.specs.Takes.{seat_takes, TakeNothing};
+ghost use Rattle.delivery_core.specs.Exchanges.{Exchanges};
 ghost use Rattle.delivery_core.specs.Shown.{IsCore, IsSomeCore, Advances, Refuses, CountsWaiting};
 
 use crate::arrivals::Arrivals;
 use crate::deliver::{act, count_of};
+use crate::exchange::Exchange;
 use crate::inbox::{count_from, last_of};
 use crate::lawful::fault_of;
 use crate::seat::Seat;
 use crate::start::{Start, make, start_all};
+use adopt_context::AgentContext;
 use dcop_base::{MAX_VARIABLES, NoMemory, Problem, Table, Val, VarId};
 use dcop_edge::Gate;
 use protocol_steps::{Event, EventFault, Letter, Message, Parcel, Standing, Take};
@@ -153,6 +156,16 @@ impl CoreState {
         self.seats[me.0 as usize].agent().place()
     }
 
+    /// What an ADOPT agent knows of the values of its path, its context; `None` exactly for other
+    /// kinds.
+    pub fn context(&self, me: VarId) -> Option<&AgentContext>
+        requires { me < length self.now.seats }
+        ensures { MatchOption result (context_in (view_at self.now me) ≡ None)
+            (λ c. context_in (view_at self.now me) ≡ Some c.now) }
+    {
+        self.seats[me.0 as usize].agent().context()
+    }
+
     /// The UTIL table that a DPOP agent made; `None` exactly before it has joined, and for other
     /// kinds.
     pub fn table(&self, me: VarId) -> Option<&Table>
@@ -242,6 +255,27 @@ impl CoreState {
         let taken = count_of(takes);
         self.delivered = self.delivered.saturating_add(taken);
         Ok(())
+    }
+
+    /// Plays an event as [`CoreState::happen`] does, and tells what its agent took and sent, in place of what
+    /// `exchange` held.
+    ///
+    /// # Errors
+    ///
+    /// [`NoMemory`] where memory was wanted and not had. The state is then of no more use.
+    pub fn happen_telling(
+        &mut self,
+        alloc: Global,
+        event: &Event,
+        exchange: &mut Exchange,
+    ) -> Result<Option<EventFault>, NoMemory>
+        requires { IsSomeCore self.old }
+        ensures plays { IfOk result (λ found. MatchOption found (Advances self.old event.now self.new)
+            (λ fault. Refuses self.old event.now fault)) }
+        ensures tells { IfOk result (λ found. found ≡ None →
+            Exchanges self.old event.now exchange.new.took.items exchange.new.sent.items) }
+    {
+        Err(NoMemory)
     }
 
     /// Plays one event: its agent takes, steps and sends. `Some` exactly where it is not lawful, with

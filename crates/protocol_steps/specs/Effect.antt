@@ -29,6 +29,14 @@ effect_at net e (Some v) None = net
 abbrev pub effect : Network → Event → Network
 effect net e = effect_at net e (slice_get net.views e.agent) (slice_get net.desks e.agent)
 
+abbrev pub sends_by : Network → Event → Option View → List (ℕ × Message)
+sends_by net e None = []
+sends_by net e (Some v) = (step_of v (batch net.desks e.agent e.takes)).sends
+
+-- what the agent of an event sends in it, in order
+abbrev pub event_sends : Network → Event → List (ℕ × Message)
+event_sends net e = sends_by net e (slice_get net.views e.agent)
+
 -- a message is pending where it was sent to an agent that has not ended, and was not taken
 abbrev pub pending_at : Network → ℕ → ℕ → Option View → List Message
 pending_at net i j None = []

@@ -1,8 +1,9 @@
 -- The view of an agent of any kind: the meaning of a machine.
-use Rattle.std.specs.Prelude.{ℕ, Bool, Option, None}
+use Rattle.std.specs.Prelude.{ℕ, Bool, Option, Some, None}
 use Rattle.dcop_base.specs.Table.{CostTable}
 use Rattle.dcop_base.specs.declared.knowledge.Private.{Private}
 use Rattle.pseudotree.specs.declared.agent.Place.{Place}
+use Rattle.adopt_context.specs.Context.{Context}
 use Rattle.protocol_steps.specs.declared.standing.Standing.{Standing}
 use Rattle.protocol_steps.specs.Agent.{Phase}
 use Rattle.protocol_steps.specs.Token.{TokenView, token_place}
@@ -71,3 +72,9 @@ abbrev pub place_of : View → Option Place
 place_of (TokenKind v) = token_place v
 place_of (DpopKind v) = None
 place_of (AdoptKind v) = None
+
+-- the context of an ADOPT agent: what it knows of the values of its path
+abbrev pub context_of : View → Option Context
+context_of (TokenKind v) = None
+context_of (DpopKind v) = None
+context_of (AdoptKind v) = Some v.known
