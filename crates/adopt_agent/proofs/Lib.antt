@@ -12,5 +12,6 @@ pub mod AgentLaws
 pub mod MessageLaws
 pub mod LearnLaws
 pub mod CostLaws
+mod ChildLaws
 mod StepRows
 mod TestLaws

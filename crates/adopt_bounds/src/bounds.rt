@@ -1,7 +1,7 @@
 //! The bounds of an agent, for each own value and child.
 
 ghost use Rattle.std.specs.Prelude.{◌≡◌, ◌+◌, ◌*◌, ◌<◌, ◌≤◌, ◌==◌, true, length, replicate, None, IfOk, IfSome, OnErr, slice_set, if◌then◌else◌};
-ghost use Rattle.dcop_base.specs.Limits.{amount_limit};
+ghost use Rattle.dcop_base.specs.Limits.{amount_limit, variable_limit};
 ghost use Rattle.dcop_base.specs.Table.{has};
 ghost use Rattle.adopt_context.specs.Allot.{reset, allot};
 ghost use Rattle.adopt_context.specs.Bounds.{blank, capped, lower_at, row_at, upper_at, upper_sum};
@@ -53,19 +53,21 @@ impl Model for Bounds {
 
 impl Bounds {
     /// Bounds of which nothing is known: all lower bounds and shares are 0, no upper bound is there,
-    /// and all contexts are empty.
+    /// and all contexts are empty. There are at most [`MAX_VARIABLES`](dcop_base::MAX_VARIABLES)
+    /// children.
     ///
     /// # Errors
     ///
     /// [`NoMemory`] where memory was wanted and not had. The list is gone then too.
     pub fn new(alloc: Global, size: u16, children: VarList) -> Result<Bounds, NoMemory>
+        requires { length children ≤ variable_limit }
         ensures children { IfOk result (λ bounds. bounds.children ≡ children) }
         ensures rows { IfOk result (λ bounds.
             bounds.rows ≡ replicate size (replicate (length children) blank)) }
     {
         let size = usize::from(size);
         let width = children.as_slice().len();
-        let count = count_of(size, width)?;
+        let count = size * width;
         Ok(Bounds {
             children,
             lower: vec![in alloc; 0; count]?,
@@ -197,16 +199,6 @@ impl Bounds {
         self.upper[index] = new.upper;
         self.share[index] = new.nearest(self.share[index]);
         Ok(true)
-    }
-}
-
-/// How many entries there are in so many rows of so many.
-fn count_of(size: usize, width: usize) -> Result<usize, NoMemory>
-    ensures { IfOk result (λ count. count ≡ size * width) }
-{
-    match size.checked_mul(width) {
-        Some(count) => Ok(count),
-        None => Err(NoMemory),
     }
 }
 

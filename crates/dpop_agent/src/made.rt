@@ -91,7 +91,7 @@ fn joined_with(
     let over = variables_with(alloc, own, place, &[], named.as_slice())?;
     let Some(mut joined) = zeros_over(alloc, over)? else {
         // The condition excludes a table that is too wide.
-        return Err(NoMemory);
+        unreachable!()
     };
     add_own(
         &mut joined,

@@ -1,6 +1,6 @@
 //! Lists of what may be missing.
 
-ghost use Rattle.std.specs.Prelude.{◌≡◌, [], ◌∷◌, ◌++◌, length, get_or, if◌then◌else◌, is_ok, MatchOption, OnOk, Some, None};
+ghost use Rattle.std.specs.Prelude.{◌≡◌, ◌<◌, [], ◌∷◌, ◌++◌, length, get_or, if◌then◌else◌, is_ok, MatchOption, OnOk, Some, None};
 
 use dcop_base::NoMemory;
 use std::alloc::Global;
@@ -61,22 +61,20 @@ impl<T> OptionList<T> {
 }
 
 impl<T: Drop> OptionList<T> {
-    /// Adds an item at the end, which may be missing.
+    /// Adds an item at the end, which may be missing. There are fewer items than a `usize` can count.
     ///
     /// # Errors
     ///
     /// [`NoMemory`] where memory was wanted and not had.
     pub fn push(&mut self, item: Option<T>) -> Result<(), NoMemory>
+        requires { length self.old < usize.MAX }
         ensures { OnOk result (self.new ≡ self.old ++ item ∷ []) }
     {
-        let Some(len) = self.len.checked_add(1) else {
-            return Err(NoMemory);
-        };
         if item.is_some() || !self.kept.is_empty() {
             let room = self.room;
             keep(&mut self.kept, room, item)?;
         }
-        self.len = len;
+        self.len += 1;
         Ok(())
     }
 }

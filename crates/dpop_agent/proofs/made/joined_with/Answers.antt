@@ -1,4 +1,4 @@
-use Rattle.std.proofs.Common.{ℕ, ◌||◌, ◌==◌, ◌≤◌, List, length, Option, Some, map, sym, ap, ap₂, subst, ◌∙◌}
+use Rattle.std.proofs.Common.{ℕ, ◌||◌, ◌==◌, ◌≤◌, List, length, Option, Some, None, map, sym, ap, ap₂, subst, ◌∙◌, arith}
 use Rattle.std.specs.List.{All, filter, flat_map, list_all}
 use Rattle.std.proofs.lemmas.List.{length-map}
 use Rattle.dcop_base.specs.Table.{CostTable, has, has_repeat}
@@ -7,7 +7,7 @@ use Rattle.protocol_steps.specs.Dpop.{DpopView, own_tables, kept_tables, size_of
 use Rattle.dpop_agent.specs.Joint.{HasGained, IsJoint, IsZeroOver, over_of, over_sizes}
 use Rattle.dpop_agent.specs.Remade.{sent_of, with_sent}
 use Rattle.dpop_agent.proofs.SumLaws.{both_added}
-use Rattle.dpop_agent.proofs.OverLaws.{apart_still, kept_may, over_apart, over_positive, own_may, zero_some}
+use Rattle.dpop_agent.proofs.OverLaws.{apart_still, kept_may, over_apart, over_positive, own_may, zero_some, zero_where_narrow}
 use Rattle.dpop_agent.proofs.RemakeLaws.{named_in_all, over_sent, sent_keeper}
 use Rattle.dpop_agent.proofs.made.joined_with.Goals as goal
 
@@ -37,6 +37,19 @@ zeros_over-requires-clause-positive c =
     let over = over_sent own place kept c.as_slice.result.now c.in_ok-over.over.vars named c.in_ok-over.ensures.vars in
     let sizes = c.in_ok-over.ensures.sizes ∙ ap (λ (vs : List ℕ). map (size_of v) vs) over in
     subst (λ (ss : List ℕ). All (λ s. 1 ≤ s) ss) (sym sizes) (over_positive own place sent (sent_keeper own place kept c.requires))
+
+pub unreachable-requires : goal.unreachable-requires
+unreachable-requires c =
+    let own = c.args.own.now in
+    let place = c.args.place.now in
+    let kept = c.args.kept.now in
+    let sent = sent_of kept place.children in
+    let named = c.as_slice.ensures ∙ c.in_ok-named.ensures ∙ ap (λ (us : List ℕ). named_in_all (sent_of kept us)) c.as_slice-children.ensures in
+    let over = over_sent own place kept c.as_slice.result.now c.in_ok-over.over.vars named c.in_ok-over.ensures.vars in
+    let made = subst (λ (o : Option CostTable). IsZeroOver c.in_ok-over.over.vars c.in_ok-over.over.sizes o) c.in_default.is c.in_ok-joined.ensures in
+    let all = subst (λ (ss : List ℕ). IsZeroOver c.in_ok-over.over.vars ss None) c.in_ok-over.ensures.sizes made in
+    let wide = zero_where_narrow own place sent (sent_keeper own place kept c.requires) c.in_ok-over.over.vars None over all in
+    absurd (omega (arith, wide, c.requires.narrow))
 
 pub add_own-requires-clause-apart : goal.add_own-requires-clause-apart
 add_own-requires-clause-apart c = apart_still c.args.own.now c.args.place.now c.requires.placed c.as_slice-4.result.now c.as_slice-3.result.now c.as_slice-4.ensures c.as_slice-3.ensures

@@ -6,7 +6,11 @@ use Rattle.protocol_steps.specs.AdoptRange.{fits}
 use Rattle.adopt_agent.specs.Stage.{knowing}
 use Rattle.adopt_agent.specs.Sound.{AreCosts}
 use Rattle.adopt_agent.proofs.BoundLaws.{written_back, backed_new}
+use Rattle.adopt_agent.proofs.ChildLaws.{children_few}
 use Rattle.adopt_agent.proofs.agent.AdoptAgent.new.Goals as goal
+
+pub new-requires : goal.new-requires
+new-requires c = children_few c.args.own c.args.place c.in_ok-copy_of.field-0 c.requires.known c.requires.placed (c.in_ok-copy_of.ensures ∙ c.as_slice.ensures)
 
 pub invariant_of-result : goal.invariant_of-result
 invariant_of-result c =
