@@ -12,16 +12,18 @@ use Rattle.protocol_steps.specs.declared.event.Take.{Take}
 use Rattle.protocol_steps.specs.declared.event.Event.{Event}
 use Rattle.protocol_steps.specs.declared.event.EventFault.TheVariants.{Nobody, Ended, Nothing, Order, TooMany}
 use Rattle.protocol_steps.specs.View.{View, private_of, ended_of}
+use Rattle.protocol_steps.specs.Step.{step_of}
 use Rattle.protocol_steps.specs.Machine.{MayReact, IsBatch, SendersFrom, IsToNeighbour}
-use Rattle.protocol_steps.specs.Network.{Network, waiting}
+use Rattle.protocol_steps.specs.Network.{Network, waiting, batch}
 use Rattle.protocol_steps.specs.Run.{form_fault, has_nothing, ascends_from}
-use Rattle.protocol_steps.specs.Effect.{effect}
+use Rattle.protocol_steps.specs.Effect.{effect, sends_by}
 use Rattle.protocol_steps.proofs.EventLaws.{not_then}
 use Rattle.delivery_core.specs.State.{LinkView, SeatView, waiting_from}
 use Rattle.delivery_core.specs.NetworkState.{letters_of}
 use Rattle.delivery_core.specs.Inboxes.{senders, letters_by, short_in}
 use Rattle.delivery_core.specs.SeatEvents.{seat_after, seat_sends, deliver_all, seats_after, seat_fault, core_fault}
 use Rattle.delivery_core.specs.Shown.{Shows, Moves}
+use Rattle.delivery_core.specs.Exchanges.{Trades}
 use Rattle.delivery_core.proofs.NearLaws.{near_back}
 use Rattle.delivery_core.proofs.InboxLaws.{letters_taken, asc_parts}
 use Rattle.delivery_core.proofs.ShownLaws.{view_there, ascend, waits_here, letters_same, inside, form, short, box, shown_after}
@@ -142,3 +144,11 @@ moved seats e h k agent y out final at by after sends reach is = λ p net s.
     ∙ sym (is ∙ ap (λ (i : ℕ). deliver_all i (slice_set seats k y) out) by ∙ ap (λ (i : ℕ). deliver_all e.agent (slice_set seats i y) out) at
     ∙ ap (λ (z : SeatView). deliver_all e.agent (slice_set seats e.agent z) out) after ∙ ap (λ (ms : List (ℕ × Message)). deliver_all e.agent (slice_set seats e.agent (seat_after h.seat e.takes)) ms) sends) in
     subst (λ (zs : List SeatView). Shows p (effect net e) zs) end (shown_after p net seats s e h.seat h.here h.fine all)
+
+-- what the code tells is what the agent takes and sends in the network
+pub traded : (seats : List SeatView) (e : Event) (h : Seated seats e) (took sent : List (ℕ × Message)) → took ≡ letters_by h.seat.inbox e.takes → sent ≡ seat_sends h.seat e.takes → Trades seats e took sent
+traded seats e h took sent taken sends = λ p net s.
+    let same : letters_by h.seat.inbox e.takes ≡ batch net.desks e.agent e.takes = letters_same p net seats s e h.seat h.here h.fine in
+    let view : slice_get net.views e.agent ≡ Some h.seat.view = view_there p net seats s e.agent (Some h.seat) h.here in
+    let at_view : seat_sends h.seat e.takes ≡ sends_by net e (Some h.seat.view) = ap (λ (ms : List (ℕ × Message)). (step_of h.seat.view ms).sends) same in
+    (taken ∙ same, sends ∙ at_view ∙ ap (λ (o : Option View). sends_by net e o) (sym view))

@@ -239,6 +239,19 @@ begun_agents p start =
     subst (λ (made : List View). Begun p made 0 (map new_seat made)) (sym (agents_made p start))
     (begun_new p (map (agent_of p start) (range_with_len 0 (length p.sizes))) (length-map-range_with_len (agent_of p start) 0 (length p.sizes)) (fresh_made p start))
 
+-- each agent of a start may start
+pub all_may_start : (p : Dcop) (start : Start) (seats : List SeatView) → seats ≡ map new_seat (agents_of p start) → (i : ℕ) (x : SeatView) → slice_get seats i ≡ Some x → MayStart x.view
+all_may_start p start seats e i x h =
+    let made : List View = agents_of p start in
+    let r = map_get new_seat (slice_get made i) x (sym (slice_get-map new_seat made i) ∙ ap (λ (xs : List SeatView). slice_get xs i) (sym e) ∙ h) in
+    let fresh = (begun_agents p start).new i r.0 r.1 in
+    subst (λ (y : SeatView). MayStart y.view) r.2 (inl fresh.fresh)
+
+-- what agents send as they start, by their seats
+pub sends_made : (made : List View) → map (λ (x : SeatView). (start_of x.view).sends) (map new_seat made) ≡ map (λ (v : View). (start_of v).sends) made
+sends_made [] = refl
+sends_made (v ∷ vs) = ap (λ (out : List (List (ℕ × Message))). (start_of v).sends ∷ out) (sends_made vs)
+
 -- all have started
 abbrev first_desk : View → Desk
 first_desk v = record { sent = (start_of v).sends; takes = [] }

@@ -7,9 +7,11 @@ ghost use Rattle.protocol_steps.specs.Network.{Network};
 ghost use Rattle.delivery_core.specs.NetworkState.{most_counted};
 ghost use Rattle.delivery_core.specs.SeatEvents.{deliver, deliver_all, core_fault};
 ghost use Rattle.delivery_core.specs.Shown.{Shows, Moves};
+ghost use Rattle.delivery_core.specs.Exchanges.{Trades};
 ghost use Rattle.delivery_core.specs.Takes.{KeepCalm};
 
 use crate::arrivals::Arrivals;
+use crate::exchange::Exchange;
 use crate::seat::Seat;
 use dcop_base::{NoMemory, VarId};
 use protocol_steps::{Letter, Parcel, Take};
@@ -67,6 +69,28 @@ pub(crate) fn act(
     arrivals.rouse(agent.0 as usize);
     seats[agent.0 as usize].react(alloc, takes, letters, parcels)?;
     post(seats, arrivals, agent, parcels)
+}
+
+/// As [`act`], and what the agent took and sent takes the place of what `exchange` held.
+pub(crate) fn act_telling(
+    alloc: Global,
+    seats: &mut [Seat],
+    arrivals: &mut Arrivals,
+    agent: VarId,
+    takes: &[Take],
+    exchange: &mut Exchange,
+) -> Result<(), NoMemory>
+    requires network { (p : Dcop) × (net : Network) × Shows p net seats.old }
+    requires lawful { core_fault seats.old (record { agent = agent; takes = takes.now }) ≡ None }
+    ensures moved { OnOk result (Moves seats.old (record { agent = agent; takes = takes.now }) seats.new) }
+    ensures calm { KeepCalm arrivals.old seats.old arrivals.new seats.new }
+    ensures tells { OnOk result (Trades seats.old (record { agent = agent; takes = takes.now })
+        exchange.new.took.items exchange.new.sent.items) }
+{
+    arrivals.rouse(agent.0 as usize);
+    let mut parcels = Vec::new(alloc);
+    seats[agent.0 as usize].react_telling(alloc, takes, &mut parcels, exchange)?;
+    post(seats, arrivals, agent, &mut parcels)
 }
 
 /// How many messages are taken, as far as they are counted.

@@ -1,5 +1,8 @@
 //! What an agent takes and sends in an event.
 
+ghost use Rattle.std.specs.Prelude.{◌≡◌, [], IfOk, OnOk};
+
+use dcop_base::NoMemory;
 use protocol_steps::{Letter, Parcel};
 use std::alloc::Global;
 
@@ -14,10 +17,57 @@ pub struct Exchange {
 
 impl Exchange {
     /// Nothing taken and nothing sent.
-    pub fn new(alloc: Global) -> Exchange {
+    pub fn new(alloc: Global) -> Exchange
+        ensures took { result.took.items ≡ [] }
+        ensures sent { result.sent.items ≡ [] }
+    {
         Exchange {
             took: Vec::new(alloc),
             sent: Vec::new(alloc),
         }
     }
+}
+
+/// The same letter again.
+fn letter_copy(letter: &Letter) -> Result<Letter, NoMemory>
+    ensures { IfOk result (λ copy. copy ≡ letter.now) }
+{
+    let message = letter.message.clone()?;
+    Ok(Letter {
+        from: letter.from,
+        message,
+    })
+}
+
+/// The same parcel again.
+fn parcel_copy(parcel: &Parcel) -> Result<Parcel, NoMemory>
+    ensures { IfOk result (λ copy. copy ≡ parcel.now) }
+{
+    let message = parcel.message.clone()?;
+    Ok(Parcel {
+        to: parcel.to,
+        message,
+    })
+}
+
+/// Copies letters, in order, in place of what `copies` held.
+pub(crate) fn copy_letters(letters: &[Letter], copies: &mut Vec<Letter>) -> Result<(), NoMemory>
+    ensures { OnOk result (copies.new.items ≡ letters.now) }
+{
+    copies.clear();
+    for letter in letters {
+        copies.push(letter_copy(letter)?)?;
+    }
+    Ok(())
+}
+
+/// Copies parcels, in order, in place of what `copies` held.
+pub(crate) fn copy_parcels(parcels: &[Parcel], copies: &mut Vec<Parcel>) -> Result<(), NoMemory>
+    ensures { OnOk result (copies.new.items ≡ parcels.now) }
+{
+    copies.clear();
+    for parcel in parcels {
+        copies.push(parcel_copy(parcel)?)?;
+    }
+    Ok(())
 }

@@ -1,14 +1,15 @@
 //! One agent with what it was sent.
 
 ghost use Rattle.std.specs.Prelude.{◌≡◌, OnOk};
-ghost use Rattle.std.specs.List.{All};
-ghost use Rattle.protocol_steps.specs.Step.{start_of};
+ghost use Rattle.std.specs.List.{All, fold};
+ghost use Rattle.protocol_steps.specs.Step.{start_of, step_of};
 ghost use Rattle.protocol_steps.specs.Machine.{MayStart, MayReact, IsBatch, IsToNeighbour};
-ghost use Rattle.delivery_core.specs.Inboxes.{edit_link, with_letter, letters_by, inbox_after};
+ghost use Rattle.delivery_core.specs.Inboxes.{edit_link, with_letter, letters_by, keep_last};
 ghost use Rattle.delivery_core.specs.SeatEvents.{seat_after, seat_sends};
 ghost use Rattle.delivery_core.specs.Takes.{seat_takes};
 
 use crate::agent::Agent;
+use crate::exchange::{Exchange, copy_letters, copy_parcels};
 use crate::inbox;
 use crate::link::Link;
 use dcop_base::{NoMemory, Sequence, VarId};
@@ -100,6 +101,51 @@ impl Seat {
         ensures receivers { OnOk result (All (IsToNeighbour self.old.view) parcels.new.items) }
     {
         inbox::gather(self.links.as_mut_slice(), takes, letters)?;
+        self.answer(alloc, letters, parcels)
+    }
+
+    /// As [`Seat::react`], and copies of what it takes and sends take the place of what `exchange` held.
+    pub(crate) fn react_telling(
+        &mut self,
+        alloc: Global,
+        takes: &[Take],
+        parcels: &mut Vec<Parcel>,
+        exchange: &mut Exchange,
+    ) -> Result<(), NoMemory>
+        requires ready { MayReact self.old.view }
+        requires batch { IsBatch self.old.view (letters_by self.old.inbox takes.now) }
+        ensures after { OnOk result (self.new ≡ seat_after self.old takes.now) }
+        ensures sends { OnOk result (parcels.new.items ≡ seat_sends self.old takes.now) }
+        ensures receivers { OnOk result (All (IsToNeighbour self.old.view) parcels.new.items) }
+        ensures took { OnOk result (exchange.new.took.items ≡ letters_by self.old.inbox takes.now) }
+        ensures sent { OnOk result (exchange.new.sent.items ≡ seat_sends self.old takes.now) }
+    {
+        let mut letters = Vec::new(alloc);
+        inbox::gather(self.links.as_mut_slice(), takes, &mut letters)?;
+        copy_letters(letters.as_slice(), &mut exchange.took)?;
+        self.answer(alloc, &mut letters, parcels)?;
+        copy_parcels(parcels.as_slice(), &mut exchange.sent)?;
+        Ok(())
+    }
+
+    /// One activation of the agent on a batch that was taken off its links. What it sends takes the
+    /// place of what `parcels` held. The room of the batch is left.
+    fn answer(
+        &mut self,
+        alloc: Global,
+        letters: &mut Vec<Letter>,
+        parcels: &mut Vec<Parcel>,
+    ) -> Result<(), NoMemory>
+        requires ready { MayReact self.old.view }
+        requires batch { IsBatch self.old.view letters.old.items }
+        ensures after { OnOk result (self.new ≡ record {
+          view = (step_of self.old.view letters.old.items).view;
+          inbox = fold keep_last self.old.inbox letters.old.items;
+        }) }
+        ensures sends { OnOk result (parcels.new.items
+            ≡ (step_of self.old.view letters.old.items).sends) }
+        ensures receivers { OnOk result (All (IsToNeighbour self.old.view) parcels.new.items) }
+    {
         let batch = Sequence::from_vec(mem::replace(letters, Vec::new(alloc)));
         parcels.clear();
         let mut out = Sequence::from_vec(mem::replace(parcels, Vec::new(alloc)));

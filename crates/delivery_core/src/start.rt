@@ -1,16 +1,18 @@
 //! Which agents are run, and their start.
 
-ghost use Rattle.std.specs.Prelude.{◌≡◌, ℕ, ◌+◌, ◌<◌, ◌≤◌, List, length, map, IfOk, OnOk};
+ghost use Rattle.std.specs.Prelude.{◌≡◌, ℕ, ◌+◌, ◌<◌, ◌≤◌, List, length, map, IfOk, OnOk, Some, slice_get};
 ghost use Rattle.std.specs.List.{range_with_len};
 ghost use Rattle.dcop_base.specs.Limits.{variable_limit};
 ghost use Rattle.dcop_base.specs.Problem.{Dcop};
 ghost use Rattle.dcop_base.specs.Whole.{IsProblem};
 ghost use Rattle.dcop_base.specs.Knowledge.{private_of};
 ghost use Rattle.protocol_steps.specs.Placing.{IsPlaceFor};
+ghost use Rattle.protocol_steps.specs.Machine.{MayStart};
 ghost use Rattle.protocol_steps.specs.Step.{start_of};
 ghost use Rattle.protocol_steps.specs.View.{View};
 ghost use Rattle.protocol_steps.specs.TreeAgents.{place_at};
 ghost use Rattle.delivery_core.specs.Agents.{IsTreeFor, IsStartFor, agents_of};
+ghost use Rattle.delivery_core.specs.State.{SeatView};
 ghost use Rattle.delivery_core.specs.Starts.{agent_of, knowledge_for, new_seat, Begun, Starts};
 ghost use Rattle.delivery_core.specs.Takes.{KeepCalm};
 
@@ -19,7 +21,7 @@ use crate::arrivals::Arrivals;
 use crate::deliver::post;
 use crate::inbox::new_links;
 use crate::seat::Seat;
-use dcop_base::{MAX_VARIABLES, NoMemory, Private, Problem, VarId, problem_is_whole};
+use dcop_base::{MAX_VARIABLES, NoMemory, Private, Problem, Sequence, VarId, problem_is_whole};
 use problem_parts::{acquaintances, privates};
 use protocol_steps::{Outbox, Parcel, acquaintance_is_knowledge, places_fit, private_is_knowledge};
 use pseudotree::{Place, Tree, place};
@@ -135,7 +137,30 @@ pub fn first_parcels(
     ensures { IfOk result (λ parcels. parcels.items
         ≡ map (λ v. (start_of v).sends) (agents_of problem.now start.now)) }
 {
-    Err(NoMemory)
+    let seats = make(alloc, problem, start)?;
+    first_of_all(alloc, seats)
+}
+
+/// What an agent sends as it starts.
+fn first_of(alloc: Global, mut seat: Seat) -> Result<Outbox, NoMemory>
+    requires { MayStart seat.view }
+    ensures { IfOk result (λ sent. sent ≡ (start_of seat.view).sends) }
+{
+    let mut parcels = Vec::new(alloc);
+    seat.begin(alloc, &mut parcels)?;
+    Ok(Sequence::from_vec(parcels))
+}
+
+/// What each of these agents sends as it starts, in order.
+fn first_of_all(alloc: Global, seats: Vec<Seat>) -> Result<Vec<Outbox>, NoMemory>
+    requires { (i : ℕ) (x : SeatView) → slice_get seats.items i ≡ Some x → MayStart x.view }
+    ensures { IfOk result (λ sent. sent.items ≡ map (λ x. (start_of x.view).sends) seats.items) }
+{
+    let mut sent = Vec::with_capacity(alloc, seats.len())?;
+    for seat in seats {
+        sent.push(first_of(alloc, seat)?)?;
+    }
+    Ok(sent)
 }
 
 /// An agent starts, after those before it. What it sends lies in the room of `parcels`.

@@ -13,7 +13,7 @@ ghost use Rattle.delivery_core.specs.Exchanges.{Exchanges};
 ghost use Rattle.delivery_core.specs.Shown.{IsCore, IsSomeCore, Advances, Refuses, CountsWaiting};
 
 use crate::arrivals::Arrivals;
-use crate::deliver::{act, count_of};
+use crate::deliver::{act, act_telling, count_of};
 use crate::exchange::Exchange;
 use crate::inbox::{count_from, last_of};
 use crate::lawful::fault_of;
@@ -275,7 +275,39 @@ impl CoreState {
         ensures tells { IfOk result (λ found. found ≡ None →
             Exchanges self.old event.now exchange.new.took.items exchange.new.sent.items) }
     {
-        Err(NoMemory)
+        if let Some(fault) = fault_of(self.seats.as_slice(), event) {
+            return Ok(Some(fault));
+        }
+        self.follow_telling(alloc, event.agent, event.takes.as_slice(), exchange)?;
+        Ok(None)
+    }
+
+    /// Plays a lawful event as [`CoreState::follow`] does, and tells what its agent took and sent, in
+    /// place of what `exchange` held.
+    fn follow_telling(
+        &mut self,
+        alloc: Global,
+        agent: VarId,
+        takes: &[Take],
+        exchange: &mut Exchange,
+    ) -> Result<(), NoMemory>
+        requires core { IsSomeCore self.old }
+        requires lawful { core_fault self.old.seats (record { agent = agent; takes = takes.now }) ≡ None }
+        ensures advances { OnOk result (Advances self.old (record { agent = agent; takes = takes.now }) self.new) }
+        ensures tells { OnOk result (Exchanges self.old (record { agent = agent; takes = takes.now })
+            exchange.new.took.items exchange.new.sent.items) }
+    {
+        act_telling(
+            alloc,
+            self.seats.as_mut_slice(),
+            &mut self.arrivals,
+            agent,
+            takes,
+            exchange,
+        )?;
+        let taken = count_of(takes);
+        self.delivered = self.delivered.saturating_add(taken);
+        Ok(())
     }
 
     /// Plays one event: its agent takes, steps and sends. `Some` exactly where it is not lawful, with
