@@ -28,8 +28,7 @@ use Rattle.solve_words.specs.Kinds.{number_of_words}
 use Rattle.solve_words.specs.declared.fault.WordFault.{WordFault}
 use Rattle.solve_words.specs.declared.fault.WordFault.TheVariants as words
 use Rattle.answer_edge.specs.Input.{Input, Unread, Broken, TooLong, Whole}
-use Rattle.solve_inputs.specs.Fronts.{front_read}
-use Rattle.problem_text.specs.PlainLines.{lines_in}
+use Rattle.solve_inputs.specs.Fronts.{front_read, lines_in}
 use Rattle.trace_text.specs.Trace.{trace_text}
 use Rattle.trace_top.specs.Words.{trace_answer_to}
 use Rattle.trace_top.specs.declared.answer.TraceAnswer.{TraceAnswer}
