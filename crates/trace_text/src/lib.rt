@@ -4,6 +4,7 @@
 //! event, what it took, what it has come to, what it knows of others' values, and what it sent.
 #![tactic(auto)]
 
+mod lines;
 mod tracing;
 
 pub use tracing::write_trace;
