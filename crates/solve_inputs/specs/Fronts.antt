@@ -1,5 +1,6 @@
 -- What an input is read as up to and with the last line of its problem.
-use Rattle.std.specs.Prelude.{ℕ, List, Result, Ok, Err}
+use Rattle.std.specs.Prelude.{ℕ, ◌==◌, List, Result, Ok, Err, count_by}
+use Rattle.problem_text.specs.Bytes.{line_feed}
 use Rattle.problem_text.specs.Reading.{Fault, Parts, text_read}
 use Rattle.wcsp_text.specs.declared.fault.Fault.{Fault as WcspFault}
 use Rattle.wcsp_text.specs.Networks.{Network}
@@ -24,3 +25,7 @@ wcsp_front bytes (Err fault) = Err (wcsp_refused_by bytes fault)
 abbrev pub front_read : Format → List ℕ → Result Parts Answer
 front_read Own bytes = own_front (text_read bytes)
 front_read Wcsp bytes = wcsp_front bytes (wcsp_read bytes)
+
+-- how many lines end in a text
+abbrev pub lines_in : List ℕ → ℕ
+lines_in bytes = count_by (λ b. b == line_feed) bytes

@@ -1,7 +1,7 @@
 //! The problem that an input begins with.
 
 ghost use Rattle.std.specs.Prelude.{◌≤◌, length, IfOk};
-ghost use Rattle.solve_inputs.specs.Fronts.{front_read};
+ghost use Rattle.solve_inputs.specs.Fronts.{front_read, lines_in};
 ghost use Rattle.solve_inputs.specs.Gives.{IsFront};
 
 use crate::fault::InputFault;
@@ -25,6 +25,13 @@ pub fn read_front(alloc: Global, format: Format, bytes: &[u8]) -> Result<ReadFil
         Format::Dcop => own_front(alloc, bytes),
         Format::Wcsp => wcsp_front(alloc, bytes),
     }
+}
+
+/// How many lines end in a text.
+pub fn lines_in(text: &[u8]) -> u64
+    ensures { result ≡ lines_in text.now }
+{
+    text.iter().filter(|byte| **byte == b'\n').count() as u64
 }
 
 fn own_front(alloc: Global, bytes: &[u8]) -> Result<ReadFile, InputFault>

@@ -12,6 +12,6 @@ mod law;
 mod reading;
 
 pub use fault::{InputFault, wcsp_answer};
-pub use front::read_front;
+pub use front::{lines_in, read_front};
 pub use law::wcsp_files_have_values;
 pub use reading::{ReadInput, read_input};

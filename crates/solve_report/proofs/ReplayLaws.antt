@@ -1,24 +1,32 @@
 -- The line of an agent, as it is written piece by piece.
 use Rattle.std.proofs.Common.{◌≡◌, ℕ, ◌+◌, ◌<◌, suc, Bool, List, [], ◌∷◌, ◌++◌, map, length, drop, get_or, sym, ap, ◌∙◌, append_assoc, drop-cons, add-one, codes}
 use Rattle.std.specs.List.{flat_map}
+use Rattle.std.proofs.lemmas.List.{append-nil}
 use Rattle.std.specs.Fmt.{decimal}
 use Rattle.protocol_steps.specs.declared.standing.Standing.{Standing}
 use Rattle.problem_text.specs.Canonical.{line}
-use Rattle.solve_report.specs.Replay.{bound_word, ended_word, state_words, agent_words}
+use Rattle.problem_text.proofs.LineLaws.{line-cons}
+use Rattle.solve_report.specs.Replay.{bound_word, ended_word, standing_words, state_words, agent_words}
 use Rattle.solve_report.specs.declared.replay.AgentRow.{AgentRow}
 
--- an agent's words, with the end of the line
-agent-pieces : (name value lower upper threshold ended : List ℕ)
-    → (name ++ (codes " value " ++ (value ++ (codes " lower " ++ (lower ++ (codes " upper " ++ (upper ++ (codes " threshold " ++ (threshold ++ (codes " ended " ++ (ended))))))))))) ++ (10 ∷ [])
-    ≡ name ++ (codes " value " ++ (value ++ (codes " lower " ++ (lower ++ (codes " upper " ++ (upper ++ (codes " threshold " ++ (threshold ++ (codes " ended " ++ (ended ++ (10 ∷ [])))))))))))
-agent-pieces name value lower upper threshold ended = simp append_assoc
+-- what an agent has come to, written word by word
+pub standing-written : (old new : List ℕ) (value : ℕ) (standing : Standing) (ended : Bool)
+    → new ≡ old ++ (codes " value " ++ (decimal value ++ (codes " lower " ++ (decimal standing.lower ++ (codes " upper " ++ (bound_word standing.upper ++ (codes " threshold " ++ (decimal standing.threshold ++ (codes " ended " ++ ended_word ended)))))))))
+    → new ≡ old ++ flat_map (λ word. 32 ∷ word) (standing_words value standing ended)
+standing-written old new value standing ended h =
+    h
+    ∙ ap (λ (word : List ℕ). old ++ (codes " value " ++ (decimal value ++ (codes " lower " ++ (decimal standing.lower ++ (codes " upper " ++ (bound_word standing.upper ++ (codes " threshold " ++ (decimal standing.threshold ++ (codes " ended " ++ word))))))))))
+    (sym (append-nil (ended_word ended)))
 
--- an agent's line, written word by word
+-- an agent's line, written by its name and what the agent has come to
 pub state-written : (old new name : List ℕ) (value : ℕ) (standing : Standing) (ended : Bool)
-    → new ≡ old ++ (codes "agent " ++ (name ++ (codes " value " ++ (decimal value ++ (codes " lower " ++ (decimal standing.lower ++ (codes " upper " ++ (bound_word standing.upper ++ (codes " threshold " ++ (decimal standing.threshold ++ (codes " ended " ++ (ended_word ended ++ (10 ∷ [])))))))))))))
+    → new ≡ old ++ (codes "agent " ++ (name ++ (flat_map (λ word. 32 ∷ word) (standing_words value standing ended) ++ (10 ∷ []))))
     → new ≡ old ++ line (state_words name value standing ended)
 state-written old new name value standing ended h =
-    h ∙ ap (λ (text : List ℕ). old ++ (codes "agent " ++ text)) (sym (agent-pieces name (decimal value) (decimal standing.lower) (bound_word standing.upper) (decimal standing.threshold) (ended_word ended)))
+    let words : List ℕ = flat_map (λ word. 32 ∷ word) (standing_words value standing ended) in
+    let same : line (state_words name value standing ended) ≡ codes "agent " ++ (name ++ (words ++ (10 ∷ []))) =
+    line-cons (codes "agent") (name ∷ standing_words value standing ended) ∙ ap (λ (text : List ℕ). codes "agent " ++ text) (append_assoc name words (10 ∷ [])) in
+    h ∙ ap (λ (text : List ℕ). old ++ text) (sym same)
 
 -- one agent more
 pub agents-more : (names : List (List ℕ)) (agents : List AgentRow) (place : ℕ) (x : AgentRow) (text new all : List ℕ) → place < length agents → x ≡ get_or agents place x

@@ -19,11 +19,15 @@ bound_word (Some bound) = decimal bound
 abbrev pub ended_word : Bool → List ℕ
 ended_word ended = if ended then codes "yes" else codes "no"
 
--- `agent NAME value V lower L upper U threshold T ended E`
-abbrev pub state_words : List ℕ → ℕ → Standing → Bool → List (List ℕ)
-state_words name value standing ended =
-    codes "agent" ∷ name ∷ codes "value" ∷ decimal value ∷ codes "lower" ∷ decimal standing.lower ∷ codes "upper" ∷ bound_word standing.upper
+-- `value V lower L upper U threshold T ended E`
+abbrev pub standing_words : ℕ → Standing → Bool → List (List ℕ)
+standing_words value standing ended =
+    codes "value" ∷ decimal value ∷ codes "lower" ∷ decimal standing.lower ∷ codes "upper" ∷ bound_word standing.upper
     ∷ codes "threshold" ∷ decimal standing.threshold ∷ codes "ended" ∷ ended_word ended ∷ []
+
+-- `agent NAME` and what the agent has come to
+abbrev pub state_words : List ℕ → ℕ → Standing → Bool → List (List ℕ)
+state_words name value standing ended = codes "agent" ∷ name ∷ standing_words value standing ended
 
 -- what an agent has come to, behind the name of its variable
 abbrev pub agent_words : List (List ℕ) → AgentRow → List (List ℕ)

@@ -15,6 +15,6 @@ mod upgrade;
 mod verdict;
 
 pub use answer::{Answer, text_of};
-pub use replay::{AgentRow, AgentRowList};
+pub use replay::{AgentRow, AgentRowList, write_bound, write_standing};
 pub use summary::Summary;
 pub use tree::{NodeRow, NodeRowList};

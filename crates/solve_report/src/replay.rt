@@ -1,10 +1,10 @@
 //! Replayed agents, and the text that tells them.
 
-ghost use Rattle.std.specs.Prelude.{◌≡◌, ◌<◌, ◌++◌, length, map, OnOk, IfOk};
+ghost use Rattle.std.specs.Prelude.{◌≡◌, ◌<◌, ◌∷◌, ◌++◌, length, map, OnOk, IfOk};
 ghost use Rattle.std.specs.List.{flat_map, All};
 ghost use Rattle.std.specs.String.{string_bytes};
 ghost use Rattle.problem_text.specs.Canonical.{line};
-ghost use Rattle.solve_report.specs.Replay.{IsNamedAgent, bound_word, ended_word, state_words, agent_words, replay_text};
+ghost use Rattle.solve_report.specs.Replay.{IsNamedAgent, bound_word, ended_word, standing_words, state_words, agent_words, replay_text};
 
 use crate::refusal::bytes_of;
 use dcop_base::{Bytes, NoMemory, Sequence, Val, VarId};
@@ -78,16 +78,36 @@ fn write_state(
     ensures { OnOk result (string_bytes text.new
         ≡ string_bytes text.old ++ line (state_words name.now value standing ended)) }
 {
+    write!(text, "agent {name}")?;
+    write_standing(text, value, standing, ended)?;
+    Ok(text.push_str("\n")?)
+}
+
+/// Writes what an agent has come to: the words `value V lower L upper U threshold T ended E`, each
+/// behind a space.
+///
+/// # Errors
+///
+/// [`NoMemory`] where memory was wanted and not had.
+pub fn write_standing(
+    text: &mut String,
+    value: Val,
+    standing: Standing,
+    ended: bool,
+) -> Result<(), NoMemory>
+    ensures { OnOk result (string_bytes text.new
+        ≡ string_bytes text.old ++ flat_map (λ word. 32 ∷ word) (standing_words value standing ended)) }
+{
     let value = value.0;
     let Standing {
         lower,
         upper,
         threshold,
     } = standing;
-    write!(text, "agent {name} value {value} lower {lower} upper ")?;
+    write!(text, " value {value} lower {lower} upper ")?;
     write_bound(text, upper)?;
     let ended = ended_word(ended);
-    Ok(write!(text, " threshold {threshold} ended {ended}\n")?)
+    Ok(write!(text, " threshold {threshold} ended {ended}")?)
 }
 
 /// The word that tells whether an agent has ended.
@@ -97,8 +117,12 @@ fn ended_word(ended: bool) -> &'static str
     if ended { "yes" } else { "no" }
 }
 
-/// An upper bound, or `-` where it is not there.
-fn write_bound(text: &mut String, bound: Option<u64>) -> Result<(), NoMemory>
+/// Writes an upper bound, or `-` where it is not there.
+///
+/// # Errors
+///
+/// [`NoMemory`] where memory was wanted and not had.
+pub fn write_bound(text: &mut String, bound: Option<u64>) -> Result<(), NoMemory>
     ensures { OnOk result (string_bytes text.new ≡ string_bytes text.old ++ bound_word bound) }
 {
     match bound {

@@ -26,7 +26,7 @@ use Rattle.solve_top.specs.declared.task.Task.{Task}
 use Rattle.solve_top.specs.declared.task.Task.TheVariants.{File, Check, Replay, Edit}
 use Rattle.solve_top.specs.declared.task.FileTask.{FileTask}
 use Rattle.solve_top.specs.declared.task.FileTask.TheVariants as tasks
-use Rattle.solve_top.specs.Answering.{lines_in, IsUpgraded, IsFileAnswer, IsTextAnswer, IsReportAnswer, IsReplayAnswer, IsEditsAnswer, IsTaskAnswer, IsInputAnswer, IsDrillAnswer, IsUnreadAnswer, IsServedAnswer, IsCommandAnswer, IsAnswer}
+use Rattle.solve_top.specs.Answering.{IsUpgraded, IsFileAnswer, IsTextAnswer, IsReportAnswer, IsReplayAnswer, IsEditsAnswer, IsTaskAnswer, IsInputAnswer, IsDrillAnswer, IsUnreadAnswer, IsServedAnswer, IsCommandAnswer, IsAnswer}
 use Rattle.solve_top.specs.Nodes.{nodes_of, AskForNodes, IsOfLinks, TellsProblem, IsLinkAnswer, IsAnswerRead, IsTaskAnswerIn, IsUnreadAnswerIn}
 use Rattle.solve_top.specs.Same.{IsGiven}
 use Rattle.solve_methods.specs.Adopt.{IsAdoptAnswer}
@@ -46,7 +46,7 @@ use Rattle.solve_words.specs.declared.command.Format.{Format}
 use Rattle.solve_words.specs.declared.command.Format.TheVariants.{Dcop as Own}
 use Rattle.solve_inputs.specs.Told.{Told, told_of}
 use Rattle.solve_inputs.specs.Inputs.{input_read}
-use Rattle.solve_inputs.specs.Fronts.{front_read}
+use Rattle.solve_inputs.specs.Fronts.{front_read, lines_in}
 use Rattle.solve_check.specs.Checking.{IsReadAnswer}
 use Rattle.solve_replay.specs.Replaying.{IsReplayOf, IsReadReplay}
 use Rattle.certificate_text.specs.declared.certificate.Certificate.{Certificate}

@@ -29,7 +29,8 @@ use Rattle.edit_text.specs.declared.line.EditLine.TheVariants as said
 use Rattle.solve_edit.specs.Editing.{AnswersEdit, IsEditAnswer, IsEditAnswerBy, TellsLines, line_behind, told_answer}
 use Rattle.solve_edit.specs.Running.{Told as ToldLines, Refused, AreLinesTold, IsEditTold, IsLineTold, behind, ended}
 use Rattle.solve_methods.specs.Dpop.{wide_in, wide_answer, IsAnswerBy, AnswersDpop}
-use Rattle.solve_top.specs.Answering.{IsEditsAnswer, lines_in}
+use Rattle.solve_inputs.specs.Fronts.{lines_in}
+use Rattle.solve_top.specs.Answering.{IsEditsAnswer}
 use Rattle.solve_top.specs.Solving.{HasFitTree, IsEditedFor}
 use Rattle.solve_top.specs.Taken.{AreLinesTaken, IsLineTaken}
 use Rattle.solve_top.proofs.SameLaws.{one_file}

@@ -27,7 +27,7 @@ use Rattle.answer_edge.specs.declared.status.Status.TheVariants.{BadText, LinkFa
 use Rattle.answer_edge.specs.Statuses.{status_of, status_of_ending, status_of_verdict}
 use Rattle.answer_edge.specs.Showing.{refused_by}
 use Rattle.solve_inputs.specs.Told.{Told, wcsp_refused_by}
-use Rattle.solve_inputs.specs.Fronts.{own_front, wcsp_front, front_read}
+use Rattle.solve_inputs.specs.Fronts.{own_front, wcsp_front, front_read, lines_in}
 use Rattle.cut_dpop.specs.declared.fault.CutFault.{CutFault}
 use Rattle.cut_dpop.specs.declared.fault.CutFault.TheVariants as faults
 use Rattle.solve_cut.specs.Cut.{refusal_of, IsRefusalAnswer, IsCutAnswerBy}
@@ -40,7 +40,7 @@ use Rattle.log_holds.specs.Holds.{agents_for}
 use Rattle.solve_methods.specs.Dpop.{wide_in, wide_answer, IsAnswerBy}
 use Rattle.solve_top.specs.declared.task.FileTask.{FileTask}
 use Rattle.solve_top.specs.declared.task.FileTask.TheVariants as tasks
-use Rattle.solve_top.specs.Answering.{lines_in, IsFileAnswer, IsReportAnswer, IsReplayAnswer, IsEditsAnswer}
+use Rattle.solve_top.specs.Answering.{IsFileAnswer, IsReportAnswer, IsReplayAnswer, IsEditsAnswer}
 use Rattle.solve_top.specs.Nodes.{TellsAnswer, TellsLinks}
 use Rattle.solve_top.proofs.AnswerLaws.{adopt-status, auto-status, report-solved, tree-solved, upgraded-solved, wide-status}
 

@@ -31,9 +31,9 @@ use Rattle.solve_report.specs.declared.answer.Answer.{Answer}
 use Rattle.solve_report.specs.declared.answer.Answer.TheVariants as answers
 use Rattle.solve_check.specs.Checking.{IsReadAnswer, IsCheckAnswer, AnswersCheck}
 use Rattle.solve_replay.specs.Replaying.{log_up_to, IsReplay, IsReplayOf, IsReadReplay, AnswersReplay}
-use Rattle.solve_inputs.specs.Fronts.{front_read}
+use Rattle.solve_inputs.specs.Fronts.{front_read, lines_in}
 use Rattle.solve_inputs.proofs.FrontLaws.{front_kept, front_used}
-use Rattle.solve_top.specs.Answering.{lines_in, IsReportAnswer, IsReplayAnswer}
+use Rattle.solve_top.specs.Answering.{IsReportAnswer, IsReplayAnswer}
 use Rattle.solve_top.specs.Solving.{IsPrintedFor, IsLoggedFor}
 use Rattle.answer_edge.specs.Statuses.{status_of, status_of_verdict}
 use Rattle.answer_edge.specs.declared.status.Status.TheVariants.{Solved}

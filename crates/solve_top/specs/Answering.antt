@@ -1,9 +1,8 @@
 -- Which answer belongs to which words and input, in the order in which a call goes.
-use Rattle.std.specs.Prelude.{◌≡◌, ℕ, ◌≤◌, ◌==◌, List, Option, Some, None, Result, Ok, Err, take, drop, count_by}
+use Rattle.std.specs.Prelude.{◌≡◌, ℕ, ◌≤◌, List, Option, Some, None, Result, Ok, Err, take, drop}
 use Rattle.dcop_base.specs.Table.{product}
 use Rattle.dcop_base.specs.Limits.{assignment_limit}
 use Rattle.problem_text.specs.Declarations.{Declared}
-use Rattle.problem_text.specs.Bytes.{line_feed}
 use Rattle.problem_text.specs.Reading.{Parts}
 use Rattle.problem_text.specs.Steps.{declared_by}
 use Rattle.solve_words.specs.declared.command.Command.{Command}
@@ -23,7 +22,7 @@ use Rattle.solve_methods.specs.Dpop.{AnswersDpop}
 use Rattle.answer_edge.specs.Input.{Input, Unread, Broken, TooLong, Whole}
 use Rattle.solve_inputs.specs.Told.{Told, told_of}
 use Rattle.solve_inputs.specs.Inputs.{input_read}
-use Rattle.solve_inputs.specs.Fronts.{front_read}
+use Rattle.solve_inputs.specs.Fronts.{front_read, lines_in}
 use Rattle.solve_words.specs.Kinds.{number_of_words}
 use Rattle.solve_methods.specs.Plain.{IsPlainReport, HasFirstOptimum, IsTooMany}
 use Rattle.solve_top.specs.Served.{task_of}
@@ -59,10 +58,6 @@ IsFileAnswer task t answer = ⊥
 abbrev pub IsTextAnswer : FileTask → Result Told Answer → Answer → Type 0
 IsTextAnswer task (Ok told) answer = IsFileAnswer task told answer
 IsTextAnswer task (Err refusal) answer = answer ≡ refusal
-
--- how many lines end in a text
-abbrev pub lines_in : List ℕ → ℕ
-lines_in bytes = count_by (λ b. b == line_feed) bytes
 
 -- the answer of `check` on an input whose problem is read as this: what comes of the report behind the problem's last line
 abbrev pub IsReportAnswer : List ℕ → Result Parts Answer → Answer → Type 0

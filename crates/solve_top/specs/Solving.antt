@@ -28,7 +28,7 @@ use Rattle.solve_top.specs.declared.task.Task.{Task}
 use Rattle.solve_top.specs.declared.task.Task.TheVariants.{File, Check, Replay, Edit}
 use Rattle.solve_top.specs.declared.task.FileTask.{FileTask}
 use Rattle.solve_top.specs.declared.task.FileTask.TheVariants as tasks
-use Rattle.solve_top.specs.Answering.{IsAnswer, IsFileAnswer, lines_in}
+use Rattle.solve_top.specs.Answering.{IsAnswer, IsFileAnswer}
 use Rattle.solve_top.specs.Nodes.{AskForNodes, IsLinkAnswer, TellsAnswer}
 use Rattle.solve_top.specs.Taken.{AreLinesTaken}
 use Rattle.solve_cut.specs.Allowed.{HasAllowedCut}
@@ -43,7 +43,7 @@ use Rattle.solve_top.specs.Drilling.{drill_of, made_for}
 use Rattle.solve_top.specs.declared.drilling.Drill.{Drill}
 use Rattle.solve_inputs.specs.Told.{Told}
 use Rattle.solve_inputs.specs.Inputs.{input_read}
-use Rattle.solve_inputs.specs.Fronts.{front_read}
+use Rattle.solve_inputs.specs.Fronts.{front_read, lines_in}
 
 -- an answer to words, or one of links between the nodes that they ask for, with what was read for it of a source that stood so before and stands so afterwards
 pub record Answered (words : List (List ℕ)) (before after : SourceState) (answer : Answer) : Type 0 where

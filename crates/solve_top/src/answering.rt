@@ -6,7 +6,7 @@ ghost use Rattle.solve_report.specs.AnswerText.{HasText};
 ghost use Rattle.problem_text.specs.Steps.{declared_by};
 ghost use Rattle.solve_methods.specs.Goal.{TellsRight};
 ghost use Rattle.answer_edge.specs.Input.{source_state};
-ghost use Rattle.solve_top.specs.Answering.{IsFileAnswer, IsTextAnswer, IsReportAnswer, IsTaskAnswer, IsUpgraded, lines_in};
+ghost use Rattle.solve_top.specs.Answering.{IsFileAnswer, IsTextAnswer, IsReportAnswer, IsTaskAnswer, IsUpgraded};
 ghost use Rattle.solve_top.specs.Nodes.{AskForNodes, IsAnswerIn, IsAnswerRead, IsTaskAnswerIn, TellsLinks};
 ghost use Rattle.solve_top.specs.Served.{IsTaskInRange, IsFileTaskInRange};
 ghost use Rattle.solve_top.specs.Solving.{Answered};
@@ -27,7 +27,7 @@ use dcop_edge::{Gate, Source};
 use problem_text::{ProblemFile, TextKind};
 use solve_agents::Crew;
 use solve_check::check_answer;
-use solve_inputs::{InputFault, ReadInput, read_front, read_input, wcsp_answer};
+use solve_inputs::{InputFault, ReadInput, lines_in, read_front, read_input, wcsp_answer};
 use solve_methods::{Asked, plain_answer};
 use solve_report::Answer;
 use solve_words::{Format, WordFault, WordKind, read_words};
@@ -227,13 +227,6 @@ fn report_answer(alloc: Global, format: Format, bytes: &[u8]) -> Result<Answer, 
         Err(InputFault::Wcsp { line, kind }) => Ok(wcsp_answer(line, kind)),
         Err(InputFault::NoMemory) => Err(NoMemory),
     }
-}
-
-/// How many lines end in a text.
-pub(crate) fn lines_in(text: &[u8]) -> u64
-    ensures { result ≡ lines_in text.now }
-{
-    text.iter().filter(|byte| **byte == b'\n').count() as u64
 }
 
 /// The file with version 2 and all else the same.

@@ -9,14 +9,13 @@ ghost use Rattle.solve_methods.specs.Goal.{TellsRight};
 ghost use Rattle.solve_report.specs.AnswerText.{HasText};
 ghost use Rattle.solve_top.specs.Answering.{IsEditsAnswer};
 
-use crate::answering::lines_in;
 use answer_edge::fault_answer;
 use dcop_base::NoMemory;
 use dcop_edge::Gate;
 use problem_text::ProblemFile;
 use solve_agents::{Crew, tree_for};
 use solve_edit::edit_answer;
-use solve_inputs::{InputFault, read_front, wcsp_answer};
+use solve_inputs::{InputFault, lines_in, read_front, wcsp_answer};
 use solve_report::Answer;
 use solve_words::Format;
 use std::alloc::Global;

@@ -7,10 +7,9 @@ ghost use Rattle.solve_methods.specs.Goal.{TellsRight};
 ghost use Rattle.solve_report.specs.AnswerText.{HasText};
 ghost use Rattle.solve_top.specs.Answering.{IsReplayAnswer};
 
-use crate::answering::lines_in;
 use answer_edge::fault_answer;
 use dcop_base::NoMemory;
-use solve_inputs::{InputFault, read_front, wcsp_answer};
+use solve_inputs::{InputFault, lines_in, read_front, wcsp_answer};
 use solve_replay::replay_answer;
 use solve_report::Answer;
 use solve_words::Format;

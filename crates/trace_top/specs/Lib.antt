@@ -1,0 +1,4 @@
+pub mod Words
+pub mod Answering
+pub mod Showing
+pub mod Tracing

@@ -1,0 +1,53 @@
+-- What the top call of `dcop_trace` does: it answers, and shows its answer as the top call of `dcop` does.
+use Rattle.std.specs.Prelude.{◌≡◌, ℕ, ◌≤◌, ◌⊎◌, List, length, take, drop, Some, Ok}
+use Rattle.dcop_base.specs.Limits.{input_limit}
+use Rattle.protocol_steps.specs.Network.{Network, start_state}
+use Rattle.protocol_steps.specs.Run.{run}
+use Rattle.problem_text.specs.File.{TextFile, IsFile}
+use Rattle.problem_text.specs.Reading.{Parts}
+use Rattle.problem_text.specs.Steps.{declared_by}
+use Rattle.run_log.specs.declared.log.LogEvent.{LogEvent}
+use Rattle.run_log.specs.Logs.{events_of}
+use Rattle.certificate_text.specs.declared.certificate.Certificate.TheVariants.{Log}
+use Rattle.certificate_text.specs.declared.report.Report.{Report}
+use Rattle.report_reader.specs.ReportReading.{report_read}
+use Rattle.log_holds.specs.Holds.{agents_for}
+use Rattle.answer_edge.specs.declared.status.Status.{Status}
+use Rattle.answer_edge.specs.declared.status.Status.TheVariants as statuses
+use Rattle.answer_edge.specs.Input.{Input, SourceState, IsReadFrom}
+use Rattle.answer_edge.specs.Output.{SinkState}
+use Rattle.solve_inputs.specs.Fronts.{front_read}
+use Rattle.solve_replay.specs.Replaying.{log_up_to}
+use Rattle.trace_top.specs.Answering.{IsTraceAnswer}
+use Rattle.trace_top.specs.Showing.{IsShown, IsCut}
+use Rattle.trace_top.specs.Words.{trace_answer_to}
+use Rattle.trace_top.specs.declared.answer.TraceAnswer.{TraceAnswer}
+use Rattle.trace_top.specs.declared.words.Asked.{Asked}
+
+-- an answer to words, with what was read for it of a source that stood so before and stands so afterwards
+pub record IsAnswered (words : List (List ℕ)) (before after : SourceState) (answer : TraceAnswer) : Type 0 where
+  pub input : Input
+  pub read : IsReadFrom input before after
+  pub belongs : IsTraceAnswer words input answer
+
+-- a call on these words answered and showed its answer, or its sink failed
+pub record Tells (words : List (List ℕ)) (source source' : SourceState) (sink sink' : SinkState) (status : Status) : Type 0 where
+  pub answer : TraceAnswer
+  pub answered : IsAnswered words source source' answer
+  pub shown : IsShown answer sink sink' status ⊎ IsCut answer sink sink' status
+
+-- words and a text that are accepted: a problem, and behind it a report with a log whose events, up to the last one that is asked for, are a run of the ADOPT agents
+pub record IsAccepted (words : List (List ℕ)) (text : List ℕ) : Type 0 where
+  pub asked : Asked
+  pub answered : trace_answer_to words ≡ Ok asked
+  pub short : length text ≤ input_limit
+  pub parts : Parts
+  pub front : front_read asked.format text ≡ Ok parts
+  pub runs : (file : TextFile) → IsFile file → declared_by file ≡ parts.declared → (report : Report) × (report_read (drop parts.used text) file ≡ Ok report)
+      × ((log : List LogEvent) × (report.certificate ≡ Some (Log log)) × ((end : Network) × (run (start_state (agents_for file report.error)) (events_of (log_up_to (Some asked.to) log)) ≡ Some end)))
+
+-- the call wrote a trace, or memory was wanted
+abbrev pub GoesWell : Status → Type 0
+GoesWell statuses.Solved = Unit {0}
+GoesWell statuses.NoMemory = Unit {0}
+GoesWell status = ⊥
