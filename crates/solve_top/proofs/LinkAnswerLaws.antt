@@ -22,6 +22,7 @@ use Rattle.answer_edge.specs.declared.status.Status.TheVariants.{LinkFault, Link
 use Rattle.answer_edge.specs.Statuses.{status_of}
 use Rattle.solve_inputs.specs.Told.{told_of}
 use Rattle.solve_methods.specs.Drill.{drilled}
+use Rattle.solve_methods.specs.Goal.{TellsRight}
 use Rattle.solve_top.specs.Answering.{IsFileAnswer, IsDrillAnswer}
 use Rattle.solve_top.specs.Drilling.{made_for}
 use Rattle.solve_top.specs.declared.drilling.Drill.{Drill}
@@ -101,13 +102,14 @@ drilled-links task seed nodes d answer (inl failed) = ap (drilled seed) failed �
 drilled-links task seed nodes d answer (inr differs) = ap (drilled seed) differs.told ∙ drilled-difference seed differs.file.names differs.difference ∙ sym differs.told
 
 -- the answer to a drill, by that of the task on the file that is made
-pub drill_answers : (drill : Drill) (nodes : ℕ) (file : TextFile) (answer : Answer) → file ≡ made_for drill → IsAnswerIn drill.task nodes (declared_by file) (IsFileAnswer drill.task (told_of file None)) answer
+pub drill_answers : (drill : Drill) (nodes : ℕ) (file : TextFile) (answer : Answer) → file ≡ made_for drill → TellsRight answer → IsAnswerIn drill.task nodes (declared_by file) (IsFileAnswer drill.task (told_of file None)) answer
     → IsAnswerIn drill.task nodes (declared_by (made_for drill)) (IsDrillAnswer drill) (drilled drill.seed answer)
-drill_answers drill nodes file answer made is = on (subst (λ (f : TextFile). IsAnswerIn drill.task nodes (declared_by f) (IsFileAnswer drill.task (told_of f None)) answer) made is) where
+drill_answers drill nodes file answer made right is = on (subst (λ (f : TextFile). IsAnswerIn drill.task nodes (declared_by f) (IsFileAnswer drill.task (told_of f None)) answer) made is) where
   on : IsAnswerIn drill.task nodes (declared_by (made_for drill)) (IsFileAnswer drill.task (told_of (made_for drill) None)) answer → IsAnswerIn drill.task nodes (declared_by (made_for drill)) (IsDrillAnswer drill) (drilled drill.seed answer)
   on (inl own) = inl (record {
     solved = answer;
     is = own;
+    right = right;
     told = refl;
   })
   on (inr links) =

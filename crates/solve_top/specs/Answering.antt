@@ -18,6 +18,7 @@ use Rattle.solve_top.specs.declared.task.FileTask.TheVariants as tasks
 use Rattle.solve_methods.specs.Adopt.{AnswersAdopt}
 use Rattle.solve_methods.specs.Auto.{AnswersAuto}
 use Rattle.solve_methods.specs.Drill.{drilled}
+use Rattle.solve_methods.specs.Goal.{TellsRight}
 use Rattle.solve_methods.specs.Dpop.{AnswersDpop}
 use Rattle.answer_edge.specs.Input.{Input, Unread, Broken, TooLong, Whole}
 use Rattle.solve_inputs.specs.Told.{Told, told_of}
@@ -88,10 +89,11 @@ IsInputAnswer task Broken answer = answer ≡ answers.Read
 IsInputAnswer task TooLong answer = answer ≡ answers.ProblemText 0 9 0
 IsInputAnswer task (Whole bytes) answer = IsTaskAnswer task bytes answer
 
--- the answer to a drill: what it tells of an answer of `solve` on the file that is made for it
+-- the answer to a drill: what it tells of an answer of `solve` on the file that is made for it, and that answer is right
 pub record IsDrillAnswer (drill : Drill) (answer : Answer) : Type 0 where
   pub solved : Answer
   pub is : IsFileAnswer drill.task (told_of (made_for drill) None) solved
+  pub right : TellsRight solved
   pub told : answer ≡ drilled drill.seed solved
 
 -- the answer to a command for which nothing is read: that of a drill, since every other command asks for something on an input
