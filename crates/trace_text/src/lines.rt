@@ -209,11 +209,7 @@ fn write_threshold(
 }
 
 /// ` terminate` and the pairs of its context.
-fn write_terminate(
-    text: &mut String,
-    names: &Names,
-    context: &AgentContext,
-) -> Result<(), NoMemory>
+fn write_terminate(text: &mut String, names: &Names, context: &AgentContext) -> Result<(), NoMemory>
     ensures { OnOk result (string_bytes text.new
         ≡ string_bytes text.old ++ flat_map (λ word. 32 ∷ word) (codes "terminate" ∷ pair_words names.now context.now)) }
 {
