@@ -77,9 +77,9 @@ agent-pieces names v =
     ap (λ (text : List ℕ). text ++ (line (codes "context" ∷ known) ++ [])) (line-cons (codes "state") standing)
     ∙ ap (λ (text : List ℕ). ((codes "state" ++ flat_map spaced standing) ++ (10 ∷ [])) ++ (text ++ [])) (line-cons (codes "context") known)
     ∙ pieces (codes "state") (flat_map spaced standing) (codes "context") (flat_map spaced known)
-    where
-      pieces : (a b c d : List ℕ) → ((a ++ b) ++ (10 ∷ [])) ++ (((c ++ d) ++ (10 ∷ [])) ++ []) ≡ a ++ (b ++ (10 ∷ (c ++ (d ++ (10 ∷ [])))))
-      pieces a b c d = simp (append_assoc)
+  where
+    pieces : (a b c d : List ℕ) → ((a ++ b) ++ (10 ∷ [])) ++ (((c ++ d) ++ (10 ∷ [])) ++ []) ≡ a ++ (b ++ (10 ∷ (c ++ (d ++ (10 ∷ [])))))
+    pieces a b c d = simp (append_assoc)
 
 pub agent-written : (old new : List ℕ) (names : List (List ℕ)) (o : Option View) (value : ℕ) (standing : Standing) (ended : Bool)
     → option_map value_of o ≡ Some value → option_map standing_of o ≡ Some standing → option_map ended_of o ≡ Some ended
@@ -116,12 +116,12 @@ start-written old first second new names core i sent h1 h2 h3 =
     ∙ ap (λ (text : List ℕ). text ++ flat_map line (map (sent_words names) sent)) (h2 ∙ ap (λ (text : List ℕ). text ++ flat_map line agent) h1)
     ∙ pieces (name_in names i) (flat_map line agent) (flat_map line (map (sent_words names) sent))
     ∙ ap (λ (text : List ℕ). old ++ text) (sym same)
-    where
-      pieces : (name a b : List ℕ) → ((old ++ (codes "start " ++ (name ++ (10 ∷ [])))) ++ a) ++ b ≡ old ++ (codes "start " ++ (name ++ (10 ∷ (a ++ b))))
-      pieces name a b =
-          append_assoc (old ++ (codes "start " ++ (name ++ (10 ∷ [])))) a b
-          ∙ append_assoc old (codes "start " ++ (name ++ (10 ∷ []))) (a ++ b)
-          ∙ ap (λ (text : List ℕ). old ++ (codes "start " ++ text)) (append_assoc name (10 ∷ []) (a ++ b))
+  where
+    pieces : (name a b : List ℕ) → ((old ++ (codes "start " ++ (name ++ (10 ∷ [])))) ++ a) ++ b ≡ old ++ (codes "start " ++ (name ++ (10 ∷ (a ++ b))))
+    pieces name a b =
+        append_assoc (old ++ (codes "start " ++ (name ++ (10 ∷ [])))) a b
+        ∙ append_assoc old (codes "start " ++ (name ++ (10 ∷ []))) (a ++ b)
+        ∙ ap (λ (text : List ℕ). old ++ (codes "start " ++ text)) (append_assoc name (10 ∷ []) (a ++ b))
 
 -- the first line of an event
 event-line : (names : List (List ℕ)) (number : ℕ) (e : LogEvent) (rest : List ℕ)
@@ -129,14 +129,14 @@ event-line : (names : List (List ℕ)) (number : ℕ) (e : LogEvent) (rest : Lis
 event-line names number e rest =
     ap (λ (text : List ℕ). text ++ rest) (named-line (codes "event") (decimal number) (name_in names e.agent ∷ decimal e.stamp ∷ []))
     ∙ ap (λ (text : List ℕ). codes "event " ++ text) (pieces (decimal number) (name_in names e.agent) (decimal e.stamp))
-    where
-      pieces : (a b c : List ℕ) → (a ++ (((32 ∷ b) ++ ((32 ∷ c) ++ [])) ++ (10 ∷ []))) ++ rest ≡ a ++ (32 ∷ (b ++ (32 ∷ (c ++ (10 ∷ rest)))))
-      pieces a b c =
-          append_assoc a ((32 ∷ (b ++ (32 ∷ (c ++ [])))) ++ (10 ∷ [])) rest
-          ∙ ap (λ (text : List ℕ). a ++ (32 ∷ text))
-          (append_assoc (b ++ (32 ∷ (c ++ []))) (10 ∷ []) rest
-          ∙ append_assoc b (32 ∷ (c ++ [])) (10 ∷ rest)
-          ∙ ap (λ (text : List ℕ). b ++ (32 ∷ (text ++ (10 ∷ rest)))) (append-nil c))
+  where
+    pieces : (a b c : List ℕ) → (a ++ (((32 ∷ b) ++ ((32 ∷ c) ++ [])) ++ (10 ∷ []))) ++ rest ≡ a ++ (32 ∷ (b ++ (32 ∷ (c ++ (10 ∷ rest)))))
+    pieces a b c =
+        append_assoc a ((32 ∷ (b ++ (32 ∷ (c ++ [])))) ++ (10 ∷ [])) rest
+        ∙ ap (λ (text : List ℕ). a ++ (32 ∷ text))
+        (append_assoc (b ++ (32 ∷ (c ++ []))) (10 ∷ []) rest
+        ∙ append_assoc b (32 ∷ (c ++ [])) (10 ∷ rest)
+        ∙ ap (λ (text : List ℕ). b ++ (32 ∷ (text ++ (10 ∷ rest)))) (append-nil c))
 
 -- the lines of an event, written part by part
 pub event-written : (old first second third new : List ℕ) (names : List (List ℕ)) (core : CoreView) (number : ℕ) (e : LogEvent) (took sent : List (ℕ × Message))
@@ -156,6 +156,6 @@ event-written old first second third new names core number e took sent h1 h2 h3 
     ∙ ap (λ (text : List ℕ). text ++ d) (h3 ∙ ap (λ (text : List ℕ). text ++ b) (h2 ∙ ap (λ (text : List ℕ). text ++ a) head))
     ∙ pieces one a b d
     ∙ ap (λ (text : List ℕ). old ++ (one ++ text)) (sym (lines-behind (map (took_words names) took) (agent_lines names (view_at core e.agent)) (map (sent_words names) sent)))
-    where
-      pieces : (one a b d : List ℕ) → (((old ++ one) ++ a) ++ b) ++ d ≡ old ++ (one ++ (a ++ (b ++ d)))
-      pieces one a b d = simp append_assoc
+  where
+    pieces : (one a b d : List ℕ) → (((old ++ one) ++ a) ++ b) ++ d ≡ old ++ (one ++ (a ++ (b ++ d)))
+    pieces one a b d = simp append_assoc

@@ -175,8 +175,8 @@ module _ (p : Dcop) (first : Network) (names : List (List ℕ)) (from : ℕ) (lo
         was.net,
         ap (λ (es : List Event). run first es) (sym (take_all k (events_of log) (omega (arith, past, many)))) ∙ was.ran,
         sym (append-nil text)
-        ∙ ap (λ (left : List LogEvent). text ++ flat_map line (event_lines names from was.net (k + 1) left)) (sym none)
-        ∙ was.told,
+            ∙ ap (λ (left : List LogEvent). text ++ flat_map line (event_lines names from was.net (k + 1) left)) (sym none)
+            ∙ was.told,
       )
 
 -- what agent i of a start sends as it starts
@@ -188,9 +188,9 @@ first_sent [] i sent lt is = absurd (omega (arith, lt))
 
 range_step : (k n : ℕ) → k < n → range_with_len k (n - k) ≡ k ∷ range_with_len (k + 1) (n - (k + 1))
 range_step k n lt = ap (λ (m : ℕ). range_with_len k m) (same k n lt)
-    where
-      same : (k n : ℕ) → k < n → n - k ≡ suc (n - (k + 1))
-      same k n lt = omega (arith, lt)
+  where
+    same : (k n : ℕ) → k < n → n - k ≡ suc (n - (k + 1))
+    same k n lt = omega (arith, lt)
 
 -- the starts that are left, from agent k on
 abbrev pub starts_from : List View → List (List ℕ) → ℕ → List (List (List ℕ))

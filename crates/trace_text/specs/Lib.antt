@@ -1,3 +1,4 @@
+pub mod Spaced
 pub mod Lines
 pub mod Trace
 pub mod Told

@@ -7,6 +7,7 @@ ghost use Rattle.std.specs.String.{string_bytes};
 ghost use Rattle.problem_text.specs.Canonical.{line};
 ghost use Rattle.delivery_core.specs.State.{view_at, context_in};
 ghost use Rattle.solve_report.specs.Replay.{bound_word};
+ghost use Rattle.trace_text.specs.Spaced.{spaced};
 ghost use Rattle.trace_text.specs.Lines.{name_in, pair_words, message_words, took_words, sent_words, known_words, agent_lines};
 ghost use Rattle.trace_text.specs.Told.{start_told, event_told};
 
@@ -59,7 +60,8 @@ pub(crate) fn write_event(
 ) -> Result<(), NoMemory>
     requires { event.now.agent < length core.now.seats }
     ensures { OnOk result (string_bytes text.new
-        ≡ string_bytes text.old ++ flat_map line (event_told names.now core.now number event.now exchange.now.took.items exchange.now.sent.items)) }
+        ≡ string_bytes text.old ++ flat_map line (event_told names.now core.now number event.now
+        exchange.now.took.items exchange.now.sent.items)) }
 {
     let name = name_in(names, event.agent);
     let stamp = event.stamp;
@@ -69,8 +71,8 @@ pub(crate) fn write_event(
     write_sent(text, names, exchange.sent.as_slice())
 }
 
-/// What an agent has come to: a line `state ..`, and a line `context ..` of what it knows of others'
-/// values.
+/// What an agent has come to: a line `state ..`, and a line `context ..` of what it knows of
+/// others' values.
 fn write_agent(
     text: &mut String,
     names: &Names,
@@ -88,8 +90,8 @@ fn write_agent(
     Ok(text.push_str("\n")?)
 }
 
-/// What an agent knows of others' values, each word behind a space; nothing of an agent that keeps no
-/// context.
+/// What an agent knows of others' values, each word behind a space; nothing of an agent that keeps
+/// no context.
 fn write_known(
     text: &mut String,
     names: &Names,
@@ -98,7 +100,8 @@ fn write_known(
 ) -> Result<(), NoMemory>
     requires { me < length core.now.seats }
     ensures { OnOk result (string_bytes text.new
-        ≡ string_bytes text.old ++ flat_map (λ word. 32 ∷ word) (known_words names.now (context_in (view_at core.now me)))) }
+        ≡ string_bytes text.old
+        ++ spaced (known_words names.now (context_in (view_at core.now me)))) }
 {
     match core.context(me) {
         Some(context) => write_pairs(text, names, context.pairs()),
@@ -148,10 +151,11 @@ fn write_parcel(text: &mut String, names: &Names, parcel: &Parcel) -> Result<(),
     Ok(text.push_str("\n")?)
 }
 
-/// What a message says, each word behind a space; nothing of kinds that agents of ADOPT do not send.
+/// What a message says, each word behind a space; nothing of kinds that agents of ADOPT do not
+/// send.
 fn write_message(text: &mut String, names: &Names, message: &Message) -> Result<(), NoMemory>
     ensures { OnOk result (string_bytes text.new
-        ≡ string_bytes text.old ++ flat_map (λ word. 32 ∷ word) (message_words names.now message.now)) }
+        ≡ string_bytes text.old ++ spaced (message_words names.now message.now)) }
 {
     match message {
         Message::Token { .. }
@@ -172,7 +176,7 @@ fn write_message(text: &mut String, names: &Names, message: &Message) -> Result<
 /// ` value V`
 fn write_value(text: &mut String, value: Val) -> Result<(), NoMemory>
     ensures { OnOk result (string_bytes text.new
-        ≡ string_bytes text.old ++ flat_map (λ word. 32 ∷ word) (codes "value" ∷ decimal value ∷ [])) }
+        ≡ string_bytes text.old ++ spaced (codes "value" ∷ decimal value ∷ [])) }
 {
     let value = value.0;
     Ok(write!(text, " value {value}")?)
@@ -187,7 +191,8 @@ fn write_cost(
     upper: Option<u64>,
 ) -> Result<(), NoMemory>
     ensures { OnOk result (string_bytes text.new
-        ≡ string_bytes text.old ++ flat_map (λ word. 32 ∷ word) (codes "cost" ∷ decimal lower ∷ bound_word upper ∷ pair_words names.now context.now)) }
+        ≡ string_bytes text.old ++ spaced (codes "cost" ∷ decimal lower ∷ bound_word upper
+        ∷ pair_words names.now context.now)) }
 {
     write!(text, " cost {lower} ")?;
     write_bound(text, upper)?;
@@ -202,20 +207,17 @@ fn write_threshold(
     context: &AgentContext,
 ) -> Result<(), NoMemory>
     ensures { OnOk result (string_bytes text.new
-        ≡ string_bytes text.old ++ flat_map (λ word. 32 ∷ word) (codes "threshold" ∷ decimal amount ∷ pair_words names.now context.now)) }
+        ≡ string_bytes text.old
+        ++ spaced (codes "threshold" ∷ decimal amount ∷ pair_words names.now context.now)) }
 {
     write!(text, " threshold {amount}")?;
     write_pairs(text, names, context.pairs())
 }
 
 /// ` terminate` and the pairs of its context.
-fn write_terminate(
-    text: &mut String,
-    names: &Names,
-    context: &AgentContext,
-) -> Result<(), NoMemory>
+fn write_terminate(text: &mut String, names: &Names, context: &AgentContext) -> Result<(), NoMemory>
     ensures { OnOk result (string_bytes text.new
-        ≡ string_bytes text.old ++ flat_map (λ word. 32 ∷ word) (codes "terminate" ∷ pair_words names.now context.now)) }
+        ≡ string_bytes text.old ++ spaced (codes "terminate" ∷ pair_words names.now context.now)) }
 {
     text.push_str(" terminate")?;
     write_pairs(text, names, context.pairs())
@@ -224,7 +226,7 @@ fn write_terminate(
 /// The name and the value of each pair, each behind a space.
 fn write_pairs(text: &mut String, names: &Names, pairs: &[(VarId, Val)]) -> Result<(), NoMemory>
     ensures { OnOk result (string_bytes text.new
-        ≡ string_bytes text.old ++ flat_map (λ word. 32 ∷ word) (pair_words names.now pairs.now)) }
+        ≡ string_bytes text.old ++ spaced (pair_words names.now pairs.now)) }
 {
     for pair in pairs {
         write_pair(text, names, pair.0, pair.1)?;
@@ -234,7 +236,7 @@ fn write_pairs(text: &mut String, names: &Names, pairs: &[(VarId, Val)]) -> Resu
 
 fn write_pair(text: &mut String, names: &Names, var: VarId, value: Val) -> Result<(), NoMemory>
     ensures { OnOk result (string_bytes text.new
-        ≡ string_bytes text.old ++ flat_map (λ word. 32 ∷ word) (name_in names.now var ∷ decimal value ∷ [])) }
+        ≡ string_bytes text.old ++ spaced (name_in names.now var ∷ decimal value ∷ [])) }
 {
     let name = name_in(names, var);
     let value = value.0;

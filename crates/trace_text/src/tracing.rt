@@ -20,16 +20,18 @@ use protocol_steps::{Event, EventFault, TakeList};
 use run_log::LogEvent;
 use std::alloc::Global;
 
-/// Plays the events of a log from a start, and gives the text that tells them, from the event of number `from` on,
-/// counted from 1; with 0 the starts of all agents are told before. A tree of the start is a pseudotree of the
-/// problem, and linked; an error is at most 2^62. Stamps are written, and not looked at.
+/// Plays the events of a log from a start, and gives the text that tells them, from the event of
+/// number `from` on, counted from 1; with 0 the starts of all agents are told before. A tree of the
+/// start is a pseudotree of the problem, and linked; an error is at most 2^62. Stamps are written,
+/// and not looked at.
 ///
 /// The time is that of the agents' activations, and of what is written.
 ///
 /// # Errors
 ///
-/// [`ReplayFault::BadEvent`] exactly where the events are no run: the first one that is not lawful, by its
-/// number, counted from 1, and its first fault. [`ReplayFault::NoMemory`] where memory was wanted and not had.
+/// [`ReplayFault::BadEvent`] exactly where the events are no run: the first one that is not lawful,
+/// by its number, counted from 1, and its first fault. [`ReplayFault::NoMemory`] where memory was
+/// wanted and not had.
 pub fn write_trace(
     alloc: Global,
     problem: &Problem,
@@ -56,7 +58,8 @@ pub fn write_trace(
 /// How many events the trace is of.
 fn write_head(text: &mut String, events: u64) -> Result<(), NoMemory>
     ensures { OnOk result (string_bytes text.new ≡ string_bytes text.old
-        ++ flat_map line ((codes "status" ∷ codes "trace" ∷ []) ∷ (codes "events" ∷ decimal events ∷ []) ∷ [])) }
+        ++ flat_map line
+        ((codes "status" ∷ codes "trace" ∷ []) ∷ (codes "events" ∷ decimal events ∷ []) ∷ [])) }
 {
     Ok(write!(text, "status trace\nevents {events}\n")?)
 }
@@ -80,8 +83,8 @@ fn write_starts(
     requires start { IsStartFor problem.now start.now }
     requires core { IsCore problem.now (network_of problem.now start.now) core.now }
     requires few { length core.now.seats ≤ variable_limit }
-    ensures { OnOk result (string_bytes text.new
-        ≡ string_bytes text.old ++ flat_map line (start_lines names.now (network_of problem.now start.now))) }
+    ensures { OnOk result (string_bytes text.new ≡ string_bytes text.old
+        ++ flat_map line (start_lines names.now (network_of problem.now start.now))) }
 {
     let parcels = first_parcels(alloc, problem, start)?;
     for (me, sent) in parcels.as_slice().iter().enumerate() {
@@ -100,7 +103,8 @@ fn write_events(
     log: &[LogEvent],
 ) -> Result<(), ReplayFault>
     requires { IsSomeCore core.old }
-    ensures { Tells names.now from log.now core.old (string_bytes text.old) (string_bytes text.new) result }
+    ensures { Tells names.now from log.now core.old
+        (string_bytes text.old) (string_bytes text.new) result }
 {
     let mut exchange = Exchange::new(alloc);
     for (at, event) in log.iter().enumerate() {
@@ -140,8 +144,8 @@ fn play(
     core.happen(alloc, &plain)
 }
 
-/// Plays an event of a log, and tells it by this number. `Some` exactly where it is not lawful, with
-/// its first fault.
+/// Plays an event of a log, and tells it by this number. `Some` exactly where it is not lawful,
+/// with its first fault.
 fn tell(
     alloc: Global,
     text: &mut String,
@@ -154,7 +158,8 @@ fn tell(
     requires { IsSomeCore core.old }
     ensures plays { IfOk result (Plays core.old event.now core.new) }
     ensures tells { IfOk result (λ found. found ≡ None →
-        TellsOne names.now core.old number event.now core.new (string_bytes text.old) (string_bytes text.new)) }
+        TellsOne names.now core.old number event.now core.new
+        (string_bytes text.old) (string_bytes text.new)) }
 {
     let plain = event_of(alloc, event)?;
     let found = core.happen_telling(alloc, &plain, exchange)?;

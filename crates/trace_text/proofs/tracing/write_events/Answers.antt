@@ -19,15 +19,18 @@ tell-requires c =
 pub returns-in-Some : goal.returns-in-Some
 returns-in-Some c p net is =
     let was = c.loop-at.invariant p net is in
-    let e = c.index-log-at.result in
-    (c.loop-at.at, refl, elim c.if-number-from.branch [
-      | then-number-from+in_ok-found w ↦
-          refused p net c.args.names.now c.args.from c.args.log.now (string_bytes c.args.text.now) c.loop-at.at c.loop-at.core w.play.new.core e (string_bytes c.loop-at.text) was c.loop-at-test.true c.index-log-at.is c.in-Some.fault
-          (refuses_so c.loop-at.core w.play.new.core e w.in_ok-found.found c.in-Some.fault (sym w.found-is ∙ c.in-Some.is) w.in_ok-found.ensures)
-      | else-number-from+in_ok-found-2 w ↦
-          refused p net c.args.names.now c.args.from c.args.log.now (string_bytes c.args.text.now) c.loop-at.at c.loop-at.core w.tell.new.core e (string_bytes c.loop-at.text) was c.loop-at-test.true c.index-log-at.is c.in-Some.fault
-          (refuses_so c.loop-at.core w.tell.new.core e w.in_ok-found-2.found c.in-Some.fault (sym w.found-is ∙ c.in-Some.is) w.in_ok-found-2.ensures.plays)
-    ])
+    let e = c.index-log-at.result in (
+      c.loop-at.at,
+      refl,
+      elim c.if-number-from.branch [
+        | then-number-from+in_ok-found w ↦
+            refused p net c.args.names.now c.args.from c.args.log.now (string_bytes c.args.text.now) c.loop-at.at c.loop-at.core w.play.new.core e (string_bytes c.loop-at.text) was c.loop-at-test.true c.index-log-at.is c.in-Some.fault
+            (refuses_so c.loop-at.core w.play.new.core e w.in_ok-found.found c.in-Some.fault (sym w.found-is ∙ c.in-Some.is) w.in_ok-found.ensures)
+        | else-number-from+in_ok-found-2 w ↦
+            refused p net c.args.names.now c.args.from c.args.log.now (string_bytes c.args.text.now) c.loop-at.at c.loop-at.core w.tell.new.core e (string_bytes c.loop-at.text) was c.loop-at-test.true c.index-log-at.is c.in-Some.fault
+            (refuses_so c.loop-at.core w.tell.new.core e w.in_ok-found-2.found c.in-Some.fault (sym w.found-is ∙ c.in-Some.is) w.in_ok-found-2.ensures.plays)
+      ],
+    )
 
 pub loop-at-preserved : goal.loop-at-preserved
 loop-at-preserved c p net is =
