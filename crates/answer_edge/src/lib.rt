@@ -15,3 +15,4 @@ pub use refusing::{fault_answer, words_answer};
 pub use showing::show;
 pub use status::Status;
 pub use whole::read_whole;
+pub use writing::write_all;

@@ -6,5 +6,4 @@ mod TellLaws
 mod SearchLaws
 mod ShowLaws
 mod AnswerLaws
-mod PassLaws
 mod TextLaws

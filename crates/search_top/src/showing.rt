@@ -1,9 +1,7 @@
 //! Showing an answer of `dcop_search`.
 
-ghost use Rattle.std.specs.Prelude.{◌≡◌, true, OnOk, OnErr, IfSome};
-ghost use Rattle.dcop_edge.specs.Faults.{HasCause};
-ghost use Rattle.dcop_edge.specs.Sink.{Adds};
-ghost use Rattle.answer_edge.specs.Output.{AddsPrefix, sink_state};
+ghost use Rattle.std.specs.Prelude.{◌≡◌, IfSome};
+ghost use Rattle.answer_edge.specs.Output.{sink_state};
 ghost use Rattle.search_top.specs.Answering.{IsTellable};
 ghost use Rattle.search_top.specs.Showing.{Shows, status_of_ending};
 ghost use Rattle.search_top.specs.Text.{AreTold};
@@ -12,8 +10,8 @@ ghost use Rattle.search_top.specs.declared.answer.SearchAnswer.TheVariants.{Sear
 use crate::answer::SearchAnswer;
 use crate::report::{SearchEnding, SearchReport};
 use crate::writing::write_search;
-use answer_edge::{Status, show};
-use dcop_edge::{Failed, Sink};
+use answer_edge::{Status, show, write_all};
+use dcop_edge::Sink;
 use problem_text::ProblemFile;
 use std::alloc::Global;
 
@@ -68,19 +66,4 @@ impl SearchEnding {
             SearchEnding::NoneBetter => Status::No,
         }
     }
-}
-
-/// Writes the whole text and finishes the sink. Where the sink fails, a prefix of the text was
-/// written.
-fn write_all<K: Sink>(sink: &mut K, text: &[u8]) -> Result<(), Failed>
-    ensures written { OnOk result (Adds (K.held sink.old) text.now (K.held sink.new)) }
-    ensures finished { OnOk result (K.finished sink.new ≡ true) }
-    ensures prefix { OnErr result (AddsPrefix (K.held sink.old) text.now (K.held sink.new)) }
-    ensures cause { HasCause (K.faults sink.old) (K.faults sink.new) result }
-{
-    let mut at = 0;
-    while at < text.len() {
-        at += sink.write(&text[at..])?;
-    }
-    sink.finish()
 }

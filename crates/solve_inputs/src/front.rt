@@ -1,6 +1,6 @@
 //! The problem that an input begins with.
 
-ghost use Rattle.std.specs.Prelude.{◌≤◌, length, IfOk};
+ghost use Rattle.std.specs.Prelude.{◌≡◌, ◌≤◌, length, IfOk};
 ghost use Rattle.solve_inputs.specs.Fronts.{front_read, lines_in};
 ghost use Rattle.solve_inputs.specs.Gives.{IsFront};
 

@@ -1,4 +1,5 @@
 mod RowLaws
 mod LineLaws
-mod ReplayLaws
+pub mod ReplayLaws
+pub mod LogLaws
 mod BeginLaws

@@ -1,5 +1,5 @@
 -- What an answer to a replay tells, by what comes of the replay.
-use Rattle.std.proofs.Common.{◌≡◌, ℕ, zero, suc, ◌<◌, List, [], ◌∷◌, length, Option, Some, None, slice_get, IfSome, Err, sym, ap, subst, ◌∙◌, arith}
+use Rattle.std.proofs.Common.{◌≡◌, ℕ, zero, suc, ◌<◌, List, [], ◌∷◌, length, Option, Some, None, slice_get, Err, sym, ap, subst, ◌∙◌, arith}
 use Rattle.std.specs.List.{All}
 use Rattle.std.proofs.lemmas.List.Elements.{All-head, All-tail, All-take}
 use Rattle.std.proofs.lemmas.Option.{none-some, same_Some}
@@ -19,10 +19,6 @@ use Rattle.solve_report.specs.AnswerText.{HasText}
 use Rattle.solve_report.specs.Replay.{IsNamedAgent}
 use Rattle.solve_report.specs.declared.answer.Answer.{Answer}
 use Rattle.solve_report.specs.declared.replay.AgentRow.{AgentRow}
-use Rattle.certificate_text.specs.declared.certificate.Certificate.{Certificate}
-use Rattle.certificate_text.specs.declared.certificate.Certificate.TheVariants.{Log}
-use Rattle.certificate_text.specs.declared.report.Report.{Report}
-use Rattle.certificate_text.specs.Fits.{FitsCertificate, Fits}
 use Rattle.solve_replay.specs.Replaying.{log_up_to, IsFaultAnswer}
 use Rattle.solve_replay.specs.Rows.{rows_from}
 use Rattle.solve_replay.proofs.RowLaws.{rows-named}
@@ -59,9 +55,7 @@ up-to-fit : (n : ℕ) (after : Option ℕ) (log : List LogEvent) → All (FitsEv
 up-to-fit n None log fit = fit
 up-to-fit n (Some count) log fit = All-take (FitsEvent n) count log fit
 
-pub events-fit : (file : TextFile) (report : Report) (x : Certificate) (after : Option ℕ) (log read shown : List LogEvent) → Fits report file → report.certificate ≡ Some x → x ≡ Log log → read ≡ log
-    → shown ≡ log_up_to after read → All (FitsEvent (length file.problem.sizes)) shown
-events-fit file report x after log read shown fits some is same all =
-    let certificate : IfSome (Some (Log log)) (FitsCertificate file.problem.sizes report.method) =
-    subst (λ (c : Option Certificate). IfSome c (FitsCertificate file.problem.sizes report.method)) (some ∙ ap (λ (y : Certificate). Some y) is) fits.certificate in
-    subst (λ (events : List LogEvent). All (FitsEvent (length file.problem.sizes)) events) (sym (all ∙ ap (log_up_to after) same)) (up-to-fit (length file.problem.sizes) after log certificate.1)
+-- the same of those that are shown
+pub shown-fit : (n : ℕ) (after : Option ℕ) (log read shown : List LogEvent) → All (FitsEvent n) log → read ≡ log → shown ≡ log_up_to after read → All (FitsEvent n) shown
+shown-fit n after log read shown fit same all =
+    subst (λ (events : List LogEvent). All (FitsEvent n) events) (sym (all ∙ ap (log_up_to after) same)) (up-to-fit n after log fit)

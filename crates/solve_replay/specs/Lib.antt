@@ -1,3 +1,4 @@
 pub mod CertificateLine
+pub mod LogReads
 pub mod Rows
 pub mod Replaying

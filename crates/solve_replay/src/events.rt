@@ -10,7 +10,7 @@ use run_log::LogEvent;
 use std::alloc::Global;
 
 /// The first so many events of a log: all where it has no more, or where no number is given.
-pub(crate) fn log_up_to(log: &[LogEvent], after: Option<u64>) -> &[LogEvent]
+pub fn log_up_to(log: &[LogEvent], after: Option<u64>) -> &[LogEvent]
     ensures { result.now ≡ log_up_to after log.now }
 {
     match after {

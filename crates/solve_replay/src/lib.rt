@@ -2,14 +2,17 @@
 //!
 //! [`replay_answer`] reads a report on a file and plays the first events of its log, as a run of the
 //! ADOPT agents of the problem solved on its depth-first tree. It tells what each agent has come to,
-//! or the first event that is not lawful. Stamps are not looked at.
+//! or the first event that is not lawful. Stamps are not looked at. [`read_log`] reads the log alone.
 #![tactic(auto)]
 
 mod certificate_line;
 mod events;
 mod law;
+mod reading;
 mod replaying;
 mod rows;
 
+pub use events::log_up_to;
 pub use law::certificates_begin;
-pub use replaying::replay_answer;
+pub use reading::{LogRead, read_log};
+pub use replaying::{fault_answer, replay_answer};

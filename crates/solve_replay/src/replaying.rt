@@ -3,30 +3,27 @@
 ghost use Rattle.std.specs.Prelude.{◌≡◌, ◌+◌, ◌≤◌, length, IfOk};
 ghost use Rattle.std.specs.List.{All};
 ghost use Rattle.dcop_base.specs.Limits.{amount_limit, input_limit};
+ghost use Rattle.dcop_base.specs.Whole.{IsProblem};
 ghost use Rattle.pseudotree.specs.DepthFirst.{dfs};
 ghost use Rattle.protocol_steps.specs.Network.{start_state};
 ghost use Rattle.protocol_steps.specs.TreeAgents.{adopt_agents};
 ghost use Rattle.run_log.specs.Logs.{events_of};
 ghost use Rattle.run_log.specs.LogText.{FitsEvent};
-ghost use Rattle.problem_text.specs.Kinds.{number_of_report};
 ghost use Rattle.problem_text.specs.Steps.{declared_by};
-ghost use Rattle.problem_text.specs.declared.fault.ReportKind.TheVariants.{NoLog};
 ghost use Rattle.delivery_core.specs.Faults.{Replays};
 ghost use Rattle.log_holds.specs.Holds.{agents_for};
 ghost use Rattle.solve_report.specs.AnswerText.{HasText};
-ghost use Rattle.solve_replay.specs.CertificateLine.{certificate_line};
 ghost use Rattle.solve_replay.specs.Replaying.{log_up_to, IsFaultAnswer, IsReplay, AnswersReplay};
 
-use crate::certificate_line::certificate_line;
 use crate::events::{events_of, log_up_to};
+use crate::reading::{LogRead, read_log};
 use crate::rows::rows_of;
-use certificate_text::{Certificate, Differs, Verdict};
+use certificate_text::{Differs, Verdict};
 use dcop_base::{NoMemory, Problem, problem_is_whole};
 use delivery_core::{CoreState, ReplayFault, replay};
 use log_check::start_for;
 use problem_solved::ProblemSolved;
-use problem_text::{Names, ProblemFile, ReportFault, ReportKind};
-use report_reader::read_report;
+use problem_text::{Names, ProblemFile};
 use run_log::LogEvent;
 use solve_report::Answer;
 use std::alloc::Global;
@@ -53,34 +50,21 @@ pub fn replay_answer(
     ensures belongs { IfOk result (AnswersReplay (declared_by file) before text.now after) }
     ensures told { IfOk result HasText }
 {
-    problem_is_whole(&file.problem);
-    match read_report(alloc, text, &file) {
-        Ok(report) => match &report.certificate {
-            Some(certificate) => match certificate {
-                Certificate::Log(log) => {
-                    replayed(alloc, file, report.error, log_up_to(log.as_slice(), after))
-                }
-                Certificate::Tables(_) | Certificate::Cut { .. } => Ok(no_log(text, before)),
-            },
-            None => Ok(no_log(text, before)),
-        },
-        Err(ReportFault::Bad { line, kind }) => Ok(Answer::ReportText {
-            line: before + line,
-            kind: kind.number(),
-        }),
-        Err(ReportFault::NoMemory) => Err(NoMemory),
+    whole_problem(&file);
+    match read_log(alloc, &file, text, before)? {
+        LogRead::Log { error, log } => {
+            replayed(alloc, file, error, log_up_to(log.as_slice(), after))
+        }
+        LogRead::Refused(refusal) => Ok(refusal),
     }
 }
 
-/// The answer to a report that has no log.
-fn no_log(text: &[u8], before: u64) -> Answer
-    requires few { before + length text.now ≤ input_limit }
-    ensures { result ≡ Answer.ReportText (before + certificate_line text.now) (number_of_report NoLog) }
+/// The problem of every file is whole. One that is read is known to have such a problem, so this does
+/// no more.
+fn whole_problem(file: &ProblemFile)
+    ensures { IsProblem file.now.problem }
 {
-    Answer::ReportText {
-        line: before + certificate_line(text),
-        kind: ReportKind::NoLog.number(),
-    }
+    problem_is_whole(&file.problem);
 }
 
 /// The answer to a replay of these events, for a requested error.
@@ -109,8 +93,12 @@ fn replayed(
     }
 }
 
-/// The answer that tells why events are no run.
-fn fault_answer(names: Names, fault: ReplayFault) -> Result<Answer, NoMemory>
+/// The answer that tells why events are no run, with the names of the problem's variables.
+///
+/// # Errors
+///
+/// [`NoMemory`] where memory was wanted and not had.
+pub fn fault_answer(names: Names, fault: ReplayFault) -> Result<Answer, NoMemory>
     ensures { IfOk result (IsFaultAnswer names fault) }
 {
     match fault {

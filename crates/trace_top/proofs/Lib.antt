@@ -1,0 +1,4 @@
+mod StatusLaws
+mod ShowLaws
+mod LogLaws
+mod AnswerLaws

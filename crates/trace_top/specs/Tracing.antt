@@ -1,5 +1,5 @@
 -- What the top call of `dcop_trace` does: it answers, and shows its answer as the top call of `dcop` does.
-use Rattle.std.specs.Prelude.{◌≡◌, ℕ, ◌≤◌, ◌⊎◌, List, length, take, drop, Some, Ok}
+use Rattle.std.specs.Prelude.{◌≡◌, ℕ, ◌≤◌, ◌⊎◌, List, length, drop, Some, Ok}
 use Rattle.dcop_base.specs.Limits.{input_limit}
 use Rattle.protocol_steps.specs.Network.{Network, start_state}
 use Rattle.protocol_steps.specs.Run.{run}
@@ -36,15 +36,23 @@ pub record Tells (words : List (List ℕ)) (source source' : SourceState) (sink 
   pub answered : IsAnswered words source source' answer
   pub shown : IsShown answer sink sink' status ⊎ IsCut answer sink sink' status
 
--- words and a text that are accepted: a problem, and behind it a report with a log whose events, up to the last one that is asked for, are a run of the ADOPT agents
+-- the text of a report on a file, with a log whose events, up to the last one that is asked for, are a run of the ADOPT agents of the problem solved
+pub record TellsRun (asked : Asked) (text : List ℕ) (file : TextFile) : Type 0 where
+  pub report : Report
+  pub read : report_read text file ≡ Ok report
+  pub log : List LogEvent
+  pub given : report.certificate ≡ Some (Log log)
+  pub end : Network
+  pub ran : run (start_state (agents_for file report.error)) (events_of (log_up_to (Some asked.to) log)) ≡ Some end
+
+-- words and a text that are accepted: a problem, and behind it a report with the log of a run
 pub record IsAccepted (words : List (List ℕ)) (text : List ℕ) : Type 0 where
   pub asked : Asked
   pub answered : trace_answer_to words ≡ Ok asked
   pub short : length text ≤ input_limit
   pub parts : Parts
   pub front : front_read asked.format text ≡ Ok parts
-  pub runs : (file : TextFile) → IsFile file → declared_by file ≡ parts.declared → (report : Report) × (report_read (drop parts.used text) file ≡ Ok report)
-      × ((log : List LogEvent) × (report.certificate ≡ Some (Log log)) × ((end : Network) × (run (start_state (agents_for file report.error)) (events_of (log_up_to (Some asked.to) log)) ≡ Some end)))
+  pub runs : (file : TextFile) → IsFile file → declared_by file ≡ parts.declared → TellsRun asked (drop parts.used text) file
 
 -- the call wrote a trace, or memory was wanted
 abbrev pub GoesWell : Status → Type 0

@@ -1,14 +1,38 @@
-use Rattle.std.proofs.Common.{arith}
-use Rattle.report_reader.proofs.NumberLaws.{fault-line}
-use Rattle.solve_replay.proofs.ReplayLaws.{events-fit}
+use Rattle.std.proofs.Common.{◌≡◌, List, length, ap, subst, ◌∙◌}
+use Rattle.std.proofs.lemmas.Result.{IfOk-weaker}
+use Rattle.protocol_steps.specs.Network.{Network, start_state}
+use Rattle.problem_text.specs.File.{IsFile}
+use Rattle.problem_text.specs.Steps.{declared_by}
+use Rattle.run_log.specs.declared.log.LogEvent.{LogEvent}
+use Rattle.run_log.specs.Logs.{events_of}
+use Rattle.report_reader.specs.ReportReading.{report_read}
+use Rattle.log_holds.specs.Holds.{agents_for}
+use Rattle.solve_replay.specs.LogReads.{IsLogRead, IsPlayable}
+use Rattle.solve_replay.specs.Replaying.{log_up_to, IsReplay, AnswersReplay}
+use Rattle.solve_replay.proofs.LogLaws.{replay-read, refusal-read}
+use Rattle.solve_replay.proofs.ReplayLaws.{shown-fit}
 use Rattle.solve_replay.proofs.replaying.replay_answer.Goals as goal
 
 pub replayed-requires-clause-events : goal.replayed-requires-clause-events
 replayed-requires-clause-events c =
-    events-fit c.args.file c.in-Ok.report c.in-Some.certificate c.args.after c.in-Log.log c.as_slice.result.now c.log_up_to.result.now c.in-Ok.ensures.fits.1 c.in-Some.is c.in-Log.is c.as_slice.ensures c.log_up_to.ensures
+    let count = length c.args.file.problem.sizes in
+    let playable = subst (IsPlayable count) c.in-Log.is c.in_ok-error.ensures.playable in
+    shown-fit count c.args.after c.in-Log.log c.as_slice.result.now c.log_up_to.result.now playable.1 c.as_slice.ensures c.log_up_to.ensures
 
-pub overflow_add-result : goal.overflow_add-result
-overflow_add-result c =
-    let told = rw c.in-Err-Bad.field-0-is at c.in-Err-Bad.ensures.reads in
-    let below = fault-line c.args.text.now c.args.file _ told in
-    rw c.in-Err-Bad.field-0-is (omega (arith, below, c.requires.few))
+pub returns-in-Log-clause-belongs : goal.returns-in-Log-clause-belongs
+returns-in-Log-clause-belongs c =
+    let text = c.args.text.now in
+    let net : Network = start_state (agents_for c.args.file c.in-Log.error) in
+    let whole : IsFile c.args.file = rw (← c.file.view_is) c.file.invariant in
+    let given = subst (IsLogRead c.args.before text (report_read text c.args.file)) c.in-Log.is c.in_ok-error.ensures.read in
+    let shown : c.log_up_to.result.now ≡ log_up_to c.args.after c.in-Log.log = c.log_up_to.ensures ∙ ap (log_up_to c.args.after) c.as_slice.ensures in
+    IfOk-weaker c.replayed.result (IsReplay c.args.file net (events_of c.log_up_to.result.now)) (AnswersReplay (declared_by c.args.file) c.args.before text c.args.after)
+    (λ answer is. replay-read c.args.file c.args.before text c.args.after c.in-Log.error c.in-Log.log answer whole c.whole_problem.ensures given
+    (subst (λ (log : List LogEvent). IsReplay c.args.file net (events_of log) answer) shown is)) c.replayed.ensures.belongs
+
+pub returns-in-Refused-clause-belongs : goal.returns-in-Refused-clause-belongs
+returns-in-Refused-clause-belongs c =
+    let text = c.args.text.now in
+    let whole : IsFile c.args.file = rw (← c.file.view_is) c.file.invariant in
+    let given = subst (IsLogRead c.args.before text (report_read text c.args.file)) c.in-Refused.is c.in_ok-error.ensures.read in
+    refusal-read c.args.file c.args.before text c.args.after c.in-Refused.refusal whole c.whole_problem.ensures given

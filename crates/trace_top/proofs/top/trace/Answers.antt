@@ -1,0 +1,26 @@
+use Rattle.trace_top.specs.Tracing.{GoesWell}
+use Rattle.trace_top.proofs.AnswerLaws.{rose-answered, fault-answered, well-answered}
+use Rattle.trace_top.proofs.ShowLaws.{shown-so, read-so, write-so, source-so, status-so}
+use Rattle.trace_top.proofs.top.trace.Goals as goal
+
+pub returns-clause-answered : goal.returns-clause-answered
+returns-clause-answered g c = λ some. record {
+  answer = c.in-Ok.answer;
+  answered = c.in-Ok.ensures.answered;
+  shown = shown-so c.in-Ok.answer _ _ _ _ _ c.show_answer.ensures.shows some;
+}
+
+pub returns-clause-read_fault : goal.returns-clause-read_fault
+returns-clause-read_fault g c = λ fault.
+    rose-answered _ _ _ c.in-Ok.answer c.in-Ok.ensures.answered (read-so c.in-Ok.answer _ _ _ _ _ c.show_answer.ensures.shows fault)
+
+pub returns-clause-write_fault : goal.returns-clause-write_fault
+returns-clause-write_fault g c = λ fault. write-so c.in-Ok.answer _ _ _ _ _ c.show_answer.ensures.shows fault
+
+pub returns-clause-source_failed : goal.returns-clause-source_failed
+returns-clause-source_failed g c = λ more.
+    source-so c.in-Ok.answer _ _ _ _ _ c.show_answer.ensures.shows (fault-answered _ _ _ c.in-Ok.answer c.in-Ok.ensures.answered more)
+
+pub returns-clause-complete : goal.returns-clause-complete
+returns-clause-complete g c = λ text told accepted steady quiet.
+    status-so GoesWell c.in-Ok.answer _ _ _ _ _ c.show_answer.ensures.shows quiet tt (well-answered _ text _ _ c.in-Ok.answer c.in-Ok.ensures.answered told accepted steady)

@@ -1,0 +1,165 @@
+//! The answer to words and a source.
+
+ghost use Rattle.std.specs.Prelude.{◌≡◌, ◌+◌, ◌≤◌, length, map, IfOk, string_bytes};
+ghost use Rattle.std.specs.List.{All};
+ghost use Rattle.dcop_base.specs.Limits.{amount_limit, input_limit};
+ghost use Rattle.dcop_base.specs.Whole.{IsProblem};
+ghost use Rattle.pseudotree.specs.DepthFirst.{dfs};
+ghost use Rattle.protocol_steps.specs.Network.{start_state};
+ghost use Rattle.protocol_steps.specs.TreeAgents.{adopt_agents};
+ghost use Rattle.problem_text.specs.Steps.{declared_by};
+ghost use Rattle.run_log.specs.LogText.{FitsEvent};
+ghost use Rattle.log_holds.specs.Holds.{agents_for};
+ghost use Rattle.answer_edge.specs.Input.{source_state};
+ghost use Rattle.solve_inputs.specs.Fronts.{front_read};
+ghost use Rattle.trace_text.specs.Trace.{Traces};
+ghost use Rattle.trace_top.specs.Answering.{AnswersTrace, IsTellable, IsTextAnswer, IsTrace};
+ghost use Rattle.trace_top.specs.Tracing.{IsAnswered};
+
+use crate::answer::TraceAnswer;
+use crate::words::{Asked, read_trace_words};
+use answer_edge::{ReadEnd, fault_answer, read_all, words_answer};
+use dcop_base::{Bytes, NoMemory, Problem, problem_is_whole};
+use dcop_edge::Source;
+use delivery_core::ReplayFault;
+use log_check::start_for;
+use problem_solved::ProblemSolved;
+use problem_text::{Names, ProblemFile, TextKind};
+use run_log::LogEvent;
+use solve_inputs::{InputFault, lines_in, read_front, wcsp_answer};
+use solve_replay::{LogRead, log_up_to, read_log};
+use solve_report::Answer;
+use solve_words::WordFault;
+use std::alloc::Global;
+use trace_text::write_trace;
+
+/// The answer to words, and where they are accepted to all that the source has left. The words are
+/// tested before anything is read.
+pub(crate) fn answer_of<S: Source>(
+    alloc: Global,
+    words: &[String],
+    source: &mut S,
+) -> Result<TraceAnswer, NoMemory>
+    ensures answered { IfOk result (IsAnswered (map string_bytes words.now)
+        (source_state (S.left source.old) (S.faults source.old))
+        (source_state (S.left source.new) (S.faults source.new))) }
+    ensures told { IfOk result IsTellable }
+{
+    let asked = match read_trace_words(words) {
+        Ok(asked) => asked,
+        Err(WordFault::Bad { at, kind }) => {
+            return Ok(TraceAnswer::Refused(words_answer(at, kind)));
+        }
+        Err(WordFault::NoMemory) => return Err(NoMemory),
+    };
+    match read_all(alloc, source) {
+        Ok(bytes) => text_answer(alloc, asked, bytes.as_slice()),
+        Err(ReadEnd::Failed) => Ok(TraceAnswer::Refused(Answer::Read)),
+        Err(ReadEnd::TooLong) => Ok(TraceAnswer::Refused(fault_answer(0, TextKind::TooLong))),
+        Err(ReadEnd::NoMemory) => Err(NoMemory),
+    }
+}
+
+/// The answer to all bytes of an input.
+fn text_answer(alloc: Global, asked: Asked, bytes: &[u8]) -> Result<TraceAnswer, NoMemory>
+    requires short { length bytes.now ≤ input_limit }
+    ensures belongs { IfOk result (IsTextAnswer bytes.now asked (front_read asked.format bytes.now)) }
+    ensures told { IfOk result IsTellable }
+{
+    match read_front(alloc, asked.format, bytes) {
+        Ok(read) => {
+            let (before, text) = bytes.split_at(read.used);
+            report_trace(alloc, asked, read.file, text, lines_in(before))
+        }
+        Err(InputFault::Text { line, kind }) => {
+            Ok(TraceAnswer::Refused(fault_answer(line, kind)))
+        }
+        Err(InputFault::Wcsp { line, kind }) => {
+            Ok(TraceAnswer::Refused(wcsp_answer(line, kind)))
+        }
+        Err(InputFault::NoMemory) => Err(NoMemory),
+    }
+}
+
+/// The answer to the text of a report on a file, which stands behind so many lines.
+fn report_trace(
+    alloc: Global,
+    asked: Asked,
+    file: ProblemFile,
+    text: &[u8],
+    before: u64,
+) -> Result<TraceAnswer, NoMemory>
+    requires few { before + length text.now ≤ input_limit }
+    ensures belongs { IfOk result (AnswersTrace (declared_by file) before text.now asked) }
+    ensures told { IfOk result IsTellable }
+{
+    whole_problem(&file);
+    match read_log(alloc, &file, text, before)? {
+        LogRead::Log { error, log } => {
+            let log = log_up_to(log.as_slice(), Some(asked.to));
+            traced(alloc, asked.from, file, error, log)
+        }
+        LogRead::Refused(refusal) => Ok(TraceAnswer::Refused(refusal)),
+    }
+}
+
+/// The problem of every file is whole. One that is read is known to have such a problem, so this does
+/// no more.
+fn whole_problem(file: &ProblemFile)
+    ensures { IsProblem file.now.problem }
+{
+    problem_is_whole(&file.problem);
+}
+
+/// The answer to a trace of these events from the event of this number on, for a requested error.
+fn traced(
+    alloc: Global,
+    from: u64,
+    file: ProblemFile,
+    error: u64,
+    log: &[LogEvent],
+) -> Result<TraceAnswer, NoMemory>
+    requires error { error ≤ amount_limit }
+    requires events { All (FitsEvent (length file.problem.sizes)) log.now }
+    ensures belongs { IfOk result (IsTrace file from (start_state (agents_for file error)) log.now) }
+    ensures told { IfOk result IsTellable }
+{
+    match trace_of(alloc, &file, from, error, log) {
+        Ok(text) => Ok(TraceAnswer::Traced(text)),
+        Err(fault) => Ok(TraceAnswer::Refused(solve_replay::fault_answer(file.names, fault)?)),
+    }
+}
+
+/// The text of the run that these events are, from the start of the ADOPT agents of the problem solved
+/// for a file on its depth-first tree, for a requested error.
+fn trace_of(
+    alloc: Global,
+    file: &ProblemFile,
+    from: u64,
+    error: u64,
+    log: &[LogEvent],
+) -> Result<Bytes, ReplayFault>
+    requires { error ≤ amount_limit }
+    ensures { Traces file.now.names from (start_state (agents_for file.now error)) log.now result }
+{
+    let solved = ProblemSolved::of(alloc, file)?;
+    trace_in(alloc, solved.problem(), &file.names, from, error, log)
+}
+
+/// The same of the agents of this problem.
+fn trace_in(
+    alloc: Global,
+    problem: &Problem,
+    names: &Names,
+    from: u64,
+    error: u64,
+    log: &[LogEvent],
+) -> Result<Bytes, ReplayFault>
+    requires error { error ≤ amount_limit }
+    requires named { length names.now ≡ length problem.now.sizes }
+    ensures { Traces names.now from (start_state (adopt_agents problem.now (dfs problem.now) error))
+        log.now result }
+{
+    let start = start_for(alloc, problem, error)?;
+    write_trace(alloc, problem, &start, names, from, log)
+}

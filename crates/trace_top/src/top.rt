@@ -1,0 +1,56 @@
+//! The top call.
+
+ghost use Rattle.std.specs.Prelude.{◌≡◌, ◌≢◌, ◌<◌, ◌⊎◌, ℕ, List, Some, map, string_bytes};
+ghost use Rattle.dcop_edge.specs.Faults.{Rose};
+ghost use Rattle.answer_edge.specs.Input.{source_state};
+ghost use Rattle.answer_edge.specs.Output.{sink_state};
+ghost use Rattle.trace_top.specs.Tracing.{Tells, IsAccepted, GoesWell};
+
+use crate::answering::answer_of;
+use crate::showing::show_answer;
+use answer_edge::Status;
+use dcop_edge::{Sink, Source};
+use std::alloc::Global;
+
+/// Answers these words, which are the arguments of the program: reads a problem and the report with a
+/// log behind it from the source, plays the log as a run of the ADOPT agents of the problem solved on its
+/// depth-first tree, writes the trace of that run to the sink, and says how it went. Words, texts and
+/// faults are refused as by the program `dcop`, and so is an event that cannot happen.
+///
+/// A trace tells of each agent at its start, and of the agent of each event that is asked for, what it
+/// took, what it has come to and what it sent. Stamps are written as the log has them, and not looked at.
+///
+/// [`Status::ReadFault`] and [`Status::WriteFault`] come only where the source or the sink failed
+/// in this call. With `WriteFault` a prefix of the answer is written, with [`Status::NoMemory`],
+/// where memory was wanted and not had, nothing, and otherwise the whole answer, and the sink is
+/// finished.
+pub fn trace<S: Source, K: Sink>(
+    alloc: Global,
+    words: &[String],
+    source: &mut S,
+    sink: &mut K,
+) -> Status
+    ensures answered { result ≢ Status.NoMemory → Tells (map string_bytes words.now)
+        (source_state (S.left source.old) (S.faults source.old))
+        (source_state (S.left source.new) (S.faults source.new))
+        (sink_state (K.held sink.old) (K.finished sink.old))
+        (sink_state (K.held sink.new) (K.finished sink.new)) result }
+    ensures unwritten { result ≡ Status.NoMemory → sink.new ≡ sink.old }
+    ensures read_fault { result ≡ Status.ReadFault →
+        Rose (S.faults source.old) (S.faults source.new) }
+    ensures write_fault { result ≡ Status.WriteFault →
+        Rose (K.faults sink.old) (K.faults sink.new) }
+    ensures source_failed { S.faults source.old < S.faults source.new →
+        (result ≡ Status.ReadFault) ⊎ (result ≡ Status.WriteFault) ⊎ (result ≡ Status.NoMemory) }
+    ensures sink_failed { K.faults sink.old < K.faults sink.new → result ≡ Status.WriteFault }
+    ensures complete { (text : List ℕ) → S.left source.old ≡ Some text →
+        IsAccepted (map string_bytes words.now) text →
+        ¬ Rose (S.faults source.old) (S.faults source.new) →
+        ¬ Rose (K.faults sink.old) (K.faults sink.new) →
+        GoesWell result }
+{
+    let Ok(answer) = answer_of(alloc, words, source) else {
+        return Status::NoMemory;
+    };
+    show_answer(alloc, &answer, sink)
+}

@@ -1,0 +1,206 @@
+//! The words of `dcop_trace`.
+
+ghost use Rattle.std.specs.Prelude.{◌≡◌, ◌≤◌, map, string_bytes};
+ghost use Rattle.solve_words.specs.Names.{format_named};
+ghost use Rattle.trace_top.specs.Words.{trace_option_named, is_given, words_for, place_behind, asked_by, option_told, number_told, format_told, given_told, pairs_told, trace_answer_to};
+
+use dcop_base::number_of_word;
+use solve_words::{Format, WordFault, WordKind};
+
+/// The greatest number of an event that can be asked for.
+const MOST_EVENTS: u64 = 1_000_000_000;
+
+/// What words ask.
+#[derive(Clone, Copy, Debug, PartialEq, Eq)]
+pub struct Asked {
+    /// The number of the first event that is told, counted from 1, 0 to 1,000,000,000; with 0 the
+    /// starts of all agents are told before.
+    pub from: u64,
+    /// The number of the last event that is told, where there are so many, 0 to 1,000,000,000.
+    pub to: u64,
+    /// The form of the problem.
+    pub format: Format,
+}
+
+/// An option of the program.
+#[derive(Clone, Copy, Debug, PartialEq, Eq)]
+pub enum TraceOption {
+    /// `--from`
+    From,
+    /// `--to`
+    To,
+    /// `--format`
+    Format,
+}
+
+impl TraceOption {
+    /// The option that a word names; `None` exactly where no option has it.
+    fn named(word: &str) -> Option<TraceOption>
+        ensures { result ≡ trace_option_named word.now }
+    {
+        match word {
+            "--from" => Some(TraceOption::From),
+            "--to" => Some(TraceOption::To),
+            "--format" => Some(TraceOption::Format),
+            _ => None,
+        }
+    }
+}
+
+/// The values that were given.
+#[derive(Clone, Copy, Debug, PartialEq, Eq)]
+pub struct Given {
+    /// Of `--from`.
+    pub from: Option<u64>,
+    /// Of `--to`.
+    pub to: Option<u64>,
+    /// Of `--format`.
+    pub format: Option<Format>,
+}
+
+impl Given {
+    /// Whether a value was given for an option.
+    fn has(self, option: TraceOption) -> bool
+        ensures { result ≡ is_given option self }
+    {
+        match option {
+            TraceOption::From => self.from.is_some(),
+            TraceOption::To => self.to.is_some(),
+            TraceOption::Format => self.format.is_some(),
+        }
+    }
+
+    /// The place of the word behind the pairs that gave these values, counted from 1.
+    fn place_behind(self) -> u64
+        ensures same { result ≡ place_behind self }
+        ensures low { result ≤ 7 }
+    {
+        1 + words_for(self.from.is_some())
+            + words_for(self.to.is_some())
+            + words_for(self.format.is_some())
+    }
+
+    /// What is asked, with the default of each value that was not given: all events.
+    fn asked(self) -> Asked
+        ensures { result ≡ asked_by self }
+    {
+        Asked {
+            from: self.from.unwrap_or(0),
+            to: self.to.unwrap_or(MOST_EVENTS),
+            format: self.format.unwrap_or(Format::Dcop),
+        }
+    }
+}
+
+/// How many words gave a value: the option and the value, or none.
+fn words_for(is_given: bool) -> u64
+    ensures same { result ≡ words_for is_given }
+    ensures low { result ≤ 2 }
+{
+    if is_given { 2 } else { 0 }
+}
+
+/// What words ask, or their first fault. The words are pairs of an option and its value, read from
+/// left to right: of each pair it is tested that the option exists, that it is new, that a value
+/// stands behind it, and that the value is a number in the option's range, or one of its choices.
+pub(crate) fn read_trace_words(words: &[String]) -> Result<Asked, WordFault>
+    ensures { result ≡ trace_answer_to (map string_bytes words.now) }
+{
+    let none = Given {
+        from: None,
+        to: None,
+        format: None,
+    };
+    Ok(read_pairs(none, words)?.asked())
+}
+
+/// The values that are given with those of these words, or the first fault of the words.
+fn read_pairs(given: Given, words: &[String]) -> Result<Given, WordFault>
+    ensures { result ≡ pairs_told given (map string_bytes words.now) }
+{
+    let Some((name, behind)) = words.split_first() else {
+        return Ok(given);
+    };
+    let option = read_option(given, name.as_str())?;
+    let Some((value, rest)) = behind.split_first() else {
+        return Err(bad(given.place_behind(), WordKind::NoValue));
+    };
+    let next = read_value(given, option, value.as_str())?;
+    read_pairs(next, rest)
+}
+
+/// The option that a word names and that was not given before, or the fault of the word.
+fn read_option(given: Given, name: &str) -> Result<TraceOption, WordFault>
+    ensures { result ≡ option_told given name.now }
+{
+    let at = given.place_behind();
+    let Some(option) = TraceOption::named(name) else {
+        return Err(bad(at, WordKind::UnknownOption));
+    };
+    if given.has(option) {
+        return Err(bad(at, WordKind::Twice));
+    }
+    Ok(option)
+}
+
+/// The values that are given with the one that a word gives an option, or the fault of the word.
+fn read_value(given: Given, option: TraceOption, word: &str) -> Result<Given, WordFault>
+    ensures { result ≡ given_told given option word.now }
+{
+    let at = given.place_behind() + 1;
+    match option {
+        TraceOption::From => {
+            let from = Some(read_number(at, word)?);
+            Ok(Given { from, ..given })
+        }
+        TraceOption::To => {
+            let to = Some(read_number(at, word)?);
+            Ok(Given { to, ..given })
+        }
+        TraceOption::Format => {
+            let format = Some(read_format(at, word)?);
+            Ok(Given { format, ..given })
+        }
+    }
+}
+
+/// The number of an event that the word at this place tells, or the fault of the word.
+fn read_number(at: u64, word: &str) -> Result<u64, WordFault>
+    ensures { result ≡ number_told at word.now }
+{
+    let Some(number) = number_of_word(word.as_bytes()) else {
+        return Err(bad(at, WordKind::BadNumber));
+    };
+    if number > MOST_EVENTS {
+        return Err(bad(at, WordKind::OutOfRange));
+    }
+    Ok(number)
+}
+
+/// The form that the word at this place names, or the fault of the word.
+fn read_format(at: u64, word: &str) -> Result<Format, WordFault>
+    ensures { result ≡ format_told at word.now }
+{
+    match format_named(word) {
+        Some(format) => Ok(format),
+        None => Err(bad(at, WordKind::BadChoice)),
+    }
+}
+
+/// The form of this name; `None` exactly where no form has it.
+fn format_named(word: &str) -> Option<Format>
+    ensures { result ≡ format_named word.now }
+{
+    match word {
+        "dcop" => Some(Format::Dcop),
+        "wcsp" => Some(Format::Wcsp),
+        _ => None,
+    }
+}
+
+/// The fault of the word at a place.
+fn bad(at: u64, kind: WordKind) -> WordFault
+    ensures { result ≡ WordFault.Bad at kind }
+{
+    WordFault::Bad { at, kind }
+}
