@@ -1,6 +1,7 @@
 -- Properties of all elements of a list, by recursion.
 use Rattle.std.proofs.Common.{◌≡◌, ℕ, zero, suc, arith, Bool, true, false, cond, List, [], ◌∷◌, ◌++◌, map, take, drop, refl, All}
-use Rattle.std.specs.List.{flat_map}
+use Rattle.std.specs.List.{flat_map, list_all}
+use Rattle.std.proofs.lemmas.Bool.{and_parts}
 
 abbrev pub Every : {X : Type 0} → (X → Type 0) → List X → Type 0
 Every P [] = Unit {0}
@@ -45,6 +46,13 @@ module _ {X Y : Type 0} (P : Y → Type 0) where
   pub every_flat_map : (f : X → List Y) (xs : List X) → Every (λ x. Every P (f x)) xs → Every P (flat_map f xs)
   every_flat_map f [] h = tt
   every_flat_map f (x ∷ xs) h = every_append P (f x) (flat_map f xs) h.0 (every_flat_map f xs h.1)
+
+-- from a test of each pair
+pub every_pair : (q : ℕ → ℕ → Bool) (P : ℕ × ℕ → Type 0) → ((x : ℕ × ℕ) → q x.0 x.1 ≡ true → P x) → (xs : List (ℕ × ℕ)) → list_all (λ x. q x.0 x.1) xs ≡ true → Every P xs
+every_pair q P f [] all = tt
+every_pair q P f (x ∷ xs) all =
+    let parts = and_parts (q x.0 x.1) (list_all (λ y. q y.0 y.1) xs) all in
+    (f x parts.0, every_pair q P f xs parts.1)
 
 pub every_from : {X : Type 0} (P : X → Type 0) (xs : List X) → ((x : X) → P x) → Every P xs
 every_from P [] h = tt

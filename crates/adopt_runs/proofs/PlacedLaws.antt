@@ -2,7 +2,7 @@
 use Rattle.std.proofs.Common.{◌≡◌, ℕ, ◌+◌, ◌-◌, ◌≤◌, ◌<◌, Bool, true, cond, ◌==◌, ◌&&◌, ◌||◌, nat_lt, max, map, List, [], ◌∷◌, length, get_or, Option, Some, None, refl, sym, ap, subst, ◌∙◌, inl, inr, arith}
 use Rattle.std.specs.Prelude.{is_some}
 use Rattle.std.specs.List.{filter, list_all, sum_by, zip}
-use Rattle.std.proofs.lemmas.Bool.{cases_eq, eq-eqb, ne_eqb, ltb-true, false≢true}
+use Rattle.std.proofs.lemmas.Bool.{cases_eq, eq-eqb, ne_eqb, or_left, or_right, ltb-true, false≢true}
 use Rattle.std.proofs.lemmas.Option.{none-some, same_Some, cond_some}
 use Rattle.dcop_base.specs.Table.{has, greatest}
 use Rattle.dcop_base.specs.Problem.{Dcop, IsAssignment}
@@ -28,9 +28,11 @@ use Rattle.dcop_optimum.proofs.OwnerLaws.{cost_split, weight_split}
 use Rattle.dcop_optimum.proofs.JoinLaws.{value_below, listed, listed_at, listed_is, size_some, own_here, own_else, children_parent, IsPiece, joined, above_in_problem, joined_is, joined_agrees, joined_split}
 use Rattle.protocol_steps.specs.TreeAgents.{place_at}
 use Rattle.adopt_runs.specs.Laws.{EntryHolds}
+use Rattle.adopt_runs.specs.Agents.{IsValueAbove}
 use Rattle.adopt_runs.specs.Uncut.{counted_sum, IsUncutAt, AreUncut}
 use Rattle.adopt_runs.proofs.BoundLaws.{lowest_within, lowest_least}
 use Rattle.adopt_context.proofs.KnownLaws.{each_pair, part_gives, union_gives_left, union_gives_right}
+use Rattle.adopt_runs.proofs.Every.{Every, every_pair}
 use Rattle.adopt_runs.proofs.AgentLaws.{IsKept, IsMid}
 use Rattle.adopt_runs.proofs.EntryLaws.{merged_holds}
 use Rattle.adopt_runs.proofs.EncloseLaws.{below, most, GivenAbove, IsReached, IsBounded, bounded_blank, bounded_when, bounded_both, filter_distinct, row_low, row_top, IsSum, plus_parts, IsGathered, gather}
@@ -51,6 +53,17 @@ size_is f (x ∷ xs) u s h =
     elim (cases_eq x u) [
       | inl same ↦ sym (same_Some (f x) s (ap (λ (b : Bool). cond b (Some (f x)) (value_in (zip xs (map f xs)) u)) (sym (eq-eqb x u same)) ∙ h)) ∙ ap f same
       | inr other ↦ size_is f xs u s (ap (λ (b : Bool). cond b (Some (f x)) (value_in (zip xs (map f xs)) u)) (sym (ne_eqb x u other)) ∙ h)
+    ]
+
+-- what has a size is listed
+size_listed : (f : ℕ → ℕ) (xs : List ℕ) (u s : ℕ) → value_in (zip xs (map f xs)) u ≡ Some s → has xs u ≡ true
+size_listed f [] u s h = absurd (none-some s h)
+size_listed f (x ∷ xs) u s h =
+    elim (cases_eq x u) [
+      | inl same ↦ or_left (x == u) (has xs u) (eq-eqb x u same)
+      | inr other ↦
+          or_right (x == u) (has xs u)
+          (size_listed f xs u s (ap (λ (b : Bool). cond b (Some (f x)) (value_in (zip xs (map f xs)) u)) (sym (ne_eqb x u other)) ∙ h))
     ]
 
 -- δ(d), by what an agent is made from
@@ -248,6 +261,20 @@ module _ (p : Dcop) (paths : List (List ℕ)) (problem : IsProblem p) (pseudo : 
     -- the bounds of an agent bound its subtree under what is known
     pub agent_bounded : IsBounded p paths i (GivenAbove p paths i (value_in v.known)) (lower_bound v) (upper_bound v)
     agent_bounded = record { low = agent_low; high = agent_high; top = agent_top }
+
+    -- what passes the agent's test is a value of a proper ancestor
+    pair_above : (q : ℕ × ℕ) → in_range v q.0 q.1 ≡ true → IsValueAbove p paths i q
+    pair_above q test =
+        let size_of : ℕ → ℕ = λ (w : ℕ). get_or p.sizes w 0 in
+        let there = within_size (value_in (zip v.place.path v.place.path_sizes) q.0) q.1 test in
+        let at : value_in (zip (path_of paths i) (map size_of (path_of paths i))) q.0 ≡ Some there.0 =
+        sym (ap (λ (e : Place). value_in (zip e.path e.path_sizes) q.0) mid.place_is) ∙ there.1 in
+        let size_at : there.0 ≡ get_or p.sizes q.0 0 = size_is size_of (path_of paths i) q.0 there.0 at in
+        (size_listed size_of (path_of paths i) q.0 there.0 at, subst (λ (n : ℕ). q.1 < n) size_at there.2)
+
+    -- so what is known are values of proper ancestors
+    pub known_above : Every (IsValueAbove p paths i) v.known
+    known_above = every_pair (in_range v) (IsValueAbove p paths i) pair_above v.known mid.fits_known
 
     -- some assignment has all values that are known
     known_below : (u : ℕ) → u < length p.sizes → (o : Option ℕ) → value_in v.known u ≡ o → or_zero o < get_or p.sizes u 0

@@ -13,11 +13,11 @@ use Rattle.protocol_steps.specs.Network.{Network, start_state, link}
 use Rattle.protocol_steps.specs.View.{OfAdopt}
 use Rattle.dcop_optimum.proofs.DecompositionLaws.{root_bounds_enclose_optima}
 use Rattle.protocol_steps.specs.TreeAgents.{place_at, adopt_agents}
-use Rattle.adopt_runs.specs.Agents.{IsAgentOf, IsSent}
+use Rattle.adopt_runs.specs.Agents.{IsValueAbove, IsAgentOf, IsSent}
 use Rattle.adopt_runs.specs.RunLaws.{HoldsOfAdopt, AdoptBoundsEnclose}
 use Rattle.adopt_runs.proofs.Every.{every_then, all_every}
 use Rattle.adopt_runs.proofs.EncloseLaws.{encloses_from}
-use Rattle.adopt_runs.proofs.PlacedLaws.{row_long, agent_bounded, not_cut, uncut, value_small}
+use Rattle.adopt_runs.proofs.PlacedLaws.{row_long, known_above, agent_bounded, not_cut, uncut, value_small}
 use Rattle.adopt_runs.proofs.SayLaws.{Says, says_sent, entry_encloses}
 use Rattle.adopt_runs.proofs.RunSteps.{Settled, IsGood, runs_on, starts}
 
@@ -31,6 +31,7 @@ module _ (p : Dcop) (paths : List (List ℕ)) (problem : IsProblem p) (pseudo : 
             ap (λ (o : Private). OfAdopt o v.place v.error) a.mid.own_is ∙ ap (λ (q : Place). OfAdopt (private_of p i) q v.error) a.mid.place_is
             ∙ ap (λ (n : ℕ). OfAdopt (private_of p i) (place_at p paths i) n) a.mid.error_is;
         value_below = small;
+        known_fits = all_every (IsValueAbove p paths i) v.known (known_above p paths problem pseudo error i lt v a.mid);
         wide = row_long p paths problem pseudo error i lt v a.mid;
         bounds = bounds;
         entries = entry_encloses p paths problem pseudo error i lt v a.mid;

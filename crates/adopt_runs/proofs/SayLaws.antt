@@ -23,21 +23,21 @@ use Rattle.protocol_steps.specs.Network.{message_to, messages_to}
 use Rattle.dcop_optimum.proofs.LineLaws.{within_cases, within_self, within_above, not_both}
 use Rattle.dcop_optimum.proofs.JoinLaws.{children_parent}
 use Rattle.protocol_steps.specs.TreeAgents.{place_at}
-use Rattle.adopt_runs.specs.Agents.{EntryEncloses, IsSent}
+use Rattle.adopt_runs.specs.Agents.{IsValueAbove, EntryEncloses, IsSent}
 use Rattle.adopt_context.proofs.KnownLaws.{put_here, put_else}
 use Rattle.adopt_runs.proofs.KnownLaws.{value_without}
-use Rattle.adopt_runs.proofs.Every.{Every, every_append, every_if, every_map, every_flat_map, every_from}
+use Rattle.adopt_runs.proofs.Every.{Every, all_every, every_append, every_if, every_map, every_flat_map, every_from}
 use Rattle.adopt_runs.proofs.AgentLaws.{Brings}
 use Rattle.adopt_runs.proofs.EncloseLaws.{GivenAbove, IsBounded, bounded_when, encloses_from}
-use Rattle.adopt_runs.proofs.PlacedLaws.{Under, child, IsBrought, Mid, agent_bounded}
+use Rattle.adopt_runs.proofs.PlacedLaws.{Under, child, IsBrought, Mid, known_above, agent_bounded}
 
--- what agent j may send: a COST bounds its subtree under its context
+-- what agent j may send: the context of a COST gives proper ancestors values of theirs, and its bounds bound the subtree under it
 abbrev pub Says : Dcop → List (List ℕ) → ℕ → Message → Type 0
-Says p paths j (Cost c l u) = IsBounded p paths j (GivenAbove p paths j (value_in c)) l u
+Says p paths j (Cost c l u) = Every (IsValueAbove p paths j) c × IsBounded p paths j (GivenAbove p paths j (value_in c)) l u
 Says p paths j message = Unit {0}
 
 pub says_sent : (p : Dcop) (paths : List (List ℕ)) (j : ℕ) (m : Message) → Says p paths j m → IsSent p paths j m
-says_sent p paths j (Cost c l u) h = encloses_from p paths j (value_in c) l u h
+says_sent p paths j (Cost c l u) h = (all_every (IsValueAbove p paths j) c h.0, encloses_from p paths j (value_in c) l u h.1)
 says_sent p paths j (Token path) h = tt
 says_sent p paths j (Done visited) h = tt
 says_sent p paths j (Util scope cells) h = tt
@@ -77,7 +77,7 @@ module _ (p : Dcop) (paths : List (List ℕ)) (problem : IsProblem p) (pseudo : 
       let same : child p paths problem pseudo error i in_tree k ≡ j = eqb-true (child p paths problem pseudo error i in_tree k) j found.1 in
       let parent : parent_of paths j ≡ Some i = ap (parent_of paths) (sym same) ∙ children_parent paths i k 0 found.0 in
       subst (λ (x : ℕ). IsBounded p paths x (Under p paths problem pseudo error i in_tree d (without i c)) l u) (sym same)
-      (bounded_when p paths j (GivenAbove p paths j (value_in c)) (Under p paths problem pseudo error i in_tree d (without i c)) l u (λ values k. under_given j c d values parent given k) h)
+      (bounded_when p paths j (GivenAbove p paths j (value_in c)) (Under p paths problem pseudo error i in_tree d (without i c)) l u (λ values k. under_given j c d values parent given k) h.1)
   says_brings j (Token path) h = tt
   says_brings j (Done visited) h = tt
   says_brings j (Util scope cells) h = tt
@@ -99,7 +99,7 @@ module _ (p : Dcop) (paths : List (List ℕ)) (problem : IsProblem p) (pseudo : 
         (every_append S first second
         (every_if S (has v.place.lower j) (Value v.value ∷ []) (λ e. (tt, tt)))
         (every_if S (has v.place.children j) (messages_to_child v j) (λ e. (tt, every_if S v.phase.ended (Terminate (put v.known v.own.me v.value) ∷ []) (λ e. (tt, tt))))))
-        (every_if S (is_parent v j && not v.phase.ended) (Cost v.known (lower_bound v) (upper_bound v) ∷ []) (λ e. (agent_bounded p paths problem pseudo error i in_tree v mid, tt)))
+        (every_if S (is_parent v j && not v.phase.ended) (Cost v.known (lower_bound v) (upper_bound v) ∷ []) (λ e. ((known_above p paths problem pseudo error i in_tree v mid, agent_bounded p paths problem pseudo error i in_tree v mid), tt)))
 
     -- all that an agent sends
     pub sends_said : Every (λ s. S s.1) (adopt_sends v)

@@ -1,8 +1,9 @@
 -- The agents in a run of ADOPT, and what they send.
 use Rattle.std.specs.Prelude.{◌≡◌, ℕ, ◌+◌, ◌<◌, ◌≤◌, true, List, length, Some, slice_get, slice_index}
+use Rattle.std.specs.List.{All}
 use Rattle.dcop_base.specs.Problem.{Dcop}
 use Rattle.dcop_base.specs.Knowledge.{private_of}
-use Rattle.pseudotree.specs.Tree.{children_of, IsRoot}
+use Rattle.pseudotree.specs.Tree.{children_of, is_above, IsRoot}
 use Rattle.adopt_context.specs.Context.{value_in, put, names_all}
 use Rattle.adopt_context.specs.Bounds.{Entry, row_at, entry_at}
 use Rattle.adopt_context.specs.Allot.{share_sum}
@@ -17,14 +18,19 @@ use Rattle.protocol_steps.specs.TreeAgents.{place_at}
 use Rattle.adopt_runs.specs.Laws.{EntriesHold}
 use Rattle.adopt_runs.specs.Uncut.{AreUncut}
 
+-- a pair of a context gives a proper ancestor of i one of its values
+abbrev pub IsValueAbove : Dcop → List (List ℕ) → ℕ → ℕ × ℕ → Type 0
+IsValueAbove p paths i q = (is_above paths q.0 i ≡ true) × (q.1 < slice_index p.sizes q.0)
+
 -- the bounds of an entry enclose its child, under the entry's context with variable i at the entry's value
 abbrev pub EntryEncloses : Dcop → List (List ℕ) → ℕ → ℕ → ℕ → Entry → Type 0
 EntryEncloses p paths i d k e = Encloses p paths (slice_index (children_of paths i) k) (value_in (put e.context i d)) e.lower e.upper
 
--- what holds of the agent of variable i: it was made from what variable i knows, its place and the error; it has for each own value a row of one entry for each child; its bounds enclose it under what it knows, and each entry its child; the cap cuts none of its bounds; and where it knows all higher neighbours, its threshold is what its value costs and the shares of its children
+-- what holds of the agent of variable i: it was made from what variable i knows, its place and the error; what it knows are values of its proper ancestors, each below its variable's size; it has for each own value a row of one entry for each child; its bounds enclose it under what it knows, and each entry its child; the cap cuts none of its bounds; and where it knows all higher neighbours, its threshold is what its value costs and the shares of its children
 pub record IsAgentOf (p : Dcop) (paths : List (List ℕ)) (error i : ℕ) (v : AdoptView) : Type 0 where
   pub made : made_of (AdoptKind v) ≡ OfAdopt (private_of p i) (place_at p paths i) error
   pub value_below : v.value < slice_index p.sizes i
+  pub known_fits : All (IsValueAbove p paths i) v.known
   pub wide : (d : ℕ) → d < slice_index p.sizes i → length (row_at v.rows d) ≡ length (children_of paths i)
   pub bounds : Encloses p paths i (value_in v.known) (lower_bound v) (upper_bound v)
   pub entries : (d k : ℕ) → k < length (children_of paths i) → EntryEncloses p paths i d k (entry_at v.rows d k)
@@ -37,7 +43,7 @@ pub record IsAgentOf (p : Dcop) (paths : List (List ℕ)) (error i : ℕ) (v : A
 abbrev pub AreAgents : Dcop → List (List ℕ) → ℕ → List View → Type 0
 AreAgents p paths error views = (i : ℕ) → i < length p.sizes → (v : AdoptView) × (slice_get views i ≡ Some (AdoptKind v)) × IsAgentOf p paths error i v
 
--- what variable i may send: a COST encloses it under its context
+-- what variable i may send: the context of a COST gives proper ancestors values of theirs, and its bounds enclose the variable under it
 abbrev pub IsSent : Dcop → List (List ℕ) → ℕ → Message → Type 0
-IsSent p paths i (Cost context lower upper) = Encloses p paths i (value_in context) lower upper
+IsSent p paths i (Cost context lower upper) = All (IsValueAbove p paths i) context × Encloses p paths i (value_in context) lower upper
 IsSent p paths i message = Unit {0}

@@ -16,7 +16,8 @@ pub fn adopt_entries()
 /// and every event the bounds of each agent enclose it under what it knows, the bounds of each entry
 /// enclose its child under the entry's context with the agent at the entry's value, and each COST
 /// that was ever sent encloses its sender under its context. So the root's bounds enclose the
-/// optimum. Each δ(d), LB(d), LB, UB(d) and UB is a plain sum: the cap, 2^62, cuts none. Where an
+/// optimum. What an agent knows, and the context of each COST, gives proper ancestors values below
+/// their sizes. Each δ(d), LB(d), LB, UB(d) and UB is a plain sum: the cap, 2^62, cuts none. Where an
 /// agent knows all its higher neighbours, its threshold is the cost of its value and the shares of
 /// its children together.
 pub fn adopt_bounds_enclose()
