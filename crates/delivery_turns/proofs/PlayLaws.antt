@@ -5,12 +5,14 @@ use Rattle.std.proofs.lemmas.Bool.{cases_lt, ne_eqb, le-leb, lt-leb}
 use Rattle.std.proofs.lemmas.List.{append-nil, append_assoc, length-append, length-map}
 use Rattle.std.proofs.lemmas.List.Sums.{fold-append}
 use Rattle.std.proofs.lemmas.List.Concat.{flat_map-append}
+use Rattle.std.proofs.lemmas.List.Elements.{All-nil, All-append}
 use Rattle.dcop_base.specs.Problem.{Dcop}
 use Rattle.protocol_steps.specs.declared.event.Event.{Event}
 use Rattle.protocol_steps.specs.View.{View, ended_of}
 use Rattle.protocol_steps.specs.Network.{Network}
 use Rattle.protocol_steps.specs.Run.{happen, run}
 use Rattle.protocol_steps.specs.Effect.{effect, has_ended, deliveries}
+use Rattle.protocol_steps.specs.Rounds.{AreShares}
 use Rattle.delivery_core.specs.State.{CoreView}
 use Rattle.delivery_core.specs.NetworkState.{most_counted}
 use Rattle.delivery_turns.specs.Turns.{turn, turns, round, after, stops, PlaysTo, IsPlayed}
@@ -28,6 +30,7 @@ leads_join p net mid end es fs s t a b = record {
   is = fold-append effect net es fs ∙ ap (λ (n : Network). fold effect n fs) a.is ∙ b.is;
   core = b.core;
   more = let all = length-append es fs in let x = a.more in let y = b.more in omega (arith, all, x, y);
+  bounded = All-append (λ (e : Event). AreShares e.takes) es fs a.bounded b.bounded;
 }
 
 pub turned_none : (p : Dcop) (net : Network) (s : CoreView) → IsCore p net s → (h : Turned p net 0 s) × ([] ≡ h.es)
@@ -36,7 +39,7 @@ turned_none p net s core =
       record {
         es = [];
         mid = net;
-        leads = record { ran = refl; is = refl; core = core; more = omega arith };
+        leads = record { ran = refl; is = refl; core = core; more = omega arith; bounded = All-nil (λ (e : Event). AreShares e.takes) };
         left = ap (λ (n : ℕ). turns net (range_with_len 0 n)) size;
       },
       refl,

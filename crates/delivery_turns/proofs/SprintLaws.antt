@@ -2,6 +2,7 @@
 use Rattle.std.proofs.Common.{◌≡◌, ◌≢◌, ℕ, zero, suc, ◌+◌, ◌-◌, ◌*◌, ◌<◌, ◌≤◌, Bool, true, false, ◌&&◌, ◌||◌, ◌==◌, nat_le, eqb, List, [], ◌∷◌, ◌++◌, length, refl, sym, ap, subst, ◌∙◌, inl, inr, arith}
 use Rattle.std.proofs.lemmas.Bool.{cases_eq, eqb-true, eqb-false, leb-false, or_parts}
 use Rattle.std.proofs.lemmas.List.{append-nil, length-append, length-map}
+use Rattle.std.proofs.lemmas.List.Elements.{All-nil}
 use Rattle.std.proofs.lemmas.Nat.{mul-le}
 use Rattle.dcop_base.specs.Limits.{variable_limit}
 use Rattle.dcop_base.specs.Problem.{Dcop}
@@ -13,7 +14,7 @@ use Rattle.protocol_steps.specs.Network.{Network}
 use Rattle.protocol_steps.specs.Effect.{has_ended, deliveries}
 use Rattle.protocol_steps.specs.Run.{journal}
 use Rattle.protocol_steps.specs.RunEnds.{IsRunEnd}
-use Rattle.protocol_steps.specs.Rounds.{most_events, IsRound, AreRounds}
+use Rattle.protocol_steps.specs.Rounds.{most_events, AreShares, IsRound, AreRounds}
 use Rattle.delivery_core.specs.State.{CoreView}
 use Rattle.delivery_core.specs.NetworkState.{most_counted}
 use Rattle.delivery_core.specs.Takes.{TakeNothing}
@@ -91,7 +92,7 @@ turning_none p net s core = (
   record {
     es = [];
     mid = net;
-    leads = record { ran = refl; is = refl; core = core; more = omega arith };
+    leads = record { ran = refl; is = refl; core = core; more = omega arith; bounded = All-nil (λ (e : Event). AreShares e.takes) };
     few = λ i. omega arith;
     none = λ i le. refl;
     counted = omega arith;
@@ -247,7 +248,7 @@ sprinted_next p budget first k s t still le h over plays moved =
     let some : length events ≢ 0 = eqb-false (length events) 0 (sym played.1 ∙ moved) in
     let on : (has_ended h.mid || nat_le budget (deliveries h.mid)) ≡ false = sym (over_is p budget h.mid s le h.core) ∙ over in
     let below : deliveries h.mid < budget = leb-false budget (deliveries h.mid) (or_parts (has_ended h.mid) (nat_le budget (deliveries h.mid)) on).1 in
-    let is_round : IsRound h.mid events one.mid = record { leads = one.leads.ran; few = one.few; served = λ i j runs. one.served i j } in
+    let is_round : IsRound h.mid events one.mid = record { leads = one.leads.ran; few = one.few; bounded = one.leads.bounded; served = λ i j runs. one.served i j } in
     record {
       pieces = h.pieces ++ events ∷ [];
       mid = one.mid;

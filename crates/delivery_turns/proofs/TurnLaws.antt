@@ -4,6 +4,7 @@ use Rattle.std.specs.List.{slice_get, slice_index_or, filter, flat_map, range_wi
 use Rattle.std.proofs.lemmas.Bool.{false≢true, cases_eq, ne_eqb, eq-eqb, eqb-false, le-ltb, le-leb, lt-leb, or_parts}
 use Rattle.std.proofs.lemmas.Option.{slice_get_within, get_or_from_slice_get}
 use Rattle.std.proofs.lemmas.List.{append-nil, length-map}
+use Rattle.std.proofs.lemmas.List.Elements.{All-nil, All-cons, All-append}
 use Rattle.std.proofs.lemmas.List.Sums.{sum_by-cons}
 use Rattle.dcop_base.specs.Problem.{Dcop}
 use Rattle.dcop_base.specs.Graph.{neighbours, are_neighbours}
@@ -18,7 +19,7 @@ use Rattle.protocol_steps.specs.Effect.{effect, pending, pending_at, deliveries}
 use Rattle.delivery_core.specs.State.{LinkView, SeatView, CoreView, link_from, waiting_on, waiting_from, inbox_of}
 use Rattle.delivery_core.specs.Inboxes.{senders, short_in}
 use Rattle.delivery_core.specs.SeatEvents.{seat_fault, core_fault}
-use Rattle.protocol_steps.specs.Rounds.{link_share}
+use Rattle.protocol_steps.specs.Rounds.{link_share, AreShares}
 use Rattle.delivery_turns.specs.Turns.{turn_takes, event_with, turn}
 use Rattle.delivery_core.specs.Takes.{take_some, inbox_takes, seat_takes}
 use Rattle.delivery_turns.specs.CoreTurns.{Leads}
@@ -144,6 +145,25 @@ counts_some (t ∷ ts) h =
     let sum : counts (t ∷ ts) ≡ t.count + counts ts = sum_by-cons (λ (u : Take). u.count) t ts in
     elim (cases_eq t.count 0) [ inl e ↦ absurd (some e) | inr e ↦ omega (arith, sum, e) ]
 
+-- an agent takes at most 64 messages of one sender
+abbrev IsShare : Take → Type 0
+IsShare t = t.count ≤ link_share
+
+some_shares : (j count : ℕ) (b : Bool) → AreShares (if b then [] else record { from = j; count = min count link_share } ∷ [])
+some_shares j count true = All-nil IsShare
+some_shares j count false = All-cons IsShare (record { from = j; count = min count link_share }) [] (omega arith) (All-nil IsShare)
+
+inbox_shares : (ls : List LinkView) → AreShares (inbox_takes ls)
+inbox_shares [] = All-nil IsShare
+inbox_shares (l ∷ ls) = All-append IsShare (take_some l.from (length l.waiting)) (inbox_takes ls) (some_shares l.from (length l.waiting) (length l.waiting == 0)) (inbox_shares ls)
+
+seat_shares : (x : SeatView) → AreShares (seat_takes x)
+seat_shares x = by_ended (ended_of x.view)
+  where
+    by_ended : (b : Bool) → AreShares (if b then [] else inbox_takes x.inbox)
+    by_ended true = All-nil IsShare
+    by_ended false = inbox_shares x.inbox
+
 module _ (p : Dcop) (net : Network) (seats : List SeatView) (s : Shows p net seats) (i : ℕ) (x : SeatView) (here : slice_get seats i ≡ Some x) where
   inside : i < length seats
   inside = slice_get_within seats i x here
@@ -216,6 +236,7 @@ module _ (p : Dcop) (net : Network) (seats : List SeatView) (s : Shows p net sea
         is = refl;
         core = core;
         more = counted_more;
+        bounded = All-cons (λ (f : Event). AreShares f.takes) e [] (seat_shares x) (All-nil (λ (f : Event). AreShares f.takes));
       },
     )
 
@@ -231,7 +252,7 @@ turn_still p net seats s i lt none =
     turn_none p net seats s i x.0 x.1 (ap (λ (ts : List Take). length ts == 0) takes)
 
 pub none_leads : (p : Dcop) (net : Network) (es : List Event) (s : CoreView) → IsCore p net s → es ≡ [] → (mid : Network) × Leads p net es mid s
-none_leads p net es s core none = subst (λ (fs : List Event). (mid : Network) × Leads p net fs mid s) (sym none) (net, record { ran = refl; is = refl; core = core; more = omega arith })
+none_leads p net es s core none = subst (λ (fs : List Event). (mid : Network) × Leads p net fs mid s) (sym none) (net, record { ran = refl; is = refl; core = core; more = omega arith; bounded = All-nil (λ (e : Event). AreShares e.takes) })
 
 -- a turn has an event where something is taken
 some_event : (i : ℕ) (ts : List Take) (b : Bool) → (length {A = Event} (if b then [] else (record { agent = i; takes = ts } ∷ [])) == 0) ≡ b

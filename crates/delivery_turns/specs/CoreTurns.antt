@@ -8,16 +8,18 @@ use Rattle.protocol_steps.specs.View.{ended_of}
 use Rattle.protocol_steps.specs.Network.{Network}
 use Rattle.protocol_steps.specs.Effect.{deliveries}
 use Rattle.protocol_steps.specs.Run.{run}
+use Rattle.protocol_steps.specs.Rounds.{TakeShares}
 use Rattle.delivery_core.specs.State.{CoreView, views_of}
 use Rattle.delivery_turns.specs.Turns.{event_with, turn, turns, round, after, PlaysTo, IsPlayed}
 use Rattle.delivery_core.specs.Shown.{IsCore}
 
--- events that lead from one network state to a core state, each of which takes something
+-- events that lead from one network state to a core state, each of which takes something, and at most 64 messages of one sender
 pub record Leads (p : Dcop) (net : Network) (es : List Event) (mid : Network) (s : CoreView) : Type 0 where
   pub ran : run net es ≡ Some mid
   pub is : after net es ≡ mid
   pub core : IsCore p mid s
   pub more : deliveries net + length es ≤ deliveries mid
+  pub bounded : TakeShares es
 
 -- the turn of agent k, which takes these, leads from one core state to another
 abbrev pub TakesTurn : ℕ → CoreView → CoreView → List Take → Type 0

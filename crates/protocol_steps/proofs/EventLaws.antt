@@ -133,7 +133,7 @@ pub not_then : {X : Type 0} (b : Bool) (f : X) (o : Option X) → cond b (Some f
 not_then true f o h = absurd (none-some f (sym h))
 not_then false f o h = (refl, h)
 
-both_none : (a b : Option EventFault) → or_else a b ≡ None → (a ≡ None) × (b ≡ None)
+pub both_none : (a b : Option EventFault) → or_else a b ≡ None → (a ≡ None) × (b ≡ None)
 both_none None b h = (refl, h)
 both_none (Some f) b h = absurd (none-some f (sym h))
 

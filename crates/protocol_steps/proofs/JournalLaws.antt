@@ -58,7 +58,7 @@ either_order net a b e f ne he hf =
     }
 
 -- an event of the journal of agent i
-abbrev own_takes : ℕ → Event → List (List Take)
+abbrev pub own_takes : ℕ → Event → List (List Take)
 own_takes i e = if e.agent == i then e.takes ∷ [] else []
 
 -- a run with an event taken to its front

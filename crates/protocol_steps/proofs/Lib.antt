@@ -16,3 +16,4 @@ pub mod StampRows
 pub mod PrivateLaws
 pub mod PlacingLaws
 pub mod ValueLaws
+pub mod ShareLaws

@@ -26,6 +26,7 @@ pub mod Stamps
 pub mod Deeds
 pub mod StampLaw
 pub mod Rounds
+pub mod RoundBounds
 pub mod JournalStamps
 pub mod Links
 pub mod Delivered

@@ -1,6 +1,7 @@
 -- Rounds: a run cut into pieces under a budget of deliveries.
 use Rattle.std.specs.Prelude.{◌≡◌, ℕ, ◌<◌, ◌≤◌, false, List, [], ◌∷◌, map, length, Some, min, slice_get, slice_index_or}
-use Rattle.std.specs.List.{flat_map}
+use Rattle.std.specs.List.{All, flat_map}
+use Rattle.protocol_steps.specs.declared.event.Take.{Take}
 use Rattle.protocol_steps.specs.declared.event.Event.{Event}
 use Rattle.protocol_steps.specs.declared.event.Entry.{Entry}
 use Rattle.protocol_steps.specs.View.{View, ended_of}
@@ -12,7 +13,7 @@ use Rattle.protocol_steps.specs.Run.{run, journal}
 abbrev pub most_events : ℕ
 most_events = 32
 
--- how many messages of one link are taken at a time: a round takes at least so many of each, where as many are pending, and who plays takes at most so many at once
+-- how many messages of one link are taken at a time: an event takes at most so many, and a round at least so many of each, where as many are pending
 abbrev pub link_share : ℕ
 link_share = 64
 
@@ -20,14 +21,23 @@ link_share = 64
 abbrev pub taken_in : ℕ → ℕ → List Event → ℕ
 taken_in i j es = taken_from j (flat_map (λ ts. ts) (journal i es))
 
+-- each of these takes is of at most 64 messages
+abbrev pub AreShares : List Take → Type 0
+AreShares ts = All (λ t. t.count ≤ link_share) ts
+
+-- each of these events takes at most 64 messages of one sender
+abbrev pub TakeShares : List Event → Type 0
+TakeShares es = All (λ e. AreShares e.takes) es
+
 -- an agent that has not ended
 abbrev pub HasNotEnded : Network → ℕ → Type 0
 HasNotEnded net i = (v : View) × (slice_get net.views i ≡ Some v) × (ended_of v ≡ false)
 
--- one round: events that lead from one network state to another, at most 32 of each agent, and on each link to an agent that is not ended afterwards at least the lesser of 64 and what was pending before
+-- one round: events that lead from one network state to another, at most 32 of each agent, each of at most 64 messages of one sender, and on each link to an agent that is not ended afterwards at least the lesser of 64 and what was pending before
 pub record IsRound (before : Network) (es : List Event) (after : Network) : Type 0 where
   pub leads : run before es ≡ Some after
   pub few : (i : ℕ) → length (journal i es) ≤ most_events
+  pub bounded : TakeShares es
   pub served : (i j : ℕ) → HasNotEnded after i → min link_share (length (pending before i j)) ≤ taken_in i j es
 
 -- rounds under a budget, which lead from one network state to another: each begins with fewer deliveries than the budget

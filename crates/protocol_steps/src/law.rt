@@ -6,6 +6,7 @@ ghost use Rattle.protocol_steps.specs.Placing.{PlacesFit};
 ghost use Rattle.protocol_steps.specs.Laws.{OriginsStay, ParcelsGoToNeighbours, JournalsDecide};
 ghost use Rattle.protocol_steps.specs.Links.{LinksGrow};
 ghost use Rattle.protocol_steps.specs.Rounds.{RoundsAreARun};
+ghost use Rattle.protocol_steps.specs.RoundBounds.{RoundsAreBounded};
 ghost use Rattle.protocol_steps.specs.StampLaw.{StampsOrder};
 ghost use Rattle.protocol_steps.specs.JournalStamps.{StartsShow, JournalsOrder};
 
@@ -71,4 +72,11 @@ pub fn journals_order()
 /// Rounds under a budget are a run, one round after another.
 pub fn rounds_are_a_run()
     ensures { RoundsAreARun }
+{}
+
+/// The events of rounds take at most 64 messages of one sender, and so do those of every run with the
+/// same journals, so also the log of such a run. Rounds take no more messages than the budget and
+/// what one round takes at most.
+pub fn rounds_are_bounded()
+    ensures { RoundsAreBounded }
 {}

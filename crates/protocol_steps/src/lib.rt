@@ -22,8 +22,8 @@ mod standing;
 pub use event::{Entry, Event, EventFault, EventList, Journal, JournalList, Take, TakeList};
 pub use law::{
     acquaintance_is_knowledge, journals_decide, journals_order, links_grow, origins_stay,
-    parcels_go_to_neighbours, places_fit, private_is_knowledge, rounds_are_a_run, stamps_order,
-    starts_show,
+    parcels_go_to_neighbours, places_fit, private_is_knowledge, rounds_are_a_run,
+    rounds_are_bounded, stamps_order, starts_show,
 };
 pub use letter::{Batch, Envelope, Letter, Outbox, Parcel};
 pub use machine::Machine;

@@ -88,7 +88,7 @@ one_delivers net after e h =
         faulty false false true e later is fine = none-some _ (sym fine)
         faulty false false false e later is fine = false≢true is
 
-run_delivers : (net end : Network) (es : List Event) → run net es ≡ Some end → deliveries net + length es ≤ deliveries end
+pub run_delivers : (net end : Network) (es : List Event) → run net es ≡ Some end → deliveries net + length es ≤ deliveries end
 run_delivers net end [] r = let is = ap deliveries (same_Some net end r) in omega (arith, is)
 run_delivers net end (e ∷ es) r =
     let b = begins net end e es r in

@@ -1,6 +1,6 @@
 -- Relations at each place of two lists, and lists by their places.
 use Rattle.std.proofs.Common.{◌≡◌, ℕ, zero, suc, ◌+◌, ◌≤◌, ◌<◌, false, List, [], ◌∷◌, length, Some, None, refl, sym, ap, ap₂, subst, ◌∙◌, inl, inr, arith}
-use Rattle.std.specs.List.{slice_get, sum_by}
+use Rattle.std.specs.List.{All, slice_get, sum_by}
 use Rattle.std.proofs.lemmas.Option.{none-some, same_Some, slice_get_cases}
 use Rattle.std.proofs.lemmas.List.Sums.{sum_by-cons}
 use Rattle.protocol_steps.specs.Stamps.{Deed}
@@ -8,7 +8,7 @@ use Rattle.protocol_steps.specs.Deeds.{gained_from}
 use Rattle.protocol_steps.specs.View.{ended_of}
 use Rattle.worker_runs.specs.Cells.{CellState, known_from, EachAre}
 use Rattle.worker_runs.specs.Acts.{moved, IsLater}
-use Rattle.worker_runs.specs.Sprints.{IsSprint}
+use Rattle.worker_runs.specs.Sprints.{TakesFew, IsSprint}
 
 module _ {X Y : Type 0} (R : X → Y → Type 0) where
   pub each_long : (xs : List X) (ys : List Y) → EachAre R xs ys → length xs ≡ length ys
@@ -68,6 +68,7 @@ chosen visits (x ∷ xs) (y ∷ ys) h (suc i) = chosen visits xs ys h.1 i
 pub record SprintBy (visits : ℕ) (before : CellState) (ds : List Deed) (after : CellState) : Type 0 where
   pub later : IsLater before ds after
   pub few : length ds ≤ visits
+  pub bounded : All TakesFew ds
   pub served : ended_of before.view ≡ false → (j : ℕ) → known_from j before.known ≤ length (gained_from j (moved before ds).gains)
 
 pub chosen_at : (visits : ℕ) (xs ys : List CellState) (h : EachAre (IsSprint visits) xs ys) (i : ℕ) (x y : CellState) → slice_get xs i ≡ Some x → slice_get ys i ≡ Some y
@@ -77,7 +78,7 @@ chosen_at visits [] (b ∷ ys) h i x y e f = absurd h
 chosen_at visits (a ∷ xs) [] h i x y e f = absurd h
 chosen_at visits (a ∷ xs) (b ∷ ys) h zero x y e f =
     subst (λ (w : CellState). SprintBy visits w h.0.deeds y) (same_Some a x e)
-    (subst (λ (w : CellState). SprintBy visits a h.0.deeds w) (same_Some b y f) (record { later = h.0.later; few = h.0.few; served = h.0.served }))
+    (subst (λ (w : CellState). SprintBy visits a h.0.deeds w) (same_Some b y f) (record { later = h.0.later; few = h.0.few; bounded = h.0.bounded; served = h.0.served }))
 chosen_at visits (a ∷ xs) (b ∷ ys) h (suc i) x y e f = chosen_at visits xs ys h.1 i x y e f
 
 pub chosen_past : (visits : ℕ) (xs ys : List CellState) (h : EachAre (IsSprint visits) xs ys) (i : ℕ) → length xs ≤ i → chosen visits xs ys h i ≡ []

@@ -1,11 +1,12 @@
 -- The history of cells that are played in rounds: each agent's activations since the start, and the run that they are, piece by piece.
 use Rattle.std.proofs.Common.{◌≡◌, ℕ, ◌+◌, ◌-◌, ◌≤◌, ◌<◌, false, min, ◌==◌, if◌then◌else◌, List, [], ◌∷◌, ◌++◌, map, length, Option, Some, refl, sym, ap, ap₂, subst, ◌∙◌, inl, inr, arith}
-use Rattle.std.specs.List.{slice_get, fold, flat_map, sum_by}
+use Rattle.std.specs.List.{All, slice_get, fold, flat_map, sum_by}
 use Rattle.std.proofs.Math.Path.{fun_ext}
 use Rattle.std.proofs.lemmas.Bool.{cases_lt}
 use Rattle.std.proofs.lemmas.Option.{slice_get_within}
 use Rattle.std.proofs.lemmas.List.{append-nil, length-append, map-append}
 use Rattle.std.proofs.lemmas.List.Concat.{flat_map-append}
+use Rattle.std.proofs.lemmas.List.Elements.{All-nil}
 use Rattle.std.proofs.lemmas.List.Sums.{fold-append}
 use Rattle.protocol_steps.specs.declared.message.Message.{Message}
 use Rattle.protocol_steps.specs.declared.event.Take.{Take}
@@ -22,7 +23,7 @@ use Rattle.protocol_steps.proofs.JournalStampLaws.{starts_show, journal_of_deeds
 use Rattle.worker_runs.specs.Cells.{CellState, lane, peers, known_from, IsWired, EachAre}
 use Rattle.worker_runs.specs.Visits.{IsStarted, IsQuiet}
 use Rattle.worker_runs.specs.Acts.{moment, moved, journal_of}
-use Rattle.worker_runs.specs.Sprints.{IsSprint}
+use Rattle.worker_runs.specs.Sprints.{TakesFew, IsSprint}
 use Rattle.worker_runs.specs.CellRounds.{IsSettled, AreSettled, AreStarted, taken_by, total, IsCellRound, AreCellRounds}
 use Rattle.worker_runs.proofs.LaneLaws.{lane_none}
 use Rattle.worker_runs.proofs.VisitLaws.{totals_add}
@@ -221,6 +222,12 @@ module _ (budget : ℕ) (made : List View) (middle after : List CellState) (h : 
     | inr le ↦ let nothing : length (new i) ≡ 0 = ap length (new_none i le) in omega (arith, nothing)
   ]
 
+  share_new : (i : ℕ) → All TakesFew (new i)
+  share_new i = elim (cases_lt i n) [
+    | inl lt ↦ (pair i lt).sprint.bounded
+    | inr le ↦ subst (λ (ds : List Deed). All TakesFew ds) (sym (new_none i le)) (All-nil TakesFew)
+  ]
+
   prefix : TakenIsPrefix now
   prefix = settled_prefix budget made middle h settled
 
@@ -250,7 +257,7 @@ module _ (budget : ℕ) (made : List View) (middle after : List CellState) (h : 
   ran_next : TakenIsPrefix (reached made both) → Ran budget made both
   ran_next later =
       let p : Piece n so_far.net now new = piece n so_far.net now new so_far.shows prefix of_new allowed_new new_none (subst TakenIsPrefix (sym same_next) later) in
-      let round = round_of n so_far.net now new so_far.shows prefix p few_new serves in
+      let round = round_of n so_far.net now new so_far.shows prefix p few_new share_new serves in
       let count = delivered_total budget made middle h so_far.net so_far.shows in
       record {
         net = p.end;

@@ -1,23 +1,26 @@
 -- One piece: new activations of all agents, by stamp and then agent, are a run from the network of their accounts, and a round.
-use Rattle.std.proofs.Common.{◌≡◌, ℕ, ◌+◌, ◌-◌, ◌≤◌, ◌<◌, Bool, false, min, if◌then◌else◌, List, [], ◌∷◌, ◌++◌, map, length, drop, Option, Some, sym, ap, subst, ◌∙◌, inl, inr, arith}
-use Rattle.std.specs.List.{slice_get, fold, flat_map}
+use Rattle.std.proofs.Common.{◌≡◌, ℕ, ◌+◌, ◌-◌, ◌≤◌, ◌<◌, Bool, true, false, min, ◌==◌, if◌then◌else◌, List, [], ◌∷◌, ◌++◌, map, length, drop, Option, Some, refl, sym, ap, subst, ◌∙◌, inl, inr, arith}
+use Rattle.std.specs.List.{All, slice_get, fold, flat_map}
 use Rattle.std.proofs.Math.Path.{fun_ext}
 use Rattle.std.proofs.Math.Seq.{drop-nil}
-use Rattle.std.proofs.lemmas.Bool.{cases_Bool, cases_lt}
+use Rattle.std.proofs.lemmas.Bool.{cases_Bool, cases_lt, eq-eqb}
 use Rattle.std.proofs.lemmas.Option.{slice_get_within}
 use Rattle.std.proofs.lemmas.List.{append-nil, length-append, length-map}
+use Rattle.std.proofs.lemmas.List.Elements.{All-nil, All-cons, All-head, All-tail, All-weaker, All-map}
 use Rattle.protocol_steps.specs.declared.message.Message.{Message}
 use Rattle.protocol_steps.specs.declared.event.Take.{Take}
+use Rattle.protocol_steps.specs.declared.event.Event.{Event}
 use Rattle.protocol_steps.specs.View.{ended_of}
 use Rattle.protocol_steps.specs.Network.{Desk, Network, messages_to, taken_from, sent_at, takes_at, waiting}
 use Rattle.protocol_steps.specs.Effect.{pending_at, pending}
 use Rattle.protocol_steps.specs.Run.{run, journal}
-use Rattle.protocol_steps.specs.Rounds.{most_events, link_share, taken_in, IsRound}
-use Rattle.protocol_steps.specs.Stamps.{Deed, Account, do_one}
+use Rattle.protocol_steps.specs.Rounds.{most_events, link_share, taken_in, AreShares, TakeShares, IsRound}
+use Rattle.protocol_steps.specs.Stamps.{Gain, Deed, Account, do_one}
 use Rattle.protocol_steps.specs.Deeds.{takes_of, event_of, AreDeeds, deeds_of, after_all, posted_to, gained_from}
 use Rattle.protocol_steps.specs.StampLaw.{TakenIsPrefix, ByStampFrom, Shows, EndsAt}
 use Rattle.protocol_steps.proofs.StampLaws.{waits_by, stamps_order}
 use Rattle.protocol_steps.proofs.JournalStampLaws.{journal_of_deeds}
+use Rattle.worker_runs.specs.Sprints.{TakesFew}
 use Rattle.worker_runs.proofs.SortLaws.{Before, First, Ordered, Above, Rising, OfAgent, Sorted, sorted}
 use Rattle.worker_runs.proofs.EachLaws.{past}
 use Rattle.worker_runs.proofs.TakeLaws.{deed_agent, deed_stamp, gains_in, taken_of}
@@ -99,18 +102,38 @@ none_waits n net now shows i j le =
     ap (λ (o : Option Desk). drop (taken_from j (takes_at (slice_get net.desks i))) (messages_to i (sent_at o))) (past net.desks j (omega (arith, le, size)))
     ∙ drop-nil (taken_from j (takes_at (slice_get net.desks i)))
 
--- such a run is a round, where no agent has too many activations, and those of an agent that had not ended serve its links
+-- activations take shares, where those of each agent do
+few_in_all : (ds : List Deed) → ((i : ℕ) → All TakesFew (deeds_of i ds)) → All TakesFew ds
+few_in_all [] h = All-nil TakesFew
+few_in_all (d ∷ ds) h =
+    let first : All TakesFew (d ∷ deeds_of d.agent ds) =
+    subst (λ (b : Bool). All TakesFew ((if b then d ∷ [] else []) ++ deeds_of d.agent ds)) (eq-eqb d.agent d.agent refl) (h d.agent) in
+    All-cons TakesFew d ds (All-head TakesFew d (deeds_of d.agent ds) first) (few_in_all ds (λ i. later (d.agent == i) d (deeds_of i ds) (h i)))
+  where
+    later : (b : Bool) (d : Deed) (ds : List Deed) → All TakesFew ((if b then d ∷ [] else []) ++ ds) → All TakesFew ds
+    later true d ds h = All-tail TakesFew d ds h
+    later false d ds h = h
+
+deed_shares : (d : Deed) → TakesFew d → AreShares (takes_of d.gains)
+deed_shares d h = All-map (λ (t : Take). t.count ≤ link_share) (λ (g : Gain). record { from = g.from; count = length g.envelopes }) d.gains h
+
+share_events : (ds : List Deed) → All TakesFew ds → TakeShares (map event_of ds)
+share_events ds h = All-map (λ (e : Event). AreShares e.takes) event_of ds (All-weaker TakesFew (λ (d : Deed). AreShares (takes_of d.gains)) deed_shares ds h)
+
+-- such a run is a round, where no agent has too many activations or takes too much in one, and those of an agent that had not ended serve its links
 pub round_of : (n : ℕ) (net : Network) (now : ℕ → Account) (new : ℕ → List Deed) → Shows n net now → TakenIsPrefix now → (p : Piece n net now new)
     → ((i : ℕ) → length (new i) ≤ most_events)
+    → ((i : ℕ) → All TakesFew (new i))
     → ((i j : ℕ) → i < n → j < n → ended_of (now i).view ≡ false
     → min link_share (length (posted_to i (now j).posted) - length (gained_from j (now i).gains)) ≤ length (gained_from j (gains_in (new i))))
     → IsRound net (map event_of p.deeds) p.end
-round_of n net now new shows before p short serves = record {
+round_of n net now new shows before p short shares serves = record {
   leads = p.leads;
   few = λ i.
       let long : length (journal i (map event_of p.deeds)) ≡ length (new i) = ap length (journal_is i) ∙ length-map (new i) (λ (d : Deed). takes_of d.gains) in
       let low = short i in
       omega (arith, long, low);
+  bounded = share_events p.deeds (few_in_all p.deeds (λ i. subst (λ (ds : List Deed). All TakesFew ds) (sym (p.own_is i)) (shares i)));
   served = λ i j alive.
       let size = p.shows.agents in
       let in_end = slice_get_within p.end.views i alive.0 alive.1 in

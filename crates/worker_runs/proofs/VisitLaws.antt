@@ -1,10 +1,11 @@
 -- Visits make sprints.
 use Rattle.std.proofs.Common.{◌≡◌, ℕ, ◌+◌, ◌≤◌, Bool, true, false, ◌==◌, if◌then◌else◌, List, [], ◌∷◌, ◌++◌, length, refl, sym, ap, ap₂, subst, ◌∙◌, inl, inr, arith}
-use Rattle.std.specs.List.{sum_by, fold}
+use Rattle.std.specs.List.{All, sum_by, fold}
 use Rattle.std.proofs.Math.Path.{fun_ext}
 use Rattle.std.proofs.lemmas.Bool.{cases_lt}
 use Rattle.std.proofs.lemmas.List.{append-nil, append_assoc, length-append, map-append}
 use Rattle.std.proofs.lemmas.List.Concat.{flat_map-append}
+use Rattle.std.proofs.lemmas.List.Elements.{All-nil, All-cons, All-append}
 use Rattle.std.proofs.lemmas.List.Sums.{fold-append, sum_by-cons, sum_by-append}
 use Rattle.protocol_steps.specs.declared.message.Message.{Message}
 use Rattle.protocol_steps.specs.declared.event.Take.{Take}
@@ -15,7 +16,7 @@ use Rattle.protocol_steps.specs.Deeds.{takes_of, envelope_to, posted_to, gain_fr
 use Rattle.worker_runs.specs.Cells.{CellState, Lane, peers, grown, known_from, EachAre}
 use Rattle.worker_runs.specs.Visits.{IsQuiet, IsEvent, IsVisit}
 use Rattle.worker_runs.specs.Acts.{AreActs, moment, moved, entry_of, journal_of, IsLater}
-use Rattle.worker_runs.specs.Sprints.{SprintsAreVisits}
+use Rattle.worker_runs.specs.Sprints.{TakesFew, SprintsAreVisits}
 use Rattle.worker_runs.specs.CellRounds.{taken_by, total}
 use Rattle.worker_runs.specs.Laws.{TotalsAdd}
 use Rattle.worker_runs.proofs.LaneLaws.{peers_grown, grown_grown, grown_none}
@@ -102,22 +103,22 @@ gained_part j (g ∷ gs) =
 
 -- a visit as a sprint of one
 one_visit : (before after : CellState) (count : ℕ) → IsVisit before count after
-    → (ds : List Deed) × IsLater before ds after × (length ds ≤ 1) × ((j : ℕ) → known_from j before.known ≤ length (gained_from j (moved before ds).gains))
+    → (ds : List Deed) × IsLater before ds after × (length ds ≤ 1) × ((j : ℕ) → known_from j before.known ≤ length (gained_from j (moved before ds).gains)) × All TakesFew ds
 one_visit before after count v =
     elim (cases_lt 0 count) [
       | inl some ↦
           let d : Deed = record { agent = before.me; stamp = after.stamp; gains = v.gains } in
-          (d ∷ [], event_later before after v.gains (v.event some), omega arith, v.served)
+          (d ∷ [], event_later before after v.gains (v.event some), omega arith, v.served, All-cons TakesFew d [] v.each (All-nil TakesFew))
       | inr none ↦
           let zero_count : count ≡ 0 = omega (arith, none) in
-          ([], quiet_later before after (v.idle zero_count), omega arith, λ j. let low = v.served j in let part = gained_part j v.gains in let is = v.counted in omega (arith, low, part, is, zero_count))
+          ([], quiet_later before after (v.idle zero_count), omega arith, λ j. let low = v.served j in let part = gained_part j v.gains in let is = v.counted in omega (arith, low, part, is, zero_count), All-nil TakesFew)
     ]
 
 pub sprints_are_visits : SprintsAreVisits
 sprints_are_visits = record {
   first = λ before after count live v.
       let one = one_visit before after count v in
-      record { deeds = one.0; later = one.1; few = one.2; served = λ _. one.3 };
+      record { deeds = one.0; later = one.1; few = one.2; bounded = one.4; served = λ _. one.3 };
   next = λ visits count before middle after s v.
       let one = one_visit middle after count v in
       let long = length-append s.deeds one.0 in
@@ -127,6 +128,7 @@ sprints_are_visits = record {
         deeds = s.deeds ++ one.0;
         later = later_then before middle after s.deeds one.0 s.later one.1;
         few = omega (arith, long, low, few);
+        bounded = All-append TakesFew s.deeds one.0 s.bounded one.4;
         served = λ live j.
             let first : known_from j before.known ≤ length (gained_from j (moved before s.deeds).gains) = s.served live j in
             let whole : length (gained_from j (moved before (s.deeds ++ one.0)).gains) ≡ length (gained_from j (moved before s.deeds).gains) + length (gained_from j (moved middle one.0).gains) =
@@ -135,11 +137,12 @@ sprints_are_visits = record {
             ∙ length-append (gained_from j (moved before s.deeds).gains) (gained_from j (moved middle one.0).gains) in
             omega (arith, first, whole);
       };
-  fewer = λ visits more before after le s. record { deeds = s.deeds; later = s.later; few = let few = s.few in omega (arith, few, le); served = s.served };
+  fewer = λ visits more before after le s. record { deeds = s.deeds; later = s.later; few = let few = s.few in omega (arith, few, le); bounded = s.bounded; served = s.served };
   rests = λ visits cell done. record {
     deeds = [];
     later = quiet_later cell cell (record { me = refl; viewed = refl; stamped = refl; noted = refl; sent = refl; taken = refl });
     few = omega arith;
+    bounded = All-nil TakesFew;
     served = λ live. absurd (apart cell done live);
   };
 }

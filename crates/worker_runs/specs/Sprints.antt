@@ -1,17 +1,23 @@
 -- Sprints: what visits of one cell in one round make of it.
 use Rattle.std.specs.Prelude.{◌≡◌, ℕ, ◌+◌, ◌≤◌, true, false, List, length}
+use Rattle.std.specs.List.{All}
 use Rattle.protocol_steps.specs.View.{ended_of}
 use Rattle.protocol_steps.specs.Stamps.{Deed}
 use Rattle.protocol_steps.specs.Deeds.{gained_from}
 use Rattle.worker_runs.specs.Cells.{CellState, known_from}
-use Rattle.worker_runs.specs.Visits.{IsVisit}
+use Rattle.worker_runs.specs.Visits.{IsFew, IsVisit}
 use Rattle.worker_runs.specs.Acts.{moved, IsLater}
 
--- some visits of a cell, at most so many: its activations, which took of each link at least what the cell knew to wait there, where its agent had not ended before
+-- of one link an activation takes no more than the share of a link
+abbrev pub TakesFew : Deed → Type 0
+TakesFew d = All IsFew d.gains
+
+-- some visits of a cell, at most so many: its activations, each of at most 64 messages of a link, which together took of each link at least what the cell knew to wait there, where its agent had not ended before
 pub record IsSprint (visits : ℕ) (before after : CellState) : Type 0 where
   pub deeds : List Deed
   pub later : IsLater before deeds after
   pub few : length deeds ≤ visits
+  pub bounded : All TakesFew deeds
   pub served : ended_of before.view ≡ false → (j : ℕ) → known_from j before.known ≤ length (gained_from j (moved before deeds).gains)
 
 -- how sprints are made of visits
