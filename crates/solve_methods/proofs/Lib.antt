@@ -12,4 +12,5 @@ mod AutoLaws
 pub mod NamedLaws
 mod MadeLaws
 mod CertifiedLaws
+pub mod ReadableLaws
 pub mod OneLaws

@@ -5,6 +5,7 @@ pub mod Dpop
 pub mod Agreed
 pub mod Adopt
 pub mod Logged
+pub mod Readable
 pub mod Kept
 pub mod Reached
 pub mod Auto
