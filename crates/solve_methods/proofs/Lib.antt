@@ -12,5 +12,5 @@ mod AutoLaws
 pub mod NamedLaws
 mod MadeLaws
 mod CertifiedLaws
-mod ReadableLaws
+pub mod ReadableLaws
 pub mod OneLaws

@@ -28,13 +28,11 @@ use Rattle.run_log.specs.Logs.{event_of, events_of}
 use Rattle.run_log.specs.Laws.{IsStampedRun}
 use Rattle.run_log.specs.LogStamps.{LinkStamps, StampDifference, start_stamps, next_stamps, taken_stamps, right_stamp, stamps_after, order_difference, event_difference, or_later, stamp_difference}
 use Rattle.problem_text.specs.File.{TextFile}
-use Rattle.problem_text.specs.declared.file.Goal.{Goal}
-use Rattle.problem_text.specs.declared.file.Goal.TheVariants.{Min, Max}
 use Rattle.certificate_text.specs.declared.certificate.Certificate.{Certificate}
-use Rattle.certificate_text.specs.declared.certificate.Certificate.TheVariants.{Tables, Log, Cut}
+use Rattle.certificate_text.specs.declared.certificate.Certificate.TheVariants.{Log}
 use Rattle.certificate_text.specs.declared.report.Report.{Report}
-use Rattle.problem_solved.specs.Goal.{solved, problem_solved}
-use Rattle.solve_methods.specs.Kept.{IsLogOf}
+use Rattle.problem_solved.specs.Goal.{problem_solved}
+use Rattle.problem_solved.proofs.SolvedLaws.{solved_sizes}
 use Rattle.solve_methods.specs.Certified.{IsLogFor, IsLoggedBy, IsLogged}
 use Rattle.solve_methods.specs.Adopt.{IsAdoptReport}
 use Rattle.solve_methods.specs.Readable.{IsSmallEvent}
@@ -132,11 +130,7 @@ both_of (e ∷ log) a b =
     All-cons IsSmallEvent e log (All-head (StampedWithin amount_limit) e log a, All-head (λ (f : LogEvent). AreShares f.takes) e log b)
     (both_of log (All-tail (StampedWithin amount_limit) e log a) (All-tail (λ (f : LogEvent). AreShares f.takes) e log b))
 
--- the agents of the problem solved are at most 1,000
-solved_sizes : (goal : Goal) (p : Dcop) → length (solved goal p).sizes ≡ length p.sizes
-solved_sizes Min p = refl
-solved_sizes Max p = refl
-
+-- as many agents as variables, and few of them take little in a round
 agents_few : (p : Dcop) (error : ℕ) → length (adopt_agents p (dfs p) error) ≡ length p.sizes
 agents_few p error = length-map (range_with_len 0 (length p.sizes)) _ ∙ length-range_with_len 0 (length p.sizes)
 
@@ -154,7 +148,7 @@ reports_small bounded file error budget certified report whole within is =
     let p : Dcop = problem_solved file in
     let made : List View = adopt_agents p (dfs p) error in
     let many = agents_few p error in
-    let sizes = solved_sizes file.goal file.problem in
+    let sizes = ap (λ (ss : List ℕ). length ss) (solved_sizes file.goal file.problem) in
     let few = whole.few in
     let most = bounded.delivered budget made is.end is.play.rounds is.play.in_rounds in
     let share = round_small (length made) (omega (arith, many, sizes, few)) in

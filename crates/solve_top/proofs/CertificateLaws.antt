@@ -3,8 +3,8 @@ use Rattle.std.proofs.Common.{◌≡◌, ℕ, ◌*◌, ◌<◌, ◌≤◌, Bool,
 use Rattle.std.specs.List.{All, AllZip}
 use Rattle.std.proofs.Math.Nat.{mul-le-mul_right}
 use Rattle.std.proofs.lemmas.Bool.{false≢true}
-use Rattle.std.proofs.lemmas.List.Elements.{All-nil, All-cons, All-head, All-tail}
-use Rattle.dcop_base.specs.Limits.{amount_limit, size_limit, turn_limit, variable_limit}
+use Rattle.std.proofs.lemmas.List.Elements.{All-nil, All-cons, All-head, All-tail, All-weaker}
+use Rattle.dcop_base.specs.Limits.{amount_limit, budget_limit, size_limit, turn_limit, variable_limit}
 use Rattle.dcop_base.specs.Problem.{Dcop, IsAssignment, cost}
 use Rattle.dcop_base.specs.Table.{AreWithin}
 use Rattle.dcop_base.specs.Whole.{IsProblem}
@@ -16,14 +16,18 @@ use Rattle.pseudotree.specs.declared.width.Wide.{Wide}
 use Rattle.pseudotree.specs.declared.width.Wide.TheVariants.{Agent, Total}
 use Rattle.token_runs.proofs.RunLaws.{token_runs}
 use Rattle.adopt_runs.proofs.RunLaws.{adopt_bounds_enclose}
+use Rattle.protocol_steps.specs.declared.event.Take.{Take}
 use Rattle.protocol_steps.specs.Adopt.{AdoptView}
 use Rattle.protocol_steps.specs.AdoptBounds.{lower_bound}
+use Rattle.protocol_steps.specs.Rounds.{link_share, AreShares}
+use Rattle.protocol_steps.proofs.ShareLaws.{rounds_are_bounded}
 use Rattle.problem_text.specs.File.{TextFile}
 use Rattle.problem_text.specs.Declarations.{Declared}
 use Rattle.problem_text.specs.Steps.{declared_by}
 use Rattle.problem_text.specs.declared.file.Goal.{Goal}
 use Rattle.problem_text.specs.declared.file.Goal.TheVariants.{Min, Max}
 use Rattle.run_log.specs.declared.log.LogEvent.{LogEvent}
+use Rattle.run_log.specs.EventLine.{take_limit}
 use Rattle.run_log.specs.LogText.{IsNamedEvent, FitsEvent}
 use Rattle.certificate_text.specs.declared.certificate.Certificate.{Certificate}
 use Rattle.certificate_text.specs.declared.certificate.Certificate.TheVariants.{Tables, Log, Cut}
@@ -42,7 +46,9 @@ use Rattle.solve_methods.specs.Adopt.{IsAdoptReport, IsAdoptAnswer}
 use Rattle.solve_methods.specs.Auto.{IsAutoBy}
 use Rattle.solve_methods.specs.Certified.{IsCertifiedBy, IsLoggedBy}
 use Rattle.solve_methods.specs.Dpop.{wide_in, wide_answer, IsDpopReport, IsAnswerBy}
+use Rattle.solve_methods.specs.Readable.{IsSmallEvent}
 use Rattle.solve_methods.proofs.NamedLaws.{log_named}
+use Rattle.solve_methods.proofs.ReadableLaws.{reports_small}
 use Rattle.cut_laws.specs.Turns.{turn_count}
 use Rattle.cut_laws.proofs.CutSetLaws.{cut_sets_are_one}
 use Rattle.cut_laws.proofs.KeptLaws.{cut_answers_are_optimal}
@@ -56,7 +62,6 @@ use Rattle.solve_top.specs.declared.task.FileTask.{FileTask}
 use Rattle.solve_top.specs.declared.task.FileTask.TheVariants as tasks
 use Rattle.solve_top.specs.Answering.{IsUpgraded, IsFileAnswer}
 use Rattle.solve_top.specs.Served.{IsFileTaskInRange}
-use Rattle.solve_top.specs.Solving.{IsReadableEvent, IsReadable}
 
 -- a certificate with which a report holds
 abbrev pub Certifies : TextFile → Report → Option Certificate → Type 0
@@ -137,25 +142,30 @@ upper_small Min p values lower bound whole =
     let least = least-le (cost p values) bound in omega (arith, most, least)
 upper_small Max p values lower bound whole = let most : top_of p ≤ amount_limit = whole.sums in omega (arith, most)
 
-events_fit : (n : ℕ) (log : List LogEvent) → All (IsNamedEvent n) log → All IsReadableEvent log → All (FitsEvent n) log
-events_fit n [] named readable = All-nil (FitsEvent n)
-events_fit n (e ∷ log) named readable =
-    let can = All-head IsReadableEvent e log readable in
-    All-cons (FitsEvent n) e log (record { named = All-head (IsNamedEvent n) e log named; stamp = can.0; counts = can.1 })
-    (events_fit n log (All-tail (IsNamedEvent n) e log named) (All-tail IsReadableEvent e log readable))
+-- a log of few agents and small events can be read again
+small_counts : (ts : List Take) → AreShares ts → All (λ t. t.count ≤ take_limit) ts
+small_counts ts h = All-weaker (λ (t : Take). t.count ≤ link_share) (λ (t : Take). t.count ≤ take_limit) (λ t few. omega (arith, few)) ts h
+
+events_fit : (n : ℕ) (log : List LogEvent) → All (IsNamedEvent n) log → All IsSmallEvent log → All (FitsEvent n) log
+events_fit n [] named small = All-nil (FitsEvent n)
+events_fit n (e ∷ log) named small =
+    let one = All-head IsSmallEvent e log small in
+    All-cons (FitsEvent n) e log (record { named = All-head (IsNamedEvent n) e log named; stamp = one.0; counts = small_counts e.takes one.1 })
+    (events_fit n log (All-tail (IsNamedEvent n) e log named) (All-tail IsSmallEvent e log small))
 
 module _ (d : Declared) (file : TextFile) (report : Report) (error budget : ℕ) (whole : IsProblem file.problem) (declared : declared_by file ≡ d) (small : error ≤ amount_limit)
-    (is : IsAdoptReport file error budget true report) where
+    (within : budget ≤ budget_limit) (is : IsAdoptReport file error budget true report) where
   -- with this log
-  logged_with : (log : List LogEvent) → report.certificate ≡ Some (Log log) → IsLoggedBy file is.play.rounds is.end report (Some (Log log)) → IsReadable report (Some (Log log)) → IsCertified d file report
-  logged_with log here logged readable =
+  logged_with : (log : List LogEvent) → report.certificate ≡ Some (Log log) → IsLoggedBy file is.play.rounds is.end report (Some (Log log)) → IsCertified d file report
+  logged_with log here logged =
+      let readable = reports_small rounds_are_bounded file error budget true report whole within is in
       let shows : LogsShow = logs_show token_runs adopt_bounds_enclose in
       let shown = shows file report log whole logged.holds in
       let told : TellsEnd file is.end report = is.told in
       let most = cost-le-cap file.problem report.values whole in
       let named : All (IsNamedEvent (length file.problem.sizes)) log =
       subst (λ (ss : List ℕ). All (IsNamedEvent (length ss)) log) (solved_sizes file.goal file.problem) (log_named (problem_solved file) report.error is.end log logged.run.stamped) in
-      let certificate : IfSome (Some (Log log)) (FitsCertificate file.problem.sizes report.method) = (is.method, events_fit (length file.problem.sizes) log named readable.1) in
+      let certificate : IfSome (Some (Log log)) (FitsCertificate file.problem.sizes report.method) = (is.method, events_fit (length file.problem.sizes) log named (readable.1 log here)) in
       let lower = lower_small file.goal file.problem (lower_bound told.top) (least_shown (problem_solved file) report.values told.top) whole (lower-le told.top) in
       let upper = upper_small file.goal file.problem report.values (lower_bound told.top) _ whole in record {
         whole = whole;
@@ -173,14 +183,14 @@ module _ (d : Declared) (file : TextFile) (report : Report) (error budget : ℕ)
         holds = subst (Certifies file report) (sym here) logged.holds;
       }
 
-  by_certificate : (certificate : Option Certificate) → report.certificate ≡ certificate → IsLoggedBy file is.play.rounds is.end report certificate → IsReadable report certificate → IsCertified d file report
-  by_certificate None here logged readable = absurd logged
-  by_certificate (Some (Tables utils)) here logged readable = absurd logged
-  by_certificate (Some (Cut cut turns)) here logged readable = absurd logged
-  by_certificate (Some (Log log)) here logged readable = logged_with log here logged readable
+  by_certificate : (certificate : Option Certificate) → report.certificate ≡ certificate → IsLoggedBy file is.play.rounds is.end report certificate → IsCertified d file report
+  by_certificate None here logged = absurd logged
+  by_certificate (Some (Tables utils)) here logged = absurd logged
+  by_certificate (Some (Cut cut turns)) here logged = absurd logged
+  by_certificate (Some (Log log)) here logged = logged_with log here logged
 
-  adopt_certified : IsReadable report report.certificate → IsCertified d file report
-  adopt_certified readable = by_certificate report.certificate refl is.certificate readable
+  adopt_certified : IsCertified d file report
+  adopt_certified = by_certificate report.certificate refl is.certificate
 
 -- a report of a cut: so few turns take few messages
 few_turns : (goal : Goal) (p : Dcop) (cut : List ℕ) → turn_count (solved goal p) cut ≤ turn_limit → turn_count p cut ≤ turn_limit
@@ -244,7 +254,7 @@ no_refusal_report (faults.TooMany turns) report file is = cc is
 no_refusal_report (faults.Total cells) report file is = cc is
 no_refusal_report faults.NoMemory report file is = is
 
-module _ (d : Declared) (report : Report) (file same : TextFile) (whole : IsProblem file.problem) (declared : declared_by file ≡ d) (some : IsTrue (is_some report.certificate)) (readable : IsReadable report report.certificate) where
+module _ (d : Declared) (report : Report) (file same : TextFile) (whole : IsProblem file.problem) (declared : declared_by file ≡ d) (some : IsTrue (is_some report.certificate)) where
   by_dpop : (certified : Bool) → (same ≡ file) × IsDpopReport file certified report → IsCertified d same report
   by_dpop false is = absurd (some_none report.certificate is.1.certificate some)
   by_dpop true is = subst (λ (f : TextFile). IsCertified d f report) (sym is.0) (dpop_certified d file report whole declared is.1)
@@ -253,11 +263,11 @@ module _ (d : Declared) (report : Report) (file same : TextFile) (whole : IsProb
   by_wide certified None is = by_dpop certified is
   by_wide certified (Some wide) is = absurd (wide_no_report file.names wide report same is)
 
-  by_adopt : (error budget : ℕ) (certified : Bool) → error ≤ amount_limit → IsAdoptAnswer file error budget certified (answers.Report report same) → IsCertified d same report
+  by_adopt : (error budget : ℕ) (certified : Bool) → (error ≤ amount_limit) × (budget ≤ budget_limit) → IsAdoptAnswer file error budget certified (answers.Report report same) → IsCertified d same report
   by_adopt error budget false small is = absurd (some_none report.certificate is.1.certificate some)
-  by_adopt error budget true small is = subst (λ (f : TextFile). IsCertified d f report) (sym is.0) (adopt_certified d file report error budget whole declared small is.1 readable)
+  by_adopt error budget true small is = subst (λ (f : TextFile). IsCertified d f report) (sym is.0) (adopt_certified d file report error budget whole declared small.0 small.1 is.1)
 
-  by_auto : (error budget : ℕ) (certified : Bool) (wide : Option Wide) → error ≤ amount_limit → IsAutoBy file error budget certified wide (answers.Report report same) → IsCertified d same report
+  by_auto : (error budget : ℕ) (certified : Bool) (wide : Option Wide) → (error ≤ amount_limit) × (budget ≤ budget_limit) → IsAutoBy file error budget certified wide (answers.Report report same) → IsCertified d same report
   by_auto error budget certified None small is = by_dpop certified is
   by_auto error budget certified (Some wide) small is = by_adopt error budget certified small is
 
@@ -281,15 +291,15 @@ upgraded_no_report d (Some bar) report file is = is
 
 -- a report that any task prints with a certificate
 pub task_certified : (task : FileTask) (told : Told) (report : Report) (file : TextFile) → IsFileTaskInRange task → IsFileAnswer task told (answers.Report report file) → IsTrue (is_some report.certificate)
-    → IsReadable report report.certificate → IsCertified told.declared file report
-task_certified tasks.Plain told report file range is some readable = absurd (some_none report.certificate is.2.certificate some)
-task_certified (tasks.Dpop certified) told report file range is some readable =
-    by_wide told.declared report is.file file is.whole is.declared some readable certified (wide_in (solved is.file.goal is.file.problem)) is.is
-task_certified (tasks.Adopt error budget certified) told report file range is some readable =
-    by_adopt told.declared report is.file file is.whole is.declared some readable error budget certified range.0 is.is
-task_certified (tasks.Auto error budget certified) told report file range is some readable =
-    by_auto told.declared report is.file file is.whole is.declared some readable error budget certified (wide_in (problem_solved is.file)) range.0 is.is
-task_certified (tasks.Cut limit certified) told report file range is some readable =
-    by_refusal told.declared report is.file file is.whole is.declared some readable limit is.cut certified (refusal_of (problem_solved is.file) is.cut certified) range.0 is.is_cut refl is.is
-task_certified tasks.Tree told report file range is some readable = absurd is.is
-task_certified tasks.Upgrade told report file range is some readable = absurd (upgraded_no_report told.declared told.bar report file is)
+    → IsCertified told.declared file report
+task_certified tasks.Plain told report file range is some = absurd (some_none report.certificate is.2.certificate some)
+task_certified (tasks.Dpop certified) told report file range is some =
+    by_wide told.declared report is.file file is.whole is.declared some certified (wide_in (solved is.file.goal is.file.problem)) is.is
+task_certified (tasks.Adopt error budget certified) told report file range is some =
+    by_adopt told.declared report is.file file is.whole is.declared some error budget certified range is.is
+task_certified (tasks.Auto error budget certified) told report file range is some =
+    by_auto told.declared report is.file file is.whole is.declared some error budget certified (wide_in (problem_solved is.file)) range is.is
+task_certified (tasks.Cut limit certified) told report file range is some =
+    by_refusal told.declared report is.file file is.whole is.declared some limit is.cut certified (refusal_of (problem_solved is.file) is.cut certified) range.0 is.is_cut refl is.is
+task_certified tasks.Tree told report file range is some = absurd is.is
+task_certified tasks.Upgrade told report file range is some = absurd (upgraded_no_report told.declared told.bar report file is)

@@ -155,7 +155,7 @@ module _ (format : Format) (text : List ℕ) (printed : IsPrintedFor format text
   told_text = report_text printed.report printed.file
 
   certified : IsCertified printed.parts.declared printed.file printed.report
-  certified = task_certified printed.task (record { declared = printed.parts.declared; bar = None }) printed.report printed.file printed.range printed.printed printed.certified printed.readable
+  certified = task_certified printed.task (record { declared = printed.parts.declared; bar = None }) printed.report printed.file printed.range printed.printed printed.certified
 
   front_is : front_read format text ≡ Ok printed.parts
   front_is = ap (front_read format) printed.behind ∙ front_kept format printed.problem printed.before told_text printed.parts printed.line printed.read

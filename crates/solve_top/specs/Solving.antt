@@ -1,9 +1,8 @@
 -- What a top call does: it answers, and shows its answer.
-use Rattle.std.specs.Prelude.{◌≡◌, ℕ, ◌≤◌, ◌⊎◌, List, [], ◌∷◌, ◌++◌, length, take, drop, ◌+◌, Option, Some, None, Ok, IsTrue, is_some}
-use Rattle.std.specs.List.{All}
+use Rattle.std.specs.Prelude.{◌≡◌, ℕ, ◌≤◌, ◌⊎◌, List, [], ◌∷◌, ◌++◌, length, take, drop, ◌+◌, Some, None, Ok, IsTrue, is_some}
 use Rattle.dcop_base.specs.Table.{product}
 use Rattle.dcop_base.specs.Whole.{IsProblem}
-use Rattle.dcop_base.specs.Limits.{amount_limit, assignment_limit, input_limit, size_limit}
+use Rattle.dcop_base.specs.Limits.{assignment_limit, input_limit, size_limit}
 use Rattle.problem_text.specs.Declarations.{Declared}
 use Rattle.problem_text.specs.File.{TextFile}
 use Rattle.problem_text.specs.Steps.{declared_by}
@@ -11,8 +10,6 @@ use Rattle.problem_text.specs.Bytes.{line_feed}
 use Rattle.problem_text.specs.PlainLines.{plain_lines}
 use Rattle.problem_text.specs.Reading.{Parts}
 use Rattle.run_log.specs.declared.log.LogEvent.{LogEvent}
-use Rattle.run_log.specs.EventLine.{take_limit}
-use Rattle.certificate_text.specs.declared.certificate.Certificate.{Certificate}
 use Rattle.certificate_text.specs.declared.certificate.Certificate.TheVariants.{Log}
 use Rattle.certificate_text.specs.declared.report.Report.{Report}
 use Rattle.certificate_text.specs.ReportText.{report_text}
@@ -82,15 +79,6 @@ pub record IsProblemFor (format : Format) (task : FileTask) (text : List ℕ) : 
   pub read : input_read format text ≡ Ok told
   pub within : IsWithinLimits task told.declared
 
--- an event of a log whose stamp and counts can be read again
-abbrev pub IsReadableEvent : LogEvent → Type 0
-IsReadableEvent e = (e.stamp ≤ amount_limit) × All (λ t. t.count ≤ take_limit) e.takes
-
--- the numbers that a report with this certificate prints can be read again: those of a report of DPOP or of a cut always can, and those of a report with a log where its deliveries and stamps are at most amount_limit and its counts at most take_limit
-abbrev pub IsReadable : Report → Option Certificate → Type 0
-IsReadable report (Some (Log log)) = (report.deliveries ≤ amount_limit) × All IsReadableEvent log
-IsReadable report certificate = Unit {0}
-
 -- the text of a problem in this format, behind whose last line no line has words, also where comments are words; and behind it a report that some method prints for it with a certificate
 pub record IsPrintedFor (format : Format) (text : List ℕ) : Type 0 where
   pub problem : List ℕ
@@ -105,7 +93,6 @@ pub record IsPrintedFor (format : Format) (text : List ℕ) : Type 0 where
   pub range : IsFileTaskInRange task
   pub printed : IsFileAnswer task (record { declared = parts.declared; bar = None }) (answers.Report report file)
   pub certified : IsTrue (is_some report.certificate)
-  pub readable : IsReadable report report.certificate
   pub behind : text ≡ problem ++ report_text report file
 
 -- the same, where the certificate is a log
