@@ -11,7 +11,7 @@ use Rattle.bucket_bounds.specs.Exact.{AreExact}
 use Rattle.bucket_bounds.specs.declared.bucket.Bucket.{Bucket}
 use Rattle.bound_search.specs.Estimate.{estimate, unscaled, IsPassedOver}
 use Rattle.bound_search.specs.Known.{IsBelow, IsNoWorse}
-use Rattle.bound_search.specs.Searched.{most_nodes, tree_nodes}
+use Rattle.bound_search.specs.Searched.{most_nodes, tree_nodes, TakesEffort}
 use Rattle.bound_search.specs.Grounds.{AreGrounds, scaled_cost}
 use Rattle.bound_search.specs.Descent.{IsRoom, IsStanding, IsFurther, IsStraight, HasDescended, IsOpened}
 use Rattle.bound_search.specs.declared.progress.Progress.{Progress}
@@ -116,6 +116,7 @@ pub record HasBegun (sizes : List ℕ) (buckets : List Bucket) (rules : Rules) (
   pub known : (best : ℕ) × (now.best ≡ Some best)
   pub found : old.best ≡ None → now.found ≡ true
   pub nodes : now.nodes ≤ most_nodes rules.budget (length sizes - depth) old.best old.nodes
+  pub effort : TakesEffort (length sizes - depth) old.found old.nodes now.found now.nodes
   pub straight : AreExact sizes (tables_in buckets) buckets → old.nodes + (length sizes - depth) ≤ rules.budget → IsStraight (length sizes - depth) f old now × ((a : ℕ) → a < length row → now.room ≤ get_or row a 0)
 
 pub record IsVisiting (sizes : List ℕ) (buckets : List Bucket) (rules : Rules) (depth f : ℕ) (value : ℕ → ℕ) (row : List ℕ) (old now : Progress) : Type 0 where
@@ -223,6 +224,13 @@ module _ (sizes : List ℕ) (buckets : List Bucket) (rules : Rules) (grounds : A
                 let most : new.nodes ≤ max rules.budget mid.nodes = subst (λ (b : Option ℕ). new.nodes ≤ most_nodes rules.budget (length sizes - (depth + 1)) b mid.nodes) (best ∙ begun.known.1) descended.nodes in
                 most_least rules.budget (length sizes - depth) old.nodes new.nodes old.best (omega (arith, most, below, nodes)))
           ];
+          effort = λ none first. elim (cases_Bool now.found) [
+            | inl early ↦ elim visiting.begun [
+              | inl fresh ↦ absurd (not_both now.found (ap (λ (q : Progress). q.found) fresh.same ∙ none) early)
+              | inr begun ↦ (let least = begun.effort none early in omega (arith, least, nodes, descended.further.counted))
+            ]
+            | inr late ↦ (let least = descended.effort (found ∙ late) first in omega (arith, least, nodes, count, some, visiting.further.counted))
+          ];
           straight = λ exact few. elim visiting.begun [
             | inl fresh ↦ (let before : now.nodes ≡ old.nodes = ap (λ (q : Progress). q.nodes) fresh.same in
                 let unspent : now.spent ≡ old.spent = ap (λ (q : Progress). q.spent) fresh.same in
@@ -279,6 +287,10 @@ module _ (sizes : List ℕ) (buckets : List Bucket) (rules : Rules) (grounds : A
           | inr begun ↦ subst (λ (n : ℕ). n ≤ most_nodes rules.budget (length sizes - depth) old.best old.nodes) (sym nodes) begun.nodes
         ];
         tree = subst (λ (n : ℕ). n ≤ old.nodes + tree_nodes (drop depth sizes)) (sym nodes) (tree_end now.nodes (to_visit row * (1 + tree_nodes (drop (depth + 1) sizes))) (old.nodes + tree_nodes (drop depth sizes)) visiting.tree);
+        effort = λ none first. elim visiting.begun [
+          | inl fresh ↦ absurd (not_both now.found (ap (λ (q : Progress). q.found) fresh.same ∙ none) (sym found ∙ first))
+          | inr begun ↦ (let least = begun.effort none (sym found ∙ first) in omega (arith, least, nodes))
+        ];
         straight = λ exact few. elim visiting.begun [
           | inl fresh ↦ absurd (let first = fresh.least exact in
               let before : now.nodes ≡ old.nodes = ap (λ (q : Progress). q.nodes) fresh.same in
@@ -346,6 +358,7 @@ module _ (sizes : List ℕ) (buckets : List Bucket) (rules : Rules) (grounds : A
         found = λ h. found;
         nodes = subst (λ (n : ℕ). n ≤ most_nodes rules.budget (length sizes - length sizes) old.best old.nodes) (sym nodes) (most_before rules.budget (length sizes - length sizes) old.nodes old.best);
         tree = omega (arith, nodes);
+        effort = λ none first. omega (arith, nodes);
         straight = λ exact few. record { whole = spent; few = omega (arith, nodes); room = room_now };
       }
 

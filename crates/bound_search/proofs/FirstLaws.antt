@@ -109,5 +109,6 @@ searched_none sizes buckets rules grounds first old new is over room top unspent
       found = λ none. absurd (subst (λ (b : Option ℕ). IsPassedOver rules.scale rules.error b first) none (room.above first (omega (arith, is, within)) over));
       nodes = most_before rules.budget (length sizes) old.nodes old.best;
       tree = omega arith;
+      effort = λ none found. absurd (let both = sym none ∙ found in cc);
       straight = λ exact few. (unspent, omega arith);
     })

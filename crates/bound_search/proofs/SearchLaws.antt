@@ -125,6 +125,7 @@ module _ (p : Dcop) (shared : SharedCosts) (buckets : List Bucket) (problem : Is
             (subst (λ (b : Option ℕ). new.nodes ≤ most_nodes budget (length p.sizes) b before.nodes) (sym old_best)
             (subst (λ (n : ℕ). new.nodes ≤ most_nodes budget (length p.sizes) old.best n) (sym old_nodes) searched.nodes));
         tree = omega (arith, searched.tree, nodes, old_nodes);
+        effort = λ none first. (let least = searched.effort (sym old_found ∙ none) (sym is_found ∙ first) in omega (arith, least, nodes, old_nodes));
         straight = λ exact few. (let straight = searched.straight exact (omega (arith, few, old_nodes)) in
             record { whole = spent ∙ straight.0; few = omega (arith, straight.1, nodes, old_nodes) });
       }

@@ -8,7 +8,7 @@ use Rattle.bucket_bounds.specs.Exact.{AreExact}
 use Rattle.bucket_bounds.specs.declared.bucket.Bucket.{Bucket}
 use Rattle.bound_search.specs.Estimate.{IsPassedOver}
 use Rattle.bound_search.specs.Known.{IsBelow, IsNoWorse}
-use Rattle.bound_search.specs.Searched.{most_nodes, tree_nodes}
+use Rattle.bound_search.specs.Searched.{most_nodes, tree_nodes, TakesEffort}
 use Rattle.bound_search.specs.Grounds.{scaled_cost}
 use Rattle.bound_search.specs.declared.progress.Progress.{Progress}
 use Rattle.bound_search.specs.declared.rules.Rules.{Rules}
@@ -58,6 +58,7 @@ pub record HasDescended (sizes : List ℕ) (buckets : List Bucket) (rules : Rule
   pub found : old.best ≡ None → new.found ≡ true
   pub nodes : new.nodes ≤ most_nodes rules.budget (length sizes - depth) old.best old.nodes
   pub tree : new.nodes ≤ old.nodes + tree_nodes (drop depth sizes)
+  pub effort : TakesEffort (length sizes - depth) old.found old.nodes new.found new.nodes
   pub straight : AreExact sizes (tables_in buckets) buckets → old.nodes + (length sizes - depth) ≤ rules.budget → IsStraight (length sizes - depth) f old new
 
 -- what becomes of a search when the next value has this estimate: the value is a node, or passed over, or left open

@@ -7,7 +7,7 @@ use Rattle.shared_costs.specs.Values.{AreValues}
 use Rattle.bucket_bounds.specs.Bounds.{tables_in}
 use Rattle.bucket_bounds.specs.Exact.{AreExact}
 use Rattle.bucket_bounds.specs.declared.bucket.Bucket.{Bucket}
-use Rattle.bound_search.specs.Searched.{most_nodes, tree_nodes}
+use Rattle.bound_search.specs.Searched.{most_nodes, tree_nodes, TakesEffort}
 use Rattle.bound_search.specs.Grounds.{scaled_cost}
 use Rattle.bound_search.specs.Descent.{IsFurther}
 use Rattle.bound_search.specs.declared.progress.Progress.{Progress}
@@ -29,4 +29,5 @@ pub record HasSearched (sizes : List ℕ) (buckets : List Bucket) (rules : Rules
   pub found : old.best ≡ None → new.found ≡ true
   pub nodes : new.nodes ≤ most_nodes rules.budget (length sizes) old.best old.nodes
   pub tree : new.nodes ≤ old.nodes + tree_nodes sizes
+  pub effort : TakesEffort (length sizes) old.found old.nodes new.found new.nodes
   pub straight : AreExact sizes (tables_in buckets) buckets → old.nodes + length sizes ≤ rules.budget → (new.spent ≡ false) × (new.nodes ≤ old.nodes + length sizes)

@@ -1,5 +1,5 @@
 -- What a search comes to.
-use Rattle.std.specs.Prelude.{◌≡◌, ℕ, ◌+◌, ◌*◌, ◌≤◌, ◌⊎◌, max, true, false, List, [], ◌∷◌, Option, Some, None, length}
+use Rattle.std.specs.Prelude.{◌≡◌, ℕ, ◌+◌, ◌*◌, ◌≤◌, ◌⊎◌, max, Bool, true, false, List, [], ◌∷◌, Option, Some, None, length}
 use Rattle.dcop_base.specs.Problem.{Dcop, IsAssignment, cost}
 use Rattle.bucket_bounds.specs.Exact.{AreExact}
 use Rattle.bucket_bounds.specs.declared.bucket.Bucket.{Bucket}
@@ -28,6 +28,10 @@ abbrev pub most_nodes : ℕ → ℕ → Option ℕ → ℕ → ℕ
 most_nodes budget count None before = max budget (before + count)
 most_nodes budget count (Some best) before = max budget before
 
+-- an assignment that is found first costs a node for each of so many variables at least
+abbrev pub TakesEffort : ℕ → Bool → ℕ → Bool → ℕ → Type 0
+TakesEffort count found nodes found' nodes' = found ≡ false → found' ≡ true → nodes + count ≤ nodes'
+
 -- how many nodes there are in all: each value of a variable, behind each choice of values of the variables before
 abbrev pub tree_nodes : List ℕ → ℕ
 tree_nodes [] = 0
@@ -46,6 +50,7 @@ pub record IsSearched (p : Dcop) (buckets : List Bucket) (error budget : ℕ) (o
   pub lower : (values : List ℕ) → IsAssignment p values → ended.lower ≤ cost p values
   pub ends : EndsSo error budget new ended
   pub counted : old.nodes ≤ new.nodes
+  pub effort : TakesEffort (length p.sizes) old.found old.nodes new.found new.nodes
   pub nodes : new.nodes ≤ most_nodes budget (length p.sizes) old.best old.nodes
   pub tree : new.nodes ≤ old.nodes + tree_nodes p.sizes
   pub straight : AreExact p.sizes (tables_in buckets) buckets → old.nodes + length p.sizes ≤ budget → GoesStraight (length p.sizes) old new ended

@@ -79,7 +79,7 @@ pairs_told given (name ∷ value ∷ words) =
 
 -- what is asked where this was given: the default of what was not
 abbrev pub asked_by : Given → Asked
-asked_by given = record { tries = unwrap_or given.tries 1000; seed = unwrap_or given.seed 0 }
+asked_by given = record { tries = unwrap_or given.tries 20000; seed = unwrap_or given.seed 0 }
 
 -- the answer to words
 abbrev pub order_answer_to : List (List ℕ) → Result Asked WordFault

@@ -96,7 +96,7 @@ impl Given {
         ensures { result ≡ asked_by self }
     {
         Asked {
-            tries: self.tries.unwrap_or(1_000),
+            tries: self.tries.unwrap_or(20_000),
             seed: self.seed.unwrap_or(0),
         }
     }

@@ -87,6 +87,24 @@ module _ (old new : TextFile) (order : List ℕ) (reordered : IsReordered old or
         subst (λ (g : Goal). IsAtMostWorse g 0 bound (cost old.problem values)) reordered.goal
         (subst (λ (n : ℕ). IsAtMostWorse new.goal 0 bound n) one.cost (is (values_at order values) one.assignment))
 
+    told_apart : (goal : Goal) (bound : ℕ) (inside outside : Option Found) → AreToldOutside order inside outside → IfSome inside (λ told. IsAtMostWorse goal asked.error told.cost bound → ⊥)
+        → IfSome outside (λ told. IsAtMostWorse goal asked.error told.cost bound → ⊥)
+    told_apart goal bound None None told apart = tt
+    told_apart goal bound None (Some outside) told apart = absurd told
+    told_apart goal bound (Some inside) None told apart = absurd told
+    told_apart goal bound (Some inside) (Some outside) told apart = subst (λ (n : ℕ). IsAtMostWorse goal asked.error n bound → ⊥) (sym told.cost) apart
+
+    none_inside : (inside outside : Option Found) → AreToldOutside order inside outside → outside ≡ None → inside ≡ None
+    none_inside None outside told none = refl
+    none_inside (Some inside) None told none = absurd told
+    none_inside (Some inside) (Some outside) told none = cc
+
+    told_effort : {Said : Type 0} (inside outside : Option Found) → AreToldOutside order inside outside → IfSome inside (λ found. Said) → IfSome outside (λ found. Said)
+    told_effort None None told said = tt
+    told_effort None (Some outside) told said = absurd told
+    told_effort (Some inside) None told said = absurd told
+    told_effort (Some inside) (Some outside) told said = said
+
     ends_outside : (inside : SearchReport) (found : Option Found) → AreToldOutside order inside.found found → (ending : SearchEnding) → EndsBy asked inside ending → EndsBy asked (with_found inside found) ending
     ends_outside inside found told Solved is =
         let one = some_told order inside.found found told is.found is.known in
@@ -95,7 +113,11 @@ module _ (old new : TextFile) (order : List ℕ) (reordered : IsReordered old or
           known = one.1;
           within = subst (λ (n : ℕ). IsAtMostWorse inside.goal asked.error n inside.bound) (sym one.2) is.within;
         }
-    ends_outside inside found told Spent is = is
+    ends_outside inside found told Spent is = record {
+      reached = is.reached;
+      apart = told_apart inside.goal inside.bound inside.found found told is.apart;
+      sought = λ none. is.sought (none_inside inside.found found told none);
+    }
     ends_outside inside found told NoneBetter is = record {
       none = none_told order inside.found found told is.none;
       better = is.better;
@@ -114,4 +136,5 @@ module _ (old new : TextFile) (order : List ℕ) (reordered : IsReordered old or
           subst (λ (n : ℕ). inside.bound ≤ n) top is.within);
       ends = ends_outside inside found told inside.ending is.ends;
       nodes = subst (λ (n : ℕ). inside.nodes ≤ most_visited asked.budget n asked.better) (count_same ∙ reordered.is_order.many) is.nodes;
+      effort = told_effort inside.found found told (subst (λ (n : ℕ). IfSome inside.found (λ one. n ≤ inside.nodes)) (count_same ∙ reordered.is_order.many) is.effort);
     }

@@ -69,6 +69,7 @@ module _ (p : Dcop) (asked : Asked) (best : Option ℕ) where
     lower = λ values within. omega (arith, zero_lower);
     first = λ h. zero_nodes;
     few = omega (arith, zero_nodes);
+    effort = λ h. absurd (not_both o.known.found none h);
     nodes = omega (arith, zero_nodes);
   }
 
@@ -103,6 +104,12 @@ module _ (p : Dcop) (asked : Asked) (best : Option ℕ) where
       ],
     )
 
+    effort_still : after.known.found ≡ true → length p.sizes ≤ after.known.nodes
+    effort_still found = elim (cases_Bool before.known.found) [
+      | inl had ↦ (let least = so_far.effort had in omega (arith, least, stage.counted))
+      | inr none ↦ (let least = stage.effort none found in omega (arith, least))
+    ]
+
     -- after one more stage
     pub so_far_more : IsSoFar p asked best after
     so_far_more = record {
@@ -111,6 +118,7 @@ module _ (p : Dcop) (asked : Asked) (best : Option ℕ) where
       better = better_still;
       lower = stage.lower;
       first = λ none. absurd (something_known asked.error budget after.known after.ended stage.ends none);
+      effort = effort_still;
       few = most_within budget asked.budget (length p.sizes) before.known.best before.known.nodes after.known.nodes few so_far.few so_far.first stage.nodes;
       nodes = most_still budget asked.budget (length p.sizes) best before.known.best before.known.nodes after.known.nodes few so_far.nodes nothing_before stage.nodes;
     }
@@ -130,5 +138,7 @@ module _ (p : Dcop) (asked : Asked) (best : Option ℕ) where
           | inr whole ↦ subst (λ (b : ℕ). EndsSo asked.error b after.known after.ended) whole stage.ends
         ]
       ];
+      apart = stage.apart;
+      effort = effort_still;
       nodes = so_far_more.nodes;
     }

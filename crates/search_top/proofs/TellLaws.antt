@@ -13,8 +13,8 @@ use Rattle.problem_text.specs.declared.file.Goal.TheVariants.{Min, Max}
 use Rattle.problem_solved.specs.Goal.{solved, IsAtMostWorse}
 use Rattle.bound_search.specs.Known.{IsBelow}
 use Rattle.bound_search.specs.Searched.{HasEnded, EndsSo}
-use Rattle.search_top.specs.Report.{IsBetterSum, IsFoundIn, IsBoundOf, EndsBy, IsSearchReport, most_visited}
-use Rattle.search_top.specs.Stages.{IsOutcome}
+use Rattle.search_top.specs.Report.{IsBetterSum, IsFoundIn, IsBoundOf, HasSpent, EndsBy, IsSearchReport, most_visited}
+use Rattle.search_top.specs.Stages.{IsApart, IsOutcome}
 use Rattle.search_top.specs.Turning.{told_sum, found_told, ending_told}
 use Rattle.search_top.specs.declared.report.Found.{Found}
 use Rattle.search_top.specs.declared.report.SearchReport.{SearchReport}
@@ -127,18 +127,66 @@ spent-so : (error budget : ℕ) (o : Outcome) → EndsSo error budget o.known o.
 spent-so error budget o (inl ended) spent = let e = sym spent ∙ ended.0 in cc
 spent-so error budget o (inr reached) spent = reached.1.reached
 
+-- what is more than so much above the bound there is more than so much worse
+apart-told : (goal : Goal) (top error sum lower : ℕ) → sum ≤ top → lower + error < sum → IsAtMostWorse goal error (told_sum goal top sum) (told_sum goal top lower) → ⊥
+apart-told Min top error sum lower most apart near = omega (arith, apart, near)
+apart-told Max top error sum lower most apart near = omega (arith, most, apart, near)
+
+-- the same of a sum that was told
+apart-sought : (goal : Goal) (top error sum lower : ℕ) → lower + error < told_sum goal top sum → IsAtMostWorse goal error sum (told_sum goal top lower) → ⊥
+apart-sought Min top error sum lower apart near = omega (arith, apart, near)
+apart-sought Max top error sum lower apart near = omega (arith, apart, near)
+
+-- an assignment costs at most the top sum
+cost-within : (goal : Goal) (p : Dcop) (values : List ℕ) → IsProblem p → IsAssignment (solved goal p) values → cost (solved goal p) values ≤ top_of p
+cost-within Min p values whole is = cost-le-greatest_sum p values
+cost-within Max p values whole is = let costs = sum_to_top p whole values is in omega (arith, costs)
+
+apart-found : (goal : Goal) (top error lower : ℕ) (found : Bool) (best : Option ℕ) (values : List ℕ) → (found ≡ true → IfSome best (λ sum. sum ≤ top)) → IsApart error best lower
+    → IfSome (if found then option_map (with_sum goal top values) best else None) (λ told. IsAtMostWorse goal error told.cost (told_sum goal top lower) → ⊥)
+apart-found goal top error lower false best values most apart = tt
+apart-found goal top error lower true None values most apart = tt
+apart-found goal top error lower true (Some sum) values most apart = apart-told goal top error sum lower (most refl) apart
+
+apart-none : (goal : Goal) (top error lower : ℕ) (better best : Option ℕ) → best ≡ option_map (told_sum goal top) better → IsApart error best lower
+    → IfSome better (λ sum. IsAtMostWorse goal error sum (told_sum goal top lower) → ⊥)
+apart-none goal top error lower None best e apart = tt
+apart-none goal top error lower (Some sum) best e apart =
+    apart-sought goal top error sum lower (subst (λ (b : Option ℕ). IsApart error b lower) e apart)
+
+-- where nothing is told as found, nothing was known as found
+none-found : (goal : Goal) (top : ℕ) (found : Bool) (best : Option ℕ) (values : List ℕ) (sum : ℕ) → (found ≡ true → best ≡ Some sum)
+    → (if found then option_map (with_sum goal top values) best else None) ≡ None → found ≡ false
+none-found goal top false best values sum known e = refl
+none-found goal top true None values sum known e = let has = known refl in cc
+none-found goal top true (Some n) values sum known e = cc
+
+some-within : (best : Option ℕ) (sum top : ℕ) → best ≡ Some sum → sum ≤ top → IfSome best (λ n. n ≤ top)
+some-within best sum top e le = subst (λ (b : Option ℕ). IfSome b (λ n. n ≤ top)) (sym e) le
+
+spent-told : (goal : Goal) (p : Dcop) (asked : Asked) (o : Outcome) → IsProblem p → IsOutcome (solved goal p) asked (option_map (told_sum goal (top_of p)) asked.better) o
+    → o.ended.spent ≡ true → HasSpent asked (report_told goal (top_of p) asked o)
+spent-told goal p asked o whole is spent = record {
+  reached = spent-so asked.error asked.budget o is.ends spent;
+  apart = apart-found goal (top_of p) asked.error o.ended.lower o.known.found o.known.best o.known.values
+      (λ known. let found = is.known.found known in some-within o.known.best (cost (solved goal p) o.known.values) (top_of p) found.cost (cost-within goal p o.known.values whole found.assignment))
+      (is.apart spent);
+  sought = λ none. (let not = none-found goal (top_of p) o.known.found o.known.best o.known.values (cost (solved goal p) o.known.values) (λ known. (is.known.found known).cost) none in
+      apart-none goal (top_of p) asked.error o.ended.lower asked.better o.known.best (is.same not) (is.apart spent));
+}
+
 -- how a search ended, told of the problem
-ends-told : (goal : Goal) (p : Dcop) (asked : Asked) (o : Outcome) → IsOutcome (solved goal p) asked (option_map (told_sum goal (top_of p)) asked.better) o
+ends-told : (goal : Goal) (p : Dcop) (asked : Asked) (o : Outcome) → IsProblem p → IsOutcome (solved goal p) asked (option_map (told_sum goal (top_of p)) asked.better) o
     → (found spent : Bool) → o.known.found ≡ found → o.ended.spent ≡ spent → EndsBy asked (report_told goal (top_of p) asked o) (ending_told found spent)
-ends-told goal p asked o is found true known spent = spent-so asked.error asked.budget o is.ends spent
-ends-told goal p asked o is true false known spent =
+ends-told goal p asked o whole is found true known spent = spent-told goal p asked o whole is spent
+ends-told goal p asked o whole is true false known spent =
     let ended = not-spent asked.error asked.budget o is.ends spent in
     record {
       found = with_sum goal (top_of p) o.known.values ended.best;
       known = found-some goal (top_of p) o.known.found o.known.best o.known.values ended.best known ended.known_is;
       within = worse-told goal (top_of p) asked.error ended.best o.ended.lower ended.within;
     }
-ends-told goal p asked o is false false known spent =
+ends-told goal p asked o whole is false false known spent =
     let ended = not-spent asked.error asked.budget o is.ends spent in
     let sought = sought-of goal (top_of p) asked.better ended.best (sym (is.same known) ∙ ended.known_is) in
     let most = ended.within in
@@ -177,6 +225,13 @@ visited-told goal p budget nodes better few =
     subst (λ (most : ℕ). nodes ≤ most) (most-visited (told_sum goal (top_of p)) budget (length p.sizes) better)
     (subst (λ (count : ℕ). nodes ≤ most_visited budget count (option_map (told_sum goal (top_of p)) better)) (sizes-solved goal p) few)
 
+-- what is told as found was known as found
+effort-told : {Said : Type 0} (goal : Goal) (top : ℕ) (found : Bool) (best : Option ℕ) (values : List ℕ) → (found ≡ true → Said)
+    → IfSome (if found then option_map (with_sum goal top values) best else None) (λ told. Said)
+effort-told goal top false best values said = tt
+effort-told goal top true None values said = tt
+effort-told goal top true (Some sum) values said = said refl
+
 -- what came of a search is told as the report of one on the problem
 pub outcome-told : (goal : Goal) (p : Dcop) (asked : Asked) (o : Outcome) → IsProblem p
     → IsOutcome (solved goal p) asked (option_map (told_sum goal (top_of p)) asked.better) o → IsSearchReport goal p asked (report_told goal (top_of p) asked o)
@@ -187,6 +242,7 @@ outcome-told goal p asked o whole is = record {
   some = some-told goal p asked o is;
   bound = bound-told goal p o.ended.lower whole is.lower;
   within = within-told goal p o.ended.lower whole is.lower;
-  ends = ends-told goal p asked o is o.known.found o.ended.spent refl refl;
+  ends = ends-told goal p asked o whole is o.known.found o.ended.spent refl refl;
   nodes = visited-told goal p asked.budget o.known.nodes asked.better is.nodes;
+  effort = effort-told goal (top_of p) o.known.found o.known.best o.known.values (λ known. subst (λ (n : ℕ). n ≤ o.known.nodes) (sizes-solved goal p) (is.effort known));
 }

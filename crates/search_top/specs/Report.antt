@@ -44,13 +44,19 @@ pub record HasNoneBetter (asked : Asked) (r : SearchReport) : Type 0 where
   pub sought : asked.better ≡ Some better
   pub within : IsAtMostWorse r.goal asked.error better r.bound
 
--- how a search ended: it is spent only where the nodes have reached the budget
+-- a search that is spent: the nodes have reached the budget, and what was found, or else what was to be bettered, is more than the error worse than the bound
+pub record HasSpent (asked : Asked) (r : SearchReport) : Type 0 where
+  pub reached : asked.budget ≤ r.nodes
+  pub apart : IfSome r.found (λ found. ¬ IsAtMostWorse r.goal asked.error found.cost r.bound)
+  pub sought : r.found ≡ None → IfSome asked.better (λ sum. ¬ IsAtMostWorse r.goal asked.error sum r.bound)
+
+-- how a search ended
 abbrev pub EndsBy : Asked → SearchReport → SearchEnding → Type 0
 EndsBy asked r Solved = HasSolved asked r
-EndsBy asked r Spent = asked.budget ≤ r.nodes
+EndsBy asked r Spent = HasSpent asked r
 EndsBy asked r NoneBetter = HasNoneBetter asked r
 
--- the report of a search that was asked for, on a problem with this goal; without a sum to be bettered there always is an assignment
+-- the report of a search that was asked for, on a problem with this goal; without a sum to be bettered there always is an assignment, and one that was found took a node for each variable at least
 pub record IsSearchReport (goal : Goal) (p : Dcop) (asked : Asked) (r : SearchReport) : Type 0 where
   pub same_goal : r.goal ≡ goal
   pub error : r.error ≡ asked.error
@@ -60,3 +66,4 @@ pub record IsSearchReport (goal : Goal) (p : Dcop) (asked : Asked) (r : SearchRe
   pub within : r.bound ≤ top_of p
   pub ends : EndsBy asked r r.ending
   pub nodes : r.nodes ≤ most_visited asked.budget (length p.sizes) asked.better
+  pub effort : IfSome r.found (λ found. length p.sizes ≤ r.nodes)

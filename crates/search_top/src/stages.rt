@@ -1,9 +1,9 @@
 //! A search in stages, whose tables grow.
 
-ghost use Rattle.std.specs.Prelude.{◌≡◌, ◌≤◌, false, IfOk};
+ghost use Rattle.std.specs.Prelude.{◌≡◌, ℕ, ◌+◌, ◌≤◌, false, true, Some, IfOk};
 ghost use Rattle.shared_costs.specs.Shared.{AreSharedCosts};
 ghost use Rattle.bound_search.specs.Known.{IsKnown};
-ghost use Rattle.search_top.specs.Stages.{IsLowerBound, IsStage, IsOutcome};
+ghost use Rattle.search_top.specs.Stages.{IsApart, IsLowerBound, IsStage, IsOutcome};
 ghost use Rattle.search_top.specs.Words.{IsServed};
 
 use crate::words::Asked;
@@ -164,11 +164,21 @@ fn searched(
         limits,
         &mut known,
     )?;
+    let lower = ended.lower.max(earlier.lower);
+    let spent = ended.spent && !is_within(known.best, lower, asked.error);
     Ok(Outcome {
         known,
-        ended: Ended {
-            lower: ended.lower.max(earlier.lower),
-            spent: ended.spent,
-        },
+        ended: Ended { lower, spent },
     })
+}
+
+/// Whether the best that is known is at most the error above a bound.
+fn is_within(best: Option<u64>, lower: u64, error: u64) -> bool
+    ensures within { result ≡ true → (sum : ℕ) × (best ≡ Some sum) × (sum ≤ lower + error) }
+    ensures apart { result ≡ false → IsApart error best lower }
+{
+    match best {
+        Some(sum) => sum.saturating_sub(lower) <= error,
+        None => false,
+    }
 }
