@@ -151,6 +151,3 @@ pub next_stopped : (result : Result (List ℕ) Stop) (stop : Stop) (before now a
 next_stopped (Ok request) stop before now after place h piece is = absurd is
 next_stopped (Err s) stop before now after place h piece is =
     subst (λ (t : Stop). IsStopped t before after) (sym is) (stopped_after stop before now after h.on h.same piece)
-
-pub next_given_up : (before now : Reading) (place : Option ℕ) → HasGoneOn before place now → IsNext (Err stops.Memory) before now
-next_given_up before now place h = (loses_on before now h.on, h.same)

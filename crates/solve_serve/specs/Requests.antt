@@ -1,5 +1,5 @@
 -- What a session reads: the requests, and why no further one came.
-use Rattle.std.specs.Prelude.{◌≡◌, ◌≢◌, ℕ, true, false, List, [], ◌∷◌, ◌++◌, Option, Some, None, Result, Ok, Err}
+use Rattle.std.specs.Prelude.{◌≡◌, ◌≢◌, ℕ, ◌<◌, true, false, List, [], ◌∷◌, ◌++◌, length, Option, Some, None, Result, Ok, Err}
 use Rattle.std.specs.Io.KnownBytes.{prepend_known, IsAtEnd}
 use Rattle.dcop_edge.specs.Faults.{Rose}
 use Rattle.wire_frames.specs.Frame.{framed_all}
@@ -67,6 +67,12 @@ IsPlace (Some place) r = (r.stuck ≡ true) × (place ≡ r.place)
 abbrev pub IsPiece : Result (Option ℕ) Stop → Reading → Reading → Type 0
 IsPiece (Ok place) before after = GoesOn before after × IsPlace place after.reader × (after.faults ≡ before.faults)
 IsPiece (Err stop) before after = IsStopped stop before after
+
+-- a piece was read by a reader that stood at no too long a length field: where it made no frame whole and brought no such field, more bytes stand behind the whole frames
+pub record HasGrown (before after : Reader) : Type 0 where
+  pub free : before.stuck ≡ false
+  pub limit : after.limit ≡ before.limit
+  pub more : after.ready ≡ [] → after.stuck ≡ false → length before.rest < length after.rest
 
 -- a reader at the end of the input: no byte stands behind the whole frames, or some do
 abbrev pub IsEnd : Reader → Stop → Type 0

@@ -1,7 +1,7 @@
 //! Reading requests.
 
 ghost use Rattle.std.specs.Prelude.{◌≡◌, [], false, OnOk};
-ghost use Rattle.solve_serve.specs.Requests.{reading, IsPlace, IsNext, IsPiece, IsEnd, IsTaken};
+ghost use Rattle.solve_serve.specs.Requests.{reading, IsPlace, IsNext, IsPiece, HasGrown, IsEnd, IsTaken};
 
 use crate::stop::Stop;
 use dcop_base::Bytes;
@@ -24,13 +24,12 @@ pub(crate) fn next_request<S: Source>(
         (reading reader.old (S.left source.old) (S.faults source.old))
         (reading reader.new (S.left source.new) (S.faults source.new)) }
 {
-    for _ in 0..u64::MAX {
+    loop {
         match reader.next() {
             Some(request) => return Ok(request),
             None => *place = read_on(source, reader, *place)?,
         }
     }
-    Err(Stop::Memory)
 }
 
 /// Reads one more piece for a reader that holds no whole frame, unless it stands at too long a length
@@ -42,9 +41,10 @@ fn read_on<S: Source>(
 ) -> Result<Option<u64>, Stop>
     requires none { reader.old.ready ≡ [] }
     requires place { IsPlace place reader.old }
-    ensures { IsPiece result
+    ensures piece { IsPiece result
         (reading reader.old (S.left source.old) (S.faults source.old))
         (reading reader.new (S.left source.new) (S.faults source.new)) }
+    ensures grown { OnOk result (HasGrown reader.old reader.new) }
 {
     match place {
         Some(place) => Err(Stop::Long(place)),
@@ -56,9 +56,10 @@ fn read_on<S: Source>(
 fn read_piece<S: Source>(source: &mut S, reader: &mut FrameReader) -> Result<Option<u64>, Stop>
     requires none { reader.old.ready ≡ [] }
     requires free { reader.old.stuck ≡ false }
-    ensures { IsPiece result
+    ensures piece { IsPiece result
         (reading reader.old (S.left source.old) (S.faults source.old))
         (reading reader.new (S.left source.new) (S.faults source.new)) }
+    ensures grown { OnOk result (HasGrown reader.old reader.new) }
 {
     let mut block = [0; BLOCK];
     match source.read(&mut block) {
