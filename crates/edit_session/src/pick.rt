@@ -50,7 +50,7 @@ fn picked(
     problem_is_whole(problem);
     let Some(made) = &kept[var.0 as usize] else {
         // What was made for each agent is held.
-        return Err(NoMemory);
+        unreachable!();
     };
     let others = values_of(alloc, tree.separator(var).as_slice(), values)?;
     Ok(pick(made.joined(), var, others.as_slice()))

@@ -6,8 +6,17 @@ use Rattle.pseudotree.proofs.PlaceLaws.{separator_below}
 use Rattle.dpop_agent.specs.Joint.{IsJoint}
 use Rattle.dpop_made.specs.Held.{agent_with}
 use Rattle.edit_session.proofs.LoopLaws.{within_count}
-use Rattle.edit_session.proofs.PickLaws.{is_pick, kept_is_held}
+use Rattle.edit_session.proofs.PickLaws.{is_pick, kept_is_held, none_kept}
 use Rattle.edit_session.proofs.pick.picked.Goals as goal
+
+pub unreachable-requires : goal.unreachable-requires
+unreachable-requires c =
+    let kept = c.args.kept.now in
+    let e = c.index-kept-var.result in
+    let counted = c.requires.ground.counted in
+    let known = c.requires.known in
+    let at = get_or_default kept c.args.var None e (omega (arith, counted, known)) ∙ ap (λ (u : ℕ). get_or kept u e) (sym c.var.view_is) ∙ sym c.index-kept-var.is ∙ c.in_default.is in
+    none_kept c.args.problem.now c.args.tree.now.paths kept c.args.var c.requires.held known at
 
 pub values_of-requires : goal.values_of-requires
 values_of-requires c =
