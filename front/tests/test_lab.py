@@ -22,7 +22,7 @@ from sefwllon.lab.runs import tree_of
 from sefwllon.lab.slices import restricted
 from sefwllon.problem import parse
 
-from .case import FAKE, FAKE_SEARCH, ORDER, PAIR, REAL, SEARCH, Case
+from .case import FAKE, FAKE_SEARCH, FRONT, ORDER, PAIR, REAL, SEARCH, Case
 from .lab import HAS, begun, script, steady, until
 from .test_chain import drawn, optimum
 
@@ -140,7 +140,7 @@ class Sweep(Lab):
         methods = "plain,dpop,order,search,cut,auto,adopt:budget=10000000" if REAL and ORDER and SEARCH else "plain,dpop,order,search"
         status, said, why = self.swept(self.problems(4), "--methods", methods)
         count = 4 * len(methods.split(","))
-        self.assertEqual((status, said, why), (0, f"{count} of {count} runs are in {self.out}, {count} of them new\n", ""))
+        self.assertEqual((status, said), (0, f"{count} of {count} runs are in {self.out}, {count} of them new\n"), why)
         rows = read_rows(self.out)
         for row in rows:
             problem = drawn(int(Path(row["file"]).stem[1:]), row["goal"])
@@ -154,7 +154,7 @@ class Sweep(Lab):
     @unittest.skipUnless(REAL, "passed over: no built dcop")
     def test_the_figures_of_dpop_are_those_of_its_certificate(self):
         status, _, why = self.swept(self.problems(6), "--methods", "dpop:certificate=yes,adopt:error=3:budget=500")
-        self.assertEqual((status, why), (0, ""))
+        self.assertEqual(status, 0, why)
         for row in read_rows(self.out):
             text = Path(row["file"]).read_text()
             if row["method"] != "dpop:certificate=yes":
@@ -240,15 +240,15 @@ class Sweep(Lab):
         return status == 0
 
     def test_a_full_disk_loses_no_row(self):
-        problems = self.problems(20)
-        limited = f"ulimit -f 6; exec {sys.executable} -m sefwllon sweep {problems} --methods dpop,plain -o {self.out} --processes 2"
-        environment = dict(os.environ, SEFWLLON_DCOP=PROGRAMS["program"], PYTHONPATH=str(Path(__file__).parents[1]))
+        problems = self.problems(8)
+        limited = f"ulimit -f 2; exec {sys.executable} -m sefwllon sweep {problems} --methods dpop,plain -o {self.out} --processes 2"
+        environment = dict(os.environ, SEFWLLON_DCOP=PROGRAMS["program"], PYTHONPATH=str(FRONT), PYTHONDONTWRITEBYTECODE="1")
         told = subprocess.run(["bash", "-c", limited], env=environment, capture_output=True, text=True)
         self.assertEqual((told.returncode, f"{self.out} can't be written: File too large" in told.stderr), (3, True), told.stderr)
         self.assertTrue(Path(self.out).read_text().endswith("\n"))
         before = len(read_rows(self.out))
-        self.assertIn(before, range(5, 39))
-        self.assertEqual(self.swept(problems, "--methods", "dpop,plain")[1], f"40 of 40 runs are in {self.out}, {40 - before} of them new\n")
+        self.assertIn(before, range(3, 16))
+        self.assertEqual(self.swept(problems, "--methods", "dpop,plain")[1], f"16 of 16 runs are in {self.out}, {16 - before} of them new\n")
 
     def test_a_killed_process_loses_no_row_and_doubles_none(self):
         slow = script(self.folder, "slow", "sleep 0.2", f"exec {PROGRAMS['program']} \"$@\"")
@@ -280,7 +280,7 @@ class Plot(Lab):
         seen = []
         for name in ("a", "b"):
             status, said, why = self.front("plot", self.out, "-o", f"{self.folder}/{name}")
-            self.assertEqual((status, why), (0, ""))
+            self.assertEqual(status, 0, why)
             seen.append({it.name: it.read_bytes() for it in Path(self.folder, name).iterdir()})
         self.assertEqual(seen[0], seen[1])
         pictures = ("cactus", "gap", "messages", "against-dpop-plain", "against-dpop-search", "against-plain-search")

@@ -12,6 +12,7 @@ from pathlib import Path
 from typing import Any
 from uuid import uuid4
 
+from ..output import complain
 from ..problem import Trouble
 from ..programs import is_quick
 from .needs import needed
@@ -39,12 +40,12 @@ class Cluster:
         for path in programs.values():
             if is_quick(path):
                 raise Trouble(f"{path} compiles anew each time, and can't be sent to a cluster: name the built program")
-        self.library = needed("distributed", "--cluster")
+        library = needed("distributed", "--cluster")
         hush()
         self.address, self.name = address, uuid4().hex[:12]
         self.ready: queue.SimpleQueue[Any] = queue.SimpleQueue()
         self.tasks: dict[str, tuple[Task, Any]] = {}
-        self.client = connected(self.library, address)
+        self.client = connected(library, address)
         self.folder = tempfile.TemporaryDirectory(prefix="sefwllon-")
         try:
             path, self.sums = packed(programs, Path(self.folder.name))
@@ -57,6 +58,8 @@ class Cluster:
             raise
         sys.path.insert(0, str(path))
         self.do = importlib.import_module(f"{path.stem}.lab.parcel").do
+        if not self.size():
+            complain(f"the scheduler at {address} has no worker yet: begin one with `dask-worker {address}`")
 
     def size(self) -> int:
         """How many threads the workers have together; 0 while there is none."""
@@ -87,7 +90,7 @@ class Cluster:
             raise Gone(self.address)
         try:
             told = future.result(timeout=RESULT_SECONDS)
-        except (TimeoutError, self.library.TimeoutError):
+        except TimeoutError:
             self.ready.put(future)
             return None
         except Exception as fault:

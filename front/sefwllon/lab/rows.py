@@ -8,6 +8,7 @@ import io
 import os
 from collections import Counter
 from collections.abc import Iterable, Mapping
+from contextlib import suppress
 from types import TracebackType
 
 from ..problem import Trouble
@@ -130,7 +131,8 @@ class Results:
             if written < len(data):
                 os.write(self.file, data[written:])
         except OSError as fault:
-            os.truncate(self.file, before)
+            with suppress(OSError):
+                os.truncate(self.file, before)
             raise Trouble(f"{self.name} can't be written: {fault.strerror}. The rows in it are whole, and the same command goes on") from None
 
 
