@@ -23,7 +23,7 @@ HAS = {name: importlib.util.find_spec(name) is not None for name in ("networkx",
 """Which of the libraries are there."""
 CHANGING = ("seconds", "elapsed", "megabytes", "host", "bounds")
 """What differs between two runs of the same method on the same file."""
-SECONDS = 300
+SECONDS = 600
 """How long a test waits at most for something that takes a moment."""
 
 
@@ -47,6 +47,12 @@ def script(folder: str, name: str, *lines: str) -> str:
     path.write_text("\n".join(["#!/bin/sh", *lines]) + "\n")
     path.chmod(0o755)
     return str(path)
+
+
+def held(folder: str, program: str) -> str:
+    """A program that does what another one does, but waits while it is begun more often than the file `limit` of the folder says."""
+    waits = f'while [ "$(wc -l < {folder}/begun)" -gt "$(cat {folder}/limit)" ]; do sleep 0.1; done'
+    return script(folder, "held", f"echo >> {folder}/begun", waits, f'exec {program} "$@"')
 
 
 def threes(count: int) -> str:

@@ -14,7 +14,7 @@ from sefwllon.lab.rows import read_rows
 from sefwllon.problem import parse
 
 from .case import ORDER, REAL, SEARCH, Case
-from .lab import HAS, Engine, begun, script, steady, threes, until
+from .lab import HAS, SECONDS, Engine, begun, held, script, steady, threes, until
 from .test_chain import drawn, optimum
 
 PASSED_OVER = [name for name, there in (("built programs", REAL and ORDER and SEARCH), ("python3-distributed", HAS["distributed"])) if not there]
@@ -85,16 +85,20 @@ class Killed(OnCluster):
     def test_a_killed_worker_loses_no_row_and_after_a_killed_scheduler_the_same_command_goes_on(self):
         engine = Engine(2)
         self.addCleanup(engine.end)
-        slow = script(self.folder, "slow", "sleep 0.2", f'exec {REAL} "$@"')
+        slow = held(self.folder, REAL)
+        limit = Path(self.folder, "limit")
+        limit.write_text("5")
         words = ("sweep", self.problems(10), "--methods", "plain,adopt:budget=2000", "-o", self.out)
         process = begun(*words, "--cluster", engine.address, SEFWLLON_DCOP=slow)
         self.addCleanup(process.kill)
         until(lambda: Path(self.out).exists() and Path(self.out).read_text().count("\n") > 3, "three rows")
         engine.workers[0].send_signal(signal.SIGKILL)
-        until(lambda: Path(self.out).read_text().count("\n") > 12, "twelve rows")
+        limit.write_text("12")
+        until(lambda: Path(self.out).read_text().count("\n") > 8, "eight rows")
         engine.scheduler.send_signal(signal.SIGKILL)
-        _, why = process.communicate(timeout=300)
+        _, why = process.communicate(timeout=SECONDS)
         self.assertEqual((process.returncode, "is gone; the same command goes on" in why, why.count("Traceback")), (3, True, 0), why)
+        limit.write_text("1000")
         kept = Path(self.out).read_text()
         self.assertLess(kept.count("\n"), 21)
         self.assertEqual(self.ran(*words, program=slow)[0], 0)

@@ -23,7 +23,7 @@ from sefwllon.lab.slices import restricted
 from sefwllon.problem import parse
 
 from .case import FAKE, FAKE_SEARCH, FRONT, ORDER, PAIR, REAL, SEARCH, Case
-from .lab import HAS, begun, script, steady, until
+from .lab import HAS, SECONDS, begun, held, script, steady, until
 from .test_chain import drawn, optimum
 
 PROGRAMS = {"program": REAL or FAKE, "order": ORDER or FAKE, "search": SEARCH or FAKE_SEARCH}
@@ -217,15 +217,17 @@ class Sweep(Lab):
         self.assertEqual((status, "the program dcop_search is not built" in why, Path(self.out).exists()), (3, True, False))
 
     def test_a_sweep_that_is_stopped_or_killed_goes_on(self):
-        slow = script(self.folder, "slow", "sleep 0.3", f"exec {PROGRAMS['program']} \"$@\"")
+        slow = held(self.folder, PROGRAMS["program"])
         words = ("sweep", self.problems(6), "--methods", "dpop,plain", "-o", self.out, "--processes", "2")
-        for number, count, status in ((signal.SIGINT, 2, 130), (signal.SIGKILL, 5, -9)):
+        for number, runs, count, status in ((signal.SIGINT, 3, 2, 130), (signal.SIGKILL, 9, 5, -9)):
+            Path(self.folder, "limit").write_text(str(runs))
             process = begun(*words, SEFWLLON_DCOP=slow)
             until(lambda: Path(self.out).exists() and Path(self.out).read_text().count("\n") > count, "a row")
             (os.killpg if number == signal.SIGINT else os.kill)(process.pid, number)
-            _, why = process.communicate(timeout=300)
+            _, why = process.communicate(timeout=SECONDS)
             self.assertEqual((process.returncode, why.count("Traceback")), (status, 0), why)
             self.assertEqual("interrupted; the same command goes on" in why, number == signal.SIGINT, why)
+        Path(self.folder, "limit").write_text("1000")
         kept = Path(self.out).read_text()
         until(lambda: self.again(words, slow), "the end of the sweep")
         self.assertTrue(Path(self.out).read_text().startswith(kept))
@@ -322,7 +324,7 @@ class Slices(Lab):
                 self.assertEqual(sliced.cost(own), problem.cost(values))
 
     def test_slices_have_the_best_sum(self):
-        with mock.patch("sefwllon.lab.sharing.FIRST_NODES", 1), mock.patch("sefwllon.lab.sharing.GROWTH", 1):
+        with mock.patch("sefwllon.lab.sharing.FIRST_NODES", 1), mock.patch("sefwllon.lab.sharing.GROWTH", 2):
             for seed in (2, 3):
                 problem = drawn(seed, "max" if seed % 2 else "min")
                 file = self.file("p.dcop", problem.text())

@@ -159,11 +159,11 @@ class Sharing:
         self.better(values)
         bound = found.bound if is_better(part.bound, found.bound, self.problem.goal) else part.bound
         self.ends["spent" if not found.ended else "solved" if values else "none"] += 1
-        if found.ended or self.hopeless(bound):
+        smaller = [] if found.ended or self.hopeless(bound) else parts(self.problem, self.near, part, bound, part.budget * GROWTH)
+        for it in smaller:
+            self.put(it)
+        if not smaller:
             self.close(bound)
-            return
-        for smaller in parts(self.problem, self.near, part, bound, part.budget * GROWTH):
-            self.put(smaller)
 
     def better(self, values: list[int] | None) -> None:
         """Takes an assignment, if it is better than what is known."""
