@@ -58,7 +58,7 @@ class Near(Aim):
 def solved(programs: Programs, told: Translation, options: argparse.Namespace, error: int = 0, method: str = "auto") -> Best:
     """Solves a problem."""
     aim = Near(error, told, options.gap or Fraction(0)) if getattr(options, "gap", None) else Aim(error)
-    with Progress(told, options.began) as progress:
+    with Progress(told, options.began, getattr(options, "quiet", False)) as progress:
         solver = Solver(
             programs,
             told.problem,
@@ -170,7 +170,7 @@ def judged(programs: Programs, told: Translation, text: str, options: argparse.N
 def ask(programs: Programs, told: Translation, verdict: Verdict, options: argparse.Namespace) -> None:
     """Asks whether an assignment is better than a report says that any is."""
     problem, goal = told.problem, told.problem.goal
-    with Progress(told, options.began) as progress:
+    with Progress(told, options.began, getattr(options, "quiet", False)) as progress:
         best = Best(began=options.began)
         solver = Solver(programs, problem, rival=verdict.bound, until=deadline(options), tell=progress.tell, show=progress.tick, best=best)
         trivial = sum(min(t.costs) for t in problem.tables) if goal == "min" else sum(max(t.costs) for t in problem.tables)

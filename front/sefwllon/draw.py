@@ -7,7 +7,7 @@ from collections.abc import Callable, Iterable
 from html import escape
 
 from .problem import Problem, Trouble
-from .replay import Moment
+from .replaying import Moment
 from .report import Node
 from .timetable.model import Slot, Timetable
 from .timetable.rules import Breach, breaches

@@ -18,7 +18,7 @@ from pathlib import Path
 from unittest import mock
 from xml.dom import minidom
 
-from sefwllon import draw, programs, pydcop, replay, wcsp
+from sefwllon import draw, programs, pydcop, replaying, wcsp
 from sefwllon.arguments import seconds
 from sefwllon.best import Best
 from sefwllon.bettering import Bettering
@@ -624,7 +624,7 @@ class Telling(Case):
         os.environ["FAKE"] = "logs"
         try:
             problem = parse((PROBLEMS / "pair.dcop").read_text())
-            found = replay.moments(Programs(FAKE), problem, report)
+            found = replaying.moments(Programs(FAKE), problem, report)
         finally:
             os.environ.clear()
             os.environ.update(kept)
@@ -640,7 +640,7 @@ class Telling(Case):
             text, problem = Path(report).read_text(), parse(Path(file).read_text())
             told = read_report(text, problem)
             try:
-                found = replay.moments(Programs(REAL), problem, text)
+                found = replaying.moments(Programs(REAL), problem, text)
             except Trouble as trouble:
                 self.assertIn("has no `replay` yet", str(trouble))
                 continue
