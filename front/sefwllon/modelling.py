@@ -14,9 +14,11 @@ from typing import Any, Final, Literal, TypeAlias
 
 from .evaluator import exact
 from .files import load, read_text
-from .problem import MOST_CELLS, Trouble, parse
+from .problem import MOST_SCOPE, Trouble, parse
 from .telling import plain_number
-from .translate import Constraint, Source, Translation, plain, translate
+from .source import Constraint, Relation, Source
+from .translate import Translation, plain, translate
+from .wide import check_count
 
 
 class Forbidden(Enum):
@@ -60,7 +62,7 @@ class Problem:
             self.variable(name, values)
 
     def __repr__(self) -> str:
-        return f"<Problem: {len(self._source.names)} variables, {len(self._source.constraints)} tables>"
+        return f"<Problem: {len(self._source.names)} variables, {len(self._source.constraints) + len(self._source.relations)} tables>"
 
     @classmethod
     def read(cls, file: str | PathLike[str]) -> Problem:
@@ -92,7 +94,9 @@ class Problem:
     @property
     def variables(self) -> dict[str, tuple[object, ...]]:
         """The values of each variable, in order."""
-        return {name: tuple(values) for name, values in zip(self._source.names, self._source.values)}
+        source = self._source
+        pairs = enumerate(zip(source.names, source.values))
+        return {name: tuple(values) for place, (name, values) in pairs if place not in source.counters}
 
     def variable(self, name: str, values: Iterable[object]) -> str:
         """Adds a variable with these values, and gives its name.
@@ -132,9 +136,7 @@ class Problem:
         places = self._scope(scope)
         told = name or f"the table over {', '.join(self._source.names[place] for place in places)}"
         values = [self._source.values[place] for place in places]
-        count = math.prod(map(len, values))
-        if count > MOST_CELLS:
-            raise Trouble(f"{told} has {count} choices of values; dcop takes {MOST_CELLS} in all tables together")
+        check_count(told, [len(own) for own in values])
         choices = list(product(*values))
         if callable(costs):
             found: list[Any] = [costs(*choice) for choice in choices]
@@ -145,7 +147,11 @@ class Problem:
         else:
             raise Trouble(f"{told}: {costs!r} are no costs: give a function, a dict or a list")
         prices = [cost if type(cost) is int else self._price(cost, told, choice) for cost, choice in zip(found, choices)]
-        self._source.constraints.append(Constraint(told, places, prices))
+        if len(places) > MOST_SCOPE:
+            chosen = product(*(range(len(own)) for own in values))
+            self._source.relations.append(Relation(told, places, dict(zip(chosen, prices))))
+        else:
+            self._source.constraints.append(Constraint(told, places, prices))
         self._told = None
 
     def require(self, scope: str | Iterable[str], holds: Callable[..., object], name: str | None = None) -> None:
@@ -165,12 +171,14 @@ class Problem:
     def cost(self, values: Mapping[str, object]) -> Number:
         """What an assignment costs, by the tables as they were given; infinite (below 0 for a greatest sum) where it is forbidden."""
         chosen = self._chosen(values)
-        total = Fraction(0)
+        costs = [relation.cost(chosen) for relation in self._source.relations]
         for constraint in self._source.constraints:
             place = 0
             for variable in constraint.scope:
                 place = place * len(self._source.values[variable]) + chosen[variable]
-            cost = constraint.costs[place]
+            costs.append(constraint.costs[place])
+        total = Fraction(0)
+        for cost in costs:
             if cost is None:
                 return math.inf if self.goal == "min" else -math.inf
             total += cost
