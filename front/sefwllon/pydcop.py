@@ -156,7 +156,7 @@ class Reader:
         self.add(name, scope, costs)
 
     def by_table(self, name: str, spec: dict) -> None:
-        named_by = spec.get("variables") or []
+        named_by = [] if spec.get("variables") is None else spec["variables"]
         alone = not isinstance(named_by, list)
         scope = self.scope(name, [str(n).strip() for n in ([named_by] if alone else named_by)])
         default = self.price(spec["default"], name) if "default" in spec else Fraction(0)

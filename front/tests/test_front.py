@@ -420,10 +420,10 @@ class Translating(Case):
     @unittest.skipUnless(HAS_YAML, "no PyYAML")
     def test_what_cannot_be_told_exactly_is_told_as_such(self):
         text = "domains: {d: {values: [0 .. 2]}}\nvariables: {x: {domain: d, noise_level: 0.1}, y: {domain: d}}\n"
-        text += "constraints: {c: {type: intention, function: (x + y + 1) / 3}, e: {type: intention, function: x * y / 7}}\n"
+        text += "constraints: {c: {type: intention, function: sqrt(x + y + 1) / 3}, e: {type: intention, function: sqrt(x * y)}}\n"
         told = translate(pydcop.read(text, "file"))
         sums = [told.own_sum([x, y]) for x, y in itertools.product(range(3), repeat=2)]
-        self.assertEqual([float(it) for it in sums[:2]], [1 / 3, 2 / 3])
+        self.assertEqual([float(it) for it in sums[:2]], [1 / 3, 2**0.5 / 3])
         self.assertEqual((told.rounded, told.slack), (True, Fraction(2, 10**6)))
         lower, upper = told.own_bounds(min(totals := [told.problem.cost([x, y]) for x in range(3) for y in range(3)]), max(totals))
         self.assertTrue(lower <= min(sums) and max(sums) <= upper)
@@ -491,7 +491,8 @@ class Translating(Case):
             ("variables: [x]", "variables: lines `NAME: ..`"),
             ("variables: {x: }", "the domain None of x is not among"),
             (head + "constraints: {c: {type: extensional, variables: x, values: [1]}}", "c: its values are lines"),
-            (head + "constraints: {c: {function: 'sum(i for i in x)'}}", "may not have `\\(?i for i in x"),
+            (head + "constraints: {c: {function: 'sum(i for i in x)'}}", "c: `x` is nothing to go through"),
+            (head + "constraints: {c: {function: 'max([x], key=lambda i: i)'}}", "may not have `lambda i: i`"),
             (head + "constraints: {c: {type: intention, function: x + z}}", "names z"),
             (head + "constraints: {c: {type: extensional, variables: x, values: {1: 5}}}", "5 is no value of x"),
             (head + "constraints: {c: {type: intention, function: .inf * -1 if x else 0}}", "can't be read"),
