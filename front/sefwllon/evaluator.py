@@ -198,19 +198,8 @@ class Formula:
                 if name in _NAMES:
                     return _NAMES[name]
                 raise Trouble(f"{self.where}: the formula names {name}, which is no variable")
-            case ast.Tuple() | ast.List():
-                return [self._eval(part, names) for part in node.elts]
-            case ast.Set():
-                return {self._eval(part, names) for part in node.elts}
-            case ast.Dict() if None not in node.keys:
-                pairs = zip(node.keys, node.values)
-                return {self._eval(key, names): self._eval(value, names) for key, value in pairs if key is not None}
-            case ast.ListComp() | ast.GeneratorExp():
-                return [self._eval(node.elt, inner) for inner in self._loops(node.generators, names)]
-            case ast.SetComp():
-                return {self._eval(node.elt, inner) for inner in self._loops(node.generators, names)}
-            case ast.DictComp():
-                return {self._eval(node.key, inner): self._eval(node.value, inner) for inner in self._loops(node.generators, names)}
+            case ast.Tuple() | ast.List() | ast.Set() | ast.Dict() | ast.ListComp() | ast.GeneratorExp() | ast.SetComp() | ast.DictComp():
+                return self._several(node, names)
             case ast.IfExp():
                 return self._eval(node.body if self._eval(node.test, names) else node.orelse, names)
             case ast.BoolOp():
@@ -227,6 +216,25 @@ class Formula:
                 return _CALLS[name](*(self._eval(arg, names) for arg in args))
             case ast.Subscript():
                 return self._eval(node.value, names)[self._eval(node.slice, names)]
+            case _:
+                raise Trouble(f"{self.where}: a formula may not have `{ast.unparse(node)}`")
+
+    def _several(self, node: ast.expr, names: dict[str, object]) -> object:
+        """A list, a set or a dict."""
+        match node:
+            case ast.Tuple() | ast.List():
+                return [self._eval(part, names) for part in node.elts]
+            case ast.Set():
+                return {self._eval(part, names) for part in node.elts}
+            case ast.Dict() if None not in node.keys:
+                pairs = zip(node.keys, node.values)
+                return {self._eval(key, names): self._eval(value, names) for key, value in pairs if key is not None}
+            case ast.ListComp() | ast.GeneratorExp():
+                return [self._eval(node.elt, inner) for inner in self._loops(node.generators, names)]
+            case ast.SetComp():
+                return {self._eval(node.elt, inner) for inner in self._loops(node.generators, names)}
+            case ast.DictComp():
+                return {self._eval(node.key, inner): self._eval(node.value, inner) for inner in self._loops(node.generators, names)}
             case _:
                 raise Trouble(f"{self.where}: a formula may not have `{ast.unparse(node)}`")
 
