@@ -13,7 +13,7 @@ PROVED = "proved"
 """What an answer is called that the proved program gave, without a certificate."""
 
 PROVED_UNPROVED = "by a program that was compiled without proofs"
-"""What it is called where that was the `dcop` of the script of a first look."""
+"""What it is called where that program was compiled without proofs."""
 
 ADDED_UP = "added up"
 """What an answer is called that follows from the sums and the least or greatest costs of the file alone."""
@@ -57,9 +57,11 @@ class Best:
     """The report of `dcop` that was checked, with its certificate."""
     certified_values: list[int] | None = None
     quick: bool = False
-    """Whether `dcop` was compiled without proofs, by the script of a first look."""
+    """Whether `dcop` was compiled without proofs."""
+    quick_search: bool = False
+    """Whether `dcop_search` was compiled without proofs."""
     searched: bool = False
-    """Whether the best bound is one of `dcop_search`, which is no script of a first look."""
+    """Whether the best bound is one of `dcop_search`."""
     began: float = field(default_factory=time.monotonic)
     seconds: float = 0.0
     moments: list[Moment] = field(default_factory=list)
@@ -138,8 +140,13 @@ class Best:
         if bound is not None and bound == self.checked:
             return VERIFIED_UNPROVED if self.quick else VERIFIED
         if bound is not None and bound == self.proved:
-            return PROVED_UNPROVED if self.quick and not self.searched else PROVED
+            return self.by_program
         return ADDED_UP
+
+    @property
+    def by_program(self) -> str:
+        """What a bound is called that a program told."""
+        return PROVED_UNPROVED if (self.quick_search if self.searched else self.quick) else PROVED
 
 
 def is_better(cost: int, than: int, goal: str) -> bool:
