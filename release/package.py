@@ -7,6 +7,7 @@ import gzip
 import hashlib
 import io
 import os
+import re
 import shutil
 import subprocess
 import sys
@@ -20,7 +21,7 @@ from .tree import HOME, Piece, Places, tree
 PACKAGES = TOP / "packages"
 """Where packages are left, where nothing else is said."""
 
-DEPENDS = ("python3 (>= 3.11)",)
+DEPENDS = "python3 (>= 3.11)"
 RECOMMENDS = ("python3-yaml", "python3-icalendar", "python3-flask", "node-d3")
 """What files of pyDCOP, calendars and pages need, by Debian's names."""
 
@@ -104,7 +105,8 @@ def package(found: dict[str, Piece], to: Path, moment: int, is_unproved: bool) -
     pieces = {f"usr/{name}": piece for name, piece in debian(found, moment).items()}
     sums = "".join(f"{hashlib.md5(piece.data).hexdigest()}  {name}\n" for name, piece in pieces.items() if piece.link is None)
     size = sum(-(-len(piece.data) // 1024) for piece in pieces.values())
-    pieces["DEBIAN/control"] = Piece(control(size, is_unproved).encode())
+    libc = max((it for piece in pieces.values() if piece.runs for it in libc_of(piece.data)), default=(2, 0))
+    pieces["DEBIAN/control"] = Piece(control(size, libc, is_unproved).encode())
     pieces["DEBIAN/md5sums"] = Piece(sums.encode())
     pieces["DEBIAN/prerm"] = Piece(CLEAN.encode(), runs=True)
     with tempfile.TemporaryDirectory(prefix="sefwllon-package-") as name:
@@ -131,12 +133,17 @@ def debian(found: dict[str, Piece], moment: int) -> dict[str, Piece]:
     return dict(sorted(told.items()))
 
 
-def control(size: int, is_unproved: bool) -> str:
+def libc_of(program: bytes) -> list[tuple[int, int]]:
+    """The versions of the C library that a program names."""
+    return [(int(it[1]), int(it[2])) for it in re.finditer(rb"\0GLIBC_(\d+)\.(\d+)", program)]
+
+
+def control(size: int, libc: tuple[int, int], is_unproved: bool) -> str:
     """What Debian is told of the package."""
     unproved = " The programs of this package were compiled without proofs, and answers say so.\n" if is_unproved else ""
     return (
         f"Package: sefwllon\nVersion: {version()}\nArchitecture: amd64\nMaintainer: Sefwllon maintainers <maintainers@users.noreply.sefwllon.example>\n"
-        f"Installed-Size: {size}\nDepends: {', '.join(DEPENDS)}\nRecommends: {', '.join(RECOMMENDS)}\nSection: science\nPriority: optional\n"
+        f"Installed-Size: {size}\nDepends: libc6 (>= {libc[0]}.{libc[1]}), {DEPENDS}\nRecommends: {', '.join(RECOMMENDS)}\nSection: science\nPriority: optional\n"
         "Description: distributed constraint optimisation with answers that can be checked\n"
         " dcop solves problems of variables and cost tables by DPOP and by ADOPT, says how\n"
         " far from the best an answer may be, and checks the certificates of answers.\n"
