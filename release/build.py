@@ -6,6 +6,7 @@ import argparse
 import os
 import re
 import shutil
+import signal
 import subprocess
 import sys
 import tempfile
@@ -16,7 +17,7 @@ from concurrent.futures import ThreadPoolExecutor
 from contextlib import contextmanager
 from pathlib import Path
 
-from .programs import BUILT, TOP, UNPROVED, Trouble, stood_on, there, version
+from .programs import BUILT, PROGRAMS, TOP, UNPROVED, Trouble, stood_on, there, version
 
 EVERY = 60
 """After how many seconds it is said again how far it is."""
@@ -33,21 +34,23 @@ DONE = re.compile(r"rt: (\w+) (?:proved|is kept)\b")
 
 def main(words: list[str] | None = None) -> int:
     options = parser().parse_args(words)
-    programs = there()
+    programs, to = there(), Path(options.to)
+    signal.signal(signal.SIGTERM, signal.default_int_handler)
     if options.list:
         print(*(f"{name}: {crate}" for name, crate in programs.items()), sep="\n")
         print("crates:", *stood_on(list(programs.values())))
         return 0
     try:
         with tempfile.TemporaryDirectory(prefix="sefwllon-build-") as name:
+            look_at(to)
             made = (quick if options.quick else proved)(programs, Path(name))
-            publish(made, options.quick)
+            publish(made, to, options.quick)
     except Trouble as trouble:
         print(f"build: {trouble}", file=sys.stderr)
         return 1
     except KeyboardInterrupt:
         return 130
-    print(*(BUILT / program for program in made), sep="\n")
+    print(*(to / program for program in made), sep="\n")
     return 0
 
 
@@ -56,6 +59,7 @@ def parser() -> argparse.ArgumentParser:
     told.add_argument(
         "--quick", action="store_true", help=f"compile them without proofs, which takes minutes; {BUILT.name}/{UNPROVED} then says so"
     )
+    told.add_argument("--to", metavar="FOLDER", default=str(BUILT), help=f"where they are left ({BUILT.name}/ of the clone)")
     told.add_argument("--list", action="store_true", help="print each program with its crate, and the crates that are proved, and build nothing")
     return told
 
@@ -71,9 +75,13 @@ def proved(programs: dict[str, str], folder: Path) -> dict[str, Path]:
     with said(lambda: f"{len(done)} of {len(crates)} crates are proved"):
         with subprocess.Popen(["rt", "ci"], cwd=folder, stdout=subprocess.PIPE, stderr=subprocess.STDOUT, text=True) as process:
             assert process.stdout
-            for line in process.stdout:
-                lines.append(line)
-                done |= {found[1] for found in [DONE.match(line)] if found and found[1] in crates}
+            try:
+                for line in process.stdout:
+                    lines.append(line)
+                    done |= {found[1] for found in [DONE.match(line)] if found and found[1] in crates}
+            except KeyboardInterrupt:
+                process.terminate()
+                raise
     if process.returncode:
         raise Trouble(f"not all is proved; the last lines of `rt ci`:\n{''.join(lines[-TAIL:])}")
     return {name: folder / "crates" / crate / "out" / crate for name, crate in programs.items()}
@@ -140,19 +148,26 @@ def said(far: Callable[[], str]) -> Iterator[None]:
         tell()
 
 
-def publish(made: dict[str, Path], is_quick: bool) -> None:
+def look_at(to: Path) -> None:
+    """Sees that nothing stands where the programs go but what an earlier run left there."""
+    others = sorted(it.name for it in to.iterdir() if it.name not in (*PROGRAMS, UNPROVED)) if to.is_dir() else []
+    if others:
+        raise Trouble(f"{to / others[0]} is no program of Sefwllon, and the programs replace all that is in {to}: move it away, or name another folder by --to")
+
+
+def publish(made: dict[str, Path], to: Path, is_quick: bool) -> None:
     """Puts the programs in the place of those that were there; nothing is called proved meanwhile that is not."""
     lacking = [name for name, path in made.items() if not path.is_file()]
     if lacking:
         raise Trouble(f"{', '.join(lacking)}: nothing was built")
-    shutil.rmtree(BUILT, ignore_errors=True)
-    BUILT.mkdir()
+    shutil.rmtree(to, ignore_errors=True)
+    to.mkdir(parents=True)
     if is_quick:
         text = f"The programs of this folder were compiled without proofs, by `./build --quick` of Sefwllon {version()}.\n`./build` makes the proved ones.\n"
-        (BUILT / UNPROVED).write_text(text)
+        (to / UNPROVED).write_text(text)
     for name, path in made.items():
-        shutil.copyfile(path, BUILT / name)
-        (BUILT / name).chmod(0o755)
+        shutil.copyfile(path, to / name)
+        (to / name).chmod(0o755)
 
 
 def need(tool: str, why: str) -> None:

@@ -59,7 +59,7 @@ def front() -> Program:
 
 def words_of(command: argparse.ArgumentParser, does: str) -> Words:
     """The words of a command."""
-    options, first = [], []
+    options, first = list[Option](), list[str]()
     for action in command._actions:
         values = tuple(str(it) for it in action.choices or ())
         named = [it for it in action.option_strings if it.startswith("--")]
@@ -77,7 +77,8 @@ def alternatives(told: object) -> list[str]:
 
 def of_formats(name: str, text: str) -> Program:
     """What a proved program takes."""
-    rows = {heading.text: table.rows for heading, below in cut(blocks(text)) for table in below if isinstance(table, Table) and table.head[0] in ("Command", "Option")}
+    tables = [(heading.text, block) for heading, below in cut(blocks(text)) for block in below if isinstance(block, Table)]
+    rows = {title: table.rows for title, table in tables if table.head[0] in ("Command", "Option")}
     if name == "dcop":
         known = {option.name: option for option in map(option_of, rows["Options"])}
         commands = {bare(row[0]): Words(tuple(known[it] for it in re.findall(r"--\w+", row[3])), does=row[2].replace("`", "")) for row in rows["Commands"]}

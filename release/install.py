@@ -128,8 +128,10 @@ def hints(prefix: Path, found: dict[str, Piece]) -> list[str]:
         told.append("These programs were compiled without proofs, and answers say so: `./build` makes the proved ones.")
     if str(prefix / "bin") not in os.environ.get("PATH", "").split(os.pathsep):
         told.append(f"{prefix / 'bin'} is not on the path: put `export PATH=\"{prefix / 'bin'}:$PATH\"` into ~/.profile.")
-    told.append(f"zsh: `fpath+=({prefix / 'share/zsh/site-functions'})` before `compinit` in ~/.zshrc; bash and fish find theirs by themselves below ~/.local and /usr.")
-    told.append(f"vim: `set runtimepath+={prefix / 'share/vim/vimfiles'}` in ~/.vimrc. VS Code: `ln -s {prefix / 'share/sefwllon/vscode'} ~/.vscode/extensions/sefwllon-dcop`.")
+    share = prefix / "share"
+    told.append(f"zsh: `fpath+=({share}/zsh/site-functions)` before `compinit` in ~/.zshrc; bash and fish look by themselves below ~/.local and /usr.")
+    told.append(f"vim: `set runtimepath+={share}/vim/vimfiles` in ~/.vimrc.")
+    told.append(f"VS Code: `ln -s {share}/sefwllon/vscode ~/.vscode/extensions/sefwllon-dcop`.")
     return told
 
 

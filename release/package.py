@@ -21,6 +21,7 @@ from .tree import HOME, Piece, Places, tree
 PACKAGES = TOP / "packages"
 """Where packages are left, where nothing else is said."""
 
+MAINTAINER = "Sefwllon maintainers <maintainers@users.noreply.sefwllon.example>"
 DEPENDS = "python3 (>= 3.11)"
 RECOMMENDS = ("python3-yaml", "python3-icalendar", "python3-flask", "node-d3")
 """What files of pyDCOP, calendars and pages need, by Debian's names."""
@@ -87,9 +88,9 @@ def tarball(found: dict[str, Piece], to: Path, moment: int) -> Path:
                 archive.addfile(entry(f"{name}/{path}", moment, 0o777, tarfile.SYMTYPE, link=piece.link))
             else:
                 archive.addfile(entry(f"{name}/{path}", moment, 0o755 if piece.runs else 0o644, size=len(piece.data)), io.BytesIO(piece.data))
-    path = to / f"{name}-linux-amd64.tar.gz"
-    path.write_bytes(gzip.compress(kept.getvalue(), mtime=moment))
-    return path
+    made = to / f"{name}-linux-amd64.tar.gz"
+    made.write_bytes(gzip.compress(kept.getvalue(), mtime=moment))
+    return made
 
 
 def entry(path: str, moment: int, mode: int, kind: bytes = tarfile.REGTYPE, size: int = 0, link: str = "") -> tarfile.TarInfo:
@@ -142,7 +143,7 @@ def control(size: int, libc: tuple[int, int], is_unproved: bool) -> str:
     """What Debian is told of the package."""
     unproved = " The programs of this package were compiled without proofs, and answers say so.\n" if is_unproved else ""
     return (
-        f"Package: sefwllon\nVersion: {version()}\nArchitecture: amd64\nMaintainer: Sefwllon maintainers <maintainers@users.noreply.sefwllon.example>\n"
+        f"Package: sefwllon\nVersion: {version()}\nArchitecture: amd64\nMaintainer: {MAINTAINER}\n"
         f"Installed-Size: {size}\nDepends: libc6 (>= {libc[0]}.{libc[1]}), {DEPENDS}\nRecommends: {', '.join(RECOMMENDS)}\nSection: science\nPriority: optional\n"
         "Description: distributed constraint optimisation with answers that can be checked\n"
         " dcop solves problems of variables and cost tables by DPOP and by ADOPT, says how\n"

@@ -44,7 +44,8 @@ def tree(folder: Path, places: Places) -> dict[str, Piece]:
     found = built(folder)
     lacking = [name for name in ("dcop", "dcop_order", "dcop_search") if name not in found]
     if lacking:
-        raise Trouble(f"{', '.join(lacking)} {'is' if len(lacking) == 1 else 'are'} not in {folder}: `./build` makes the programs, and `./build --quick` makes them without proofs")
+        are = "is" if len(lacking) == 1 else "are"
+        raise Trouble(f"{', '.join(lacking)} {are} not in {folder}: `./build` makes the programs, and `./build --quick` makes them without proofs")
     told = dict(programs(found, folder))
     told.update(front(places))
     told.update(manuals(list(found)))

@@ -24,10 +24,21 @@ BUILT = {"dcop": REAL, "dcop_order": ORDER, "dcop_search": SEARCH}
 VARIABLES = [variable for variable, _ in programs.PLACES.values()]
 
 
+STAND_IN = """#!/bin/sh
+[ "$*" = ci ] && [ ! -d crates/dcop_base/must-fail ] && [ ! -d crates/worked_cases ] || exit 1
+for crate in crates/*; do
+    crate=${crate#crates/}
+    echo "rt: $crate proved"
+    mkdir crates/$crate/out && echo program > crates/$crate/out/$crate
+done
+"""
+"""A stand-in for the kit's `rt ci`, which proves nothing."""
+
+
 def ran(*words: object, home: Path, text: str = "") -> subprocess.CompletedProcess[str]:
     """What a command does for a user with this home, who has named no program."""
     kept = {name: value for name, value in os.environ.items() if name not in [*VARIABLES, "PYTHONPATH"]}
-    environment = {**kept, "HOME": str(home), "PATH": f"{home}/.local/bin:/usr/bin:/bin", "SOURCE_DATE_EPOCH": "1700000000"}
+    environment = {**kept, "HOME": str(home), "PATH": f"{home}/.local/bin:{os.environ['PATH']}", "SOURCE_DATE_EPOCH": "1700000000"}
     return subprocess.run([str(it) for it in words], cwd=home, env=environment, input=text, capture_output=True, text=True)
 
 
@@ -54,6 +65,28 @@ class Crates(unittest.TestCase):
         self.assertFalse([crate for crate in crates if crate.endswith("_rows") or crate == "worked_cases"])
         for name, (_, crate) in programs.PLACES.items():
             self.assertEqual(named.get(name), crate if crate in below else None)
+
+    def test_what_is_proved_is_built_in_the_place_of_what_was_not(self):
+        with tempfile.TemporaryDirectory() as name:
+            home = Path(name)
+            (home / ".local" / "bin").mkdir(parents=True)
+            rt = home / ".local" / "bin" / "rt"
+            rt.write_text(STAND_IN)
+            rt.chmod(0o755)
+            (home / "built").mkdir()
+            (home / "built" / "UNPROVED").write_text("")
+            told = ran(TOP / "build", "--to", home / "built", home=home)
+            self.assertEqual(told.returncode, 0, told.stderr)
+            made = sorted(it.name for it in (home / "built").iterdir())
+            self.assertEqual((set(programs.PLACES) & set(made) >= {"dcop", "dcop_order", "dcop_search"}, "UNPROVED" in made), (True, False))
+            self.assertEqual(told.stdout.splitlines()[-len(made) :], [str(home / "built" / name) for name in made])
+            self.assertRegex(told.stdout, r"build: (\d+) of \1 crates are proved, after 0 minutes\n")
+            rt.write_text("#!/bin/sh\necho rt: dcop_base NOT PROVED\nexit 1\n")
+            told = ran(TOP / "build", "--to", home / "built", home=home)
+            self.assertEqual((told.returncode, sorted(it.name for it in (home / "built").iterdir())), (1, made))
+            self.assertIn("not all is proved; the last lines of `rt ci`:\nrt: dcop_base NOT PROVED\n", told.stderr)
+            (home / "built" / "own").write_text("")
+            self.assertIn("own is no program of Sefwllon", ran(TOP / "build", "--to", home / "built", home=home).stderr)
 
     def test_the_version_is_told_once(self):
         self.assertIn(f"\nversion: {__version__}\n", (TOP / "CITATION.cff").read_text())
@@ -149,7 +182,8 @@ class Installed(unittest.TestCase):
                 self.assertEqual((made.returncode, made.stderr), (0, ""), file)
         folder = self.prefix / "share/sefwllon/vscode"
         self.assertEqual(json.loads((folder / "package.json").read_text())["version"], __version__)
-        rules = [re.compile(it["match"]) for it in json.loads((folder / "syntaxes/dcop.tmLanguage.json").read_text().replace("(?<=\\\\s|^)", "(?:(?<=\\\\s)|^)"))["patterns"]]
+        grammar = json.loads((folder / "syntaxes/dcop.tmLanguage.json").read_text())
+        rules = [re.compile(it["match"]) for it in grammar["patterns"]]
         for line in (line for file in PROBLEMS.glob("*.dcop") for line in file.read_text().splitlines() if line.strip()):
             self.assertTrue(any(rule.search(line) for rule in rules), line)
         self.assertTrue((self.prefix / "share/vim/vimfiles/syntax/dcop.vim").is_file())
