@@ -111,7 +111,11 @@ def quick(programs: dict[str, str], folder: Path) -> dict[str, Path]:
         done.append(name)
 
     with said(lambda: f"{len(done)} of {len(programs)} programs are compiled"), ThreadPoolExecutor(at_a_time()) as pool:
-        list(pool.map(one, programs))
+        try:
+            list(pool.map(one, programs))
+        except BaseException:
+            pool.shutdown(wait=False, cancel_futures=True)
+            raise
     return {name: folder / name for name in programs}
 
 
