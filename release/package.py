@@ -31,7 +31,7 @@ DEBIAN = Places(zsh="share/zsh/vendor-completions", python="lib/python3/dist-pac
 
 CLEAN = f"""#!/bin/sh
 set -e
-find /usr/{HOME}/front -name __pycache__ -type d -prune -exec rm -rf '{{}}' +
+find "${{DPKG_ROOT:-}}/usr/{HOME}/front" -name __pycache__ -type d -prune -exec rm -rf '{{}}' +
 """
 """What is run before the package is taken away: what Python keeps of its modules goes too."""
 
