@@ -182,7 +182,7 @@ class Solving(Case):
         told = self.front("cost", pair, "x=0", "y=1", "--report", report, program=script)[1]
         self.assertEqual(told, f"cost 3\nat most 1 from the best (verified by {by})\n")
         clash = self.file("week.csv", "slot,a\nmeeting,m,Ann\nmeeting,n,Ann\n")
-        self.assertIn(f"none breaks fewer (verified by {by})\n", self.front("meetings", clash, program=script)[1])
+        self.assertIn(f"none breaks fewer (verified by {by})\n", self.front("meetings", clash, "--time", "10m", program=script)[1])
         self.front("solve", pair, "--method", "adopt", "--report", report, fake="logs", program=script)
         self.assertIn(f"none is better (verified by {by})</text>", self.front("draw", pair, report, fake="logs", program=script)[1])
         _, told, _ = self.front("solve", self.file("tied.dcop", PAIR), fake="wide spends", program=script)
