@@ -16,7 +16,7 @@ import tempfile
 from pathlib import Path
 
 from .programs import BUILT, TOP, UNPROVED, Trouble, version
-from .tree import HOME, Piece, Places, tree
+from .tree import DOCS, HOME, Piece, Places, tree
 
 PACKAGES = TOP / "packages"
 """Where packages are left, where nothing else is said."""
@@ -122,15 +122,14 @@ def package(found: dict[str, Piece], to: Path, moment: int, is_unproved: bool) -
 def debian(found: dict[str, Piece], moment: int) -> dict[str, Piece]:
     """What is installed, as Debian wants it: pages and news packed, and the licences in one file."""
     told = {}
-    documents = "share/doc/sefwllon"
     for path, piece in found.items():
         if path.startswith("share/man/"):
             told[f"{path}.gz"] = Piece(gzip.compress(piece.data, mtime=0))
-        elif path == f"{documents}/CHANGELOG.md":
-            told[f"{documents}/changelog.gz"] = Piece(gzip.compress(piece.data, mtime=0))
+        elif path == f"{DOCS}/CHANGELOG.md":
+            told[f"{DOCS}/changelog.gz"] = Piece(gzip.compress(piece.data, mtime=0))
         else:
             told[path] = piece
-    told[f"{documents}/copyright"] = Piece(b"\n".join(told.pop(f"{documents}/{name}").data for name in ("LICENSE", "NOTICE")))
+    told[f"{DOCS}/copyright"] = Piece(b"\n".join(told.pop(f"{DOCS}/{name}").data for name in ("LICENSE", "NOTICE")))
     return dict(sorted(told.items()))
 
 

@@ -16,8 +16,9 @@ from .roff import manual
 HOME = "lib/sefwllon"
 """The folder that is laid out as the clone is, so that `sefwllon` finds there what it finds in a clone."""
 
-DOCUMENTS = ("LICENSE", "NOTICE", "CHANGELOG.md", "docs/USE.md", "docs/FORMATS.md", "docs/PROMISES.md", "docs/DEFINITIONS.md", "front/README.md")
-"""What is put beside the examples."""
+DOCS = "share/doc/sefwllon"
+DOCUMENTS = ("LICENSE", "NOTICE", "CHANGELOG.md", "README.md")
+"""What is put beside the examples, with all of `docs`."""
 
 
 @dataclass(frozen=True)
@@ -105,11 +106,12 @@ def editors() -> Iterator[tuple[str, Piece]]:
 
 
 def documents() -> Iterator[tuple[str, Piece]]:
-    """Documents and examples."""
+    """Documents and examples, with the names that they have in the clone."""
     for name in DOCUMENTS:
-        yield f"share/doc/sefwllon/{name.removeprefix('docs/').replace('front/', 'front-')}", Piece((TOP / name).read_bytes())
-    yield from copies(TOP / "examples", "share/doc/sefwllon/examples")
-    yield from copies(TOP / "front" / "examples", "share/doc/sefwllon/front-examples")
+        yield f"{DOCS}/{name}", Piece((TOP / name).read_bytes())
+    yield f"{DOCS}/front/README.md", Piece((TOP / "front" / "README.md").read_bytes())
+    for folder in ("docs", "examples", "front/examples"):
+        yield from copies(TOP / folder, f"{DOCS}/{folder}")
 
 
 def copies(folder: Path, to: str) -> Iterator[tuple[str, Piece]]:
