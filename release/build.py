@@ -82,6 +82,8 @@ def proved(programs: dict[str, str], folder: Path) -> dict[str, Path]:
             except KeyboardInterrupt:
                 process.terminate()
                 raise
+    if process.returncode < 0:
+        raise Trouble(f"`rt ci` was ended by the signal {-process.returncode}: run this again, and it goes on from what was proved")
     if process.returncode:
         raise Trouble(f"not all is proved; the last lines of `rt ci`:\n{''.join(lines[-TAIL:])}")
     return {name: folder / "crates" / crate / "out" / crate for name, crate in programs.items()}
