@@ -6,7 +6,7 @@ import argparse
 from dataclasses import dataclass
 from fractions import Fraction
 
-from .best import ADDED_UP, PROVED, Best, is_better
+from .best import ADDED_UP, Best, is_better
 from .explain import differs, explain
 from .files import load
 from .output import reading
@@ -190,7 +190,7 @@ def ask(programs: Programs, told: Translation, verdict: Verdict, options: argpar
         verdict.why = f"the report says that no sum is better than {verdict.bound}, and one is {best.cost}"
     elif bound is not None and not is_better(bound, verdict.bound, goal):
         holds = best.checked is not None and not is_better(best.checked, verdict.bound, goal)
-        verdict.rests = programs.verified if holds else PROVED
+        verdict.rests = programs.verified if holds else best.by_program
     else:
         verdict.answer, verdict.rests = OPEN, ""
         verdict.why = best.stopped or "no program that is there can tell"
