@@ -1,9 +1,9 @@
 #!/usr/bin/env bash
-# Builds `dcop`, or another program of this repository, without proofs, to measure a change before it is proved.
+# Builds `dcop`, or another program of this repository, without proofs, to measure a change before it is proved. `./build --quick` runs it too.
 #
 # usage: bench/unproved.sh OUT [CRATE]
 # OUT is where the program goes; CRATE is that of the program, `solve_cli` where none is told. The file that is made stands behind no
-# proof and is for measuring alone: the gate never runs it.
+# proof, and is for measuring and for a first look alone: the gate never runs it.
 #
 # `rt try` compiles from the sources without proofs, and tests while the program runs what proofs would show. This script has it
 # compile with a folder of tools whose compiler keeps the module that it is given, takes the tests out of that, and compiles the rest as

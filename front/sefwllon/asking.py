@@ -6,7 +6,7 @@ import argparse
 from dataclasses import dataclass
 from fractions import Fraction
 
-from .best import ADDED_UP, PROVED, Best, is_better
+from .best import ADDED_UP, Best, is_better
 from .explain import differs, explain
 from .files import load
 from .output import reading
@@ -55,10 +55,15 @@ class Near(Aim):
         return max(self.error, int(self.part * own * self.told.scale) if own > 0 else 0)
 
 
+def aim_of(told: Translation, options: argparse.Namespace, error: int) -> Aim:
+    """When an answer is good enough, by the command's words."""
+    return Near(error, told, options.gap or Fraction(0)) if getattr(options, "gap", None) else Aim(error)
+
+
 def solved(programs: Programs, told: Translation, options: argparse.Namespace, error: int = 0, method: str = "auto") -> Best:
     """Solves a problem."""
-    aim = Near(error, told, options.gap or Fraction(0)) if getattr(options, "gap", None) else Aim(error)
-    with Progress(told, options.began) as progress:
+    aim = aim_of(told, options, error)
+    with Progress(told, options.began, getattr(options, "quiet", False)) as progress:
         solver = Solver(
             programs,
             told.problem,
@@ -170,7 +175,7 @@ def judged(programs: Programs, told: Translation, text: str, options: argparse.N
 def ask(programs: Programs, told: Translation, verdict: Verdict, options: argparse.Namespace) -> None:
     """Asks whether an assignment is better than a report says that any is."""
     problem, goal = told.problem, told.problem.goal
-    with Progress(told, options.began) as progress:
+    with Progress(told, options.began, getattr(options, "quiet", False)) as progress:
         best = Best(began=options.began)
         solver = Solver(programs, problem, rival=verdict.bound, until=deadline(options), tell=progress.tell, show=progress.tick, best=best)
         trivial = sum(min(t.costs) for t in problem.tables) if goal == "min" else sum(max(t.costs) for t in problem.tables)
@@ -185,7 +190,7 @@ def ask(programs: Programs, told: Translation, verdict: Verdict, options: argpar
         verdict.why = f"the report says that no sum is better than {verdict.bound}, and one is {best.cost}"
     elif bound is not None and not is_better(bound, verdict.bound, goal):
         holds = best.checked is not None and not is_better(best.checked, verdict.bound, goal)
-        verdict.rests = programs.verified if holds else PROVED
+        verdict.rests = programs.verified if holds else best.by_program
     else:
         verdict.answer, verdict.rests = OPEN, ""
         verdict.why = best.stopped or "no program that is there can tell"

@@ -13,7 +13,10 @@ PROVED = "proved"
 """What an answer is called that the proved program gave, without a certificate."""
 
 PROVED_UNPROVED = "by a program that was compiled without proofs"
-"""What it is called where that was the `dcop` of the script of a first look."""
+"""What it is called where that program was compiled without proofs."""
+
+SLICED = "each slice proved, their combination not"
+"""What an answer is called that comes of slices of the problem, each of which the proved program answered."""
 
 ADDED_UP = "added up"
 """What an answer is called that follows from the sums and the least or greatest costs of the file alone."""
@@ -57,9 +60,13 @@ class Best:
     """The report of `dcop` that was checked, with its certificate."""
     certified_values: list[int] | None = None
     quick: bool = False
-    """Whether `dcop` was compiled without proofs, by the script of a first look."""
+    """Whether `dcop` was compiled without proofs."""
+    quick_search: bool = False
+    """Whether `dcop_search` was compiled without proofs."""
     searched: bool = False
-    """Whether the best bound is one of `dcop_search`, which is no script of a first look."""
+    """Whether the best bound is one of `dcop_search`."""
+    sliced: bool = False
+    """Whether the best bound is that of several slices of the problem."""
     began: float = field(default_factory=time.monotonic)
     seconds: float = 0.0
     moments: list[Moment] = field(default_factory=list)
@@ -137,9 +144,16 @@ class Best:
         bound = self.bound(goal)
         if bound is not None and bound == self.checked:
             return VERIFIED_UNPROVED if self.quick else VERIFIED
+        if bound is not None and bound == self.proved and self.sliced:
+            return SLICED
         if bound is not None and bound == self.proved:
-            return PROVED_UNPROVED if self.quick and not self.searched else PROVED
+            return self.by_program
         return ADDED_UP
+
+    @property
+    def by_program(self) -> str:
+        """What a bound is called that a program told."""
+        return PROVED_UNPROVED if (self.quick_search if self.searched else self.quick) else PROVED
 
 
 def is_better(cost: int, than: int, goal: str) -> bool:

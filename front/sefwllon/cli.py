@@ -24,8 +24,12 @@ COMMANDS = (
     "why",
     "draw",
     "cost",
+    "generate",
+    "sweep",
+    "plot",
     "web",
     "serve",
+    "manual",
 )
 """The modules of `commands`, in the order in which help names what they add."""
 
@@ -67,7 +71,11 @@ def main(arguments: list[str] | None = None) -> int:
 
 
 def parser() -> argparse.ArgumentParser:
-    top = argparse.ArgumentParser(prog="sefwllon", description="Solves distributed constraint problems, and says what was verified.")
+    top = argparse.ArgumentParser(
+        prog="sefwllon",
+        description="Solves distributed constraint problems, and says what was verified.",
+        epilog="`sefwllon dcop --help` prints the manual page of the program dcop, and so of dcop_order, dcop_search, dcop_trace and dcop_serve.",
+    )
     top.add_argument("--version", action="version", version=f"sefwllon {__version__}")
     commands = top.add_subparsers(title="commands", required=True, metavar="COMMAND")
     top.set_defaults(text="")

@@ -94,6 +94,7 @@ def joined(programs: Programs, told: Translation, groups: list[list[int]], answe
     best = Best(method="+".join(dict.fromkeys(answer.method for answer in answers)), quick=programs.quick, began=answers[0].began)
     best.messages, best.nodes = sum(answer.messages for answer in answers), sum(answer.nodes for answer in answers)
     best.searched = any(answer.searched for answer in answers)
+    best.quick_search = programs.quick_search or (programs.quick and not all(answer.searched for answer in answers))
     best.stopped = next((answer.stopped for answer in answers if answer.stopped), None)
     best.notes = [f"solved in {len(groups)} parts that share nothing", *dict.fromkeys(note for answer in answers for note in answer.notes)]
     best.seconds = time.monotonic() - best.began

@@ -18,14 +18,17 @@ TICK = 0.25
 END_SECONDS = 2
 """How long a program has to end by itself when its time is over."""
 
-QUICK = "quick-dcop.sh"
-"""The script that compiles `dcop` for each run. It says so on standard error, where no other program says anything."""
+BUILT = "built"
+"""The folder of the clone in which `./build` leaves the programs."""
+
+UNPROVED = "UNPROVED"
+"""The file beside programs that were compiled without proofs."""
 
 VERIFIED = "verified"
 """What an answer is called whose certificate `dcop check` accepted."""
 
 VERIFIED_UNPROVED = "verified by a check that was compiled without proofs"
-"""What it is called where that was the `dcop` of the script."""
+"""What it is called where that `dcop` was compiled without proofs."""
 
 PLACES = {
     "dcop": ("SEFWLLON_DCOP", "solve_cli"),
@@ -38,7 +41,7 @@ WORDS = 2
 """The exit status of words that are refused."""
 
 _CLONE = Path(__file__).resolve().parents[2]
-_CRATES = _CLONE / "crates"
+"""The clone, or the folder that an installation lays out as one."""
 _SHOWN = 80
 
 
@@ -99,8 +102,13 @@ class Programs:
 
     @property
     def quick(self) -> bool:
-        """Whether `dcop` is the script that compiles it without proofs."""
-        return self.dcop is not None and is_quick(self.dcop)
+        """Whether `dcop` was compiled without proofs."""
+        return self.dcop is not None and is_unproved(self.dcop)
+
+    @property
+    def quick_search(self) -> bool:
+        """Whether `dcop_search` was compiled without proofs."""
+        return self.search is not None and is_unproved(self.search)
 
     @property
     def verified(self) -> str:
@@ -147,29 +155,28 @@ def sum_of(path: str | None) -> str | None:
         return None
 
 
-def is_quick(program: str) -> bool:
-    """Whether a program is the script of a first look, by its name or by where its links lead."""
-    return QUICK in (Path(program).name, Path(os.path.realpath(program)).name)
+def is_unproved(program: str) -> bool:
+    """Whether a program was compiled without proofs, by the file that stands beside it, where its links lead."""
+    return (Path(os.path.realpath(shutil.which(program) or program)).parent / UNPROVED).is_file()
 
 
 def unbuilt(clone: Path) -> str:
     """What to do where `dcop` is not built."""
     here = clone if (clone / "crates").is_dir() else Path("the clone of Sefwllon")
     return (
-        f"the program dcop is not built: in {here} run `(cd crates/solve_cli && rt run -- solve < ../../examples/pair.dcop)`, which "
-        "proves it first and takes about half an hour, or name the built program by SEFWLLON_DCOP; for a first look run "
-        f"`export SEFWLLON_DCOP={here}/front/quick-dcop.sh`: that compiles it anew for each run, which takes minutes, and proves nothing"
+        f"the program dcop is not built: in {here} run `./build --quick`, which compiles the programs without proofs in minutes, "
+        "or `./build`, which proves them first and takes about half an hour; or name the built program by SEFWLLON_DCOP"
     )
 
 
 def missing(name: str) -> str:
     """That one of the other programs is not there, and what to do."""
-    variable, crate = PLACES[name]
-    return f"the program {name} is not built: run `cd crates/{crate} && rt run`, or name it by {variable}"
+    return f"the program {name} is not built: run `./build` in the clone of Sefwllon, or name it by {PLACES[name][0]}"
 
 
 def found(name: str) -> str | None:
-    """A program by its variable, on the path, or in the clone that this file lies in. An empty variable means none."""
+    """A program by its variable, on the path, or in the clone that this file lies in: as `./build` leaves it there, or else as `./test` does.
+    An empty variable means none."""
     variable, crate = PLACES[name]
     if variable in os.environ:
         named = os.environ[variable]
@@ -179,8 +186,8 @@ def found(name: str) -> str | None:
     on_path = shutil.which(name)
     if on_path:
         return on_path
-    built = _CRATES / crate / "out" / crate
-    return str(built) if built.is_file() else None
+    places = (_CLONE / BUILT / name, _CLONE / "crates" / crate / "out" / crate)
+    return next((str(place) for place in places if place.is_file()), None)
 
 
 def run(name: str, command: list[str], text: str, until: float | None, tick: Callable[[], None] | None = None) -> Answer:
@@ -188,9 +195,8 @@ def run(name: str, command: list[str], text: str, until: float | None, tick: Cal
     left = None if until is None else until - time.monotonic()
     if left is not None and left <= 0:
         return Answer("", None, name, command[0])
-    told = None if is_quick(command[0]) else subprocess.DEVNULL
     try:
-        process = subprocess.Popen(command, stdin=subprocess.PIPE, stdout=subprocess.PIPE, stderr=told)
+        process = subprocess.Popen(command, stdin=subprocess.PIPE, stdout=subprocess.PIPE, stderr=subprocess.DEVNULL)
     except OSError as fault:
         raise Trouble(f"{command[0]} can't be run: {fault.strerror}") from None
     try:

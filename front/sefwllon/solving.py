@@ -111,7 +111,7 @@ class Solver:
 
     def solve(self) -> Best:
         """Solves it, or keeps the best that is known when the time is over or the user stops it."""
-        self.best.quick = self.programs.quick
+        self.best.quick, self.best.quick_search = self.programs.quick, self.programs.quick_search
         try:
             self.by_steps()
         except KeyboardInterrupt:

@@ -18,7 +18,7 @@ from pathlib import Path
 from unittest import mock
 from xml.dom import minidom
 
-from sefwllon import draw, programs, pydcop, replay, wcsp
+from sefwllon import draw, programs, pydcop, replaying, wcsp
 from sefwllon.arguments import seconds
 from sefwllon.best import Best
 from sefwllon.bettering import Bettering
@@ -32,7 +32,7 @@ from sefwllon.solving import Solver
 from sefwllon.translate import Constraint, Source, translate
 
 from . import documents
-from .case import EXAMPLES, FAKE, FRONT, HAS_YAML, HERE, ORDER, PAIR, PROBLEMS, REAL, SEARCH, Case
+from .case import EXAMPLES, FAKE, FAKE_SEARCH, FRONT, HAS_YAML, HERE, ORDER, PAIR, PROBLEMS, REAL, SEARCH, Case
 
 if HAS_YAML:
     from . import brute_pydcop
@@ -164,46 +164,16 @@ class Solving(Case):
         self.front("solve", "--time", "300ms", str(PROBLEMS / "tracking.dcop"), program=script)
         self.assertEqual(Path(mark).read_text(), "ended\n")
 
-    def test_what_the_script_of_a_first_look_says_is_shown(self):
-        for name, wanted in (("quick-dcop.sh", "compiling\n"), ("dcop", "")):
-            script = self.file(name, "#!/bin/sh\necho compiling >&2\nexit 70\n")
-            os.chmod(script, 0o755)
-            words = [sys.executable, "-m", "sefwllon", "solve", str(PROBLEMS / "pair.dcop")]
-            environment = dict(os.environ, SEFWLLON_DCOP=script, PYTHONPATH=str(FRONT))
-            ran = subprocess.run(words, env=environment, capture_output=True, text=True)
-            self.assertEqual((ran.returncode, ran.stderr.startswith(wanted), "compiling" in ran.stderr), (3, True, bool(wanted)))
-
-    def test_the_script_of_a_first_look_passes_on_what_rt_says(self):
-        for does, status, told, why in (
-            (f"shift 2; {sys.executable} {FAKE} \"$@\"; echo run=ended status=$? proved=no >&2", 0, "cost 2, and none is better", ""),
-            ("echo error: no such crate >&2; exit 2", 3, "", "error: no such crate"),
-        ):
-            rt = self.file("rt", f"#!/bin/sh\n{does}\n")
-            os.chmod(rt, 0o755)
-            words = [sys.executable, "-m", "sefwllon", "solve", str(PROBLEMS / "pair.dcop")]
-            environment = dict(os.environ, SEFWLLON_DCOP=str(FRONT / "quick-dcop.sh"), PYTHONPATH=str(FRONT))
-            environment["PATH"] = f"{Path(rt).parent}:{environment['PATH']}"
-            ran = subprocess.run(words, env=environment, capture_output=True, text=True)
-            self.assertEqual((ran.returncode, ran.stdout.startswith(told)), (status, True))
-            self.assertIn(why, ran.stderr)
-            self.assertIn("quick-dcop: compiling dcop without proofs for `solve`", ran.stderr)
-
-    def test_the_script_of_a_first_look_says_that_it_is_under_way(self):
-        rt = self.file("rt", "#!/bin/sh\nsleep 2.5\necho status solved\necho run=ended >&2\n")
-        os.chmod(rt, 0o755)
-        environment = dict(os.environ, QUICK_DCOP_SECONDS="1", PATH=f"{Path(rt).parent}:{os.environ['PATH']}")
-        ran = subprocess.run([str(FRONT / "quick-dcop.sh"), "solve"], env=environment, input="", capture_output=True, text=True)
-        self.assertEqual((ran.returncode, ran.stdout), (0, "status solved\n"))
-        self.assertIn("quick-dcop: `solve` under way for 1 s\n", ran.stderr)
-
     def test_what_was_checked_without_proofs_is_told_as_such(self):
         pair, link = str(PROBLEMS / "pair.dcop"), self.file("dcop", "")
-        script = self.file("quick-dcop.sh", f"#!/bin/sh\nexec {FAKE} \"$@\"\n")
+        script = self.file("dcop", f"#!/bin/sh\nexec {FAKE} \"$@\"\n")
         os.chmod(script, 0o755)
+        (Path(script).parent / "UNPROVED").write_text("compiled without proofs\n")
         Path(link).unlink()
         Path(link).symlink_to(script)
         by, report = "a check that was compiled without proofs", self.file("report", "")
-        self.assertEqual([Programs(it).quick for it in (script, link, FAKE)], [True, True, False])
+        self.assertEqual([Programs(it, "", it).quick for it in (script, link, FAKE)], [True, True, False])
+        self.assertEqual([Programs(FAKE, "", it).quick_search for it in (script, link, FAKE)], [True, True, False])
         _, told, _ = self.front("solve", pair, "--report", report, program=script)
         self.assertEqual(told.splitlines()[0], f"cost 2, and none is better (verified by {by})")
         answer = json.loads(self.front("solve", "--json", pair, program=script)[1])
@@ -212,7 +182,7 @@ class Solving(Case):
         told = self.front("cost", pair, "x=0", "y=1", "--report", report, program=script)[1]
         self.assertEqual(told, f"cost 3\nat most 1 from the best (verified by {by})\n")
         clash = self.file("week.csv", "slot,a\nmeeting,m,Ann\nmeeting,n,Ann\n")
-        self.assertIn(f"none breaks fewer (verified by {by})\n", self.front("meetings", clash, program=script)[1])
+        self.assertIn(f"none breaks fewer (verified by {by})\n", self.front("meetings", clash, "--time", "10m", program=script)[1])
         self.front("solve", pair, "--method", "adopt", "--report", report, fake="logs", program=script)
         self.assertIn(f"none is better (verified by {by})</text>", self.front("draw", pair, report, fake="logs", program=script)[1])
         _, told, _ = self.front("solve", self.file("tied.dcop", PAIR), fake="wide spends", program=script)
@@ -222,13 +192,20 @@ class Solving(Case):
         answer = json.loads(self.front("solve", "--json", "--method", "plain", pair)[1])
         self.assertEqual((answer["verified"], answer["verified_by"]), (False, None))
 
+    def test_a_search_that_was_compiled_without_proofs_is_told_as_such(self):
+        script = self.file("dcop_search", f"#!/bin/sh\nexec {FAKE_SEARCH} \"$@\"\n")
+        os.chmod(script, 0o755)
+        for search, wanted in ((FAKE_SEARCH, "proved"), (script, "by a program that was compiled without proofs")):
+            if search == script:
+                (Path(script).parent / "UNPROVED").write_text("compiled without proofs\n")
+            _, told, _ = self.front("solve", self.file("tied.dcop", PAIR), "--method", "search", search=search)
+            self.assertEqual(told.splitlines()[0], f"cost 3, and none is better ({wanted})")
+
     def test_how_dcop_is_built_is_told_as_on_the_first_page(self):
         why = programs.unbuilt(FRONT.parent)
-        command = "(cd crates/solve_cli && rt run -- solve < ../../examples/pair.dcop)"
         for page in (FRONT.parent / "README.md", FRONT / "README.md"):
-            self.assertIn(command, page.read_text())
-        self.assertIn(f"in {FRONT.parent} run `{command}`", why)
-        self.assertIn(f"export SEFWLLON_DCOP={FRONT}/quick-dcop.sh", why)
+            self.assertIn("./build --quick", page.read_text())
+        self.assertIn(f"in {FRONT.parent} run `./build --quick`", why)
         self.assertIn("in the clone of Sefwllon run", programs.unbuilt(HERE))
 
     def test_an_assignment_is_told_where_no_method_comes_to_one_in_time(self):
@@ -420,10 +397,10 @@ class Translating(Case):
     @unittest.skipUnless(HAS_YAML, "no PyYAML")
     def test_what_cannot_be_told_exactly_is_told_as_such(self):
         text = "domains: {d: {values: [0 .. 2]}}\nvariables: {x: {domain: d, noise_level: 0.1}, y: {domain: d}}\n"
-        text += "constraints: {c: {type: intention, function: (x + y + 1) / 3}, e: {type: intention, function: x * y / 7}}\n"
+        text += "constraints: {c: {type: intention, function: sqrt(x + y + 1) / 3}, e: {type: intention, function: sqrt(x * y)}}\n"
         told = translate(pydcop.read(text, "file"))
         sums = [told.own_sum([x, y]) for x, y in itertools.product(range(3), repeat=2)]
-        self.assertEqual([float(it) for it in sums[:2]], [1 / 3, 2 / 3])
+        self.assertEqual([float(it) for it in sums[:2]], [1 / 3, 2**0.5 / 3])
         self.assertEqual((told.rounded, told.slack), (True, Fraction(2, 10**6)))
         lower, upper = told.own_bounds(min(totals := [told.problem.cost([x, y]) for x in range(3) for y in range(3)]), max(totals))
         self.assertTrue(lower <= min(sums) and max(sums) <= upper)
@@ -491,7 +468,8 @@ class Translating(Case):
             ("variables: [x]", "variables: lines `NAME: ..`"),
             ("variables: {x: }", "the domain None of x is not among"),
             (head + "constraints: {c: {type: extensional, variables: x, values: [1]}}", "c: its values are lines"),
-            (head + "constraints: {c: {function: 'sum(i for i in x)'}}", "may not have `\\(?i for i in x"),
+            (head + "constraints: {c: {function: 'sum(i for i in x)'}}", "c: `x` is nothing to go through"),
+            (head + "constraints: {c: {function: 'max([x], key=lambda i: i)'}}", "may not have `lambda i: i`"),
             (head + "constraints: {c: {type: intention, function: x + z}}", "names z"),
             (head + "constraints: {c: {type: extensional, variables: x, values: {1: 5}}}", "5 is no value of x"),
             (head + "constraints: {c: {type: intention, function: .inf * -1 if x else 0}}", "can't be read"),
@@ -624,7 +602,7 @@ class Telling(Case):
         os.environ["FAKE"] = "logs"
         try:
             problem = parse((PROBLEMS / "pair.dcop").read_text())
-            found = replay.moments(Programs(FAKE), problem, report)
+            found = replaying.moments(Programs(FAKE), problem, report)
         finally:
             os.environ.clear()
             os.environ.update(kept)
@@ -640,7 +618,7 @@ class Telling(Case):
             text, problem = Path(report).read_text(), parse(Path(file).read_text())
             told = read_report(text, problem)
             try:
-                found = replay.moments(Programs(REAL), problem, text)
+                found = replaying.moments(Programs(REAL), problem, text)
             except Trouble as trouble:
                 self.assertIn("has no `replay` yet", str(trouble))
                 continue

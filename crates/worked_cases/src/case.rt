@@ -12,6 +12,8 @@ pub enum Program {
     DcopOrder,
     /// `dcop_search`
     DcopSearch,
+    /// `dcop_trace`
+    DcopTrace,
 }
 
 /// A worked case: what a program is given, and what it has to answer.

@@ -14,6 +14,7 @@ use std::rt::Files;
 use std::sync::Wait;
 use std::thread::Threads;
 use std::time::Clock;
+use trace_top::trace;
 use wire_edge::{MemoryDialer, SteadyDialer};
 
 /// How often cases were run, and how many of these runs differ.
@@ -79,6 +80,7 @@ fn found_on<R: Threads + Wait + Clock + RandomSource + Net + AllocGlobal + Sync>
         Program::Dcop => solved(rt, case, &mut source, &mut sink)?,
         Program::DcopOrder => order(alloc, &case.words, &mut source, &mut sink),
         Program::DcopSearch => search(alloc, &case.words, &mut source, &mut sink),
+        Program::DcopTrace => trace(alloc, &case.words, &mut source, &mut sink),
     };
     Ok(Found {
         status: status.code(),

@@ -183,6 +183,7 @@ fn program(name: &str) -> Result<Program> {
         "dcop" => Ok(Program::Dcop),
         "dcop_order" => Ok(Program::DcopOrder),
         "dcop_search" => Ok(Program::DcopSearch),
+        "dcop_trace" => Ok(Program::DcopTrace),
         _ => bail!("{name} is no program"),
     }
 }

@@ -445,6 +445,7 @@ def by_run(asked: Request, teller: Any) -> Told:
         "deliveries": read.deliveries,
         "goal": problem.goal,
         "verified": sure,
+        "rests_on": programs.verified if sure else "not verified",
         "own": own_costs(told),
         "problem": problem.text(),
         "report": report,
@@ -475,6 +476,7 @@ def by_dpop(asked: Request, teller: Any) -> Told:
         "deliveries": read.deliveries,
         "goal": told.problem.goal,
         "verified": sure,
+        "rests_on": programs.verified if sure else "not verified",
         "own": own_costs(told),
     }
     return {"answer": found, "final": True}

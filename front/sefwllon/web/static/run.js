@@ -169,7 +169,7 @@ export class RunView {
     if (!answer) return;
     this.begin(new AdoptSteps(answer), answer.tree);
     const solved = answer.status === "solved" ? "all agents have ended" : "the messages were spent first";
-    say(by("run-said"), `${answer.events.length} events, ${answer.deliveries} messages: ${solved}. ${noun(answer)} ${answer.cost}, the best lies between ${answer.lower} and ${answer.upper} (${answer.verified ? "verified" : "not verified"}).${answer.own ? ` ${answer.own}` : ""}`);
+    say(by("run-said"), `${answer.events.length} events, ${answer.deliveries} messages: ${solved}. ${noun(answer)} ${answer.cost}, the best lies between ${answer.lower} and ${answer.upper} (${answer.rests_on}).${answer.own ? ` ${answer.own}` : ""}`);
     if (typeof d3 !== "undefined") {
       this.plot = new Plot(by("plot"), answer.moments, answer.cost, (deliveries) => this.go(this.steps.eventAt(deliveries)));
     }
@@ -182,7 +182,7 @@ export class RunView {
     this.begin(new DpopSteps(answer), answer.tree);
     this.plot = null;
     by("plot").replaceChildren();
-    say(by("run-said"), `${answer.deliveries} messages: a table from each agent but the root, and values back. ${noun(answer)} ${answer.cost}, and none is better (${answer.verified ? "verified" : "not verified"}).${answer.own ? ` ${answer.own}` : ""}`);
+    say(by("run-said"), `${answer.deliveries} messages: a table from each agent but the root, and values back. ${noun(answer)} ${answer.cost}, and none is better (${answer.rests_on}).${answer.own ? ` ${answer.own}` : ""}`);
     this.go(0);
   }
 
