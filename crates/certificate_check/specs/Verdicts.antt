@@ -1,5 +1,5 @@
 -- What comes of checking a report: that it holds, or the first difference.
-use Rattle.std.specs.Prelude.{◌≡◌, ℕ, ◌⊎◌, List, Option, Some, None, IfSome}
+use Rattle.std.specs.Prelude.{◌≡◌, ℕ, ◌⊎◌, List, Option, Some, None, IsSomeAnd}
 use Rattle.dcop_base.specs.Problem.{Dcop}
 use Rattle.pseudotree.specs.Pseudotree.{IsPseudotree}
 use Rattle.pseudotree.specs.Fault.{parents_of}
@@ -62,9 +62,9 @@ IsVerdictOn f r verdict (Tables utils) = IsTablesVerdict f r utils verdict
 IsVerdictOn f r verdict (Log log) = IsLogVerdict f r log verdict
 IsVerdictOn f r verdict (Cut cut turns) = IsCutVerdict f r cut turns verdict
 
--- the same of the report's certificate
+-- the same of the certificate that the report has
 abbrev pub IsVerdict : TextFile → Report → Verdict → Type 0
-IsVerdict f r verdict = IfSome r.certificate (IsVerdictOn f r verdict)
+IsVerdict f r verdict = IsSomeAnd r.certificate (IsVerdictOn f r verdict)
 
 -- yes exactly where these tables show that the report holds
 abbrev pub IsTablesExact : TextFile → Report → List Util → Verdict → Type 0
@@ -82,9 +82,9 @@ IsExactOn f r verdict (Tables utils) = IsTablesExact f r utils verdict
 IsExactOn f r verdict (Log log) = IsLogExact f r log verdict
 IsExactOn f r verdict (Cut cut turns) = IsCutExact f r cut turns verdict
 
--- the same of the report's certificate
+-- the same of the certificate that the report has
 abbrev pub IsExact : TextFile → Report → Verdict → Type 0
-IsExact f r verdict = IfSome r.certificate (IsExactOn f r verdict)
+IsExact f r verdict = IsSomeAnd r.certificate (IsExactOn f r verdict)
 
 -- no, by the first reason why the parents form no pseudotree
 abbrev pub IsTreeVerdict : Dcop → List (Option ℕ) → Verdict → Type 0

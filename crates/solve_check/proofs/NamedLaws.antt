@@ -1,7 +1,6 @@
 -- Each variable of which a verdict speaks is one of the file's.
 use Rattle.std.proofs.Common.{◌≡◌, ℕ, zero, suc, ◌+◌, ◌<◌, Option, Some, None, List, length, get_or, nat_eq, sym, ap, ◌∙◌, subst, arith, inl, inr}
-use Rattle.std.specs.Prelude.{IfSome, IsTrue, is_some}
-use Rattle.std.proofs.lemmas.Bool.{false≢true}
+use Rattle.std.specs.Prelude.{IfSome, IsSomeAnd}
 use Rattle.std.specs.List.{range_with_len}
 use Rattle.std.specs.Option.{option_map}
 use Rattle.std.specs.Str.{bytes_eq}
@@ -174,19 +173,19 @@ by-named n f r None named = tt
 by-named n f r (Some differs) named = named
 
 -- a verdict on a report that has a certificate and fits its file
-pub verdict-named : (f : TextFile) (r : Report) (certificate : Option Certificate) (verdict : Verdict) → length f.names ≡ length f.problem.sizes → IsTrue (is_some certificate) → length r.values ≡ length f.problem.sizes → IfSome certificate (FitsCertificate f.problem.sizes r.method) → IfSome certificate (IsVerdictOn f r verdict) → IsNamedVerdict (length f.names) verdict
-verdict-named f r None verdict many some long fits is = absurd (false≢true some)
-verdict-named f r (Some (Tables utils)) verdict many some long fits is =
+pub verdict-named : (f : TextFile) (r : Report) (certificate : Option Certificate) (verdict : Verdict) → length f.names ≡ length f.problem.sizes → length r.values ≡ length f.problem.sizes → IfSome certificate (FitsCertificate f.problem.sizes r.method) → IsSomeAnd certificate (IsVerdictOn f r verdict) → IsNamedVerdict (length f.names) verdict
+verdict-named f r None verdict many long fits is = absurd is
+verdict-named f r (Some (Tables utils)) verdict many long fits is =
     let sizes = solved_sizes f.goal f.problem in
     let count : length (problem_solved f).sizes ≡ length f.names = ap length sizes ∙ sym many in
     subst (λ (n : ℕ). IsNamedVerdict n verdict) count
     (tables-named f r utils verdict (subst (λ (ss : List ℕ). FitsTables ss utils) (sym sizes) fits.1) is)
-verdict-named f r (Some (Log log)) verdict many some long fits is =
+verdict-named f r (Some (Log log)) verdict many long fits is =
     let n : ℕ = length f.problem.sizes in
     let differs = log-named n f r log long fits.1 in
     let told : IsNamedVerdict n verdict = subst (IsNamedVerdict n) (sym is) (by-named n f r (log_difference f r log) differs) in
     subst (λ (n : ℕ). IsNamedVerdict n verdict) (sym many) told
-verdict-named f r (Some (Cut cut turns)) verdict many some long fits is =
+verdict-named f r (Some (Cut cut turns)) verdict many long fits is =
     let sizes = solved_sizes f.goal f.problem in
     let count : length (problem_solved f).sizes ≡ length f.names = ap length sizes ∙ sym many in
     subst (λ (n : ℕ). IsNamedVerdict n verdict) count

@@ -17,7 +17,7 @@ use crate::running::run_lines;
 use crate::stop::Stop;
 use dcop_base::NoMemory;
 use dpop_agent::Steps;
-use edit_session::Session;
+use edit_session::{OpenFault, Session};
 use problem_solved::ProblemSolved;
 use problem_text::{Names, ProblemFile};
 use pseudotree::{Tree, Wide, widths};
@@ -74,9 +74,11 @@ fn counted_answer<L: Ledger>(
         return Ok(too_wide(wide, file.names));
     }
     file_is_whole(&file);
-    let Ok(session) = Session::open(alloc, file, tree) else {
+    let session = match Session::open(alloc, file, tree) {
+        Ok(session) => session,
         // The tree is not too wide.
-        return Err(NoMemory);
+        Err(OpenFault::Wide(_)) => unreachable!(),
+        Err(OpenFault::NoMemory) => return Err(NoMemory),
     };
     let mut steps = Steps::<L>::new(blank);
     lines_answer(alloc, session, text, before, &mut steps)

@@ -3,3 +3,4 @@ mod LineLaws
 pub mod ReplayLaws
 pub mod LogLaws
 mod BeginLaws
+mod EnclosingLaws

@@ -2,3 +2,4 @@ pub mod CertificateLine
 pub mod LogReads
 pub mod Rows
 pub mod Replaying
+pub mod Enclosing

@@ -6,12 +6,14 @@
 #![tactic(auto)]
 
 mod certificate_line;
+mod enclosing;
 mod events;
 mod law;
 mod reading;
 mod replaying;
 mod rows;
 
+pub use enclosing::replayed_bounds_enclose;
 pub use events::log_up_to;
 pub use law::certificates_begin;
 pub use reading::{LogRead, read_log};

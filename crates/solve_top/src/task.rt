@@ -128,11 +128,13 @@ impl Task {
 
 /// How many threads the agents of a command share.
 pub(crate) fn workers_of(command: &Command) -> u32
+    requires { IsInRange command.now }
     ensures { 0 < result }
 {
-    match command {
-        Command::Solve { workers, .. } => (*workers).max(1),
-        Command::Tree { workers, .. } | Command::Drill { workers, .. } => (*workers).max(1),
+    match *command {
+        Command::Solve { workers, .. }
+        | Command::Tree { workers, .. }
+        | Command::Drill { workers, .. } => workers,
         _ => 1,
     }
 }
@@ -141,10 +143,10 @@ pub(crate) fn workers_of(command: &Command) -> u32
 pub(crate) fn nodes_of(command: &Command) -> u32
     requires { IsInRange command.now }
     ensures few { (0 < result) × (result ≤ node_limit) }
-    ensures same { 1 < result → result ≡ nodes_of command.now }
+    ensures same { result ≡ nodes_of command.now }
 {
-    match command {
-        Command::Solve { nodes, .. } | Command::Drill { nodes, .. } => (*nodes).max(1),
+    match *command {
+        Command::Solve { nodes, .. } | Command::Drill { nodes, .. } => nodes,
         _ => 1,
     }
 }

@@ -126,7 +126,10 @@ fn traced(
 {
     match trace_of(alloc, &file, from, error, log) {
         Ok(text) => Ok(TraceAnswer::Traced(text)),
-        Err(fault) => Ok(TraceAnswer::Refused(solve_replay::fault_answer(file.names, fault)?)),
+        Err(fault) => {
+            let refusal = solve_replay::fault_answer(file.names, fault)?;
+            Ok(TraceAnswer::Refused(refusal))
+        }
     }
 }
 

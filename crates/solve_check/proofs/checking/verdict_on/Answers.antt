@@ -12,4 +12,4 @@ returns-clause-named c =
     let f : TextFile = c.args.file.now in
     let whole : IsFile f = rw (← c.file.view_is) c.file.invariant in
     IfOk-weaker c.check.result (IsVerdict f c.args.report.now) (IsNamedVerdict (length f.names))
-    (λ verdict. verdict-named f c.args.report.now c.args.report.now.certificate verdict whole.named c.requires.0 (length_all_zip (λ v s. v < s) c.args.report.now.values f.problem.sizes c.requires.1.values) c.requires.1.certificate) c.check.ensures.verdict
+    (λ verdict. verdict-named f c.args.report.now c.args.report.now.certificate verdict whole.named (length_all_zip (λ v s. v < s) c.args.report.now.values f.problem.sizes c.requires.1.values) c.requires.1.certificate) c.check.ensures.verdict

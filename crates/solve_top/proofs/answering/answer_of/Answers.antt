@@ -7,12 +7,12 @@ use Rattle.solve_top.proofs.answering.answer_of.Goals as goal
 
 pub returns-in-Ok-read_all-clause-answered : goal.returns-in-Ok-read_all-clause-answered
 returns-in-Ok-read_all-clause-answered g c =
-    Answered-text _ c.in-Ok.command c.nodes_of-nodes.result (sym c.in-Ok.ensures.answer) c.nodes_of-nodes.ensures.same c.in-Some.task _ _ c.in-Ok-read_all.bytes c.in-Ok-read_all.bytes c.task_answer.result
+    Answered-text _ c.in-Ok.command c.nodes_of-nodes.result (sym c.in-Ok.ensures.answer) (λ many. c.nodes_of-nodes.ensures.same) c.in-Some.task _ _ c.in-Ok-read_all.bytes c.in-Ok-read_all.bytes c.task_answer.result
     (sym c.in-Some.ensures.same) c.in-Ok-read_all.ensures refl c.task_answer.ensures.belongs c.task_answer.ensures.right
 
 pub returns-in-Ok-read_all-clause-links : goal.returns-in-Ok-read_all-clause-links
 returns-in-Ok-read_all-clause-links g c =
-    asks_tells _ c.in-Ok.command c.nodes_of-nodes.result _ _ _ c.task_answer.result (sym c.in-Ok.ensures.answer) c.nodes_of-nodes.ensures.same c.task_answer.ensures.links
+    asks_tells _ c.in-Ok.command c.nodes_of-nodes.result _ _ _ c.task_answer.result (sym c.in-Ok.ensures.answer) (λ many. c.nodes_of-nodes.ensures.same) c.task_answer.ensures.links
 
 pub returns-in-Err-Failed-clause-answered : goal.returns-in-Err-Failed-clause-answered
 returns-in-Err-Failed-clause-answered g c =
@@ -32,9 +32,9 @@ returns-in-Err-TooLong-clause-links g c = rw c.fault_answer.ensures (linkless-te
 
 pub returns-in_default-clause-answered : goal.returns-in_default-clause-answered
 returns-in_default-clause-answered g c =
-    Answered-unread _ c.in-Ok.command c.nodes_of-nodes.result (sym c.in-Ok.ensures.answer) c.nodes_of-nodes.ensures.same _ _ c.unread_answer.result (sym c.in_default.ensures.same) refl
+    Answered-unread _ c.in-Ok.command c.nodes_of-nodes.result (sym c.in-Ok.ensures.answer) (λ many. c.nodes_of-nodes.ensures.same) _ _ c.unread_answer.result (sym c.in_default.ensures.same) refl
     c.unread_answer.ensures.belongs c.unread_answer.ensures.right
 
 pub returns-in_default-clause-links : goal.returns-in_default-clause-links
 returns-in_default-clause-links g c =
-    asks_tells _ c.in-Ok.command c.nodes_of-nodes.result _ _ _ c.unread_answer.result (sym c.in-Ok.ensures.answer) c.nodes_of-nodes.ensures.same c.unread_answer.ensures.links
+    asks_tells _ c.in-Ok.command c.nodes_of-nodes.result _ _ _ c.unread_answer.result (sym c.in-Ok.ensures.answer) (λ many. c.nodes_of-nodes.ensures.same) c.unread_answer.ensures.links
