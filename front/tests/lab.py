@@ -64,17 +64,21 @@ def threes(count: int) -> str:
 
 
 def begun(*words: str, **more: str) -> subprocess.Popen[str]:
-    """The command as a process of its own, with a group of its own, as a shell begins it."""
+    """The command as a process of its own, with a group of its own, as a shell begins it: it hears ctrl-C, also if the tests do not."""
     environment = dict(os.environ, PYTHONDONTWRITEBYTECODE="1", **more)
-    return subprocess.Popen(
-        [sys.executable, "-m", "sefwllon", *words],
-        cwd=FRONT,
-        env=environment,
-        stdout=subprocess.PIPE,
-        stderr=subprocess.PIPE,
-        text=True,
-        process_group=0,
-    )
+    heard = signal.signal(signal.SIGINT, signal.default_int_handler)
+    try:
+        return subprocess.Popen(
+            [sys.executable, "-m", "sefwllon", *words],
+            cwd=FRONT,
+            env=environment,
+            stdout=subprocess.PIPE,
+            stderr=subprocess.PIPE,
+            text=True,
+            process_group=0,
+        )
+    finally:
+        signal.signal(signal.SIGINT, heard)
 
 
 class Engine:
