@@ -92,10 +92,10 @@ class Engine:
         self.workers = [self.worker() for _ in range(count)]
 
     def process(self, module: str, *words: str) -> subprocess.Popen[bytes]:
-        out = open(Path(self.folder.name) / "log", "ab")
         command = [sys.executable, "-m", f"distributed.cli.{module}", *words, "--no-dashboard"]
         environment = dict(os.environ, DASK_DISTRIBUTED__WORKER__MEMORY__TERMINATE="0.0")
-        return subprocess.Popen(command, cwd=self.folder.name, env=environment, stdout=out, stderr=out)
+        with open(Path(self.folder.name) / "log", "ab") as out:
+            return subprocess.Popen(command, cwd=self.folder.name, env=environment, stdout=out, stderr=out)
 
     def worker(self) -> subprocess.Popen[bytes]:
         words = ("--scheduler-file", str(self.file), "--host", "127.0.0.1", "--nthreads", "1", "--no-nanny")
