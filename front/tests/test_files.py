@@ -314,3 +314,19 @@ class Pictures(Files):
             self.assertIsNone(layout.graph(2, 30, [(0, 1)]))
             self.assertEqual(len(minidom.parseString(self.pictures()[0].encode()).getElementsByTagName("ellipse")), 3)
         self.assertIsNone(layout.graph(2, 30, [(0, 1)] * 6_000))
+
+
+class Named(Files):
+    def test_a_wrong_program_is_named_in_what_the_page_asks_too(self):
+        from sefwllon.programs import Programs
+        from sefwllon.web import answers
+
+        told = Problem.parse(PAIR).translation
+        for does, said in (("echo hello", "answered `hello`"), ("echo hello; exit 1", "answered `hello`, with exit status 1")):
+            program = self.file("program", f"#!/bin/sh\n{does}\n")
+            os.chmod(program, 0o755)
+            programs = Programs(program, program, program)
+            with self.assertRaisesRegex(Trouble, re.escape(f"the program {program} {said}")):
+                answers.tree_of(programs, told, told.problem.text())
+        with self.assertRaisesRegex(Trouble, re.escape(f"the program {program} {said}")):
+            answers.ordered_text(programs, told.problem, 10)

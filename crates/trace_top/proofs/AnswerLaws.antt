@@ -88,7 +88,7 @@ fault-answered words before after answer done more = failed-input words before a
 text-well : (words : List (List ℕ)) (text : List ℕ) (accepted : IsAccepted words text) (answer : TraceAnswer)
     → AnswersTrace accepted.parts.declared (lines_in (take accepted.parts.used text)) (drop accepted.parts.used text) accepted.asked answer → GoesWell (trace_status_of answer)
 text-well words text accepted answer is =
-    let found = accepted.runs is.file is.is_file is.declared in
+    let found = accepted.runs is.file is.is_file is.whole is.declared in
     let behind = drop accepted.parts.used text in
     report-well is.file (lines_in (take accepted.parts.used text)) behind accepted.asked (report_read behind is.file) found.report found.log found.end answer is.is found.read found.given found.ran
 

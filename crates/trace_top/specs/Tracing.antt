@@ -1,6 +1,7 @@
 -- What the top call of `dcop_trace` does: it answers, and shows its answer as the top call of `dcop` does.
 use Rattle.std.specs.Prelude.{◌≡◌, ℕ, ◌≤◌, ◌⊎◌, List, length, drop, Some, Ok}
 use Rattle.dcop_base.specs.Limits.{input_limit}
+use Rattle.dcop_base.specs.Whole.{IsProblem}
 use Rattle.protocol_steps.specs.Network.{Network, start_state}
 use Rattle.protocol_steps.specs.Run.{run}
 use Rattle.problem_text.specs.File.{TextFile, IsFile}
@@ -52,7 +53,7 @@ pub record IsAccepted (words : List (List ℕ)) (text : List ℕ) : Type 0 where
   pub short : length text ≤ input_limit
   pub parts : Parts
   pub front : front_read asked.format text ≡ Ok parts
-  pub runs : (file : TextFile) → IsFile file → declared_by file ≡ parts.declared → TellsRun asked (drop parts.used text) file
+  pub runs : (file : TextFile) → IsFile file → IsProblem file.problem → declared_by file ≡ parts.declared → TellsRun asked (drop parts.used text) file
 
 -- the call wrote a trace, or memory was wanted
 abbrev pub GoesWell : Status → Type 0

@@ -24,9 +24,9 @@ from .. import cli, draw, timetable
 from ..files import KINDS as FILES
 from ..files import load
 from ..problem import Problem, Table, Trouble, Variable, is_name
-from ..programs import Programs
+from ..programs import Programs, Wrong
 from ..report import fitted, read_report, read_tree
-from ..solving import Refused
+from ..solving import refusal
 from ..timetable import calendars, rooms, rules
 from ..timetable.model import Meeting, Place, Sequence, Timetable, Together
 from ..timetable.telling import table
@@ -365,7 +365,7 @@ def ordered_text(programs: Programs, problem: Problem, tries: int, seconds: floa
     if answer is None or answer.status is None:
         return None
     if answer.status != 0:
-        raise Refused(answer)
+        raise refusal(answer, "no answer of dcop_order", problem.text())
     return answer.text
 
 
@@ -373,11 +373,15 @@ def tree_of(programs: Programs, told: Translation, text: str) -> list[Told]:
     """The tree of the agents of a problem's text, with separators and the cells of each agent's joined table."""
     answer = programs.run(["tree"], text)
     if answer.status != 0:
-        raise Refused(answer)
+        raise refusal(answer, "no answer of `dcop tree`", text)
     own = {v.name: name for v, name in zip(told.problem.variables, told.names)}
     sizes = {v.name: v.size for v in told.problem.variables}
     nodes = []
-    for node in read_tree(answer.text):
+    try:
+        read = read_tree(answer.text)
+    except Trouble as trouble:
+        raise Wrong(answer, str(trouble)) from None
+    for node in read:
         cells = sizes[node.name]
         for name in node.separator:
             cells *= sizes[name]
@@ -459,7 +463,7 @@ def by_dpop(asked: Request, teller: Any) -> Told:
     told = loaded(asked, programs)
     answer = programs.run(["solve", "--method", "dpop", "--certificate", "yes"], told.problem.text())
     if answer.status != 0:
-        raise Refused(answer)
+        raise refusal(answer, "no report of `dcop solve`", told.problem.text())
     run = trace.Run(programs, told.problem, answer.text)
     sure = run.checked()
     read = read_report(answer.text, told.problem)
