@@ -55,9 +55,14 @@ class Near(Aim):
         return max(self.error, int(self.part * own * self.told.scale) if own > 0 else 0)
 
 
+def aim_of(told: Translation, options: argparse.Namespace, error: int) -> Aim:
+    """When an answer is good enough, by the command's words."""
+    return Near(error, told, options.gap or Fraction(0)) if getattr(options, "gap", None) else Aim(error)
+
+
 def solved(programs: Programs, told: Translation, options: argparse.Namespace, error: int = 0, method: str = "auto") -> Best:
     """Solves a problem."""
-    aim = Near(error, told, options.gap or Fraction(0)) if getattr(options, "gap", None) else Aim(error)
+    aim = aim_of(told, options, error)
     with Progress(told, options.began) as progress:
         solver = Solver(
             programs,

@@ -15,6 +15,9 @@ PROVED = "proved"
 PROVED_UNPROVED = "by a program that was compiled without proofs"
 """What it is called where that was the `dcop` of the script of a first look."""
 
+SLICED = "each slice proved, their combination not"
+"""What an answer is called that comes of slices of the problem, each of which the proved program answered."""
+
 ADDED_UP = "added up"
 """What an answer is called that follows from the sums and the least or greatest costs of the file alone."""
 
@@ -60,6 +63,8 @@ class Best:
     """Whether `dcop` was compiled without proofs, by the script of a first look."""
     searched: bool = False
     """Whether the best bound is one of `dcop_search`, which is no script of a first look."""
+    sliced: bool = False
+    """Whether the best bound is that of several slices of the problem."""
     began: float = field(default_factory=time.monotonic)
     seconds: float = 0.0
     moments: list[Moment] = field(default_factory=list)
@@ -137,6 +142,8 @@ class Best:
         bound = self.bound(goal)
         if bound is not None and bound == self.checked:
             return VERIFIED_UNPROVED if self.quick else VERIFIED
+        if bound is not None and bound == self.proved and self.sliced:
+            return SLICED
         if bound is not None and bound == self.proved:
             return PROVED_UNPROVED if self.quick and not self.searched else PROVED
         return ADDED_UP

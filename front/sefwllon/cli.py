@@ -24,6 +24,9 @@ COMMANDS = (
     "why",
     "draw",
     "cost",
+    "generate",
+    "sweep",
+    "plot",
     "web",
     "serve",
 )

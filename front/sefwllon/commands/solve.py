@@ -28,6 +28,11 @@ def add(commands: Commands) -> None:
     )
     solve.add_argument("--cells", type=cells, metavar="N", help="cells that a joined table of cut, or all bounds of search, may have at most")
     solve.add_argument("--certificate", choices=("yes", "no"), default="yes", help="whether certificates are made and checked; yes by itself")
+    solve.add_argument(
+        "--cluster",
+        metavar="ADDRESS",
+        help="share the search out among the workers of the Dask scheduler at this address, or with `local` among this machine's processors",
+    )
     add_solving(solve)
     solve.set_defaults(run=run)
 
@@ -39,9 +44,15 @@ def run(options: argparse.Namespace) -> int:
         options.text = read_text(options.file)
     told = loaded(options, programs)
     error = int(options.error * told.scale)
-    best = solved(programs, told, options, error, options.method)
+    more: dict[str, object] = {}
+    if options.cluster:
+        from ..lab.shared import shared_out
+
+        best, more = shared_out(programs, told, options, error)
+    else:
+        best = solved(programs, told, options, error, options.method)
     with undisturbed():
-        text = as_json(best, told, programs) if options.json else as_text(best, told)
+        text = as_json(best, told, programs, more) if options.json else as_text(best, told)
         wanted = options.report and best.values is not None
         good = deliver(text, [(options.report, lambda: kept(best, told.problem))] if wanted else [])
     return status_of(best, told) if good else TEXT

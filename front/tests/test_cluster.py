@@ -1,0 +1,114 @@
+"""Tests of the workers of a Dask scheduler: real ones, as processes at 127.0.0.1."""
+
+from __future__ import annotations
+
+import json
+import signal
+import tempfile
+import unittest
+from pathlib import Path
+from unittest import mock
+
+from sefwllon.lab import sharing
+from sefwllon.lab.rows import read_rows
+from sefwllon.problem import parse
+
+from .case import ORDER, REAL, SEARCH, Case
+from .lab import HAS, Engine, begun, script, steady, threes, until
+from .test_chain import drawn, optimum
+
+PASSED_OVER = [name for name, there in (("built programs", REAL and ORDER and SEARCH), ("python3-distributed", HAS["distributed"])) if not there]
+
+
+class OnCluster(Case):
+    """A test with the built programs and a folder."""
+
+    engine: Engine
+
+    def setUp(self) -> None:
+        super().setUp()
+        folder = tempfile.TemporaryDirectory()
+        self.addCleanup(folder.cleanup)
+        self.folder = folder.name
+        self.out = f"{self.folder}/results.csv"
+
+    def problems(self, count: int) -> str:
+        place = Path(self.folder) / "problems"
+        place.mkdir()
+        for at in range(count):
+            (place / f"p{at:02}.dcop").write_text(drawn(at, "max" if at % 2 else "min").text())
+        return str(place)
+
+    def ran(self, *words: str, **more: str) -> tuple[int, str, str]:
+        return self.front(*words, **{"program": REAL, "order": ORDER, "search": SEARCH, **more})
+
+
+@unittest.skipIf(PASSED_OVER, f"passed over: no {' and no '.join(PASSED_OVER)}")
+class Cluster(OnCluster):
+    @classmethod
+    def setUpClass(cls) -> None:
+        cls.engine = Engine(2)
+        cls.addClassCleanup(cls.engine.end)
+
+    def test_a_sweep_of_60_runs_gives_the_same_rows_as_without_a_cluster(self):
+        words = ("sweep", self.problems(12), "--methods", "dpop,order:tries=50,search,plain,adopt:budget=2000")
+        for out, more in (("there.csv", ("--cluster", self.engine.address)), ("here.csv", ("--processes", "2"))):
+            status, said, why = self.ran(*words, "-o", f"{self.folder}/{out}", *more)
+            self.assertEqual((status, said), (0, f"60 of 60 runs are in {self.folder}/{out}, 60 of them new\n"), why)
+        self.assertEqual(steady(f"{self.folder}/there.csv"), steady(f"{self.folder}/here.csv"))
+
+    def test_a_problem_is_shared_out_and_both_workers_take_slices(self):
+        """Each worker waits with its first slice until the other has one too."""
+        waits = script(
+            self.folder,
+            "waits",
+            'cat > "$0.$$"',
+            "if grep -q '^var .* 1$' \"$0.$$\"; then",
+            f"  : > {self.folder}/has.$PPID",
+            f"  while [ $(ls {self.folder} | grep -c '^has[.]') -lt 2 ]; do sleep 0.05; done",
+            "fi",
+            f'exec {SEARCH} "$@" < "$0.$$"',
+        )
+        problem = parse(threes(6))
+        with mock.patch.object(sharing, "FIRST_NODES", 1), mock.patch.object(sharing, "GROWTH", 2):
+            words = ("solve", "--json", self.file("p.dcop", problem.text()), "--cluster", self.engine.address)
+            status, told, why = self.ran(*words, search=waits)
+        answer = json.loads(told or "{}")
+        self.assertEqual((status, answer.get("cost")), (0, optimum(problem)), why)
+        self.assertEqual(answer["rests_on"], "each slice proved, their combination not")
+        self.assertEqual(len(answer["slices"]["workers"]), 2, answer["slices"])
+        self.assertIn("that their answers together are one of the whole is not proved", answer["note"])
+
+
+@unittest.skipIf(PASSED_OVER, f"passed over: no {' and no '.join(PASSED_OVER)}")
+class Killed(OnCluster):
+    def test_a_killed_worker_loses_no_row_and_after_a_killed_scheduler_the_same_command_goes_on(self):
+        engine = Engine(2)
+        self.addCleanup(engine.end)
+        slow = script(self.folder, "slow", "sleep 0.2", f'exec {REAL} "$@"')
+        words = ("sweep", self.problems(10), "--methods", "plain,adopt:budget=2000", "-o", self.out)
+        process = begun(*words, "--cluster", engine.address, SEFWLLON_DCOP=slow)
+        self.addCleanup(process.kill)
+        until(lambda: Path(self.out).exists() and Path(self.out).read_text().count("\n") > 3, "three rows")
+        engine.workers[0].send_signal(signal.SIGKILL)
+        until(lambda: Path(self.out).read_text().count("\n") > 12, "twelve rows")
+        engine.scheduler.send_signal(signal.SIGKILL)
+        _, why = process.communicate(timeout=300)
+        self.assertEqual((process.returncode, "is gone; the same command goes on" in why, why.count("Traceback")), (3, True, 0), why)
+        kept = Path(self.out).read_text()
+        self.assertLess(kept.count("\n"), 21)
+        self.assertEqual(self.ran(*words, program=slow)[0], 0)
+        self.assertTrue(Path(self.out).read_text().startswith(kept))
+        rows = read_rows(self.out)
+        self.assertEqual((len(rows), len({(row["file"], row["method"]) for row in rows})), (20, 20))
+
+
+@unittest.skipUnless(HAS["distributed"], "passed over: no python3-distributed")
+class Nobody(OnCluster):
+    def test_an_address_where_nobody_listens_is_told(self):
+        file = self.file("p.dcop", drawn(1).text())
+        with mock.patch("sefwllon.lab.cluster.CONNECT_SECONDS", 1):
+            for words in (("sweep", file, "--methods", "dpop", "-o", self.out), ("solve", file)):
+                status, said, why = self.front(*words, "--cluster", "tcp://127.0.0.1:9", search=REAL or __file__)
+                self.assertEqual((status, said.count("cost")), (3, 0), why)
+                self.assertIn("no Dask scheduler answers at tcp://127.0.0.1:9: begin one with `dask-scheduler`", why)
