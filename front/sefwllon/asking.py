@@ -63,7 +63,7 @@ def aim_of(told: Translation, options: argparse.Namespace, error: int) -> Aim:
 def solved(programs: Programs, told: Translation, options: argparse.Namespace, error: int = 0, method: str = "auto") -> Best:
     """Solves a problem."""
     aim = aim_of(told, options, error)
-    with Progress(told, options.began) as progress:
+    with Progress(told, options.began, getattr(options, "quiet", False)) as progress:
         solver = Solver(
             programs,
             told.problem,
@@ -175,7 +175,7 @@ def judged(programs: Programs, told: Translation, text: str, options: argparse.N
 def ask(programs: Programs, told: Translation, verdict: Verdict, options: argparse.Namespace) -> None:
     """Asks whether an assignment is better than a report says that any is."""
     problem, goal = told.problem, told.problem.goal
-    with Progress(told, options.began) as progress:
+    with Progress(told, options.began, getattr(options, "quiet", False)) as progress:
         best = Best(began=options.began)
         solver = Solver(programs, problem, rival=verdict.bound, until=deadline(options), tell=progress.tell, show=progress.tick, best=best)
         trivial = sum(min(t.costs) for t in problem.tables) if goal == "min" else sum(max(t.costs) for t in problem.tables)

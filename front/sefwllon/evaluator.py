@@ -5,6 +5,7 @@ from __future__ import annotations
 import ast
 import math
 import operator
+from collections.abc import Iterable, Iterator
 from fractions import Fraction
 
 from .problem import Trouble
@@ -31,12 +32,17 @@ _COMPARE = {
 }
 _UNARY = {ast.UAdd: operator.pos, ast.USub: operator.neg, ast.Not: operator.not_}
 _CALLS = {
-    "abs": abs, "min": min, "max": max, "round": round, "int": int, "float": float, "sum": sum, "len": len,
-    "pow": lambda a, b: _power(a, b), "sqrt": math.sqrt, "str": str, "bool": bool,
+    "abs": abs, "min": min, "max": max, "round": round, "int": int, "float": lambda a: exactly(float(a)), "sum": sum, "len": len,
+    "pow": lambda a, b: _power(a, b), "sqrt": math.sqrt, "str": lambda a: str(float(a) if isinstance(a, Fraction) else a), "bool": bool,
+    "range": lambda *ends: _range(*ends), "any": any, "all": all, "sorted": sorted, "list": list, "tuple": tuple, "set": set,
+    "zip": lambda *parts: list(zip(*parts)), "enumerate": lambda *parts: list(enumerate(*parts)),
 }  # fmt: skip
 _NAMES = {"True": True, "False": False, "None": None, "inf": math.inf, "infinity": math.inf, "pi": math.pi}
 _MOST_STEPS = 10_000
 _MOST_POWER = 64
+_MOST_BITS = 1_000
+"""How long a number or a fraction's denominator may be that is reckoned with exactly."""
+_Loops = (ast.ListComp, ast.SetComp, ast.DictComp, ast.GeneratorExp)
 
 
 class _Return(Exception):
@@ -45,9 +51,67 @@ class _Return(Exception):
 
 
 def _power(a: object, b: object) -> object:
-    if not isinstance(a, (int, float)) or not isinstance(b, (int, float)) or abs(b) > _MOST_POWER or abs(a) > 1e15:
+    if not isinstance(a, (int, float, Fraction)) or not isinstance(b, (int, float, Fraction)) or abs(b) > _MOST_POWER or abs(a) > 1e15:
         raise Trouble("a power in a formula is too large")
+    if isinstance(a, int) and isinstance(b, int) and b < 0:
+        return Fraction(a) ** b
     return a**b
+
+
+def _range(*ends: int) -> list[int]:
+    told = range(*ends)
+    if len(told) > _MOST_STEPS:
+        raise Trouble("a range in a formula is too long")
+    return list(told)
+
+
+def exactly(value: object) -> object:
+    """A value of a variable, or a number of a formula, as formulas reckon with it: decimals as they are written, so 0.1 is a tenth."""
+    if isinstance(value, float) and math.isfinite(value):
+        return Fraction(repr(value))
+    return value.meant if isinstance(value, Switch) else value
+
+
+class Switch:
+    """A word that YAML takes as true or false: `on`, `off`, `yes` or `no`. It is told as it is written, and formulas have what is meant."""
+
+    def __init__(self, word: str):
+        self.word = word
+        self.meant = word.lower() in ("on", "yes")
+
+    def __str__(self) -> str:
+        return self.word
+
+    def __repr__(self) -> str:
+        return repr(self.word)
+
+    def __eq__(self, other: object) -> bool:
+        return isinstance(other, Switch) and other.word == self.word
+
+    def __hash__(self) -> int:
+        return hash(self.word)
+
+    def __bool__(self) -> bool:
+        return self.meant
+
+
+def free_names(node: ast.AST, bound: frozenset[str] = frozenset()) -> Iterator[str]:
+    """The names that a part of a formula takes from outside; those of a comprehension's own loops are its own."""
+    if isinstance(node, ast.Name):
+        if node.id not in bound and not isinstance(node.ctx, ast.Store):
+            yield node.id
+    elif isinstance(node, _Loops):
+        inner = bound
+        for loop in node.generators:
+            yield from free_names(loop.iter, inner)
+            inner |= {part.id for part in ast.walk(loop.target) if isinstance(part, ast.Name)}
+            for test in loop.ifs:
+                yield from free_names(test, inner)
+        for part in (node.key, node.value) if isinstance(node, ast.DictComp) else (node.elt,):
+            yield from free_names(part, inner)
+    else:
+        for child in ast.iter_child_nodes(node):
+            yield from free_names(child, bound)
 
 
 class Formula:
@@ -68,7 +132,7 @@ class Formula:
                 raise Trouble(f"{where}: the formula can't be read: {fault}") from None
 
         for node in (node for part in self.body for node in ast.walk(part)):
-            if isinstance(node, (ast.ListComp, ast.SetComp, ast.DictComp, ast.GeneratorExp, ast.Lambda, ast.Attribute)):
+            if isinstance(node, (ast.Lambda, ast.Attribute)):
                 raise Trouble(f"{where}: a formula may not have `{ast.unparse(node)}`")
 
     def names(self) -> list[str]:
@@ -82,17 +146,23 @@ class Formula:
             if isinstance(target, ast.Name)
         }
         found: list[str] = []
-        for part in self.body:
-            for node in ast.walk(part):
-                known = isinstance(node, ast.Name) and node.id not in (*_NAMES, *_CALLS, *assigned, *found)
-                if known and isinstance(node, ast.Name):
-                    found.append(node.id)
+        for name in (name for part in self.body for name in free_names(part)):
+            if name not in (*_NAMES, *_CALLS, *assigned, *found):
+                found.append(name)
         return sorted(found, key=lambda name: self.text.find(name))
+
+    def terms(self) -> list[Formula]:
+        """The parts whose sum an expression is; itself where it is no sum."""
+        match self.body:
+            case [ast.Return(value=ast.expr() as whole)]:
+                parts = [Formula(text, self.where) for text in map(ast.unparse, summed(whole))]
+                return parts if len(parts) > 1 else [self]
+        return [self]
 
     def value(self, given: dict[str, object]) -> object:
         """What it gives where the names have these values."""
         self.steps = 0
-        names = dict(given)
+        names = {name: exactly(value) for name, value in given.items()}
         try:
             self._run(self.body, names)
         except _Return as result:
@@ -121,18 +191,26 @@ class Formula:
             raise Trouble(f"{self.where}: the formula takes too long")
         match node:
             case ast.Constant(value=value) if isinstance(value, (int, float, str, bool, type(None))):
-                return value
+                return exactly(value)
             case ast.Name(id=name):
                 if name in names:
                     return names[name]
                 if name in _NAMES:
                     return _NAMES[name]
                 raise Trouble(f"{self.where}: the formula names {name}, which is no variable")
-            case ast.Tuple() | ast.List() | ast.Set():
+            case ast.Tuple() | ast.List():
                 return [self._eval(part, names) for part in node.elts]
+            case ast.Set():
+                return {self._eval(part, names) for part in node.elts}
             case ast.Dict() if None not in node.keys:
                 pairs = zip(node.keys, node.values)
                 return {self._eval(key, names): self._eval(value, names) for key, value in pairs if key is not None}
+            case ast.ListComp() | ast.GeneratorExp():
+                return [self._eval(node.elt, inner) for inner in self._loops(node.generators, names)]
+            case ast.SetComp():
+                return {self._eval(node.elt, inner) for inner in self._loops(node.generators, names)}
+            case ast.DictComp():
+                return {self._eval(node.key, inner): self._eval(node.value, inner) for inner in self._loops(node.generators, names)}
             case ast.IfExp():
                 return self._eval(node.body if self._eval(node.test, names) else node.orelse, names)
             case ast.BoolOp():
@@ -152,13 +230,43 @@ class Formula:
             case _:
                 raise Trouble(f"{self.where}: a formula may not have `{ast.unparse(node)}`")
 
+    def _loops(self, loops: list[ast.comprehension], names: dict[str, object]) -> Iterator[dict[str, object]]:
+        """The names in each turn of a comprehension."""
+        if not loops:
+            yield names
+            return
+        several = self._eval(loops[0].iter, names)
+        if not isinstance(several, Iterable):
+            raise Trouble(f"{self.where}: `{ast.unparse(loops[0].iter)}` is nothing to go through")
+        for value in several:
+            inner = dict(names)
+            self._bind(loops[0].target, value, inner)
+            if all(self._eval(test, inner) for test in loops[0].ifs):
+                yield from self._loops(loops[1:], inner)
+
+    def _bind(self, target: ast.expr, value: object, names: dict[str, object]) -> None:
+        """Gives a value to a loop's name, or its parts to several names."""
+        match target:
+            case ast.Name(id=name):
+                names[name] = value
+            case ast.Tuple(elts=targets) | ast.List(elts=targets) if isinstance(value, (list, tuple, str)) and len(value) == len(targets):
+                for part, told in zip(targets, value):
+                    self._bind(part, told, names)
+            case _:
+                raise Trouble(f"{self.where}: `{ast.unparse(target)}` can't be {value!r}")
+
     def _binary(self, node: ast.BinOp, names: dict[str, object]) -> object:
         left = self._eval(node.left, names)
         right = self._eval(node.right, names)
-        numbers = isinstance(left, (int, float)) and isinstance(right, (int, float))
+        numbers = isinstance(left, (int, float, Fraction)) and isinstance(right, (int, float, Fraction))
         if not numbers and not (isinstance(node.op, ast.Add) and isinstance(left, str) and isinstance(right, str)):
             raise Trouble(f"{self.where}: `{ast.unparse(node)}` is no sum of numbers")
-        return _BINARY[type(node.op)](left, right)
+        if isinstance(node.op, ast.Div) and isinstance(left, int) and isinstance(right, int):
+            return Fraction(left, right)
+        result = _BINARY[type(node.op)](left, right)
+        if isinstance(result, int) and result.bit_length() > _MOST_BITS:
+            raise Trouble(f"{self.where}: `{ast.unparse(node)}` is too large")
+        return float(result) if isinstance(result, Fraction) and result.denominator.bit_length() > _MOST_BITS else result
 
     def _logic(self, node: ast.BoolOp, names: dict[str, object]) -> object:
         wanted = isinstance(node.op, ast.Or)
@@ -179,12 +287,27 @@ class Formula:
         return True
 
 
+def summed(node: ast.expr, sign: bool = True) -> Iterator[ast.expr]:
+    """The parts whose sum an expression is."""
+    match node:
+        case ast.BinOp(left=left, op=ast.Add() | ast.Sub() as op, right=right):
+            yield from summed(left, sign)
+            yield from summed(right, sign == isinstance(op, ast.Add))
+        case ast.UnaryOp(op=ast.USub(), operand=operand):
+            yield from summed(operand, not sign)
+        case ast.Call(func=ast.Name(id="sum"), args=[ast.List(elts=parts) | ast.Tuple(elts=parts)], keywords=[]) if parts:
+            for part in parts:
+                yield from summed(part, sign)
+        case _:
+            yield node if sign else ast.UnaryOp(ast.USub(), node)
+
+
 def exact(number: object, where: str) -> Fraction | None:
     """A number exactly as it is written, 0.1 as a tenth; None for an infinite one."""
-    if isinstance(number, bool):
-        return Fraction(int(number))
-    if isinstance(number, int):
-        return Fraction(number)
+    if isinstance(number, (int, Switch)):
+        return Fraction(int(bool(number)) if isinstance(number, Switch) else int(number))
+    if isinstance(number, Fraction):
+        return number
     if isinstance(number, float):
         if math.isnan(number):
             raise Trouble(f"{where}: the cost is no number")

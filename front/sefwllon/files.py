@@ -5,7 +5,7 @@ from __future__ import annotations
 import sys
 from pathlib import Path
 
-from . import pydcop, timetable, wcsp
+from . import frodo, pydcop, timetable, wcsp
 from .problem import MOST_BYTES, TextFault, Trouble, parse
 from .programs import Programs
 from .solving import refusal
@@ -16,10 +16,11 @@ READERS = {
     "meetings": lambda text, title: timetable.source(timetable.read(text), title),
     "wcsp": wcsp.read_wcsp,
     "uai": wcsp.read_uai,
+    "frodo": frodo.read,
 }
 """How a file of another tool is read, by its kind."""
 
-KINDS = {".yaml": "pydcop", ".yml": "pydcop", ".csv": "meetings", ".wcsp": "wcsp", ".uai": "uai"}
+KINDS = {".yaml": "pydcop", ".yml": "pydcop", ".csv": "meetings", ".wcsp": "wcsp", ".uai": "uai", ".xml": "frodo", ".xcsp": "frodo"}
 """Which kind a file is of, by how its name ends."""
 
 

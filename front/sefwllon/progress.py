@@ -17,12 +17,12 @@ class Progress:
     """What is said on a terminal's standard error: the method, the time, the nodes or messages, the cost, the gap. Elsewhere nothing
     is said."""
 
-    def __init__(self, told: Translation, began: float | None = None):
+    def __init__(self, told: Translation, began: float | None = None, quiet: bool = False):
         self.told = told
         self.began = time.monotonic() if began is None else began
         self.what = ""
         self.best: Best | None = None
-        self.on = sys.stderr is not None and sys.stderr.isatty()
+        self.on = not quiet and sys.stderr is not None and sys.stderr.isatty()
         self.tick = self.show if self.on else None
 
     def __enter__(self) -> Progress:

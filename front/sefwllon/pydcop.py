@@ -6,24 +6,40 @@ import re
 import shlex
 from fractions import Fraction
 from itertools import product
+from math import prod
 
-from .evaluator import Formula, exact
+from .evaluator import Formula, Switch, exact
 from .problem import MOST_SCOPE, Trouble
-from .translate import Constraint, Source
+from .source import Constraint, Relation, Source
+from .wide import check_count
 
 _RANGE = re.compile(r"\s*(-?\d+)\s*\.\.\s*(-?\d+)\s*\Z")
 
 
+_READ = ("name", "description", "objective", "domains", "variables", "external_variables", "constraints")
+"""The parts of a file that say what the problem is, and its name."""
+_READ_OF_VARIABLES = ("domain", "cost_function", "noise_level")
+_READ_OF_CONSTRAINTS = ("type", "function", "variables", "values", "default", "description")
+
+
 def read(text: str, title: str) -> Source:
-    """Reads a pyDCOP file. What agents, distribution and routes say is passed over."""
+    """Reads a pyDCOP file. What it says else, as of agents, routes and distribution, is passed over, and a note names it."""
     try:
         import yaml
     except ImportError:
         raise Trouble(
             "pyDCOP files are YAML, and Python's `yaml` is missing: install python3-yaml (Debian) or PyYAML (pip)"
         ) from None
+    class Loader(yaml.SafeLoader):  # type: ignore[misc]
+        """Reads `on`, `off`, `yes` and `no` as they are written."""
+
+        def construct_yaml_bool(self, node: yaml.ScalarNode) -> object:
+            value = super().construct_yaml_bool(node)
+            return value if str(node.value).lower() in ("true", "false") else Switch(str(node.value))
+
+    Loader.add_constructor("tag:yaml.org,2002:bool", Loader.construct_yaml_bool)
     try:
-        data = yaml.safe_load(text)
+        data = yaml.load(text, Loader)
     except yaml.YAMLError as fault:
         raise Trouble(f"{title} is no YAML: {fault}") from None
     if not isinstance(data, dict) or "variables" not in data:
@@ -60,6 +76,7 @@ class Reader:
         self.names: list[str] = []
         self.values: list[list[object]] = []
         self.constraints: list[Constraint] = []
+        self.relations: list[Relation] = []
         self.untold: list[str] = []
         """The constraints that neither tell each of their costs nor have a default."""
 
@@ -75,16 +92,31 @@ class Reader:
                 self.by_formula(f"cost of {name}", str(spec["cost_function"]))
         for name, spec in named(self.data.get("constraints"), "constraints").items():
             self.constraint(name, named(spec, name))
-        return Source(self.goal, self.names, self.values, self.constraints, self.title, self.notes(), INFINITY)
+        return Source(self.goal, self.names, self.values, self.constraints, self.title, self.notes(), INFINITY, relations=self.relations)
 
     def notes(self) -> list[str]:
         noisy = [name for name, spec in self.variables.items() if spec.get("noise_level")]
         notes = []
+        if self.passed_over():
+            notes.append(f"passed over: {', '.join(self.passed_over())}")
         if noisy:
             notes.append(f"the noise of {', '.join(noisy)} is left out: pyDCOP draws it anew for each run, and adds it to the cost")
         if self.untold:
             notes.append(f"{', '.join(self.untold)}: there is no `default`, and choices of values whose cost is not told count 0 here")
         return notes
+
+    def passed_over(self) -> list[str]:
+        """What the file says besides, which has no part in what the problem is. Agents that have nothing but names say nothing."""
+        told = [str(part) for part in self.data if str(part) not in _READ and not (part == "agents" and isinstance(self.data[part], list))]
+        parts = ((self.variables, _READ_OF_VARIABLES), (named(self.data.get("constraints"), "constraints"), _READ_OF_CONSTRAINTS))
+        for specs, known in parts:
+            others: dict[str, list[str]] = {}
+            for name, spec in specs.items():
+                for word in named(spec, name):
+                    if word not in known:
+                        others.setdefault(word, []).append(name)
+            told += [f"{word} of {', '.join(names[:3])}{f' and {len(names) - 3} others' if len(names) > 3 else ''}" for word, names in others.items()]
+        return told
 
     def price(self, number: object, name: str) -> Fraction | None:
         """A cost; None for one without bound, which forbids."""
@@ -107,9 +139,16 @@ class Reader:
             raise Trouble(f"{name}: constraints of the type {kind} are not known")
 
     def by_formula(self, name: str, text: str) -> None:
+        """A formula; one over many variables that is a sum is told part by part."""
         formula = Formula(text, name)
+        wide = len([n for n in formula.names() if n not in self.outside]) > MOST_SCOPE
+        for part in formula.terms() if wide else [formula]:
+            self.by_part(name, part)
+
+    def by_part(self, name: str, formula: Formula) -> None:
         given = {n: self.outside[n] for n in formula.names() if n in self.outside}
         scope = self.scope(name, [n for n in formula.names() if n not in self.outside])
+        check_count(name, [len(self.values[v]) for v in scope])
         costs = []
         for choice in product(*(self.values[v] for v in scope)):
             names = given | {self.names[v]: value for v, value in zip(scope, choice)}
@@ -117,7 +156,7 @@ class Reader:
         self.add(name, scope, costs)
 
     def by_table(self, name: str, spec: dict) -> None:
-        named_by = spec.get("variables") or []
+        named_by = [] if spec.get("variables") is None else spec["variables"]
         alone = not isinstance(named_by, list)
         scope = self.scope(name, [str(n).strip() for n in ([named_by] if alone else named_by)])
         default = self.price(spec["default"], name) if "default" in spec else Fraction(0)
@@ -127,10 +166,13 @@ class Reader:
         for cost, choices in (spec.get("values") or {}).items():
             for choice in str(choices).split("|"):
                 told[self.choice(name, scope, words_of(name, choice, alone))] = self.price(cost, name)
-        choices = list(product(*(range(len(self.values[v])) for v in scope)))
-        if "default" not in spec and len(told) < len(choices):
+        sizes = [len(self.values[v]) for v in scope]
+        if "default" not in spec and len(told) < prod(sizes):
             self.untold.append(name)
-        self.add(name, scope, [told.get(choice, default) for choice in choices])
+        if len(scope) > MOST_SCOPE:
+            self.relations.append(Relation(name, scope, told, default))
+        else:
+            self.add(name, scope, [told.get(choice, default) for choice in product(*map(range, sizes))])
 
     def choice(self, name: str, scope: tuple[int, ...], words: list[str]) -> tuple[int, ...]:
         """Which values are chosen; quotes that YAML itself left around one are no part of it."""
@@ -141,6 +183,8 @@ class Reader:
             told = [str(value) for value in self.values[variable]]
             bare = word if word in told else word.strip("'\"")
             if bare not in told:
+                told = [str(value.meant if isinstance(value, Switch) else value) for value in self.values[variable]]
+            if bare not in told:
                 raise Trouble(f"{name}: {word} is no value of {self.names[variable]}")
             places.append(told.index(bare))
         return tuple(places)
@@ -149,13 +193,14 @@ class Reader:
         unknown = [n for n in names if n not in self.names]
         if unknown:
             raise Trouble(f"{name} names {unknown[0]}, which is no variable")
-        if len(names) > MOST_SCOPE:
-            raise Trouble(f"{name} names {len(names)} variables; dcop takes tables of up to {MOST_SCOPE}")
         return tuple(self.names.index(n) for n in names)
 
     def add(self, name: str, scope: tuple[int, ...], costs: list[Fraction | None]) -> None:
         """Keeps a constraint; one that names no variable, as of external ones alone, costs the same for each first value."""
-        if scope:
+        if len(scope) > MOST_SCOPE:
+            choices = product(*(range(len(self.values[v])) for v in scope))
+            self.relations.append(Relation(name, scope, dict(zip(choices, costs))))
+        elif scope:
             self.constraints.append(Constraint(name, scope, costs))
         elif costs[0] != 0:
             self.constraints.append(Constraint(name, (0,), costs * len(self.values[0])))

@@ -32,9 +32,15 @@ def as_text(best: Best, told: Translation) -> str:
         lines.append(f"stopped: {best.stopped}")
     lines += [f"note: {line}" for line in (*notes_of(best), *told.notes(best.values))]
     lines.append(by_line(best))
-    width = max(len(name) for name in told.names)
-    lines += [f"  {name:<{width}}  {value}" for name, value in told.told(best.values).items()]
+    lines += values_of(best.values, told)
     return "\n".join(lines) + "\n"
+
+
+def values_of(values: list[int], told: Translation) -> list[str]:
+    """The values that were chosen, a line for each variable."""
+    chosen = told.told(values)
+    width = max(map(len, chosen), default=0)
+    return [f"  {name:<{width}}  {value}" for name, value in chosen.items()]
 
 
 def by_line(best: Best) -> str:

@@ -12,53 +12,10 @@ from math import lcm, prod
 from typing import cast
 
 from .problem import MOST_CELLS, MOST_NAME, MOST_SCOPE, Problem, Table, Trouble, Variable, is_name
-
-FORBIDDEN = None
-"""The cost of a combination of values that must not be chosen."""
+from .source import FORBIDDEN, Constraint, Counter, Source, Tupled
+from .wide import narrowed
 
 _ROUNDED = 10**6
-
-
-@dataclass
-class Constraint:
-    """A constraint over some variables: a cost for each choice of their values, or FORBIDDEN."""
-
-    name: str
-    scope: tuple[int, ...]
-    costs: Sequence[Fraction | int | None]
-
-
-@dataclass(frozen=True)
-class Counter:
-    """A variable that counts, and follows from others: by one more than another counter where a variable has one of some values."""
-
-    before: int | None
-    counted: int
-    values: frozenset[int]
-
-    def value(self, assignment: list[int]) -> int:
-        """What it counts, where the variables before it have these values."""
-        so_far = 0 if self.before is None else assignment[self.before]
-        return so_far + (assignment[self.counted] in self.values)
-
-
-@dataclass
-class Source:
-    """A problem as its user wrote it: names and values of any kind, costs of any size and sign."""
-
-    goal: str
-    names: list[str]
-    values: list[list[object]]
-    constraints: list[Constraint]
-    title: str = "a problem"
-    notes: list[str] = field(default_factory=list)
-    """What the user is told besides."""
-    infinity: Fraction | None = None
-    """A cost that the tool that the file is of counts as a violation, and leaves out of what it prints as the cost."""
-    top: Fraction | None = None
-    """The top of a WCSP, where it is one: only what costs less in all is a solution."""
-    counters: dict[int, Counter] = field(default_factory=dict)
-    """The variables that follow from those before them, and are no choice."""
 
 
 @dataclass
@@ -130,7 +87,7 @@ class Translation:
                 names.append(self.hard_names[at])
         if self.top is not None and self.own_sum(assignment) >= self.top:
             names.append(f"a sum below the top {number(self.top)} (it is {number(self.own_sum(assignment))})")
-        return names
+        return list(dict.fromkeys(names))
 
     def fewest_broken(self, bound: int | None) -> int:
         """How many hard constraints every assignment breaks at least, by a bound of the best sum: a lower one, or an upper
@@ -145,7 +102,7 @@ class Translation:
         return self.fewest_broken(bound) > 0 or (bound is not None and self.top is not None and self.own_cost(bound) >= self.top)
 
     @property
-    def counters(self) -> dict[int, Counter]:
+    def counters(self) -> dict[int, Counter | Tupled]:
         """The variables that follow from others."""
         return {} if self.source is None else self.source.counters
 
@@ -174,7 +131,7 @@ def translate(source: Source) -> Translation:
     """Makes a problem for `dcop`: forbidden values are left out of the domains where one variable alone tells them,
     costs are scaled to whole numbers and each table is shifted so that its least cost is 0, and what is still
     forbidden gets one cost that is above all others together."""
-    source = without_forbidden_values(source)
+    source = without_forbidden_values(narrowed(source))
     check_shape(source)
     scale, rounded = scale_of(source)
     names = distinct_names(source.names)

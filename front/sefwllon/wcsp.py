@@ -8,8 +8,9 @@ from itertools import product
 from math import prod
 
 from .evaluator import exact
-from .problem import Problem, Trouble, is_number
-from .translate import Constraint, Source
+from .problem import MOST_SCOPE, Problem, Trouble, is_number
+from .source import Constraint, Relation, Source
+from .wide import check_count
 
 
 class Words:
@@ -46,7 +47,7 @@ def read_wcsp(text: str, title: str) -> Source:
     words.next()
     count, _, functions, top = (words.number() for _ in range(4))
     sizes = [words.number() for _ in range(count)]
-    constraints = []
+    constraints, relations = [], []
     constant = 0
     for number in range(1, functions + 1):
         arity = words.number()
@@ -54,24 +55,27 @@ def read_wcsp(text: str, title: str) -> Source:
         default = words.number()
         if len(set(scope)) < len(scope) or any(v >= count for v in scope):
             raise Trouble(f"function {number} names a variable that is not there, or one twice")
-        cells = [default] * prod(sizes[v] for v in scope)
+        told = {}
         for _ in range(words.number()):
-            place = 0
-            for variable in scope:
-                value = words.number()
-                if value >= sizes[variable]:
-                    raise Trouble(f"function {number} names value {value} of variable {variable}")
-                place = place * sizes[variable] + value
-            cells[place] = words.number()
+            choice = tuple(words.number() for _ in scope)
+            wrong = next((at for at, value in zip(scope, choice) if value >= sizes[at]), None)
+            if wrong is not None:
+                raise Trouble(f"function {number} names value {choice[scope.index(wrong)]} of variable {wrong}")
+            told[choice] = words.number()
+        costs = {choice: None if c >= top else Fraction(c) for choice, c in told.items()}
+        other = None if default >= top else Fraction(default)
         if not scope:
-            constant += cells[0]
-            continue
-        costs = [None if c >= top else Fraction(c) for c in cells]
-        constraints.append(Constraint(f"function {number}", scope, costs))
+            constant += told.get((), default)
+        elif len(scope) > MOST_SCOPE:
+            relations.append(Relation(f"function {number}", scope, costs, other))
+        else:
+            check_count(f"function {number}", [sizes[v] for v in scope])
+            cells = product(*(range(sizes[v]) for v in scope))
+            constraints.append(Constraint(f"function {number}", scope, [costs.get(choice, other) for choice in cells]))
     if constant and count:
         constraints.append(Constraint("constant", (0,), [Fraction(constant)] * sizes[0]))
     names, values = [f"v{i}" for i in range(count)], [list(range(s)) for s in sizes]
-    return Source("min", names, values, constraints, title, top=Fraction(top))
+    return Source("min", names, values, constraints, title, top=Fraction(top), relations=relations)
 
 
 def write_wcsp(problem: Problem, name: str = "problem") -> str:
@@ -99,7 +103,7 @@ def read_uai(text: str, title: str) -> Source:
         raise Trouble(f"the file begins with {kind}, and neither MARKOV nor BAYES")
     sizes = [words.number() for _ in range(words.number())]
     scopes = [tuple(words.number() for _ in range(words.number())) for _ in range(words.number())]
-    constraints = []
+    constraints, relations = [], []
     for number, scope in enumerate(scopes, 1):
         if len(set(scope)) < len(scope) or any(v >= len(sizes) for v in scope):
             raise Trouble(f"factor {number} names a variable that is not there, or one twice")
@@ -111,6 +115,10 @@ def read_uai(text: str, title: str) -> Source:
             if factor < 0:
                 raise Trouble(f"factor {number} has a negative entry")
             costs.append(exact(-math.log(factor), f"factor {number}") if factor > 0 else None)
-        if scope:
+        if len(scope) > MOST_SCOPE:
+            choices = product(*(range(sizes[v]) for v in scope))
+            relations.append(Relation(f"factor {number}", scope, dict(zip(choices, costs))))
+        elif scope:
             constraints.append(Constraint(f"factor {number}", scope, costs))
-    return Source("min", [f"v{i}" for i in range(len(sizes))], [list(range(s)) for s in sizes], constraints, title)
+    names, values = [f"v{i}" for i in range(len(sizes))], [list(range(s)) for s in sizes]
+    return Source("min", names, values, constraints, title, relations=relations)

@@ -18,7 +18,7 @@ from pathlib import Path
 from unittest import mock
 from xml.dom import minidom
 
-from sefwllon import draw, programs, pydcop, replay, wcsp
+from sefwllon import draw, programs, pydcop, replaying, wcsp
 from sefwllon.arguments import seconds
 from sefwllon.best import Best
 from sefwllon.bettering import Bettering
@@ -420,10 +420,10 @@ class Translating(Case):
     @unittest.skipUnless(HAS_YAML, "no PyYAML")
     def test_what_cannot_be_told_exactly_is_told_as_such(self):
         text = "domains: {d: {values: [0 .. 2]}}\nvariables: {x: {domain: d, noise_level: 0.1}, y: {domain: d}}\n"
-        text += "constraints: {c: {type: intention, function: (x + y + 1) / 3}, e: {type: intention, function: x * y / 7}}\n"
+        text += "constraints: {c: {type: intention, function: sqrt(x + y + 1) / 3}, e: {type: intention, function: sqrt(x * y)}}\n"
         told = translate(pydcop.read(text, "file"))
         sums = [told.own_sum([x, y]) for x, y in itertools.product(range(3), repeat=2)]
-        self.assertEqual([float(it) for it in sums[:2]], [1 / 3, 2 / 3])
+        self.assertEqual([float(it) for it in sums[:2]], [1 / 3, 2**0.5 / 3])
         self.assertEqual((told.rounded, told.slack), (True, Fraction(2, 10**6)))
         lower, upper = told.own_bounds(min(totals := [told.problem.cost([x, y]) for x in range(3) for y in range(3)]), max(totals))
         self.assertTrue(lower <= min(sums) and max(sums) <= upper)
@@ -491,7 +491,8 @@ class Translating(Case):
             ("variables: [x]", "variables: lines `NAME: ..`"),
             ("variables: {x: }", "the domain None of x is not among"),
             (head + "constraints: {c: {type: extensional, variables: x, values: [1]}}", "c: its values are lines"),
-            (head + "constraints: {c: {function: 'sum(i for i in x)'}}", "may not have `\\(?i for i in x"),
+            (head + "constraints: {c: {function: 'sum(i for i in x)'}}", "c: `x` is nothing to go through"),
+            (head + "constraints: {c: {function: 'max([x], key=lambda i: i)'}}", "may not have `lambda i: i`"),
             (head + "constraints: {c: {type: intention, function: x + z}}", "names z"),
             (head + "constraints: {c: {type: extensional, variables: x, values: {1: 5}}}", "5 is no value of x"),
             (head + "constraints: {c: {type: intention, function: .inf * -1 if x else 0}}", "can't be read"),
@@ -624,7 +625,7 @@ class Telling(Case):
         os.environ["FAKE"] = "logs"
         try:
             problem = parse((PROBLEMS / "pair.dcop").read_text())
-            found = replay.moments(Programs(FAKE), problem, report)
+            found = replaying.moments(Programs(FAKE), problem, report)
         finally:
             os.environ.clear()
             os.environ.update(kept)
@@ -640,7 +641,7 @@ class Telling(Case):
             text, problem = Path(report).read_text(), parse(Path(file).read_text())
             told = read_report(text, problem)
             try:
-                found = replay.moments(Programs(REAL), problem, text)
+                found = replaying.moments(Programs(REAL), problem, text)
             except Trouble as trouble:
                 self.assertIn("has no `replay` yet", str(trouble))
                 continue

@@ -11,7 +11,7 @@ from ..best import Best, is_better
 from ..files import read_text
 from ..output import deliver, reading, undisturbed
 from ..programs import Programs
-from ..telling import OPEN, SOLVED, TEXT, UNDECIDED, bounds_of, by_line, from_best, none_keeps_all, noun, plain_number, shown
+from ..telling import OPEN, SOLVED, TEXT, UNDECIDED, bounds_of, by_line, from_best, none_keeps_all, noun, plain_number, shown, values_of
 from ..translate import Translation, number
 
 
@@ -50,8 +50,7 @@ def as_text(verdict: Verdict, told: Translation) -> str:
         lines.append(by_line(best))
     if found(verdict, told):
         assert best is not None and best.values is not None
-        width = max(len(name) for name in told.names)
-        lines += [f"  {name:<{width}}  {value}" for name, value in told.told(best.values).items()]
+        lines += values_of(best.values, told)
     return "\n".join(lines) + "\n"
 
 

@@ -7,11 +7,12 @@ from pathlib import Path
 
 from ..arguments import Commands
 from ..files import READERS, load, read_text
-from ..output import say
+from ..output import complain, say
 from ..programs import Programs
 from ..telling import SOLVED, TEXT
 from ..translate import translate
 from ..wcsp import write_wcsp
+from ..writing import uai_unit, write_pydcop, write_uai
 
 
 def add(commands: Commands) -> None:
@@ -21,7 +22,7 @@ def add(commands: Commands) -> None:
     source.set_defaults(run=run_from)
 
     to = commands.add_parser("to", help="write a problem for another tool")
-    to.add_argument("kind", choices=("wcsp",))
+    to.add_argument("kind", choices=("wcsp", "pydcop", "uai"))
     to.add_argument("file", metavar="FILE")
     to.set_defaults(run=run_to)
 
@@ -35,5 +36,11 @@ def run_from(options: argparse.Namespace) -> int:
 def run_to(options: argparse.Namespace) -> int:
     options.text = read_text(options.file)
     told = load(options.file, options.text, Programs())
-    text = write_wcsp(told.problem, Path(options.file).stem)
+    name = Path(options.file).stem
+    if options.kind == "uai":
+        text, unit = write_uai(told), uai_unit(told)
+        if unit != 1:
+            complain(f"note: costs are divided by {float(unit):g}, since factors would be too near to 0 else")
+    else:
+        text = write_pydcop(told, name) if options.kind == "pydcop" else write_wcsp(told.problem, name)
     return SOLVED if say(text) else TEXT

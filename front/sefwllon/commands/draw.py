@@ -5,7 +5,7 @@ from __future__ import annotations
 import argparse
 from pathlib import Path
 
-from .. import draw, replay
+from .. import draw, replaying
 from ..arguments import Commands, natural
 from ..asking import checked_report
 from ..files import load, read_text
@@ -29,7 +29,7 @@ def add(commands: Commands) -> None:
         usage="sefwllon draw [-h] [--points N] [graph|tree|bounds] FILE [REPORT]",
     )
     picture.add_argument("words", metavar="[graph|tree|bounds] FILE [REPORT]", nargs="+")
-    picture.add_argument("--points", type=natural, default=replay.POINTS, metavar="N", help="how often a log is replayed, at most")
+    picture.add_argument("--points", type=natural, default=replaying.POINTS, metavar="N", help="how often a log is replayed, at most")
     picture.set_defaults(run=run)
 
 
@@ -88,7 +88,7 @@ def bounds_of(programs: Programs, told: Translation, report: str, title: str, po
         raise Trouble("the report has no log: make it with `sefwllon solve --method adopt --report OUT`")
     read = checked_report(programs, problem, report)
     with Progress(told) as progress:
-        moments = replay.moments(programs, problem, report, max(2, points), progress.replayed)
+        moments = replaying.moments(programs, problem, report, max(2, points), progress.replayed)
     return draw.bounds(moments, lambda total: number(told.own_cost(total)), f"{bounds_title(told, read, title)} ({programs.verified})", read.cost)
 
 

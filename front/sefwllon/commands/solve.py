@@ -15,7 +15,7 @@ from ..telling import TEXT, as_json, as_text, status_of
 
 
 def add(commands: Commands) -> None:
-    solve = commands.add_parser("solve", help="solve a problem: .dcop, .wcsp, pyDCOP .yaml, meetings .csv, .uai")
+    solve = commands.add_parser("solve", help="solve a problem: .dcop, .wcsp, pyDCOP .yaml, meetings .csv, .uai, FRODO .xml")
     solve.add_argument("file", metavar="FILE")
     solve.add_argument("--error", type=distance, default=Fraction(0), metavar="E", help="by how much the cost may miss the best (adopt, search)")
     solve.add_argument(

@@ -13,7 +13,7 @@ from ..asking import checked_report
 from ..explain import differs
 from ..problem import Problem, Trouble
 from ..programs import Programs
-from ..replay import moments
+from ..replaying import moments
 from ..solving import NO, Refused
 
 Told = dict[str, Any]
