@@ -63,7 +63,7 @@ def changes(programs: Programs, problem: Problem, report: str) -> list[Moment]:
     delivered = deliveries(report)
     root = problem.variables[0].name
     found: list[Moment] = []
-    with closing(traced(programs, problem.text() + report)) as events:
+    with closing(traced(programs.trace, problem.text() + report)) as events:
         for event in events:
             if event.agent == root:
                 now = moment(problem, event.number, delivered[event.number], event.state.lower, event.state.upper)

@@ -15,6 +15,8 @@ MOST_EVENTS = 500
 """How many events a picture shows."""
 ROW, TOP, LEFT, HIGH = 48, 64, 64, 26
 """The height of a row, where the first one is, where the first column is, and how high a box is."""
+NEAR = 0.4
+"""At which part of an arrow its words stand."""
 
 _STYLE = (
     "<style>.life{stroke:#ccc}.box{fill:#eef4ff;stroke:#35a}.done{fill:#e4e4e4}.message{stroke:#555}.value{stroke:#35a}.cost{stroke:#b55}"
@@ -68,24 +70,25 @@ class Diagram:
             parts.append(f'<line class="life" x1="{place[name]:.1f}" y1="34" x2="{place[name]:.1f}" y2="{bottom}"/>')
             parts.append(f'<text class="title" x="{place[name]:.1f}" y="24">{label_of(own)}</text>')
         parts += [f'<text class="left small" x="{LEFT - 8}" y="{TOP + ROW * row + 4}">{clean(word)}</text>' for row, word in enumerate(self.rows)]
-        parts += [drawn(arrow, place) for arrow in self.arrows]
+        parts += [drawn(arrow, place, half) for arrow in self.arrows]
         parts += [boxed(box, place[box.agent], half) for box in self.boxes]
         return svg(LEFT + 2 * (half + 8) * len(place) + 16, bottom + 10, parts)
 
 
-def drawn(arrow: Arrow, place: dict[str, float]) -> str:
-    """An arrow, with its words near its beginning."""
+def drawn(arrow: Arrow, place: dict[str, float], half: float) -> str:
+    """An arrow, with its words near its beginning. A level one goes from line to line, or to the box at its end."""
     x, y, to, end = place[arrow.sender], TOP + ROW * arrow.begin, place[arrow.receiver], TOP + ROW * arrow.end
-    level = HIGH / 2 if arrow.end > arrow.begin else 0
-    y, end = y + level, end - level
-    side = min(22.0, abs(to - x) / 4) * (1 if to > x else -1)
+    way = 1 if to > x else -1
+    if arrow.end > arrow.begin:
+        side = min(22.0, abs(to - x) / 4) * way
+        x, to, y, end = x + side, to - side, y + HIGH / 2, end - HIGH / 2
+    elif arrow.kinds == ["value"]:
+        to -= way * (half - 6)
     kind = arrow.kinds[0] if len(set(arrow.kinds)) == 1 else "message"
-    far = " far" if arrow.far else ""
-    near = 0.3
-    at_x, at_y = x + side + near * (to - x - 2 * side), y + near * (end - y) - 3
+    at_x, at_y = x + NEAR * (to - x), y + NEAR * (end - y) - 3
     title = clean("; ".join(arrow.titles))
     return (
-        f'<g class="arrow"><path class="{kind}{far}" marker-end="url(#head)" d="M{x + side:.1f},{y:.1f}L{to - side:.1f},{end:.1f}"/>'
+        f'<g class="arrow"><path class="{kind}{" far" if arrow.far else ""}" marker-end="url(#head)" d="M{x:.1f},{y:.1f}L{to:.1f},{end:.1f}"/>'
         f'<text class="word" x="{at_x:.1f}" y="{at_y:.1f}">{label_of(", ".join(arrow.words), 28)}</text><title>{title}</title></g>'
     )
 

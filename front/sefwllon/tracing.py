@@ -6,14 +6,14 @@ import subprocess
 import tempfile
 from bisect import bisect_left, bisect_right
 from collections import deque
-from collections.abc import Iterable, Iterator
+from collections.abc import Generator, Iterable, Iterator
 from contextlib import closing
 from dataclasses import dataclass, field
 from functools import cached_property
 
 from .explain import differs
 from .problem import Trouble
-from .programs import Answer, Programs, missing
+from .programs import Answer, missing
 from .solving import NO, refusal
 
 KINDS = ("value", "cost", "threshold", "terminate")
@@ -62,12 +62,12 @@ class Event:
     @cached_property
     def took(self) -> list[Message]:
         """The messages that the agent took, in order."""
-        return [read_message(line) for line in self.lines if line.startswith("took ")]
+        return [read_message(line) for line in self.told("took ")]
 
     @cached_property
     def sent(self) -> list[Message]:
         """The messages that it sent, in order."""
-        return [read_message(line) for line in self.lines if line.startswith("sent ")]
+        return [read_message(line) for line in self.told("sent ")]
 
     @cached_property
     def state(self) -> State:
@@ -87,9 +87,13 @@ class Event:
                 return words[1:]
         raise Trouble(STRANGE)
 
+    def told(self, head: str) -> list[str]:
+        """Its lines that begin so."""
+        return [line for line in self.lines if line.startswith(head)]
+
     def others(self, head: str) -> list[str]:
         """Of whom it took each message, or to whom it sent each, without reading what they say."""
-        return [line.split(maxsplit=2)[1] for line in self.lines if line.startswith(head)]
+        return [line.split(maxsplit=2)[1] for line in self.told(head)]
 
 
 def read_message(line: str) -> Message:
@@ -138,24 +142,24 @@ def read_events(lines: Iterable[str]) -> Iterator[Event]:
     raise Trouble(STRANGE)
 
 
-def traced(programs: Programs, text: str, first: int = 0, last: int = LAST) -> Iterator[Event]:
-    """The events of the log behind a problem, from the first to the last of these numbers, as `dcop_trace` tells them; with 0 the
-    starts of the agents come before. The program is ended where this is closed before its end."""
-    if not programs.trace:
+def traced(program: str | None, text: str, first: int = 0, last: int = LAST) -> Generator[Event, None, None]:
+    """The events of the log behind a problem, from the first to the last of these numbers, as `dcop_trace` at this path tells them;
+    with 0 the starts of the agents come before. The program is ended where this is closed before its end."""
+    if not program:
         raise Trouble(missing("dcop_trace"))
-    command = [programs.trace, "--from", str(first), "--to", str(last)]
+    command = [program, "--from", str(first), "--to", str(last)]
     with tempfile.TemporaryFile() as given:
         given.write(text.encode())
         given.seek(0)
         try:
             process = subprocess.Popen(command, stdin=given, stdout=subprocess.PIPE, stderr=subprocess.DEVNULL, encoding="utf-8", errors="replace")
         except OSError as fault:
-            raise Trouble(f"{programs.trace} can't be run: {fault.strerror}") from None
+            raise Trouble(f"{program} can't be run: {fault.strerror}") from None
         assert process.stdout is not None
         try:
             head = process.stdout.readline()
             if head != "status trace\n":
-                raise refused(head + process.stdout.read(), process.wait(), programs.trace, text)
+                raise refused(head + process.stdout.read(), process.wait(), program, text)
             process.stdout.readline()
             yield from read_events(process.stdout)
         finally:
@@ -207,13 +211,13 @@ class OnTheWay:
 class Recorded:
     """A whole run, from its start, in which any event can be looked at: the events' lines, and when each message was sent and taken."""
 
-    def __init__(self, programs: Programs, text: str):
+    def __init__(self, program: str | None, text: str):
         self.starts: dict[str, Event] = {}
         self.blocks: list[tuple[str, int, str]] = []
         self.of_agent: dict[str, list[int]] = {}
         self.sent: dict[tuple[str, str], list[int]] = {}
         self.taken: dict[tuple[str, str], list[int]] = {}
-        with closing(traced(programs, text)) as events:
+        with closing(traced(program, text)) as events:
             for event in events:
                 self.add(event)
 

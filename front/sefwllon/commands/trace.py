@@ -4,7 +4,7 @@ from __future__ import annotations
 
 import argparse
 import json
-from collections.abc import Callable, Iterable, Iterator
+from collections.abc import Callable, Generator, Iterator
 from contextlib import closing
 from itertools import islice
 from pathlib import Path
@@ -60,9 +60,9 @@ def run(options: argparse.Namespace) -> int:
     return SOLVED if all(map(say, chunks(found.as_json() if options.json else found.as_text()))) else TEXT
 
 
-def chunks(parts: Iterator[str]) -> Iterator[str]:
+def chunks(parts: Generator[str, None, None]) -> Iterator[str]:
     """Texts put together, so many at a time."""
-    with closing(parts):  # type: ignore[type-var]
+    with closing(parts):
         while some := list(islice(parts, CHUNK)):
             yield "".join(some)
 
@@ -84,8 +84,8 @@ class Run:
         self.chosen = {variable.name: value for variable, value in zip(problem.variables, read.values)}
         self.title = f"{bounds_title(told, self.read, Path(options.file).name)} ({programs.verified})"
 
-    def events(self, first: int) -> Iterator[Event]:
-        return traced(self.programs, self.text, first, self.last)
+    def events(self, first: int) -> Generator[Event, None, None]:
+        return traced(self.programs.trace, self.text, first, self.last)
 
     def steps(self) -> Iterator[dpop_run.Step]:
         return (step for step in dpop_run.steps(dpop_run.utils(self.report)) if self.first <= step.number <= self.last)
@@ -97,13 +97,13 @@ class Run:
         with closing(self.events(0)) as events:
             return sequence.of_adopt(self.names, events, self.first).text()
 
-    def as_text(self) -> Iterator[str]:
+    def as_text(self) -> Generator[str, None, None]:
         """The run as lines, a piece for each step."""
         note = own_costs(self.told)
         yield f"{self.title}\n" + (f"note: {note}\n" if note else "")
         yield from self.each(lambda event: event_text(self.names, event), lambda step: step_text(self.names, step, self.chosen))
 
-    def as_json(self) -> Iterator[str]:
+    def as_json(self) -> Generator[str, None, None]:
         """The run as one JSON object, whose steps stand in a line each."""
         head = {
             "method": self.read.method,
