@@ -206,7 +206,7 @@ class Figures(Case):
             files.append(self.file(f"p{at}.dcop", "dcop 2\n" + "".join(f"var v{i} 3\n" for i in range(4)) + tables + "end\n"))
         out = str(Path(self.file("x", "")).parent / "rows.csv")
         status, _, why = self.front("sweep", *files, "--methods", "adopt:certificate=yes:budget=100000", "--processes", "1", "-o", out, program=REAL, trace=TRACE)
-        self.assertEqual((status, why), (0, ""))
+        self.assertEqual(status, 0, why)
         rows = read_rows(out)
         self.assertEqual(len(rows), 2)
         for row in rows:
