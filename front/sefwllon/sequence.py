@@ -77,7 +77,8 @@ class Diagram:
 
 def drawn(arrow: Arrow, place: dict[str, float], half: float) -> str:
     """An arrow, with its words near its beginning. A level one goes from line to line, or to the box at its end."""
-    x, y, to, end = place[arrow.sender], TOP + ROW * arrow.begin, place[arrow.receiver], TOP + ROW * arrow.end
+    x, to = place[arrow.sender], place[arrow.receiver]
+    y, end = float(TOP + ROW * arrow.begin), float(TOP + ROW * arrow.end)
     way = 1 if to > x else -1
     if arrow.end > arrow.begin:
         side = min(22.0, abs(to - x) / 4) * way
