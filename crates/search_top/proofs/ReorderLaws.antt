@@ -99,11 +99,11 @@ module _ (old new : TextFile) (order : List ℕ) (reordered : IsReordered old or
     none_inside (Some inside) None told none = absurd told
     none_inside (Some inside) (Some outside) told none = cc
 
-    told_effort : {Said : Type 0} (inside outside : Option Found) → AreToldOutside order inside outside → IfSome inside (λ found. Said) → IfSome outside (λ found. Said)
-    told_effort None None told said = tt
-    told_effort None (Some outside) told said = absurd told
-    told_effort (Some inside) None told said = absurd told
-    told_effort (Some inside) (Some outside) told said = said
+    told_effort : (Said : Type 0) (inside outside : Option Found) → AreToldOutside order inside outside → IfSome inside (λ found. Said) → IfSome outside (λ found. Said)
+    told_effort Said None None told said = tt
+    told_effort Said None (Some outside) told said = absurd told
+    told_effort Said (Some inside) None told said = absurd told
+    told_effort Said (Some inside) (Some outside) told said = said
 
     ends_outside : (inside : SearchReport) (found : Option Found) → AreToldOutside order inside.found found → (ending : SearchEnding) → EndsBy asked inside ending → EndsBy asked (with_found inside found) ending
     ends_outside inside found told Solved is =
@@ -136,5 +136,5 @@ module _ (old new : TextFile) (order : List ℕ) (reordered : IsReordered old or
           subst (λ (n : ℕ). inside.bound ≤ n) top is.within);
       ends = ends_outside inside found told inside.ending is.ends;
       nodes = subst (λ (n : ℕ). inside.nodes ≤ most_visited asked.budget n asked.better) (count_same ∙ reordered.is_order.many) is.nodes;
-      effort = told_effort inside.found found told (subst (λ (n : ℕ). IfSome inside.found (λ one. n ≤ inside.nodes)) (count_same ∙ reordered.is_order.many) is.effort);
+      effort = told_effort (length old.problem.sizes ≤ inside.nodes) inside.found found told (subst (λ (n : ℕ). IfSome inside.found (λ one. n ≤ inside.nodes)) (count_same ∙ reordered.is_order.many) is.effort);
     }
