@@ -1,5 +1,5 @@
 -- What `check` and `replay` answer on a problem and the report that was printed for it.
-use Rattle.std.proofs.Common.{◌≡◌, ℕ, zero, suc, ◌+◌, List, [], ◌∷◌, take, drop, Option, Some, None, Result, Ok, IfSome, refl, sym, ap, subst, ◌∙◌}
+use Rattle.std.proofs.Common.{◌≡◌, ℕ, zero, suc, ◌+◌, List, [], ◌∷◌, take, drop, Option, Some, None, Result, Ok, IsSomeAnd, refl, sym, ap, subst, ◌∙◌}
 use Rattle.std.proofs.lemmas.Option.{none-some}
 use Rattle.protocol_steps.specs.Network.{Network, start_state}
 use Rattle.protocol_steps.specs.declared.event.EventFault.{EventFault}
@@ -43,7 +43,7 @@ use Rattle.solve_top.proofs.SameLaws.{one_file}
 
 -- the checker says yes to a certificate that holds
 verdict_yes : (file : TextFile) (report : Report) (certificate : Option Certificate) (verdict : Verdict) → Certifies file report certificate
-    → IfSome certificate (IsExactOn file report verdict) → status_of_verdict verdict ≡ Solved
+    → IsSomeAnd certificate (IsExactOn file report verdict) → status_of_verdict verdict ≡ Solved
 verdict_yes file report None verdict holds exact = absurd holds
 verdict_yes file report (Some (Tables utils)) (Yes cost error) holds exact = refl
 verdict_yes file report (Some (Tables utils)) (No differs) holds exact = absurd (exact holds)
