@@ -10,6 +10,8 @@ import time
 from collections import Counter, deque
 from dataclasses import dataclass
 
+from adopt_reckoned import trace_reckoned
+from sefwllon.problem import parse
 from trial import Answer, small_problem, wcsp_text
 
 AMOUNT = r"(?:0|[1-9]\d*)"
@@ -180,6 +182,16 @@ def check_altered(rng: random.Random, trace: str, dcop: str, given: Given) -> bo
     return wanted.status != 0
 
 
+def check_reckoned(dcop: str, given: Given, text: str) -> None:
+    """The whole trace is the one that is reckoned anew in Python."""
+    problem = Answer(dcop, ["upgrade", *given.words], given.problem).out if given.words else given.problem
+    error = next(int(line.split()[1]) for line in given.report.decode().splitlines() if line.startswith("error "))
+    wanted = trace_reckoned(parse(problem.decode("latin-1")), error, given.events())
+    if text != wanted:
+        at = next(at for at, (one, other) in enumerate(zip(text.splitlines(), wanted.splitlines())) if one != other)
+        raise Wrong(f"line {at + 1} of the trace should be {wanted.splitlines()[at]!r}")
+
+
 def check_whole(rng: random.Random, trace: str, dcop: str, given: Given, told_of: Counter[str]) -> None:
     """All that is asked of the trace of a log that holds."""
     answer = traced(trace, given)
@@ -188,6 +200,7 @@ def check_whole(rng: random.Random, trace: str, dcop: str, given: Given, told_of
     played, told = read_trace(answer.out.decode())
     check_events(given, played, told)
     check_links(told)
+    check_reckoned(dcop, given, answer.out.decode())
     for after in range(played + 1):
         check_states(dcop, given, told, after, after)
     check_part(rng, trace, given, told, played)

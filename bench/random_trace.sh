@@ -9,7 +9,8 @@
 # budget of up to 300 messages.
 # Of the whole trace it is asked: its lines are of their forms, in their order; its events are those of the log, with their agents,
 # stamps, senders and counts; behind each number K of events the last state of each agent is that of `replay --after K`; each
-# message that is taken was sent before on that link, in order, and none was taken twice; and an agent that has ended takes no more.
+# message that is taken was sent before on that link, in order, and none was taken twice; an agent that has ended takes no more; and
+# the whole is, byte for byte, the trace that bench/adopt_reckoned.py reckons anew from the rules of the ADOPT step.
 # Then `--from` and `--to` at random must print just that part of the whole trace. In the end the log is altered, by an event left
 # out or doubled or by another count, and asked up to a number at random: where `replay --after` refuses it, `dcop_trace --to` must
 # print the same, and else the states of `replay`.

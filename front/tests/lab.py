@@ -64,17 +64,21 @@ def threes(count: int) -> str:
 
 
 def begun(*words: str, **more: str) -> subprocess.Popen[str]:
-    """The command as a process of its own, with a group of its own, as a shell begins it."""
+    """The command as a process of its own, with a group of its own, as a shell begins it: it hears ctrl-C, also if the tests do not."""
     environment = dict(os.environ, PYTHONDONTWRITEBYTECODE="1", **more)
-    return subprocess.Popen(
-        [sys.executable, "-m", "sefwllon", *words],
-        cwd=FRONT,
-        env=environment,
-        stdout=subprocess.PIPE,
-        stderr=subprocess.PIPE,
-        text=True,
-        process_group=0,
-    )
+    heard = signal.signal(signal.SIGINT, signal.default_int_handler)
+    try:
+        return subprocess.Popen(
+            [sys.executable, "-m", "sefwllon", *words],
+            cwd=FRONT,
+            env=environment,
+            stdout=subprocess.PIPE,
+            stderr=subprocess.PIPE,
+            text=True,
+            process_group=0,
+        )
+    finally:
+        signal.signal(signal.SIGINT, heard)
 
 
 class Engine:
@@ -88,10 +92,10 @@ class Engine:
         self.workers = [self.worker() for _ in range(count)]
 
     def process(self, module: str, *words: str) -> subprocess.Popen[bytes]:
-        out = open(Path(self.folder.name) / "log", "ab")
         command = [sys.executable, "-m", f"distributed.cli.{module}", *words, "--no-dashboard"]
         environment = dict(os.environ, DASK_DISTRIBUTED__WORKER__MEMORY__TERMINATE="0.0")
-        return subprocess.Popen(command, cwd=self.folder.name, env=environment, stdout=out, stderr=out)
+        with open(Path(self.folder.name) / "log", "ab") as out:
+            return subprocess.Popen(command, cwd=self.folder.name, env=environment, stdout=out, stderr=out)
 
     def worker(self) -> subprocess.Popen[bytes]:
         words = ("--scheduler-file", str(self.file), "--host", "127.0.0.1", "--nthreads", "1", "--no-nanny")

@@ -27,9 +27,8 @@ VARIABLES = [variable for variable, _ in programs.PLACES.values()]
 STAND_IN = """#!/bin/sh
 [ "$*" = ci ] && [ ! -d crates/dcop_base/must-fail ] && [ ! -d crates/worked_cases ] || exit 1
 for crate in crates/*; do
-    crate=${crate#crates/}
-    echo "rt: $crate proved"
-    mkdir crates/$crate/out && echo program > crates/$crate/out/$crate
+    echo "rt: ${crate#crates/} proved"
+    [ ! -f "$crate/src/main.rt" ] || { mkdir "$crate/out" && echo program > "$crate/out/${crate#crates/}"; }
 done
 """
 """A stand-in for the kit's `rt ci`, which proves nothing."""

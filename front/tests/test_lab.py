@@ -218,8 +218,8 @@ class Sweep(Lab):
 
     def test_a_sweep_that_is_stopped_or_killed_goes_on(self):
         slow = held(self.folder, PROGRAMS["program"])
-        words = ("sweep", self.problems(6), "--methods", "dpop,plain", "-o", self.out, "--processes", "2")
-        for number, runs, count, status in ((signal.SIGINT, 3, 2, 130), (signal.SIGKILL, 9, 5, -9)):
+        words = ("sweep", self.problems(6), "--methods", "plain,adopt:budget=2000", "-o", self.out, "--processes", "2")
+        for number, runs, count, status in ((signal.SIGINT, 4, 2, 130), (signal.SIGKILL, 10, 6, -9)):
             Path(self.folder, "limit").write_text(str(runs))
             process = begun(*words, SEFWLLON_DCOP=slow)
             until(lambda: Path(self.out).exists() and Path(self.out).read_text().count("\n") > count, "a row")

@@ -1,5 +1,5 @@
 -- The bounds of each row enclose its agent's subtree.
-use Rattle.std.proofs.Common.{◌≡◌, ℕ, suc, ◌+◌, ◌≤◌, ◌<◌, List, [], ◌∷◌, length, Some, slice_get, refl, ap, sym, subst, ◌∙◌, arith}
+use Rattle.std.proofs.Common.{◌≡◌, ℕ, suc, ◌+◌, ◌≤◌, ◌<◌, List, [], ◌∷◌, length, Some, slice_get, ap, sym, subst, ◌∙◌, arith}
 use Rattle.std.specs.List.{All}
 use Rattle.std.proofs.lemmas.List.Elements.{All-nil, All-cons}
 use Rattle.std.proofs.lemmas.Option.{same_Some}
@@ -39,7 +39,7 @@ module _ (p : Dcop) (error : ℕ) (state : Network) (holds : HoldsOfAdopt p (dfs
       (rows-enclose (i + 1) vs (omega (arith, few)) (λ k. let next : i + 1 + k ≡ i + suc k = omega arith in ap (slice_get state.views) next ∙ at (suc k)))
 
   pub all-enclose : All (TellsBounds p state) (rows_from 0 state.views)
-  all-enclose = let sized = holds.sized in rows-enclose 0 state.views (omega (arith, sized)) (λ k. refl)
+  all-enclose = let sized = holds.sized in rows-enclose 0 state.views (omega (arith, sized)) (λ k. let same : 0 + k ≡ k = omega arith in ap (slice_get state.views) same)
 
 pub bounds-enclose : TokenRuns → AdoptBoundsEnclose → ReplayedBoundsEnclose
 bounds-enclose tokens bounds file error es events agents names whole told =

@@ -65,7 +65,9 @@ fn log_of(report: Report, text: &[u8], before: u64) -> LogRead
         IsPlayable (length file.problem.sizes) result }
 {
     let Report {
-        error, certificate, ..
+        error,
+        certificate,
+        ..
     } = report;
     match certificate {
         Some(certificate) => match certificate {

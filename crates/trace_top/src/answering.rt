@@ -96,8 +96,14 @@ fn report_trace(
     whole_problem(&file);
     match read_log(alloc, &file, text, before)? {
         LogRead::Log { error, log } => {
-            let log = log_up_to(log.as_slice(), Some(asked.to));
-            traced(alloc, asked.from, file, error, log)
+            let last = Some(asked.to);
+            traced(
+                alloc,
+                asked.from,
+                file,
+                error,
+                log_up_to(log.as_slice(), last),
+            )
         }
         LogRead::Refused(refusal) => Ok(TraceAnswer::Refused(refusal)),
     }

@@ -19,5 +19,5 @@ pub unreachable-requires : goal.unreachable-requires
 unreachable-requires g c =
     let q = problem_solved c.args.file in
     let none : wide_of q (dfs q) ≡ None = subst (λ (ps : List _). wide_of q ps ≡ None) c.requires.paths (sym c.in_ok-wide.ensures ∙ c.in_default.is) in
-    let some = subst (IsOpenFault q) c.in-Err-Wide.field-0-is c.in-Err-Wide.ensures in
+    let some = subst (IsOpenFault q) c.in-Err-Wide.field-0-is c.in-Err-Wide.ensures.fault in
     none-some _ (sym none ∙ some)
