@@ -18,6 +18,9 @@ PROVED_UNPROVED = "by a program that was compiled without proofs"
 SLICED = "each slice proved, their combination not"
 """What an answer is called that comes of slices of the problem, each of which the proved program answered."""
 
+SLICED_UNPROVED = "each slice by a program that was compiled without proofs"
+"""What it is called where the program that answered the slices was compiled without proofs."""
+
 ADDED_UP = "added up"
 """What an answer is called that follows from the sums and the least or greatest costs of the file alone."""
 
@@ -145,7 +148,7 @@ class Best:
         if bound is not None and bound == self.checked:
             return VERIFIED_UNPROVED if self.quick else VERIFIED
         if bound is not None and bound == self.proved and self.sliced:
-            return SLICED
+            return SLICED_UNPROVED if self.quick_search else SLICED
         if bound is not None and bound == self.proved:
             return self.by_program
         return ADDED_UP

@@ -23,6 +23,7 @@ COMMANDS = (
     "meetings",
     "why",
     "draw",
+    "trace",
     "cost",
     "generate",
     "sweep",

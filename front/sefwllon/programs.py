@@ -34,6 +34,7 @@ PLACES = {
     "dcop": ("SEFWLLON_DCOP", "solve_cli"),
     "dcop_order": ("SEFWLLON_ORDER", "order_cli"),
     "dcop_search": ("SEFWLLON_SEARCH", "dcop_search"),
+    "dcop_trace": ("SEFWLLON_TRACE", "dcop_trace"),
 }
 """The programs: each with the variable that names it, and the crate that it is built in."""
 
@@ -93,12 +94,13 @@ def crash(answer: Answer) -> str | None:
 
 
 class Programs:
-    """The programs `dcop`, `dcop_order` and `dcop_search`."""
+    """The programs `dcop`, `dcop_order`, `dcop_search` and `dcop_trace`."""
 
-    def __init__(self, dcop: str | None = None, order: str | None = None, search: str | None = None):
+    def __init__(self, dcop: str | None = None, order: str | None = None, search: str | None = None, trace: str | None = None):
         self.dcop = dcop or found("dcop")
         self.order = order or found("dcop_order")
         self.search = search or found("dcop_search")
+        self.trace = trace or found("dcop_trace")
 
     @property
     def quick(self) -> bool:

@@ -1,17 +1,20 @@
-"""The root's bounds while ADOPT ran, from the log of a run: `dcop replay` plays it again, and nothing in it is trusted."""
+"""The root's bounds while ADOPT ran, from the log of a run: `dcop_trace` plays it again, or where that is not there `dcop replay`
+does, once for each moment. Nothing in the log is trusted."""
 
 from __future__ import annotations
 
 from collections.abc import Callable
-from dataclasses import dataclass
+from contextlib import closing
+from dataclasses import dataclass, replace
 
 from .explain import differs
 from .problem import Problem, Trouble
 from .programs import Programs
 from .solving import NO, refusal
+from .tracing import traced
 
 POINTS = 64
-"""How often a log is replayed for a picture, at most."""
+"""How often a log is replayed where `dcop_trace` is not there, at most."""
 
 
 @dataclass(frozen=True)
@@ -41,9 +44,36 @@ def moments(
     programs: Programs,
     problem: Problem,
     report: str,
-    points: int = POINTS,
+    points: int | None = None,
     tell: Callable[[int], None] = lambda count: None,
 ) -> list[Moment]:
+    """What the root knows at the start, at each moment at which that changes, and at the end; at so many moments at most, where a
+    number is given."""
+    if not programs.trace:
+        return by_replays(programs, problem, report, points or POINTS, tell)
+    found = changes(programs, problem, report)
+    if points is None or len(found) <= points:
+        return found
+    last = max(points, 2) - 1
+    return [found[place * (len(found) - 1) // last] for place in range(last + 1)]
+
+
+def changes(programs: Programs, problem: Problem, report: str) -> list[Moment]:
+    """What the root knows at the start, whenever that changes, and at the end, by one pass over the log."""
+    delivered = deliveries(report)
+    root = problem.variables[0].name
+    found: list[Moment] = []
+    with closing(traced(programs.trace, problem.text() + report)) as events:
+        for event in events:
+            if event.agent == root:
+                now = moment(problem, event.number, delivered[event.number], event.state.lower, event.state.upper)
+                if not found or bounds(found[-1]) != bounds(now):
+                    found.append(now)
+    last = len(delivered) - 1
+    return found if found[-1].events == last else [*found, replace(found[-1], events=last, deliveries=delivered[last])]
+
+
+def by_replays(programs: Programs, problem: Problem, report: str, points: int, tell: Callable[[int], None]) -> list[Moment]:
     """What the root knows at so many moments of a run, and at all at which it changes where they are fewer.
 
     A root's bounds only narrow, so nothing happens between two moments with the same bounds. The widest part in
@@ -81,13 +111,13 @@ def replayed(programs: Programs, problem: Problem, report: str, events: int, del
         words = line.split()
         if words[:2] == ["agent", root]:
             told = dict(zip(words[2::2], words[3::2]))
-            return moment(problem, events, delivered[events], int(told["lower"]), told["upper"])
+            return moment(problem, events, delivered[events], int(told["lower"]), None if told["upper"] == "-" else int(told["upper"]))
     raise Trouble(f"dcop replay tells nothing of {root}, the root")
 
 
-def moment(problem: Problem, events: int, messages: int, least: int, most: str) -> Moment:
+def moment(problem: Problem, events: int, messages: int, least: int, most: int | None) -> Moment:
     """The bounds as those of the problem's own sums: for a greatest sum the agents count what is missed."""
     if problem.goal == "min":
-        return Moment(events, messages, least, None if most == "-" else int(most))
+        return Moment(events, messages, least, most)
     greatest = sum(max(table.costs) for table in problem.tables)
-    return Moment(events, messages, None if most == "-" else greatest - int(most), greatest - least)
+    return Moment(events, messages, None if most is None else greatest - most, greatest - least)

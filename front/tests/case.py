@@ -31,6 +31,7 @@ FAKE_SEARCH = str(HERE / "fake_search.py")
 REAL = os.environ.get("SEFWLLON_DCOP")
 ORDER = os.environ.get("SEFWLLON_ORDER")
 SEARCH = os.environ.get("SEFWLLON_SEARCH")
+TRACE = os.environ.get("SEFWLLON_TRACE")
 """The built programs, where they are there."""
 PAIR = "dcop 1\nvar x 2\nvar y 2\ntable x y : 5 4 2 7\ntable x : 0 1\nend\n"
 """A problem whose best sum, 3 at x = 1 and y = 0, is not that of its tables' least costs."""
@@ -66,11 +67,11 @@ class Case(unittest.TestCase):
         self.addCleanup(patched.stop)
 
     def front(
-        self, *words: str, fake: str = "", program: str = FAKE, order: str | None = None, search: str = "", **more: str
+        self, *words: str, fake: str = "", program: str = FAKE, order: str | None = None, search: str = "", trace: str = "", **more: str
     ) -> tuple[int, str, str]:
-        """Runs the command with these programs, without dcop_search where it is not named."""
+        """Runs the command with these programs, without dcop_search and dcop_trace where they are not named."""
         kept = dict(os.environ)
-        os.environ.update(SEFWLLON_DCOP=program, SEFWLLON_SEARCH=search, FAKE=fake, **more)
+        os.environ.update(SEFWLLON_DCOP=program, SEFWLLON_SEARCH=search, SEFWLLON_TRACE=trace, FAKE=fake, **more)
         if order is not None:
             os.environ["SEFWLLON_ORDER"] = order
         out, err = io.StringIO(), io.StringIO()

@@ -1,8 +1,8 @@
 """Runs the commands of README.md and docs/USE.md, and compares what they print with what stands below them.
 
-usage: front/python.sh front/tests/documents.py DCOP DCOP_ORDER [DCOP_SERVE [DCOP_SEARCH]]
+usage: front/python.sh front/tests/documents.py DCOP DCOP_ORDER [DCOP_SERVE [DCOP_SEARCH [DCOP_TRACE]]]
 
-DCOP, DCOP_ORDER, DCOP_SERVE and DCOP_SEARCH are the built programs `dcop`, `dcop_order`, `dcop_serve` and `dcop_search`. A command is a line behind `$ ` in a block of a document; what
+DCOP, DCOP_ORDER, DCOP_SERVE, DCOP_SEARCH and DCOP_TRACE are the built programs of these names in small letters. A command is a line behind `$ ` in a block of a document; what
 it has to print stands below it, up to the next command or the end of the block, and `..` alone stands for any lines, `in 0.1 s` for
 any seconds; a text
 that is given by `<<'EOF'` goes up to that word. The
@@ -75,7 +75,7 @@ def untimed(line: str) -> str:
 def missing(command: str, path: str) -> str | None:
     """What a command needs and these folders have not."""
     words = command.replace("|", " ").split()
-    for tool in ("dot", "toulbar2", "dcop_serve", "dcop_search"):
+    for tool in ("dot", "toulbar2", "dcop_serve", "dcop_search", "dcop_trace"):
         if tool in words and shutil.which(tool, path=path) is None:
             return tool
     if any(word.endswith(".yaml") for word in words) and importlib.util.find_spec("yaml") is None:
@@ -115,10 +115,10 @@ def run(document: str, programs: dict[str, str], files: dict[str, str] | None = 
 
 
 def main() -> int:
-    if len(sys.argv) not in (3, 4, 5):
+    if len(sys.argv) not in (3, 4, 5, 6):
         print(__doc__, file=sys.stderr)
         return 2
-    programs = dict(zip(("dcop", "dcop_order", "dcop_serve", "dcop_search"), sys.argv[1:]))
+    programs = dict(zip(("dcop", "dcop_order", "dcop_serve", "dcop_search", "dcop_trace"), sys.argv[1:]))
     count = 0
     for document in DOCUMENTS:
         differ, passed_over = run(document, programs)

@@ -35,7 +35,7 @@ class Served:
 
     def __init__(self, *words: str, program: str = FAKE, order: str | None = None, fake: str = "", command: str = "serve", **environment: str):
         kept = {name: value for name, value in os.environ.items() if not name.startswith("SEFWLLON_")}
-        kept |= {"SEFWLLON_DCOP": program, "SEFWLLON_SEARCH": "", "FAKE": fake, "PYTHONPATH": str(FRONT), "PYTHONPYCACHEPREFIX": COMPILED.name, **environment}
+        kept |= {"SEFWLLON_DCOP": program, "SEFWLLON_SEARCH": "", "SEFWLLON_TRACE": "", "FAKE": fake, "PYTHONPATH": str(FRONT), "PYTHONPYCACHEPREFIX": COMPILED.name, **environment}
         kept.pop("PYTHONDONTWRITEBYTECODE", None)
         if order:
             kept["SEFWLLON_ORDER"] = order

@@ -32,7 +32,7 @@ from sefwllon.solving import Solver
 from sefwllon.translate import Constraint, Source, translate
 
 from . import documents
-from .case import EXAMPLES, FAKE, FAKE_SEARCH, FRONT, HAS_YAML, HERE, ORDER, PAIR, PROBLEMS, REAL, SEARCH, Case
+from .case import EXAMPLES, FAKE, FAKE_SEARCH, FRONT, HAS_YAML, HERE, ORDER, PAIR, PROBLEMS, REAL, SEARCH, TRACE, Case
 
 if HAS_YAML:
     from . import brute_pydcop
@@ -341,7 +341,7 @@ class Solving(Case):
 
 class Documents(unittest.TestCase):
     def programs(self) -> dict[str, str]:
-        built = {"dcop": REAL, "dcop_order": ORDER, "dcop_search": SEARCH}
+        built = {"dcop": REAL, "dcop_order": ORDER, "dcop_search": SEARCH, "dcop_trace": TRACE}
         return {name: path for name, path in built.items() if path}
 
     @unittest.skipUnless(REAL and ORDER, "no built programs")
@@ -599,7 +599,7 @@ class Telling(Case):
         report = "status solved\nmethod adopt\nerror 0\ndeliveries 20\ncost 2\nlower 2\nupper 2\nvalue x 1\nvalue y 0\n"
         report += "certificate log\n" + "".join(f"event {'xy'[i % 2]} {i} {'yx'[i % 2]} {i}\n" for i in range(1, 9)) + "end\n"
         kept = dict(os.environ)
-        os.environ["FAKE"] = "logs"
+        os.environ.update(FAKE="logs", SEFWLLON_TRACE="")
         try:
             problem = parse((PROBLEMS / "pair.dcop").read_text())
             found = replaying.moments(Programs(FAKE), problem, report)

@@ -239,7 +239,8 @@ class Answers(Case):
         run = self.client.answer("run", text=PAIR)
         told = self.client.ask("GET", f"jobs/{self.client.begin('run', text=PAIR)['job']}/after/2")
         self.assertEqual((len(run["events"]), run["verified"], run["status"]), (6, True, "solved"))
-        self.assertEqual(told[1], {"agent": "y", "value": "1", "lower": "3", "upper": "3", "threshold": "3", "ended": "no"})
+        self.assertIn("dcop_trace is not built", told["untold"])
+        self.assertEqual(told["agents"][1], {"agent": "y", "value": "1", "lower": "3", "upper": "3", "threshold": "3", "ended": "no"})
 
 
 @unittest.skipUnless(HAS_FLASK, NO_FLASK)

@@ -15,7 +15,7 @@ import unittest
 from pathlib import Path
 from typing import Any
 
-from .case import EXAMPLES, FAKE, ORDER, PROBLEMS, REAL, Case
+from .case import EXAMPLES, FAKE, ORDER, PROBLEMS, REAL, TRACE, Case
 from .serving import HAS_FLASK, NO_FLASK, PATIENCE, Served, runs, until, workers
 
 HAS_BROWSER = importlib.util.find_spec("selenium") is not None and all(map(shutil.which, ("chromium", "chromedriver")))
@@ -75,13 +75,16 @@ class Page(Case):
     words: tuple[str, ...] = ("--no-browser",)
     fake = ""
     program = REAL or FAKE
+    traced: str | None = None
+    """The program dcop_trace, where the page has it."""
     fresh = True
     """Whether nothing stands in the page when a test begins."""
 
     @classmethod
     def setUpClass(cls):
         cls.browser, cls.folder = opened()
-        cls.served = Served(*cls.words, command="web", program=cls.program, order=ORDER, fake=cls.fake)
+        more = {} if cls.traced is None else {"SEFWLLON_TRACE": cls.traced}
+        cls.served = Served(*cls.words, command="web", program=cls.program, order=ORDER, fake=cls.fake, **more)
         cls.addClassCleanup(cls.served.end)
 
     def setUp(self):
@@ -469,6 +472,8 @@ def large_week(meetings: int = 200, slots: int = 40, people: int = 60) -> str:
 class Agents(Page):
     """Problems and runs."""
 
+    traced = TRACE
+
     def look_at(self, name: str) -> str:
         text = (PROBLEMS / name).read_text()
         self.click("#tab-problem")
@@ -523,6 +528,8 @@ class Agents(Page):
                 state["agent"] = agent
                 if agent in names:
                     state["value"] = names[agent][int(state["value"])]
+            if TRACE:
+                self.compare_messages(text + report, count, wanted)
             script = "return [...document.querySelectorAll('.states tbody tr')].map((row) => ({ agent: row.dataset.agent, ...Object.fromEntries([...row.querySelectorAll('td[data-key]')].map((cell) => [cell.dataset.key, cell.textContent])) }))"
             self.assertEqual(self.browser.execute_script(script), wanted)
             events = [line.split() for line in report.splitlines() if line.startswith("event ")][:count]
@@ -553,6 +560,26 @@ class Agents(Page):
 
         ActionChains(self.browser).move_to_element(plot).click().perform()
         self.until("Number(document.querySelector('#slider').value) > 5")
+
+    def compare_messages(self, text: str, count: int, wanted: list[dict[str, str]]) -> None:
+        """Compares the messages that are shown with those of dcop_trace, and adds what it tells of contexts to what is wanted."""
+        told = subprocess.run([TRACE, "--to", str(count)], input=text, capture_output=True, text=True).stdout.splitlines()
+        names = {words[1]: words[3:] for words in map(str.split, text.splitlines()) if words[:1] == ["var"] and words[2] == ":"}
+        contexts, agent, sent, taken = {}, "", 0, 0
+        for words in map(str.split, told):
+            agent = words[1] if words[0] == "start" else words[2] if words[0] == "event" else agent
+            if words[0] == "context":
+                pairs = zip(words[1::2], words[2::2])
+                contexts[agent] = ", ".join(f"{name} = {names[name][int(value)] if name in names else value}" for name, value in pairs)
+            sent, taken = sent + (words[0] == "sent"), taken + (words[0] == "took")
+        for state in wanted:
+            state["context"] = contexts[state["agent"]]
+        here = subprocess.run([TRACE, "--from", str(count), "--to", str(count)], input=text, capture_output=True, text=True).stdout.splitlines()
+        for kind, word in (("took", "took "), ("sent", "sent ")):
+            lines = self.browser.execute_script("return [...document.querySelectorAll('.messages.' + arguments[0] + ' li')].map((one) => one.dataset.line)", kind)
+            self.assertEqual(lines, [line for line in here if line.startswith(word)] if count else [])
+        self.assertEqual(len(self.all(".messages.way li")), min(200, sent - taken))
+        self.assertEqual(sum(int(dot.text) for dot in self.all("#run-tree .waiting text")), min(200, sent - taken))
 
     def test_a_report_with_a_log_is_opened(self):
         text = self.look_at("pair.dcop")

@@ -1,5 +1,5 @@
 -- The answer to the text of a report, and a trace of a run.
-use Rattle.std.proofs.Common.{◌≡◌, ℕ, List, Option, Some, None, Result, Ok, Err, sym, subst, refl, ◌∙◌}
+use Rattle.std.proofs.Common.{◌≡◌, ℕ, ◌+◌, List, Option, Some, None, Result, Ok, Err, sym, subst, refl, ◌∙◌}
 use Rattle.std.proofs.lemmas.Option.{none-some}
 use Rattle.dcop_base.specs.Whole.{IsProblem}
 use Rattle.protocol_steps.specs.Network.{Network, start_state}

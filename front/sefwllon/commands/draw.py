@@ -9,9 +9,9 @@ from .. import draw, replaying
 from ..arguments import Commands, natural
 from ..asking import checked_report
 from ..files import load, read_text
-from ..output import say
+from ..output import complain, say
 from ..problem import Trouble
-from ..programs import Programs, Wrong
+from ..programs import Programs, Wrong, missing
 from ..progress import Progress
 from ..report import Report, certified, fitted, printed, read_report, read_tree
 from ..solving import refusal
@@ -29,7 +29,7 @@ def add(commands: Commands) -> None:
         usage="sefwllon draw [-h] [--points N] [graph|tree|bounds] FILE [REPORT]",
     )
     picture.add_argument("words", metavar="[graph|tree|bounds] FILE [REPORT]", nargs="+")
-    picture.add_argument("--points", type=natural, default=replaying.POINTS, metavar="N", help="how often a log is replayed, at most")
+    picture.add_argument("--points", type=natural, metavar="N", help="at how many moments the bounds are told, at most; 64 where dcop_trace is not there")
     picture.set_defaults(run=run)
 
 
@@ -81,14 +81,16 @@ def tree_of(programs: Programs, told: Translation, report: str | None) -> str:
     return draw.tree(problem, nodes, own)
 
 
-def bounds_of(programs: Programs, told: Translation, report: str, title: str, points: int) -> str:
+def bounds_of(programs: Programs, told: Translation, report: str, title: str, points: int | None) -> str:
     """The root's bounds over the messages of a log."""
     problem = fitted(told.problem, report)
     if read_report(report, problem).certificate != "log":
         raise Trouble("the report has no log: make it with `sefwllon solve --method adopt --report OUT`")
     read = checked_report(programs, problem, report)
+    if not programs.trace:
+        complain(f"{missing('dcop_trace')}; without it the log is replayed many times, and the bounds are told at {points or replaying.POINTS} moments at most")
     with Progress(told) as progress:
-        moments = replaying.moments(programs, problem, report, max(2, points), progress.replayed)
+        moments = replaying.moments(programs, problem, report, None if points is None else max(2, points), progress.replayed)
     return draw.bounds(moments, lambda total: number(told.own_cost(total)), f"{bounds_title(told, read, title)} ({programs.verified})", read.cost)
 
 

@@ -14,7 +14,6 @@ from uuid import uuid4
 
 from ..output import complain
 from ..problem import Trouble
-from ..programs import is_quick
 from .needs import needed
 from .parcel import packed
 from .pool import Done, Task
@@ -37,9 +36,6 @@ class Cluster:
     """A pool of the workers that a scheduler has, and of those that come later."""
 
     def __init__(self, address: str, programs: dict[str, str]):
-        for path in programs.values():
-            if is_quick(path):
-                raise Trouble(f"{path} compiles anew each time, and can't be sent to a cluster: name the built program")
         library = needed("distributed", "--cluster")
         hush()
         self.address, self.name = address, uuid4().hex[:12]

@@ -42,6 +42,11 @@ class Method:
         return PROGRAMS.get(self.name, ("dcop",))
 
     @property
+    def has_log(self) -> bool:
+        """Whether its report has the log of a run, of which `dcop_trace` tells the messages, where that is there."""
+        return self.name == "adopt" and self.options.get("certificate") == "yes"
+
+    @property
     def budgets(self) -> tuple[int | None, ...]:
         """The budgets that are tried one after another: the one that is named, or growing ones."""
         return (int(self.options["budget"]),) if "budget" in self.options else BUDGETS.get(self.name, (None,))

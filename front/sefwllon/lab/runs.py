@@ -6,6 +6,7 @@ import hashlib
 import socket
 import time
 from collections.abc import Mapping
+from contextlib import closing
 from dataclasses import dataclass, field
 from fractions import Fraction
 from functools import lru_cache
@@ -18,6 +19,7 @@ from ..programs import Answer, Crashed
 from ..report import Node, Report, read_report, read_tree
 from ..searching import read_found
 from ..solving import in_order, reordered
+from ..tracing import traced
 from ..translate import Translation, number
 from .figures import message_figures
 from .measured import Ran, measured
@@ -53,6 +55,8 @@ class Run:
     report: Report | None = None
     problem: Problem | None = None
     """The problem in the order in which the report has it."""
+    certified: str | None = None
+    """The report's text, if it has a certificate."""
     nodes: int | None = None
     elapsed: float = 0.0
     moments: list[tuple[float, int | None, int | None]] = field(default_factory=list)
@@ -118,7 +122,7 @@ class Run:
             report = read_report(ran.text, problem)
             if problem.cost(report.values) != report.cost:
                 raise Trouble("dcop printed a cost that its values do not have")
-            self.report, self.problem = report, problem
+            self.report, self.problem, self.certified = report, problem, ran.text if report.certificate else None
             self.take(in_order(report, problem, self.told.problem).values, report.cost, report.bound(self.goal))
             if self.status == "solved":
                 return
@@ -197,7 +201,10 @@ class Run:
         if self.report is None or self.problem is None or self.status not in ("solved", "spent"):
             return {}
         tree = tree_of(self.programs["dcop"], self.problem.text()) if self.report.method == "dpop" else None
-        return message_figures(self.problem, self.report, tree)
+        if self.report.certificate != "log" or self.certified is None or "dcop_trace" not in self.programs:
+            return message_figures(self.problem, self.report, tree)
+        with closing(traced(self.programs["dcop_trace"], self.problem.text() + self.certified)) as events:
+            return message_figures(self.problem, self.report, events=events)
 
 
 @lru_cache(maxsize=KEPT)

@@ -95,8 +95,10 @@ def files_of(words: Sequence[str]) -> list[Path]:
 
 def programs_of(methods: Sequence[Method], programs: Programs) -> tuple[dict[str, str], dict[str, str]]:
     """The paths of the programs that the methods run, and their checksums."""
-    paths = {"dcop": programs.dcop, "dcop_order": programs.order, "dcop_search": programs.search}
+    paths = {"dcop": programs.dcop, "dcop_order": programs.order, "dcop_search": programs.search, "dcop_trace": programs.trace}
     wanted = sorted({name for method in methods for name in method.programs})
+    if programs.trace and any(method.has_log for method in methods):
+        wanted.append("dcop_trace")
     for name in wanted:
         if not paths[name]:
             raise Trouble(unbuilt(Path(__file__).resolve().parents[3]) if name == "dcop" else missing(name))

@@ -21,11 +21,13 @@ from pathlib import Path
 from typing import Any
 
 from .. import cli, draw, timetable
+from ..dpop_run import utils
 from ..files import KINDS as FILES
 from ..files import load
 from ..problem import Problem, Table, Trouble, Variable, is_name
 from ..programs import Programs, Wrong
 from ..report import fitted, read_report, read_tree
+from ..run_telling import own_costs
 from ..solving import refusal
 from ..timetable import calendars, rooms, rules
 from ..timetable.model import Meeting, Place, Sequence, Timetable, Together
@@ -469,8 +471,8 @@ def by_dpop(asked: Request, teller: Any) -> Told:
     read = read_report(answer.text, told.problem)
     own = {v.name: name for v, name in zip(told.problem.variables, told.names)}
     tables = []
-    for name, scope, cells in trace.util_lines(answer.text):
-        tables.append({"name": own[name], "scope": [own[word] for word in scope], "size": len(cells), "cells": cells[:MOST_CELLS]})
+    for util in utils(answer.text):
+        tables.append({"name": own[util.name], "scope": [own[word] for word in util.scope], "size": len(util.cells), "cells": util.cells[:MOST_CELLS]})
     found: Told = {
         "tree": tree_of(programs, told, told.problem.text()),
         "values": {name: [str(v) for v in values] for name, values in zip(told.names, told.values)},
@@ -484,18 +486,6 @@ def by_dpop(asked: Request, teller: Any) -> Told:
         "own": own_costs(told),
     }
     return {"answer": found, "final": True}
-
-
-def own_costs(told: Translation) -> str | None:
-    """What the costs of a run are in the file's own, where they differ."""
-    missed = "The agents count what is missed of the greatest sum." if told.problem.goal == "max" else None
-    hard = told.hard_cost * len(told.hard) if told.problem.goal == "max" else 0
-    if told.scale == 1 and not told.shift and not hard:
-        return missed
-    less = f" - {hard}" if hard else ""
-    shift = f" + {number(told.shift)}" if told.shift else ""
-    counted = f"Sums are told as the programs count them; by the file's own count N is (N{less}) / {told.scale}{shift}."
-    return f"{counted} {missed}" if missed else counted
 
 
 KINDS: dict[str, Callable[[Request, Any], Told]] = {

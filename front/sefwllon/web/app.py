@@ -153,7 +153,7 @@ def make_app(pool: Pool, first: Told | None = None) -> Flask:
     @app.get("/health")
     def health() -> Response:
         programs = Programs()
-        there = {"dcop": bool(programs.dcop), "dcop_order": bool(programs.order), "dcop_search": bool(programs.search)}
+        there = {"dcop": bool(programs.dcop), "dcop_order": bool(programs.order), "dcop_search": bool(programs.search), "dcop_trace": bool(programs.trace)}
         counts = {state: pool.count(state) for state in ("waiting", "running")}
         return jsonify(status="ok", version=__version__, programs=there, d3=D3.is_file(), processes=pool.limits.processes, jobs=counts)
 
@@ -180,13 +180,13 @@ def make_app(pool: Pool, first: Told | None = None) -> Flask:
 
     @app.get("/jobs/<name>/after/<int:count>")
     def after(name: str, count: int) -> Response:
-        """What the agents of a run have come to after so many events, by `dcop replay`."""
+        """What the agents of a run have come to after so many events, and what their messages say where `dcop_trace` is there."""
         job = pool.get(name)
         if job.kind != "run" or job.answer is None:
             raise Trouble("that job is no run that is over")
         with steps:
             run = trace.Run(Programs(), parse(job.answer["problem"]), job.answer["report"])
-            return jsonify(run.after(count))
+            return jsonify(run.after(count, trace.names_of(job.answer)))
 
     @app.post("/timetable/<any(look, where, file):what>")
     def timetable(what: str) -> Response:

@@ -1,25 +1,33 @@
-"""Where the steps of a run come from: its log, and `dcop replay`.
+"""Where the steps of a run come from: its log, and `dcop_trace`; without that `dcop replay`.
 
-A log says which agent took how many messages of whom, and `replay` what each agent had come to; what the messages said, neither
-tells. A program that tells a run message by message is to be asked here, in `Run`, and nowhere else.
+A log says which agent took how many messages of whom. `dcop_trace` tells what they say, what each agent has come to and what it
+knows; `replay` only what each agent has come to.
 """
 
 from __future__ import annotations
 
-from collections.abc import Callable
+import threading
+from collections.abc import Callable, Mapping
+from functools import lru_cache
 from typing import Any
 
 from ..asking import checked_report
 from ..explain import differs
 from ..problem import Problem, Trouble
-from ..programs import Programs
+from ..programs import Programs, missing
 from ..replaying import moments
+from ..run_telling import Names, sentence, short
 from ..solving import NO, Refused
+from ..tracing import Event, Message, Recorded
 
 Told = dict[str, Any]
 
 MOST_EVENTS = 50_000
 """How many events a run may have that the page plays."""
+MOST_WAY = 200
+"""How many of the messages on their way are told."""
+KEPT = 2
+"""How many runs are kept, so that any event of them can be looked at."""
 
 
 def new_run(programs: Programs, problem: Problem, budget: int, error: int) -> str:
@@ -61,8 +69,17 @@ class Run:
         found = moments(self.programs, self.problem, self.report, tell=tell)
         return [{"events": m.events, "deliveries": m.deliveries, "lower": m.lower, "upper": m.upper} for m in found]
 
-    def after(self, count: int) -> list[Told]:
-        """What each agent has come to after so many events."""
+    def after(self, count: int, names: Names) -> Told:
+        """What each agent has come to after so many events; and with `dcop_trace` what it knows, what was taken and sent in the last
+        of these events, and what is on its way."""
+        if not self.programs.trace:
+            return {"agents": self.replayed(count), "untold": f"{missing('dcop_trace')}; it tells what the messages say."}
+        with _ONE_BY_ONE:
+            recorded = _recorded(self.programs.trace, self.problem.text() + self.report)
+        return seen(recorded, count, names)
+
+    def replayed(self, count: int) -> list[Told]:
+        """What each agent has come to after so many events, by `dcop replay`."""
         answer = self.programs.run(["replay", "--after", str(count)], self.problem.text() + self.report)
         if answer.status == NO:
             raise Trouble("the log is that of no run: " + differs(answer.text))
@@ -76,13 +93,48 @@ class Run:
         return found
 
 
-def util_lines(report: str) -> list[tuple[str, list[str], list[int]]]:
-    """The tables that DPOP's agents sent up, by a report's certificate: whose, over which variables, the cells."""
-    found = []
-    for line in report.splitlines():
-        words = line.split()
-        if words[:1] == ["util"]:
-            first = words.index(":")
-            second = words.index(":", first + 1)
-            found.append((words[1], words[first + 1 : second], [int(word) for word in words[second + 1 :]]))
-    return found
+_ONE_BY_ONE = threading.Lock()
+"""A run is recorded once, however many ask for it at the same time."""
+
+
+@lru_cache(maxsize=KEPT)
+def _recorded(program: str, text: str) -> Recorded:
+    return Recorded(program, text)
+
+
+def names_of(answer: Mapping[str, Any]) -> Names:
+    """The user's names and values, by the answer that told the run."""
+    own: dict[str, str] = answer["names"]
+    return Names(own, {name: answer["values"][word] for name, word in own.items()}, "costs" if answer["goal"] == "min" else "misses")
+
+
+def seen(recorded: Recorded, count: int, names: Names) -> Told:
+    """A run behind so many events."""
+    count = min(count, len(recorded.blocks))
+    event = recorded.event(count) if count else None
+    way = recorded.on_the_way(count)
+    return {
+        "agents": [agent_told(recorded.last_of(name, count), names) for name in recorded.starts],
+        "took": [] if event is None else [told(names, line, it, it.other, event.agent) for line, it in zip(event.told("took "), event.took)],
+        "sent": [] if event is None else [told(names, line, it, event.agent, it.other) for line, it in zip(event.told("sent "), event.sent)],
+        "way": [{**told(names, "", it.message, it.sender, it.receiver), "event": it.number} for it in way[:MOST_WAY]],
+        "on_the_way": len(way),
+    }
+
+
+def agent_told(event: Event, names: Names) -> Told:
+    """What an agent has come to, in the words of `dcop replay`, and what it knows."""
+    words = event.words("state")
+    return {"agent": event.agent, **dict(zip(words[::2], words[1::2])), "context": names.where(event.context, "")}
+
+
+def told(names: Names, line: str, message: Message, sender: str, receiver: str) -> Told:
+    """A message, with the line by which `dcop_trace` tells it."""
+    return {
+        "from": names.own[sender],
+        "to": names.own[receiver],
+        "kind": message.kind,
+        "word": short(names, message, sender),
+        "sentence": sentence(names, message, sender),
+        "line": line,
+    }

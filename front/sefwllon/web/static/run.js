@@ -8,7 +8,7 @@ const STEP = 700; // milliseconds from one step to the next, when it plays
 const MOST_SHOWN = 512; // how many cells of a table are shown
 const noun = (answer) => (answer.goal === "max" ? "Sum" : "Cost");
 
-/** The steps of ADOPT: an event of the log each, and what `dcop replay` says behind it. */
+/** The steps of ADOPT: an event of the log each, and what `dcop_trace` says of it, or without that `dcop replay`. */
 class AdoptSteps {
   constructor(answer) {
     this.answer = answer;
@@ -20,7 +20,7 @@ class AdoptSteps {
     for (const event of this.events) this.delivered.push(this.delivered.at(-1) + event.took.reduce((sum, [, count]) => sum + count, 0));
   }
 
-  /** What each agent has come to after so many events. */
+  /** What each agent has come to after so many events, and what was said. */
   state(at) {
     if (!this.states.has(at)) this.states.set(at, get(`jobs/${this.answer.job}/after/${at}`));
     return this.states.get(at);
@@ -47,22 +47,37 @@ class AdoptSteps {
   }
 
   async show(view, at) {
-    const states = await this.state(at);
+    const found = await this.state(at);
     if (view.at !== at) return;
-    const told = new Map(states.map((state) => [this.own[state.agent], state]));
+    const told = new Map(found.agents.map((state) => [this.own[state.agent], state]));
     const value = (name) => this.answer.values[name][Number(told.get(name).value)] ?? told.get(name).value;
     const acting = at ? this.own[this.events[at - 1].agent] : null;
     const words = (name) => `${value(name)}  [${told.get(name).lower}, ${told.get(name).upper}]`;
     view.tree?.tell(words, (name) => `${name === acting ? "acts" : ""} ${told.get(name).ended === "yes" ? "ended" : ""}`);
-    const heads = ["agent", "value", "lower", "upper", "threshold", "ended"];
+    view.tree?.wait(found.way ?? []);
+    const heads = ["agent", "value", "lower", "upper", "threshold", "ended", ...(found.way ? ["context"] : [])];
     const line = (name) => {
       const state = told.get(name);
-      const cells = [value(name), state.lower, state.upper, state.threshold, state.ended];
+      const cells = [value(name), state.lower, state.upper, state.threshold, state.ended, ...(found.way ? [state.context] : [])];
       return el("tr", { class: name === acting ? "acts" : "", data: { agent: name } }, el("td", {}, name), cells.map((cell, place) => el("td", { data: { key: heads[place + 1] } }, cell)));
     };
     const table = el("table", { class: "list states", data: { after: at } }, el("thead", {}, el("tr", {}, heads.map((head) => el("th", {}, head)))), el("tbody", {}, [...told.keys()].map(line)));
-    by("run-side").replaceChildren(table, el("p", { class: "quiet" }, "By `dcop replay`: each agent's value, its bounds, its threshold. A number on its way counts the messages that the agent takes."));
+    by("run-side").replaceChildren(table, ...(found.way ? this.messages(found, acting) : [el("p", { class: "quiet untold" }, `By \`dcop replay\`: each agent's value, its bounds, its threshold. A number on its way counts the messages that the agent takes. ${found.untold}`)]));
     if (at < this.last) this.state(at + 1).catch(() => {});
+  }
+
+  /** What was taken and sent in an event, and what is on its way behind it. */
+  messages(found, acting) {
+    const part = (kind, title, messages, words) =>
+      messages.length > 0 && [el("h3", {}, title), el("ul", { class: `messages ${kind}` }, messages.map((message) => el("li", { class: message.kind, data: { line: message.line } }, words(message))))];
+    const left = found.on_the_way - found.way.length;
+    return [
+      ...(part("took", `${acting} took`, found.took, (message) => `${message.from}: ${message.sentence}`) || []),
+      ...(part("sent", `and sent`, found.sent, (message) => `${message.to}: ${message.sentence}`) || []),
+      ...(part("way", `On their way: ${found.on_the_way}`, found.way, (message) => `${message.from} → ${message.to}: ${message.sentence}`) || []),
+      left > 0 && el("p", { class: "quiet" }, `and ${left} more.`),
+      el("p", { class: "quiet" }, "By `dcop_trace`: bounds are of an agent's subtree under its context, and a threshold is what its parent lets the subtree cost before it looks for another value."),
+    ].filter(Boolean);
   }
 }
 

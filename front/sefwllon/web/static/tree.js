@@ -21,6 +21,7 @@ export class Tree {
     d3.select(place).selectAll("*").remove();
     const svg = d3.select(place).append("svg").attr("viewBox", `${left} -42 ${width} ${height}`).attr("width", width).attr("height", height);
     this.links = svg.append("g").attr("class", "links");
+    this.waiting = svg.append("g").attr("class", "letters");
     this.letters = svg.append("g").attr("class", "letters");
     const edges = nodes.flatMap((node) => this.edges(node));
     this.links.selectAll("path").data(edges).enter().append("path").attr("class", (edge) => edge.kind).attr("d", (edge) => this.way(edge.from, edge.to, edge.kind));
@@ -79,6 +80,24 @@ export class Tree {
       };
       dot.attr("transform", at(milliseconds ? 0 : 0.5));
       if (milliseconds) dot.transition().duration(milliseconds).attrTween("transform", () => (part) => at(0.62 * part));
+    }
+  }
+  /** Shows how many messages are on their way from whom to whom, near who sent them. */
+  wait(messages) {
+    this.waiting.selectAll("*").remove();
+    const pairs = new Map();
+    for (const message of messages) {
+      const key = JSON.stringify([message.from, message.to]);
+      pairs.set(key, [...(pairs.get(key) ?? []), message]);
+    }
+    for (const group of pairs.values()) {
+      const { from, to } = group[0];
+      const path = this.waiting.append("path").attr("class", "route").attr("d", this.way(from, to, this.kindOf(from, to)));
+      const { x, y } = path.node().getPointAtLength(0.36 * path.node().getTotalLength());
+      const dot = this.waiting.append("g").attr("class", "waiting").attr("transform", `translate(${x},${y})`);
+      dot.append("circle").attr("r", 7);
+      dot.append("text").attr("y", 3.5).text(group.length);
+      dot.append("title").text(group.map((message) => `${from} → ${to}: ${message.sentence}`).join("\n"));
     }
   }
 }
