@@ -1,7 +1,7 @@
 mod BlankLaws
-mod SameLaws
-mod CertificateLaws
-mod PrintedLaws
+pub mod SameLaws
+pub mod CertificateLaws
+pub mod PrintedLaws
 mod EditLaws
 mod GivenLaws
 mod ServedLaws

@@ -85,7 +85,7 @@ lawful-first k net (e ∷ log) (suc after) none =
     or_none (unlawful k (event_fault net (event_of e))) (fault_in (k + 1) (effect net (event_of e)) (take after log)) parts.0
     (lawful-first (k + 1) (effect net (event_of e)) log after parts.1)
 
-lawful-up-to : (net : Network) (log : List LogEvent) (after : Option ℕ) → fault_in 1 net log ≡ None → fault_in 1 net (log_up_to after log) ≡ None
+pub lawful-up-to : (net : Network) (log : List LogEvent) (after : Option ℕ) → fault_in 1 net log ≡ None → fault_in 1 net (log_up_to after log) ≡ None
 lawful-up-to net log None none = none
 lawful-up-to net log (Some after) none = lawful-first 1 net log after none
 
@@ -154,13 +154,13 @@ module _ (format : Format) (text : List ℕ) (printed : IsPrintedFor format text
   abbrev told_text : List ℕ
   told_text = report_text printed.report printed.file
 
-  certified : IsCertified printed.parts.declared printed.file printed.report
+  pub certified : IsCertified printed.parts.declared printed.file printed.report
   certified = task_certified printed.task (record { declared = printed.parts.declared; bar = None }) printed.report printed.file printed.range printed.printed printed.certified
 
-  front_is : front_read format text ≡ Ok printed.parts
+  pub front_is : front_read format text ≡ Ok printed.parts
   front_is = ap (front_read format) printed.behind ∙ front_kept format printed.problem printed.before told_text printed.parts printed.line printed.read
 
-  again : IsFile printed.file → report_read (drop used text) printed.file ≡ Ok printed.report
+  pub again : IsFile printed.file → report_read (drop used text) printed.file ≡ Ok printed.report
   again is_file =
       subst (λ (t : List ℕ). report_read (drop used t) printed.file ≡ Ok printed.report) (sym printed.behind)
       (rest_kept printed.problem printed.before told_text used printed.file printed.report printed.line (front_used format printed.problem printed.parts printed.read) printed.rest

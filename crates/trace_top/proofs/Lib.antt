@@ -2,3 +2,4 @@ mod StatusLaws
 mod ShowLaws
 mod LogLaws
 mod AnswerLaws
+mod OneLaws

@@ -81,6 +81,10 @@ IsAskedAnswer (Err words.NoMemory) input answer = ⊥
 abbrev pub IsTraceAnswer : List (List ℕ) → Input → TraceAnswer → Type 0
 IsTraceAnswer words input answer = IsAskedAnswer (trace_answer_to words) input answer
 
+-- one answer belongs to words and an input: the same words and the same bytes give the same text
+abbrev pub TraceAnswersAreOne : Type 0
+TraceAnswersAreOne = (words : List (List ℕ)) (input : Input) (a b : TraceAnswer) → IsTraceAnswer words input a → IsTraceAnswer words input b → a ≡ b
+
 -- an answer that has a text
 abbrev pub IsTellable : TraceAnswer → Type 0
 IsTellable (Traced text) = Unit {0}

@@ -7,11 +7,13 @@
 
 mod answer;
 mod answering;
+mod law;
 mod showing;
 mod top;
 mod words;
 
 pub use answer::TraceAnswer;
 pub use answer_edge::Status;
+pub use law::trace_answers_are_one;
 pub use top::trace;
 pub use words::Asked;
