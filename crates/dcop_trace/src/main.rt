@@ -6,10 +6,10 @@
 #![tactic(auto)]
 
 use dcop_edge::{StdSink, StdSource};
-use trace_top::trace;
 use std::process::ExitCode;
 use std::rt::Env;
 use std::{env, io};
+use trace_top::trace;
 
 /// The code with which the program ends where it is refused its arguments, which no status has.
 const REFUSED_ARGUMENTS: u8 = 12;
