@@ -3,6 +3,7 @@
 from __future__ import annotations
 
 import json
+import subprocess
 import signal
 import tempfile
 import unittest
@@ -15,7 +16,7 @@ from sefwllon.problem import parse
 
 from .case import ORDER, REAL, SEARCH, Case
 from .lab import HAS, SECONDS, Engine, begun, held, script, steady, threes, until
-from .test_chain import drawn, optimum
+from .test_chain import drawn
 
 PASSED_OVER = [name for name, there in (("built programs", REAL and ORDER and SEARCH), ("python3-distributed", HAS["distributed"])) if not there]
 
@@ -69,12 +70,14 @@ class Cluster(OnCluster):
             "fi",
             f'exec {SEARCH} "$@" < "$0.$$"',
         )
-        problem = parse(threes(6))
+        problem = parse(threes(15))
         with mock.patch.object(sharing, "FIRST_NODES", 1), mock.patch.object(sharing, "GROWTH", 2):
             words = ("solve", "--json", self.file("p.dcop", problem.text()), "--cluster", self.engine.address)
             status, told, why = self.ran(*words, search=waits)
         answer = json.loads(told or "{}")
-        self.assertEqual((status, answer.get("cost")), (0, optimum(problem)), why)
+        alone = subprocess.run([SEARCH], input=problem.text(), text=True, capture_output=True, check=True).stdout
+        self.assertIn(f"\ncost {answer.get('cost')}\n", alone, why)
+        self.assertEqual(status, 0, why)
         self.assertEqual(answer["rests_on"], "each slice proved, their combination not")
         self.assertEqual(len(answer["slices"]["workers"]), 2, answer["slices"])
         self.assertIn("that their answers together are one of the whole is not proved", answer["note"])

@@ -147,7 +147,8 @@ class Installed(unittest.TestCase):
         pages = sorted((self.prefix / "share/man").rglob("*.*"))
         self.assertEqual([it.name for it in pages], ["dcop.1", "dcop_order.1", "dcop_search.1", "sefwllon.1", "dcop.5"])
         told = (self.prefix / "share/man/man1/dcop.1").read_text().replace("\\-", "-")
-        for option in re.findall(r"^\| `(--\w+)` \|", (TOP / "docs/FORMATS.md").read_text(), re.MULTILINE):
+        formats = re.sub(r"### Words of `dcop_trace`.*?(?=\n## )", "", (TOP / "docs/FORMATS.md").read_text(), flags=re.DOTALL)
+        for option in re.findall(r"^\| `(--\w+)` \|", formats, re.MULTILINE):
             self.assertTrue(any(f"\\fB{option}\\fR" in page.read_text().replace("\\-", "-") for page in pages), option)
         self.assertIn("\\fBrefused words at 1 kind 2\\fR (UnknownCommand: the first word is no command)", told)
         self.assertLess(told.index("refused words at 1 kind 2"), told.index(".SH Command words"))

@@ -41,7 +41,7 @@ class Without(Case):
         self.front("solve", pair, "--method", "adopt", "--report", report, fake="logs")
         status, told, why = self.front("trace", pair, report, fake="logs")
         self.assertEqual((status, told), (3, ""))
-        self.assertIn("the program dcop_trace is not built: run `cd crates/dcop_trace && rt run`, or name it by SEFWLLON_TRACE", why)
+        self.assertIn("the program dcop_trace is not built: run `./build` in ", why)
         status, told, why = self.front("draw", "bounds", pair, report, fake="logs")
         self.assertEqual((status, told[:4]), (0, "<svg"))
         self.assertIn("dcop_trace is not built", why)
