@@ -30,8 +30,9 @@ path, *left = sys.argv[1:]
 below = {}
 with open(path) as lines:
     for line in lines:
-        crate, _, uses = line.partition(":")
-        below[crate.split()[0]] = uses.split()
+        crate, colon, uses = line.partition("#")[0].partition(":")
+        if colon:
+            below[crate.split()[0]] = uses.split()
 found = []
 while left:
     crate = left.pop()

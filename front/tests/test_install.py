@@ -51,12 +51,29 @@ def stands(folder: Path) -> dict[str, object]:
     return found
 
 
+def stands_on() -> dict[str, list[str]]:
+    """Each crate of `crates.txt`, in its order, with the libraries that it stands on."""
+    lines = [line.partition("#")[0].split(":") for line in (TOP / "crates.txt").read_text().splitlines()]
+    return {name.split()[0]: uses.split() for name, uses in (line for line in lines if len(line) == 2)}
+
+
 class Crates(unittest.TestCase):
+    def test_each_crate_stands_below_those_that_use_it(self):
+        above = list(stands_on().items())
+        for place, (name, _) in enumerate(above):
+            users = [user for user, uses in above[:place] if name in uses]
+            self.assertEqual(users, [], name)
+
+    def test_the_page_has_the_crates_in_their_order(self):
+        page = (TOP / "docs" / "ARCHITECTURE.md").read_text()
+        rows = re.findall(r"^\| (\w+) \| ", page[page.index("## The crates") : page.index("## How a run's end flows")], re.MULTILINE)
+        self.assertEqual([name for name in rows if name != "Crate"], list(stands_on()))
+
     def test_only_what_the_programs_stand_on_is_proved(self):
         told = subprocess.run([str(TOP / "build"), "--list"], capture_output=True, text=True, check=True).stdout
         named = dict(line.split(": ", 1) for line in told.splitlines())
         crates = named.pop("crates").split()
-        below = {line.split(":")[0].split()[0]: line.split(":")[1].split() for line in (TOP / "crates.txt").read_text().splitlines() if ":" in line}
+        below = stands_on()
         wanted = set(named.values())
         while any(set(below[crate]) & set(below) - wanted for crate in wanted):
             wanted |= {it for crate in wanted for it in below[crate] if it in below}
