@@ -1,4 +1,5 @@
-"""Makes two pages of docs/reference from the sources: the definitions, and the public calls with their clauses.
+"""Makes two pages of docs/reference from the sources, the definitions and the public calls with their clauses, and sets the lines to which
+links of other pages lead.
 
     front/python.sh -m release.reference            writes them
     front/python.sh -m release.reference --check    says whether they are fresh
@@ -20,11 +21,15 @@ from pathlib import Path
 from .programs import TOP, below
 
 PAGES = TOP / "docs" / "reference"
+LINKING = [TOP / "README.md", TOP / "CONTRIBUTING.md", *sorted((TOP / "docs").glob("*.md"))]
+"""The pages that link to lines of the sources."""
 DEFINITIONS, CALLS = PAGES / "definitions.md", PAGES / "calls.md"
 DECLARED = re.compile(r"^ *(?:pub (?:record|data)|abbrev pub) ([^ :]+)")
 USED = re.compile(r"\buse (Rattle\.\w+\.specs[\w.]*)\.\{([^}]*)\}")
 NAME = re.compile(r"[^\W\d]\w*")
 CLAUSE = re.compile(r"^\s*(requires|ensures)\s*(\w+)?\s*\{")
+LINK = re.compile(r"\[`(\w+)`\]\(([^)#]+)#L\d+\)")
+NUMBER = re.compile(r"^\s*(\w+) = (\d+)$", re.MULTILINE)
 MADE = "<!-- Made by release/reference.py from the sources: change them and run it again. -->\n"
 
 
@@ -78,7 +83,20 @@ def main(words: list[str] | None = None) -> int:
 def pages() -> dict[Path, str]:
     """The text of each page."""
     sources = Sources()
-    return {DEFINITIONS: definitions_page(sources), CALLS: calls_page(sources)}
+    return {DEFINITIONS: definitions_page(sources), CALLS: calls_page(sources)} | {page: relinked(page) for page in LINKING}
+
+
+def relinked(page: Path) -> str:
+    """A page whose links to lines lead to where their file declares what they name; a link that finds nothing stays."""
+
+    def leading(link: re.Match[str]) -> str:
+        name, path = link[1], link[2]
+        declared = re.compile(rf"(?:\b(?:record|data|fn|trait|struct|enum|type)|abbrev pub) {name}\b")
+        lines = (page.parent / path).read_text().splitlines()
+        places = [number for number, line in enumerate(lines, 1) if declared.search(line)]
+        return f"[`{name}`]({path}#L{places[0]})" if places else link[0]
+
+    return LINK.sub(leading, page.read_text())
 
 
 class Sources:
@@ -86,8 +104,17 @@ class Sources:
 
     def __init__(self) -> None:
         self.crates = list(below())
+        self.layers = layers()
+        self.told_layer = ""
         self.definitions = {it.key: it for crate in self.crates for it in definitions_of(crate)}
         self.calls = [call for crate in self.crates for call in calls_of(crate)]
+
+    def heading(self, crate: str) -> list[str]:
+        """The heading of a layer, before the first crate of it that a page has."""
+        layer = self.layers[crate]
+        first = layer != self.told_layer
+        self.told_layer = layer
+        return [f"## {layer}\n"] if first else []
 
     @cached_property
     def cited(self) -> set[Key]:
@@ -102,6 +129,18 @@ class Sources:
         return found
 
 
+def layers() -> dict[str, str]:
+    """Each crate's layer, as the comments of crates.txt name it."""
+    found: dict[str, str] = {}
+    layer = ""
+    for line in (TOP / "crates.txt").read_text().splitlines():
+        if line.startswith("# "):
+            layer = re.split("[:;,]", line.removeprefix("# "))[0]
+        elif ":" in line:
+            found[line.split(":")[0].split()[0]] = layer
+    return found
+
+
 def definitions_of(crate: str) -> Iterator[Definition]:
     for path in sorted((TOP / "crates" / crate / "specs").glob("**/*.antt")):
         if path.name != "Lib.antt":
@@ -114,6 +153,7 @@ def definitions_in(crate: str, path: Path) -> Iterator[Definition]:
     inside = ".".join(path.relative_to(TOP / "crates" / crate / "specs").with_suffix("").parts)
     module = f"Rattle.{crate}.specs.{inside}"
     names = imports(text)
+    numbers = {name: f" ({int(number):,})" for name, number in NUMBER.findall(text)}
     lines = text.splitlines()
     found: list[Definition] = []
     comment: list[str] = []
@@ -124,7 +164,7 @@ def definitions_in(crate: str, path: Path) -> Iterator[Definition]:
             continue
         declared = DECLARED.match(line)
         if declared:
-            found.append(Definition(Key(module, declared[1]), crate, path, number, " ".join(comment)))
+            found.append(Definition(Key(module, declared[1]), crate, path, number, " ".join(comment) + numbers.get(declared[1], "")))
             names[declared[1]] = found[-1].key
         if found and not bare.startswith(("use ", "module ")):
             found[-1].cites |= {names[name] for name in NAME.findall(line) if name in names} - {found[-1].key}
@@ -222,7 +262,7 @@ def definitions_page(sources: Sources) -> str:
         shown = [it for it in own if it.key in sources.cited]
         if not shown:
             continue
-        told += [f"## {crate}\n", "| Definition | In words | File |", "|---|---|---|"]
+        told += [*sources.heading(crate), f"### {crate}\n", "| Definition | In words | File |", "|---|---|---|"]
         for it in shown:
             if it.sentence:
                 told.append(f"| `{it.key.name}` | {cell(it.sentence)} | {link(it.path, it.line)} |")
@@ -247,7 +287,7 @@ def calls_page(sources: Sources) -> str:
         own = [call for call in sources.calls if call.crate == crate and any(kind == "ensures" for kind, _, _ in call.clauses)]
         if not own:
             continue
-        told += [f"## {crate}\n", "| Call | What it does | Clauses | File |", "|---|---|---|---|"]
+        told += [*sources.heading(crate), f"### {crate}\n", "| Call | What it does | Clauses | File |", "|---|---|---|---|"]
         for call in own:
             told.append(f"| `{call.name}` | {cell(call.sentence)} | {clauses_cell(call, sources)} | {link(call.path, call.line)} |")
         told.append("")
