@@ -70,6 +70,11 @@ class WrongBodies(unittest.TestCase):
         names = [(crate_of(edit).name, edit.name) for edit in [*tried_by_the_gate(), *set_apart()]]
         self.assertEqual(len(set(names)), len(names))
 
+    def test_the_gate_tries_those_that_the_promises_name(self):
+        section = (TOP / "docs" / "PROMISES.md").read_text().partition("\n## Wrong bodies\n")[2].partition("\n## ")[0]
+        named = [row[1] for row in re.findall(r"^\| (.*?) \| (\w+/\w+) \| .*\S \|$", section, re.MULTILINE)]
+        self.assertEqual(sorted(named), sorted(f"{crate_of(edit).name}/{edit.stem}" for edit in tried_by_the_gate()))
+
     def test_the_gate_tries_those_of_few_crates(self):
         self.assertLessEqual(len({crate_of(edit) for edit in tried_by_the_gate()}), MOST)
 
