@@ -36,7 +36,7 @@ class Instead:
             it.advance(budget, first)
             self.gather()
             self.solver.best.stopped = it.best.stopped
-            if self.solver.best.stopped or self.solver.decided:
+            if self.solver.best.stopped or (self.solver.decided and not first):
                 return
         self.gather()
 
@@ -46,7 +46,7 @@ class Instead:
         best.nodes, best.messages = self.nodes + sum(it.best.nodes for it in self.parts), self.messages + sum(it.best.messages for it in self.parts)
         bounds = [it.best.bound(goal) for it in self.parts]
         known = [bound for bound in bounds if bound is not None]
-        if len(known) == len(bounds):
+        if len(known) == len(bounds) and any(it.best.proved is not None for it in self.parts):
             bound = self.smaller.sum_of(known)
             now = best.bound(goal)
             if now is None or is_better(now, bound, goal):

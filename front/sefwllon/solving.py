@@ -341,7 +341,7 @@ class Solver:
             if not self.instead.decided:
                 return
             self.instead = None
-        if not self.best.stopped and not self.decided:
+        if not self.best.stopped and not (self.decided and self.method == "auto" and (self.whole or self.best.proved is not None)):
             self.search(budget)
 
     def fold(self) -> None:
@@ -397,10 +397,12 @@ class Solver:
         )
 
     def advance(self, budget: int, first: bool) -> None:
-        """Takes a step as a part: at first by DPOP in two orders, and then by the search with this budget."""
+        """Takes a step as a part: at first by DPOP in two orders, and then by the search with this budget. A program is asked even where
+        what is known was enough, so that the bound is a program's."""
         ways = ["dpop", "order"] if first else []
         for way in (*ways, "search"):
-            if not self.decided and not self.best.stopped and (way != "order" or self.orders_fit):
+            enough = self.decided and self.best.proved is not None
+            if not enough and not self.best.stopped and (way != "order" or self.orders_fit):
                 self.take(Step(way, TRIES[0] if way == "order" else budget))
 
     def search(self, budget: int) -> None:
