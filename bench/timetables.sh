@@ -56,18 +56,18 @@ def added_up(chosen, meets, away, wishes):
 
 
 def toulbar2(path):
-    """What toulbar2 finds, by the text of a WCSP, whether it is the best, and after how many seconds."""
+    """What toulbar2 finds, by the text of a WCSP, whether it is the best, and after how many seconds, and of a processor."""
     if shutil.which("toulbar2") is None:
         return None
     wcsp = subprocess.run([sys.executable, "-m", "sefwllon", "to", "wcsp", path], env=environment, stdout=subprocess.PIPE, text=True, check=True).stdout
     file = f"{folder}/week.wcsp"
     with open(file, "w") as out:
         out.write(wcsp)
-    began = time.monotonic()
+    began, used = time.monotonic(), processor()
     ran = subprocess.run(["toulbar2", file, f"-timer={TOULBAR2_SECONDS}"], cwd=folder, stdout=subprocess.PIPE, stderr=subprocess.STDOUT, text=True)
-    took = time.monotonic() - began
+    took, used = time.monotonic() - began, processor() - used
     found = re.findall(r"(?:New solution|Optimum|Primal bound): (\d+)", ran.stdout)
-    return (int(found[-1]) if found else None), "Optimum: " in ran.stdout, took
+    return (int(found[-1]) if found else None), "Optimum: " in ran.stdout, took, used
 
 
 def processor():
@@ -76,9 +76,8 @@ def processor():
     return used.ru_utime + used.ru_stime
 
 
-def missed(meetings, told, took, cost, translated, other, best):
+def missed(meetings, told, none, took, cost, translated, other, best):
     """What of the goal a row misses."""
-    none = "no assignment keeps all hard constraints" in (told["note"] or "")
     exact, gap = told["solved"] or none, None if cost is None or told["lower"] is None else cost - told["lower"]
     if cost is None and not told["broken"] or cost is not None and cost != told["cost"]:
         yield "is not as it is told"
@@ -120,13 +119,14 @@ for (meetings, slots, people), number in ((kind, number) for kind in KINDS for n
         continue
     told = json.loads(ran.stdout)
     cost = added_up({it["meeting"]: it["slot"] for it in told["timetable"]}, meets, away, wishes)
+    none = "no assignment keeps all hard constraints" in (told["note"] or "")
     other, best, beside = toulbar2(path), None, "is not there"
     if other is not None:
         best = None if other[0] is None or other[0] >= problem.hard_cost > 0 else float(problem.own_cost(other[0]))
-        beside = f"{'none' if best is None else f'{best:g}'}, {'exact' if other[1] else 'open'}, {other[2]:.1f} s"
-    wrong = list(missed(meetings, told, took, cost, translated, other, best))
+        beside = f"{'none' if best is None else f'{best:g}'}, {'exact' if other[1] else 'open'}, {other[2]:.1f} s, {other[3]:.1f} s"
+    wrong = list(missed(meetings, told, none, took, cost, translated, other, best))
     bad += bool(wrong)
-    what = f"{cost}, exact" if told["solved"] else f"{cost}, at least {told['lower']}" if cost is not None else "none keeps the rules" if told["broken"] and not wrong else "none found"
+    what = f"{cost}, exact" if told["solved"] else f"{cost}, at least {told['lower']}" if cost is not None else "none keeps the rules" if none else "none found"
     row(name, f"{translated:.2f} s", what, f"{took:.1f} s, {used:.1f} s", told["rests_on"], beside, "; ".join(wrong) or "yes")
 print(f"the load is {os.getloadavg()[0]:.1f}; {bad} of {len(KINDS) * int(seeds)} rows are not met")
 sys.exit(bad > 0)
