@@ -18,29 +18,15 @@ abbrev no_bucket : Bucket
 no_bucket = record { tables = []; came = []; sent = []; fixed = 0; groups = 0; replaced = 0 }
 
 -- what buckets made of the tables of all depths have
-module _ (sizes : List ℕ) (depths : List (List CostTable)) (buckets : List Bucket) (tables : tables_in buckets ≡ depths) (many : length depths ≡ length sizes) (made : AreMade sizes 0 buckets) where
+module _ (sizes : List ℕ) (depths : List (List CostTable)) (buckets : List Bucket) (tables : tables_in buckets ≡ depths) (made : AreMade sizes 0 buckets) where
   from : (p : ℕ) → AreMade sizes p (drop p buckets)
   from p = made_drop sizes 0 p p buckets (omega arith) made
-
-  long : length buckets ≡ length sizes
-  long = sym (length-map buckets (λ (b : Bucket). b.tables)) ∙ ap length tables ∙ many
 
   behind : (p : ℕ) (value : ℕ → ℕ) → depths_cost (tables_in (drop p buckets)) value ≡ deep_cost p depths value
   behind p value = ap (λ (tss : List (List CostTable)). depths_cost tss value) (sym (drop-map (λ (b : Bucket). b.tables) p buckets) ∙ ap (λ (tss : List (List CostTable)). drop p tss) tables)
 
   pub low_at : (p : ℕ) (value : ℕ → ℕ) → AreValues sizes value → bound_at p buckets value ≤ deep_cost p depths value
   low_at p value are = subst (λ (n : ℕ). bound_at p buckets value ≤ n) (behind p value) (low_from sizes p (drop p buckets) value (from p) are)
-
-  at : (p : ℕ) → p < length sizes → IsMade sizes p (bounds_at (p + 1) buckets) (bucket_of buckets p)
-  at p lt = (subst (λ (bs : List Bucket). AreMade sizes p bs) (drop_more buckets p no_bucket (omega (arith, lt, long))) (from p)).0
-
-  pub are_bounds : AreBounds sizes depths buckets
-  are_bounds = record {
-    many = long;
-    tables = tables;
-    each = λ p lt. record { came = (at p lt).came; sent = (at p lt).sent };
-    low = λ p value le are. low_at p value are;
-  }
 
   pub are_exact : All IsUnparted buckets → AreExact sizes depths buckets
   are_exact whole p value le are =
@@ -53,6 +39,22 @@ module _ (sizes : List ℕ) (depths : List (List CostTable)) (buckets : List Buc
             let low = low_at p other others in
             omega (arith, same, low);
       }
+
+-- and where there is one for each variable
+module _ (sizes : List ℕ) (depths : List (List CostTable)) (buckets : List Bucket) (tables : tables_in buckets ≡ depths) (many : length depths ≡ length sizes) (made : AreMade sizes 0 buckets) where
+  long : length buckets ≡ length sizes
+  long = sym (length-map buckets (λ (b : Bucket). b.tables)) ∙ ap length tables ∙ many
+
+  at : (p : ℕ) → p < length sizes → IsMade sizes p (bounds_at (p + 1) buckets) (bucket_of buckets p)
+  at p lt = (subst (λ (bs : List Bucket). AreMade sizes p bs) (drop_more buckets p no_bucket (omega (arith, lt, long))) (made_drop sizes 0 p p buckets (omega arith) made)).0
+
+  pub are_bounds : AreBounds sizes depths buckets
+  are_bounds = record {
+    many = long;
+    tables = tables;
+    each = λ p lt. record { came = (at p lt).came; sent = (at p lt).sent };
+    low = λ p value le are. low_at sizes depths buckets tables made p value are;
+  }
 
 -- each bucket sends what it may, from some variable on
 sent_each : (sizes : List ℕ) (p : ℕ) (bs : List Bucket) → ((k : ℕ) → k < length bs → All (IsBound sizes (p + k)) (slice_index_or bs k no_bucket).sent) → AreSent sizes p bs
