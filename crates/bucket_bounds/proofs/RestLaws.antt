@@ -1,10 +1,15 @@
 -- Laws of the rest behind a depth: what bounds of buckets are, and that they are exact where nothing was lost.
-use Rattle.std.proofs.Common.{◌≡◌, ℕ, suc, ◌+◌, ◌<◌, ◌≤◌, List, [], ◌∷◌, length, drop, sym, ap, ◌∙◌, subst, arith}
+use Rattle.std.proofs.Common.{◌≡◌, ℕ, suc, ◌+◌, ◌*◌, ◌<◌, ◌≤◌, List, [], ◌∷◌, length, drop, slice_index, sym, ap, ◌∙◌, subst, arith}
 use Rattle.std.specs.List.{All, slice_index_or}
 use Rattle.std.proofs.lemmas.List.{drop_more, drop-map, length-map, get_or-drop, length-drop}
 use Rattle.std.proofs.lemmas.List.Elements.{All-drop}
 use Rattle.dcop_base.specs.Table.{CostTable}
+use Rattle.dcop_base.specs.Problem.{Dcop}
+use Rattle.dcop_optimum.specs.Optimum.{IsOptimum}
+use Rattle.dcop_optimum.proofs.JoinLaws.{value_below}
 use Rattle.shared_costs.specs.Values.{AreValues, AgreeBelow}
+use Rattle.shared_costs.specs.Shared.{AreSharedCosts}
+use Rattle.shared_costs.specs.declared.shared.SharedCosts.{SharedCosts}
 use Rattle.shared_costs.specs.Tables.{depths_cost}
 use Rattle.bucket_bounds.specs.Rest.{deep_cost, IsRest}
 use Rattle.bucket_bounds.specs.Bounds.{bounds_at, fixed_at, bound_at, tables_in, bucket_of, AreBounds}
@@ -87,3 +92,14 @@ at_most_rest sizes buckets made p value least rest =
     let low = low_from sizes p (drop p buckets) other from best.1 in
     let behind = ap (λ (tss : List (List CostTable)). depths_cost tss other) (drop-map (λ (b : Bucket). b.tables) p buckets) in
     omega (arith, low, same, behind, best.3)
+
+-- the bound of depth 0 is at most the scaled optimum
+pub first_bound : (p : Dcop) (shared : SharedCosts) (buckets : List Bucket) → AreSharedCosts p shared → AreBounds p.sizes shared.depths buckets → (value : ℕ → ℕ) (best : ℕ) → IsOptimum p best → bound_at 0 buckets value ≤ shared.scale * best
+first_bound p shared buckets costs bounds value best optimum =
+    let values = optimum.attained.0 in
+    let other : ℕ → ℕ = λ v. slice_index values v in
+    let are = value_below p values optimum.attained.1 in
+    let low = bounds.low 0 other (omega arith) are in
+    let sum = costs.sums other are in
+    let cheap = ap (λ (n : ℕ). shared.scale * n) optimum.attained.2 in
+    omega (arith, low, sum, cheap, same_bound p.sizes shared.depths buckets bounds 0 value other (λ v lt. absurd (omega (arith, lt))))

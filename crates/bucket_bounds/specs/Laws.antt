@@ -1,5 +1,5 @@
 -- Laws of bounds.
-use Rattle.std.specs.Prelude.{ℕ, ◌*◌, ◌≤◌, List}
+use Rattle.std.specs.Prelude.{◌≡◌, ℕ, ◌*◌, ◌≤◌, List}
 use Rattle.dcop_base.specs.Problem.{Dcop}
 use Rattle.dcop_optimum.specs.Optimum.{IsOptimum}
 use Rattle.shared_costs.specs.Shared.{AreSharedCosts}
@@ -28,4 +28,9 @@ UnpartedMiniBucketsAreExact = (sizes : List ℕ) (limit cells : ℕ) (buckets : 
 -- the bound of depth 0 is at most the scaled optimum
 abbrev pub FirstBoundIsAtMostTheOptimum : Type 0
 FirstBoundIsAtMostTheOptimum = (p : Dcop) (shared : SharedCosts) (buckets : List Bucket) → AreSharedCosts p shared → AreBounds p.sizes shared.depths buckets
+    → (value : ℕ → ℕ) (best : ℕ) → IsOptimum p best → bound_at 0 buckets value ≤ shared.scale * best
+
+-- and so is that of any mini-buckets of the shared costs
+abbrev pub MiniBucketsAreAtMostTheOptimum : Type 0
+MiniBucketsAreAtMostTheOptimum = (p : Dcop) (shared : SharedCosts) (limit cells : ℕ) (buckets : List Bucket) → AreSharedCosts p shared → tables_in buckets ≡ shared.depths → AreMiniBuckets p.sizes limit cells 0 buckets
     → (value : ℕ → ℕ) (best : ℕ) → IsOptimum p best → bound_at 0 buckets value ≤ shared.scale * best
