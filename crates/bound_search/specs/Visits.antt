@@ -27,7 +27,7 @@ IsTurn rules f Below old new = (IsNode rules f old × Below (far old.best (old.n
 -- these values have their turns, one after the other
 abbrev pub AreTurns : Rules → (ℕ → ℕ) → (ℕ → Far → Far → Type 0) → List ℕ → Far → Far → Type 0
 AreTurns rules f Below [] old new = new ≡ old
-AreTurns rules f Below (a ∷ as) old new = (mid : Far) × (IsTurn rules (f a) (Below a) old mid) × (AreTurns rules f Below as mid new)
+AreTurns rules f Below (a ∷ later) old new = (mid : Far) × (IsTurn rules (f a) (Below a) old mid) × (AreTurns rules f Below later mid new)
 
 -- each value of a variable with this size has its turn once, the least estimates first
 pub record VisitsEach (rules : Rules) (f : ℕ → ℕ) (size : ℕ) (Below : ℕ → Far → Far → Type 0) (old new : Far) : Type 0 where
