@@ -1,4 +1,4 @@
--- What a search visits, and that its nodes are these.
+-- What a search visits, value by value, and how many nodes that are.
 use Rattle.std.specs.Prelude.{◌≡◌, ℕ, ◌+◌, ◌*◌, ◌<◌, ◌⊎◌, List, [], ◌∷◌, Option, Some, None}
 use Rattle.std.specs.List.{range_with_len}
 use Rattle.std.specs.List.Sorted.{IsPermutation, IsNonDecreasingBy}
@@ -13,6 +13,7 @@ pub record Far : Type 0 where
   pub best : Option ℕ
   pub nodes : ℕ
 
+-- this is known, and so many nodes were visited
 abbrev pub far : Option ℕ → ℕ → Far
 far best nodes = record { best = best; nodes = nodes }
 
@@ -20,28 +21,28 @@ far best nodes = record { best = best; nodes = nodes }
 abbrev pub IsNode : Rules → ℕ → Far → Type 0
 IsNode rules f old = (¬ IsPassedOver rules.scale rules.error old.best f) × ((old.best ≡ None) ⊎ (old.nodes < rules.budget))
 
--- a value has its turn: it is a node, which is counted, and then what is below it is searched; or it is none, and nothing is visited
+-- a value with this estimate has its turn: it is a node, which is counted, and then what is behind it is searched; or it is none, and nothing is visited
 abbrev pub IsTurn : Rules → ℕ → (Far → Far → Type 0) → Far → Far → Type 0
-IsTurn rules f Below old new = (IsNode rules f old × Below (far old.best (old.nodes + 1)) new) ⊎ ((¬ IsNode rules f old) × (new ≡ old))
+IsTurn rules f Behind old new = (IsNode rules f old × Behind (far old.best (old.nodes + 1)) new) ⊎ ((¬ IsNode rules f old) × (new ≡ old))
 
 -- these values have their turns, one after the other
 abbrev pub AreTurns : Rules → (ℕ → ℕ) → (ℕ → Far → Far → Type 0) → List ℕ → Far → Far → Type 0
-AreTurns rules f Below [] old new = new ≡ old
-AreTurns rules f Below (a ∷ later) old new = (mid : Far) × (IsTurn rules (f a) (Below a) old mid) × (AreTurns rules f Below later mid new)
+AreTurns rules f Behind [] old new = new ≡ old
+AreTurns rules f Behind (a ∷ later) old new = (mid : Far) × (IsTurn rules (f a) (Behind a) old mid) × (AreTurns rules f Behind later mid new)
 
--- each value of a variable with this size has its turn once, the least estimates first
-pub record VisitsEach (rules : Rules) (f : ℕ → ℕ) (size : ℕ) (Below : ℕ → Far → Far → Type 0) (old new : Far) : Type 0 where
+-- each value of a variable with this size has one turn, in ascending order of the estimates
+pub record VisitsEach (rules : Rules) (f : ℕ → ℕ) (size : ℕ) (Behind : ℕ → Far → Far → Type 0) (old new : Far) : Type 0 where
   pub order : List ℕ
   pub each : IsPermutation (range_with_len 0 size) order
   pub ascending : IsNonDecreasingBy f order
-  pub turns : AreTurns rules f Below order old new
+  pub turns : AreTurns rules f Behind order old new
 
--- what is visited from this depth on, behind values of the variables before, where the others have these sizes: each value of the next one in its turn; with none left the assignment becomes the best known one, with its cost
+-- what is visited from this depth on, behind these values of the variables before, where the others have these sizes: the values of the next one, and behind each node what is visited from the next depth on; with no variable left the assignment becomes the best known one
 abbrev pub Visits : List ℕ → List Bucket → Rules → ℕ → (ℕ → ℕ) → Far → Far → Type 0
 Visits [] buckets rules depth value old new = (cost : ℕ) × (scaled_cost buckets value ≡ rules.scale * cost) × (new ≡ far (Some cost) old.nodes)
 Visits (size ∷ sizes) buckets rules depth value old new =
     VisitsEach rules (λ a. estimate (depth + 1) buckets (with_own depth a value)) size (λ a before after. Visits sizes buckets rules (depth + 1) (with_own depth a value) before after) old new
 
--- a whole search: nothing is visited, where the estimate at depth 0 is passed over; or what is visited from the first variable on
+-- a whole search: the estimate at depth 0 is passed over, and nothing is visited; or it goes from the first variable on
 abbrev pub HasVisited : List ℕ → List Bucket → Rules → Far → Far → Type 0
 HasVisited sizes buckets rules old new = (IsPassedOver rules.scale rules.error old.best (estimate 0 buckets (λ v. 0)) × (new ≡ old)) ⊎ (Visits sizes buckets rules 0 (λ v. 0) old new)
