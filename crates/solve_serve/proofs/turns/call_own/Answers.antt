@@ -1,5 +1,5 @@
 use Rattle.std.proofs.Common.{◌∷◌, refl}
-use Rattle.solve_serve.proofs.TurnLaws.{accepts_first, changes_one}
+use Rattle.solve_serve.proofs.TurnLaws.{changes_one}
 use Rattle.solve_serve.proofs.turns.call_own.Goals as goal
 
 pub returns : goal.returns
