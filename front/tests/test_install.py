@@ -10,17 +10,19 @@ import subprocess
 import tarfile
 import tempfile
 import unittest
+from collections.abc import Iterator
 from pathlib import Path
 
 from sefwllon import __version__, programs
 
-from .case import FRONT, ORDER, PROBLEMS, REAL, SEARCH
+from .case import FRONT, ORDER, PROBLEMS, REAL, SEARCH, SERVE, TRACE
 
 TOP = FRONT.parent
 PAIR = PROBLEMS / "pair.dcop"
 SOLVED = "status solved\nmethod dpop\nerror 0\ndeliveries 2\ncost 2\nlower 2\nupper 2\nvalue x 1\nvalue y 0\nend\n"
 """What `dcop solve` prints of it."""
-BUILT = {"dcop": REAL, "dcop_order": ORDER, "dcop_search": SEARCH}
+NEEDED = {"dcop": REAL, "dcop_order": ORDER, "dcop_search": SEARCH}
+BUILT = {name: path for name, path in {**NEEDED, "dcop_serve": SERVE, "dcop_trace": TRACE}.items() if path}
 VARIABLES = [variable for variable, _ in programs.PLACES.values()]
 
 
@@ -39,6 +41,18 @@ def ran(*words: object, home: Path, text: str = "") -> subprocess.CompletedProce
     kept = {name: value for name, value in os.environ.items() if name not in [*VARIABLES, "PYTHONPATH"]}
     environment = {**kept, "HOME": str(home), "PATH": f"{home}/.local/bin:{os.environ['PATH']}", "SOURCE_DATE_EPOCH": "1700000000"}
     return subprocess.run([str(it) for it in words], cwd=home, env=environment, input=text, capture_output=True, text=True)
+
+
+def options_of(formats: str) -> Iterator[tuple[str, str]]:
+    """Each option of FORMATS.md's text, behind the program whose it is."""
+    program = "dcop"
+    for line in formats.splitlines():
+        if line.startswith("#"):
+            found = re.search(r"Words of `(\w+)`", line)
+            program = found[1] if found else "dcop"
+        found = re.match(r"\| `(--\w+)` \|", line)
+        if found:
+            yield program, found[1]
 
 
 def stands(folder: Path) -> dict[str, object]:
@@ -92,7 +106,7 @@ class Crates(unittest.TestCase):
         self.assertIn(f"\n## {__version__}\n", (TOP / "CHANGELOG.md").read_text())
 
 
-@unittest.skipUnless(all(BUILT.values()), "no built programs")
+@unittest.skipUnless(all(NEEDED.values()), "no built programs")
 class Installed(unittest.TestCase):
     """What `./install` does for a user who has not proved the programs."""
 
@@ -104,7 +118,7 @@ class Installed(unittest.TestCase):
         cls.programs, cls.prefix = cls.home / "programs", cls.home / ".local"
         cls.programs.mkdir()
         for name, path in BUILT.items():
-            shutil.copy(path or "", cls.programs / name)
+            shutil.copy(path, cls.programs / name)
         (cls.programs / "UNPROVED").write_text("compiled without proofs\n")
         cls.told = cls.install()
         cls.first = stands(cls.prefix)
@@ -135,21 +149,26 @@ class Installed(unittest.TestCase):
         told = " ".join(ran("sefwllon", "dcop", "--help", home=self.home).stdout.split())
         self.assertIn(f"without words it prints `{refused[0]}` (NoCommand: no word is given), and for `--help` `{refused[1]}`", told)
         self.assertLess(told.index(refused[1]), 700)
-        for name in ("dcop_order", "dcop_search"):
+        for name in BUILT.keys() - {"dcop", "dcop_serve"}:
             refused = ran(name, "--help", home=self.home).stdout.strip()
             told = " ".join(ran("sefwllon", name, "--help", home=self.home).stdout.split())
             self.assertIn(f"for `--help` it prints `{refused}`", told)
+        if SERVE:
+            refused = [ran("dcop_serve", *words, home=self.home).stdout.strip() for words in ((), ("--help",))]
+            told = " ".join(ran("sefwllon", "dcop_serve", "--help", home=self.home).stdout.split())
+            self.assertIn(f"without words it prints `{refused[0]}`, and for `--help` `{refused[1]}`", told)
         ended = ran("sefwllon", "dcop", "solve", home=self.home)
         self.assertEqual((ended.returncode, ended.stdout), (3, ""))
         self.assertIn("run `dcop solve` itself", ended.stderr)
 
     def test_the_pages_of_the_manual(self):
         pages = sorted((self.prefix / "share/man").rglob("*.*"))
-        self.assertEqual([it.name for it in pages], ["dcop.1", "dcop_order.1", "dcop_search.1", "sefwllon.1", "dcop.5"])
+        self.assertEqual([it.name for it in pages], [*(f"{name}.1" for name in sorted([*BUILT, "sefwllon"])), "dcop.5"])
         told = (self.prefix / "share/man/man1/dcop.1").read_text().replace("\\-", "-")
-        formats = re.sub(r"### Words of `dcop_trace`.*?(?=\n## )", "", (TOP / "docs/FORMATS.md").read_text(), flags=re.DOTALL)
-        for option in re.findall(r"^\| `(--\w+)` \|", formats, re.MULTILINE):
-            self.assertTrue(any(f"\\fB{option}\\fR" in page.read_text().replace("\\-", "-") for page in pages), option)
+        for place, option in options_of((TOP / "docs/FORMATS.md").read_text()):
+            if place in BUILT:
+                page = self.prefix / f"share/man/man1/{place}.1"
+                self.assertIn(f"\\fB{option}\\fR", page.read_text().replace("\\-", "-"), page)
         self.assertIn("\\fBrefused words at 1 kind 2\\fR (UnknownCommand: the first word is no command)", told)
         self.assertLess(told.index("refused words at 1 kind 2"), told.index(".SH Command words"))
         if shutil.which("groff"):
@@ -164,6 +183,7 @@ class Installed(unittest.TestCase):
             ("dcop solve --me", "--method"),
             ("dcop solve --method ", "plain dpop adopt auto cut"),
             ("dcop_search --format w", "wcsp"),
+            *([("dcop_trace --fo", "--format")] if TRACE else []),
             ("sefwllon meet", "meetings"),
             ("sefwllon solve --method ad", "adopt"),
             ("sefwllon draw g", "graph"),
@@ -176,7 +196,7 @@ class Installed(unittest.TestCase):
     def test_the_files_of_other_shells_and_of_editors_are_sound(self):
         for shell, found in (("zsh", "share/zsh/site-functions/_*"), ("fish", "share/fish/vendor_completions.d/*.fish")):
             files = sorted(self.prefix.glob(found))
-            self.assertEqual(len(files), 4)
+            self.assertEqual({it.stem.removeprefix("_") for it in files}, {*BUILT, "sefwllon"} - {"dcop_serve"})
             for file in files if shutil.which(shell) else []:
                 made = subprocess.run([shell, "-n", str(file)], capture_output=True, text=True)
                 self.assertEqual((made.returncode, made.stderr), (0, ""), file)
