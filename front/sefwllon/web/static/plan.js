@@ -71,6 +71,13 @@ function absent(plan, name, slots) {
   else plan.people.push({ name, absent: slots });
 }
 
+/** How many meetings each person has who has one. */
+export function meetingsOf(plan) {
+  const counts = new Map();
+  for (const meeting of plan.meetings) for (const name of new Set(names(meeting.people))) counts.set(name, (counts.get(name) ?? 0) + 1);
+  return counts;
+}
+
 /** The plan with a row for each person who takes part in a meeting. */
 export function withPeople(plan) {
   const known = new Set(plan.people.map((person) => person.name));
