@@ -84,7 +84,7 @@ class Cluster(OnCluster):
 
     def test_a_slice_that_fails_is_tried_again_and_then_told(self):
         """The program dies at one slice each time: the others are answered, and what is said allows for that one."""
-        problem = parse(threes(12).replace("var v0 3", "var v0 : red green blue"))
+        problem = parse(threes(15).replace("var v0 3", "var v0 : red green blue"))
         dies = script(
             self.folder,
             "dies",

@@ -195,7 +195,7 @@ class Timetables(Page):
         self.type("slots", 1, "Mon 10", "2026-03-02 10:00", "30")
         self.type("slots", 2, "", "2026-03-03 09:00")
         self.type("meetings", 0, "Kickoff", "Ida; Jon")
-        self.type("meetings", 1, "Design", "Ida;Kim")
+        self.type("meetings", 1, "Design", "Ida, Kim")
         self.assertEqual([row[0] for row in self.rows("people")], ["Ida", "Jon", "Kim"])
         self.assertEqual(self.rows("slots")[2], ["Tue 3 9", "2026-03-03 09:00", ""])
         self.type("people", 0, "Mon 9", column=1)

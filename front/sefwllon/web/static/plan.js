@@ -3,8 +3,8 @@ import { line, markOf, parse } from "./csv.js";
 
 export const empty = () => ({ slots: [], people: [], meetings: [], wishes: [], others: [], comments: [], held: {}, values: null });
 
-/** The names of a list, which stand between semicolons. */
-export const names = (cell) => cell.split(";").map((word) => word.trim()).filter(Boolean);
+/** The names of a list, which stand between semicolons or commas. */
+export const names = (cell) => cell.split(/[;,]/).map((word) => word.trim()).filter(Boolean);
 const list = (words) => words.join("; ");
 
 /** The lines of the CSV, and beside each the table and the row that it is of. */

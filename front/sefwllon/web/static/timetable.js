@@ -364,8 +364,9 @@ export class Timetable {
     for (const id of ["save-ics", "save-svg"]) by(id).disabled = !whole;
     by("save-report").disabled = !result?.answer.report;
     const why = result?.answer.why ?? [];
-    by("breaks").replaceChildren(...[...look.breaks.map((one) => one.sentence), ...why].map((line) => el("li", {}, line)));
-    by("notes").replaceChildren(...(look.notes ?? []).map((line) => el("li", {}, line)));
+    const points = (lines) => lines.map((line) => el("li", {}, unnumbered(line)));
+    by("breaks").replaceChildren(...points([...look.breaks.map((one) => one.sentence), ...why]));
+    by("notes").replaceChildren(...points(look.notes ?? []));
     if (!this.plan.values || !this.look) return;
     if (result) {
       const { sentence, stopped } = result.answer;
@@ -437,6 +438,9 @@ export class Timetable {
 }
 
 const wishKey = (wish) => JSON.stringify([wish.meeting, wish.taste, wish.who, wish.slots, wish.cost]);
+
+/** A sentence without the numbers of lines: the tables have none. */
+const unnumbered = (line) => line.replace(/^line \d+: /, "").replaceAll(/ \(line \d+\)/g, "");
 
 function difference(more) {
   if (more === 0) return ", as the best that was found";
