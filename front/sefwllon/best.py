@@ -21,11 +21,23 @@ SLICED = "each slice proved, their combination not"
 SLICED_UNPROVED = "each slice by a program that was compiled without proofs"
 """What it is called where the program that answered the slices was compiled without proofs."""
 
+FEWER = "a smaller problem proved, the step to it not"
+"""What an answer is called that comes of a smaller problem, which the proved program answered."""
+
+FEWER_UNPROVED = "a smaller problem by a program that was compiled without proofs"
+"""What it is called where that program was compiled without proofs."""
+
 ADDED_UP = "added up"
 """What an answer is called that follows from the sums and the least or greatest costs of the file alone."""
 
 START = "start"
 """What is told as the method where no program came to an answer in time."""
+
+SMALLER = "smaller"
+"""What is told as the method where the answer comes of a smaller problem."""
+
+OWN = "tabu"
+"""What is told as the method of a moment at which the front's own search found a better assignment."""
 
 
 @dataclass(frozen=True)
@@ -70,6 +82,8 @@ class Best:
     """Whether the best bound is one of `dcop_search`."""
     sliced: bool = False
     """Whether the best bound is that of several slices of the problem."""
+    smaller: bool = False
+    """Whether the best bound is that of a smaller problem."""
     began: float = field(default_factory=time.monotonic)
     seconds: float = 0.0
     moments: list[Moment] = field(default_factory=list)
@@ -80,7 +94,7 @@ class Best:
         if self.cost is None or not is_better(self.cost, report.cost, goal):
             self.values, self.cost = report.values, report.cost
         self.narrow(report.lower if goal == "min" else report.upper, goal)
-        self.searched = False
+        self.searched = self.smaller = False
         self.error = report.error
         self.settle(goal)
 
@@ -92,10 +106,10 @@ class Best:
         else:
             self.upper = nearest(self.upper, bound, goal)
 
-    def take_better(self, values: list[int], cost: int, goal: str) -> None:
-        """Takes an assignment that is better than the one that is kept."""
+    def take_better(self, values: list[int], cost: int, goal: str, by: str | None = None) -> None:
+        """Takes an assignment that is better than the one that is kept, found by the method or by what is named."""
         self.values, self.cost = values, cost
-        self.settle(goal)
+        self.settle(goal, by)
 
     def start(self, values: list[int], problem: Problem) -> None:
         """Takes a first assignment, and as the other bound what all tables give at their best."""
@@ -106,21 +120,21 @@ class Best:
         self.method = START
         self.take_better(values, problem.cost(values), problem.goal)
 
-    def settle(self, goal: str) -> None:
+    def settle(self, goal: str, by: str | None = None) -> None:
         """The bound on the side of the assignment is what it costs: what is told as reached is in hand."""
         if self.cost is not None:
             if goal == "min":
                 self.upper = self.cost
             else:
                 self.lower = self.cost
-        self.remember()
+        self.remember(by or self.method)
 
-    def remember(self) -> None:
-        """Keeps what is known at this moment, where that is new."""
+    def remember(self, by: str) -> None:
+        """Keeps what is known at this moment, and by what, where that is new."""
         known = (self.cost, self.lower, self.upper)
         last = self.moments[-1] if self.moments else None
         if last is None or known != (last.cost, last.lower, last.upper):
-            self.moments.append(Moment(time.monotonic() - self.began, self.method, *known))
+            self.moments.append(Moment(time.monotonic() - self.began, by, *known))
 
     def check(self, report: Report, goal: str, text: str) -> None:
         """Takes the bound of a report that was checked."""
@@ -156,6 +170,8 @@ class Best:
     @property
     def by_program(self) -> str:
         """What a bound is called that a program told."""
+        if self.smaller:
+            return FEWER_UNPROVED if self.quick or self.quick_search else FEWER
         return PROVED_UNPROVED if (self.quick_search if self.searched else self.quick) else PROVED
 
 

@@ -76,7 +76,7 @@ class Answer:
     gap: Number | None
     """By how much the cost may miss the best one at most."""
     rests_on: str
-    """What the gap rests on: verified, proved or added up."""
+    """What the gap rests on: verified, proved or added up, or that a smaller problem was proved."""
     broken: tuple[str, ...]
     """The names of the tables whose forbidden choices the values are."""
     certificate: str | None
@@ -111,7 +111,7 @@ class Verdict:
 
     answer: Literal["yes", "no", "not decided"]
     rests_on: str | None
-    """What the answer rests on: verified, proved or added up; None where nothing was decided."""
+    """What the answer rests on: verified, proved or added up, or that a smaller problem was proved; None where nothing was decided."""
     why: str | None
     cost: Number
     """What the report's values cost, added up."""

@@ -15,34 +15,17 @@ from .best import Best
 from .problem import Problem, Table, Trouble
 from .programs import Programs
 from .report import fitted, read_report
+from .smaller import components
 from .solving import accepts
 from .translate import Translation
 
-_SMALL = 4
-"""Parts of up to so many variables are solved together."""
 _LEAST_SHARE = 0.3
 """Which part of what is left of the time a part may take at least, where others follow."""
 
 
 def parts_of(problem: Problem) -> list[list[int]]:
     """The variables in groups that share no table, small ones in one group; the smallest group first."""
-    leader = list(range(len(problem.variables)))
-
-    def top(variable: int) -> int:
-        while leader[variable] != variable:
-            leader[variable] = leader[leader[variable]]
-            variable = leader[variable]
-        return variable
-
-    for table in problem.tables:
-        for variable in table.scope[1:]:
-            leader[top(variable)] = top(table.scope[0])
-    groups: dict[int, list[int]] = {}
-    for variable in range(len(leader)):
-        groups.setdefault(top(variable), []).append(variable)
-    small = sorted(variable for group in groups.values() if len(group) <= _SMALL for variable in group)
-    large = [group for group in groups.values() if len(group) > _SMALL]
-    return [*([small] if small else []), *sorted(large, key=len)]
+    return components(len(problem.variables), [table.scope for table in problem.tables])
 
 
 def solved_apart(programs: Programs, told: Translation, options: argparse.Namespace) -> Best:
@@ -108,7 +91,9 @@ def joined(programs: Programs, told: Translation, groups: list[list[int]], answe
     if cost != sum(answer.cost or 0 for answer in answers):
         raise Trouble("the parts do not add up to the whole: don't trust these programs")
     best.lower = sum(answer.lower or 0 for answer in answers)
-    best.checked, best.proved = (sum(it or 0 for it in its) for its in zip(*((answer.checked, answer.proved) for answer in answers)))
+    best.smaller = any(answer.smaller for answer in answers)
+    best.checked = sum(answer.checked or 0 for answer in answers)
+    best.proved = None if all(answer.proved is None for answer in answers) else best.lower
     best.solved = all(answer.solved for answer in answers)
     best.take_better(values, cost, told.problem.goal)
     best.certified = merged(programs, told.problem, best, answers)

@@ -66,7 +66,7 @@ def written(problem: Problem, report: Report) -> str:
     lines = [f"status {report.status}", f"method {report.method}"]
     lines += ["goal max"] if problem.goal == "max" else []
     lines += [f"rests {report.rests}", f"error {report.error}"]
-    lines.append(f"nodes {report.nodes}" if report.method == "search" else f"deliveries {report.deliveries}")
+    lines.append(f"nodes {report.nodes}" if report.method in ("search", "smaller") else f"deliveries {report.deliveries}")
     lines += [f"cost {report.cost}", f"lower {report.lower}", f"upper {report.upper}"]
     lines += [f"value {v.name} {v.value_name(value)}" for v, value in zip(problem.variables, report.values)]
     return "\n".join([*lines, "end"]) + "\n"

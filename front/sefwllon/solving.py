@@ -1,4 +1,5 @@
-"""Which way a problem is solved: DPOP as given, DPOP in a better order, the search in growing budgets; else cut and ADOPT.
+"""Which way a problem is solved: DPOP as given, DPOP in a better order, the search in growing budgets, and that of a smaller problem where
+values stand for one another; else cut and ADOPT.
 
 Which ways and budgets are tried, and in which order, does not depend on how much time there is: more of it only goes further."""
 
@@ -9,15 +10,19 @@ from collections.abc import Callable, Iterator
 from dataclasses import dataclass, field
 from functools import cached_property
 
-from .best import START, Best, is_better
+from .best import OWN, START, Best, is_better
 from .bettering import Bettering
 from .explain import explain
+from .folding import Folding
+from .instead import Instead
 from .output import undisturbed
 from .problem import MOST_BYTES, Problem, Table, TextFault, Trouble, Variable, parse
 from .programs import Answer, Crashed, Programs, Wrong, crash, missing
 from .report import Report, read_report
 from .searching import CELLS as SEARCH_CELLS
 from .searching import Found, read_found
+from .smaller import Smaller
+from .width import fits_in_some_order
 
 MESSAGES = (1_000, 10_000, 100_000, 1_000_000, 10_000_000)
 """The budgets of ADOPT."""
@@ -33,6 +38,10 @@ EASY_NODES = 10**6
 """Up to this budget the search comes before further orders."""
 ORDER_SECONDS = 3
 """How long the first search for an order may take where other ways are left."""
+LARGE = 2**16
+"""With so many costs or more a smaller problem is asked before the first search, and else after it."""
+ROUNDS = 4
+"""How often it is tried to put more values together than is sure."""
 CUT_SECONDS = 60
 """How long a cut may take where other ways are left."""
 START_SECONDS, TICK_SECONDS = 0.2, 0.2
@@ -108,6 +117,12 @@ class Solver:
     """By how much a sum that the search is asked for is better than the bound that is known."""
     refused: Answer | None = None
     """The last refusal of a problem for its size."""
+    instead: Instead | None = None
+    """The smaller problem that is searched in place of this one."""
+    folded: bool = False
+    """Whether a smaller one was sought."""
+    whole: bool = True
+    """Whether a smaller one may be sought at all."""
 
     def solve(self) -> Best:
         """Solves it, or keeps the best that is known when the time is over or the user stops it."""
@@ -123,6 +138,8 @@ class Solver:
     def finish(self) -> None:
         """Puts together what is known, whenever it was stopped."""
         goal = self.problem.goal
+        if self.instead:
+            self.instead.gather()
         if self.best.stopped:
             self.start()
         if self.best.values is not None:
@@ -176,8 +193,9 @@ class Solver:
         """What is tried, in order."""
         if self.method == "auto":
             yield Step("dpop")
-            yield Step("order", TRIES[0])
-            yield from self.searches(orders=True) if self.programs.search else self.without_search()
+            if self.orders_fit:
+                yield Step("order", TRIES[0])
+            yield from self.searches(orders=self.orders_fit) if self.programs.search else self.without_search()
         elif self.method == "search":
             yield from self.searches(orders=False)
         elif self.method == "order":
@@ -196,6 +214,11 @@ class Solver:
             if orders and budget > EASY_NODES and self.ordered < len(TRIES) and self.order_takes <= self.elapsed / 2:
                 yield Step("order", TRIES[self.ordered])
             yield Step("search", budget)
+
+    @cached_property
+    def orders_fit(self) -> bool:
+        """Whether DPOP may fit in some order."""
+        return fits_in_some_order(self.problem)
 
     @property
     def elapsed(self) -> float:
@@ -250,7 +273,7 @@ class Solver:
         self.bettered += time.monotonic() - began
         if self.best.cost is not None and is_better(self.bettering.best_cost, self.best.cost, goal):
             values = list(self.bettering.best)
-            self.best.take_better(values, self.problem.cost(values), goal)
+            self.best.take_better(values, self.problem.cost(values), goal, OWN)
 
     def tick(self) -> None:
         """What is done while a program runs: it is said how far it is, and the assignment that is known is bettered."""
@@ -305,10 +328,86 @@ class Solver:
             self.by_dpop(self.narrow, answer.text)
 
     def by_search(self, budget: int) -> None:
-        """The search with this budget: for what is better than what is known, and then for what is better than a sum that may
-        be out of reach. That there is none is often known soon, and says how good the best one may be at most."""
+        """The search with this budget, of a smaller problem where there is one."""
         self.start()
         self.better(time.monotonic() + START_SECONDS)
+        small = sum(len(table.costs) for table in self.problem.tables) < LARGE
+        new = self.method == "auto" and self.whole and not self.folded and not (small and budget == NODES[0])
+        if new:
+            self.fold()
+        if self.instead and not self.best.stopped and not self.decided:
+            if not new or budget > NODES[0]:
+                self.instead.go(budget)
+            if not self.instead.decided:
+                return
+            self.instead = None
+        if not self.best.stopped and not (self.decided and self.method == "auto" and (self.whole or self.best.proved is not None)):
+            self.search(budget)
+
+    def fold(self) -> None:
+        """Looks for a smaller problem. First more values are put together than is sure, but for those of which it turned out that they
+        were not to be; where that does not come to the answer, what is sure is kept in place of the problem."""
+        self.folded = True
+        sure = Folding(self.problem, self.until)
+        sure.fold_sure()
+        keep: set[int] = set()
+        for _ in range(ROUNDS):
+            likely = sure.fork()
+            if not likely.fold_likely(keep) or not self.put_instead(likely):
+                break
+            failed = self.instead.smaller.failed if self.instead and self.instead.decided else set()
+            if self.best.stopped or self.decided or failed <= keep:
+                break
+            keep |= failed
+        if not self.best.stopped and not self.decided:
+            self.put_instead(sure)
+
+    def put_instead(self, folding: Folding) -> bool:
+        """Takes a smaller problem in place of this one, and a first step with it. Whether it is one that the programs take."""
+        self.instead = None
+        if self.until is not None and time.monotonic() >= self.until:
+            self.best.stopped = "the time is over"
+            return False
+        smaller = Smaller(self.problem, folding.folds)
+        if not smaller.served:
+            return False
+        self.instead = Instead(self, smaller)
+        self.instead.go(NODES[0], first=True)
+        return True
+
+    def part(self, problem: Problem, gather: Callable[[], None]) -> Solver:
+        """A solver of a part of a smaller problem."""
+
+        def show() -> None:
+            gather()
+            if self.show:
+                self.show()
+
+        return Solver(
+            self.programs,
+            problem,
+            Aim(),
+            self.workers,
+            until=self.until,
+            cells=self.cells,
+            certificate=False,
+            show=show,
+            best=Best(began=self.best.began),
+            whole=False,
+        )
+
+    def advance(self, budget: int, first: bool) -> None:
+        """Takes a step as a part: at first by DPOP in two orders, and then by the search with this budget. A program is asked even where
+        what is known was enough, so that the bound is a program's."""
+        ways = ["dpop", "order"] if first else []
+        for way in (*ways, "search"):
+            enough = self.decided and self.best.proved is not None
+            if not enough and not self.best.stopped and (way != "order" or self.orders_fit):
+                self.take(Step(way, TRIES[0] if way == "order" else budget))
+
+    def search(self, budget: int) -> None:
+        """The search with this budget: for what is better than what is known, and then for what is better than a sum that may
+        be out of reach. That there is none is often known soon, and says how good the best one may be at most."""
         self.seek(budget, self.best.cost if self.rival is None else self.rival, self.aim.allowed(self.best))
         while self.rival is None and not self.best.stopped and not self.decided:
             target = self.target()
@@ -355,7 +454,8 @@ class Solver:
         if self.best.cost is not None and is_better(self.best.cost, found.bound, goal):
             raise Trouble(f"{answer.who} says that no sum is better than {found.bound}, and one is {self.best.cost}: don't trust this program")
         self.best.method, self.best.nodes = "search", self.best.nodes + found.nodes
-        self.best.searched = self.best.searched or self.best.proved is None or is_better(self.best.proved, found.bound, goal)
+        if self.best.proved is None or is_better(self.best.proved, found.bound, goal):
+            self.best.searched, self.best.smaller = True, False
         self.best.narrow(found.bound, goal)
         self.best.settle(goal)
 

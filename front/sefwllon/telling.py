@@ -6,7 +6,7 @@ import json
 from collections.abc import Callable
 from fractions import Fraction
 
-from .best import START, Best
+from .best import SMALLER, START, Best
 from .programs import VERIFIED, VERIFIED_UNPROVED, Programs
 from .translate import Translation, number
 
@@ -47,7 +47,7 @@ def by_line(best: Best) -> str:
     """The method, the time, and the messages or nodes."""
     counts = ((best.nodes, "node"), (best.messages, "message"))
     told = [f"{count:,} {what}{'' if count == 1 else 's'}" for count, what in counts if count]
-    method = "a short search of sefwllon's own" if best.method == START else best.method
+    method = {START: "a short search of sefwllon's own", SMALLER: "a smaller problem"}.get(best.method, best.method)
     return ", ".join([f"by {method} in {best.seconds:.1f} s", *told])
 
 

@@ -23,7 +23,7 @@ def add(commands: Commands) -> None:
         choices=METHODS,
         default="auto",
         help="auto, which is meant where none is named, tries dpop, order (dpop in an order by dcop_order) and search (dcop_search, in "
-        "growing budgets), one behind the other; cut (dpop with some variables fixed in turn) and adopt are tried where they are "
+        "growing budgets, also of a smaller problem in which values stand for one another), one behind the other; cut (dpop with some variables fixed in turn) and adopt are tried where they are "
         "named, or where dcop_search is not there",
     )
     solve.add_argument("--cells", type=cells, metavar="N", help="cells that a joined table of cut, or all bounds of search, may have at most")
