@@ -8,10 +8,10 @@ pub fn bounds_are_at_most_the_rest()
     ensures { BoundsAreAtMostTheRest }
 {}
 
-/// The bounds of mini-buckets sum at each depth to at most what the tables of that depth and more cost
-/// at least, whatever the groups are, however costs are shared among their joined tables, and
-/// whatever is replaced for want of room (Dechter and Rish, Mini-buckets: a general scheme for bounded
-/// inference, Journal of the ACM 50, 2003).
+/// The bounds of mini-buckets sum at each depth to at most what the tables of that depth and more
+/// cost at least, whatever the groups are, however costs are shared among their joined tables, and
+/// whatever is replaced for want of room (Dechter and Rish, Mini-buckets: a general scheme for
+/// bounded inference, Journal of the ACM 50, 2003).
 pub fn mini_buckets_are_at_most_the_rest()
     ensures { MiniBucketsAreAtMostTheRest }
 {}
@@ -27,7 +27,8 @@ pub fn first_bound_is_at_most_the_optimum()
     ensures { FirstBoundIsAtMostTheOptimum }
 {}
 
-/// The bound of depth 0 of any mini-buckets of a problem's shared costs is at most the scaled optimum.
+/// The bound of depth 0 of any mini-buckets of a problem's shared costs is at most the scaled
+/// optimum.
 pub fn mini_buckets_are_at_most_the_optimum()
     ensures { MiniBucketsAreAtMostTheOptimum }
 {}
