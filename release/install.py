@@ -12,6 +12,9 @@ from pathlib import Path
 from .programs import BUILT, UNPROVED, Trouble
 from .tree import HOME, Piece, Places, tree
 
+BASH_COMPLETION = Path("/usr/share/bash-completion/bash_completion")
+"""What has bash look for the words of a program when they are wanted."""
+
 MANIFEST = "share/sefwllon/manifest"
 """What was installed: the path of each file below the prefix, and of each folder that was made, with a `/` behind it."""
 
@@ -129,7 +132,12 @@ def hints(prefix: Path, found: dict[str, Piece]) -> list[str]:
     if str(prefix / "bin") not in os.environ.get("PATH", "").split(os.pathsep):
         told.append(f"{prefix / 'bin'} is not on the path: put `export PATH=\"{prefix / 'bin'}:$PATH\"` into ~/.profile.")
     share = prefix / "share"
-    told.append(f"zsh: `fpath+=({share}/zsh/site-functions)` before `compinit` in ~/.zshrc; bash and fish look by themselves below ~/.local and /usr.")
+    told.append(f"zsh: `fpath+=({share}/zsh/site-functions)` before `compinit` in ~/.zshrc; fish looks by itself below ~/.local and /usr.")
+    if BASH_COMPLETION.is_file():
+        told.append("bash: a new shell looks by itself below ~/.local and /usr.")
+    else:
+        files = f"{share}/bash-completion/completions"
+        told.append(f"bash: `for it in {files}/*; do . $it; done` in ~/.bashrc, or install Debian's bash-completion, which looks by itself below ~/.local and /usr.")
     told.append(f"vim: `set runtimepath+={share}/vim/vimfiles` in ~/.vimrc.")
     told.append(f"VS Code: `ln -s {share}/sefwllon/vscode ~/.vscode/extensions/sefwllon-dcop`.")
     return told

@@ -24,7 +24,7 @@ def lines(block: Block) -> list[str]:
     if isinstance(block, Paragraph):
         return [".PP", inline(block.text)]
     if isinstance(block, Item):
-        return [".IP \\(bu 3", inline(block.text)]
+        return [f".IP {block.number} 4" if block.number else ".IP \\(bu 3", inline(block.text)]
     if isinstance(block, Code):
         return [".PP", ".RS 4", ".nf", *(safe(plain(line)) for line in block.lines), ".fi", ".RE"]
     told = []

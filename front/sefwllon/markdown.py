@@ -9,6 +9,8 @@ from typing import TypeAlias
 
 WIDTH = 79
 """How wide a page is printed."""
+POINT = re.compile(r"(?:-|(?P<number>\d+\.)) ")
+"""What a point of a list begins with."""
 
 
 @dataclass(frozen=True)
@@ -26,9 +28,10 @@ class Paragraph:
 
 @dataclass(frozen=True)
 class Item:
-    """A point of a list."""
+    """A point of a list, with the number that stands before it, if one does."""
 
     text: str
+    number: str = ""
 
 
 @dataclass(frozen=True)
@@ -85,7 +88,7 @@ def blocks(text: str) -> list[Block]:
 
 def goes_on(first: str, line: str) -> bool:
     """Whether a line belongs to the block that began with the first one."""
-    if not line.strip() or line.startswith(("```", "#", "- ")):
+    if not line.strip() or line.startswith(("```", "#")) or POINT.match(line):
         return False
     return line.startswith("|") == first.startswith("|")
 
@@ -96,7 +99,8 @@ def of_lines(lines: list[str]) -> Block:
         head, _, *rows = [tuple(cell.strip() for cell in re.split(r"(?<!\\)\|", line.strip()[1:-1])) for line in lines]
         return Table(head, tuple(rows))
     joined = " ".join(line.strip() for line in lines)
-    return Item(joined[2:]) if joined.startswith("- ") else Paragraph(joined)
+    point = POINT.match(joined)
+    return Item(joined[point.end() :], point["number"] or "") if point else Paragraph(joined)
 
 
 def as_text(found: list[Block]) -> str:
@@ -108,7 +112,7 @@ def as_text(found: list[Block]) -> str:
         elif isinstance(block, Paragraph):
             told.append(wrapped(block.text, 7))
         elif isinstance(block, Item):
-            told.append(wrapped(block.text, 7, "- "))
+            told.append(wrapped(block.text, 7, f"{block.number or '-'} "))
         elif isinstance(block, Code):
             told.append("\n".join(f"           {line}".rstrip() for line in block.lines))
         else:

@@ -32,6 +32,7 @@ REAL = os.environ.get("SEFWLLON_DCOP")
 ORDER = os.environ.get("SEFWLLON_ORDER")
 SEARCH = os.environ.get("SEFWLLON_SEARCH")
 TRACE = os.environ.get("SEFWLLON_TRACE")
+SERVE = os.environ.get("SEFWLLON_SERVE")
 """The built programs, where they are there."""
 PAIR = "dcop 1\nvar x 2\nvar y 2\ntable x y : 5 4 2 7\ntable x : 0 1\nend\n"
 """A problem whose best sum, 3 at x = 1 and y = 0, is not that of its tables' least costs."""

@@ -82,6 +82,29 @@ class Cluster(OnCluster):
         self.assertEqual(len(answer["slices"]["workers"]), 2, answer["slices"])
         self.assertIn("that their answers together are one of the whole is not proved", answer["note"])
 
+    def test_a_slice_that_fails_is_tried_again_and_then_told(self):
+        """The program dies at one slice each time: the others are answered, and what is said allows for that one."""
+        problem = parse(threes(15).replace("var v0 3", "var v0 : red green blue"))
+        dies = script(
+            self.folder,
+            "dies",
+            'cat > "$0.$$"',
+            f"if grep -q '^var v0 : red$' \"$0.$$\"; then echo \"$@\" >> {self.folder}/tried; kill -SEGV $$; fi",
+            f'exec {SEARCH} "$@" < "$0.$$"',
+        )
+        with mock.patch.object(sharing, "FIRST_NODES", 1), mock.patch.object(sharing, "GROWTH", 2):
+            words = ("solve", "--json", self.file("p.dcop", problem.text()), "--cluster", self.engine.address)
+            status, told, why = self.ran(*words, search=dies)
+        answer = json.loads(told or "{}")
+        tried = [line.split() for line in Path(self.folder, "tried").read_text().splitlines()]
+        self.assertEqual([line.count("--cells") for line in tried], [0, 1], "the second time with fewer cells")
+        self.assertEqual((status, answer["solved"], answer["slices"]["failed"], answer["stopped"]), (1, False, 1, "1 slice was not answered"), why)
+        self.assertIn("a slice with 1 variable fixed was not answered: ", answer["note"])
+        self.assertIn("was ended by the signal 11", answer["note"])
+        alone = subprocess.run([SEARCH], input=problem.text(), text=True, capture_output=True, check=True).stdout
+        best = next(int(line.split()[1]) for line in alone.splitlines() if line.startswith("cost "))
+        self.assertTrue(answer["lower"] <= best <= answer["cost"] and answer["lower"] < answer["cost"], (answer, best))
+
 
 @unittest.skipIf(PASSED_OVER, f"passed over: no {' and no '.join(PASSED_OVER)}")
 class Killed(OnCluster):

@@ -10,18 +10,24 @@ import subprocess
 import tarfile
 import tempfile
 import unittest
+from collections.abc import Iterator
 from pathlib import Path
 
 from sefwllon import __version__, programs
 
-from .case import FRONT, ORDER, PROBLEMS, REAL, SEARCH
+from .case import FRONT, ORDER, PROBLEMS, REAL, SEARCH, SERVE, TRACE
 
 TOP = FRONT.parent
 PAIR = PROBLEMS / "pair.dcop"
 SOLVED = "status solved\nmethod dpop\nerror 0\ndeliveries 2\ncost 2\nlower 2\nupper 2\nvalue x 1\nvalue y 0\nend\n"
 """What `dcop solve` prints of it."""
-BUILT = {"dcop": REAL, "dcop_order": ORDER, "dcop_search": SEARCH}
+NEEDED = {"dcop": REAL, "dcop_order": ORDER, "dcop_search": SEARCH}
+BUILT = {name: path for name, path in {**NEEDED, "dcop_serve": SERVE, "dcop_trace": TRACE}.items() if path}
 VARIABLES = [variable for variable, _ in programs.PLACES.values()]
+BASH_COMPLETION = Path("/usr/share/bash-completion/bash_completion")
+"""What has bash look for the words of a program when they are wanted."""
+CHROOT = os.environ.get("SEFWLLON_CHROOT")
+"""A folder with a clean Debian that has Python, where one was made: `.ci/run` makes it by debootstrap."""
 
 
 STAND_IN = """#!/bin/sh
@@ -39,6 +45,18 @@ def ran(*words: object, home: Path, text: str = "") -> subprocess.CompletedProce
     kept = {name: value for name, value in os.environ.items() if name not in [*VARIABLES, "PYTHONPATH"]}
     environment = {**kept, "HOME": str(home), "PATH": f"{home}/.local/bin:{os.environ['PATH']}", "SOURCE_DATE_EPOCH": "1700000000"}
     return subprocess.run([str(it) for it in words], cwd=home, env=environment, input=text, capture_output=True, text=True)
+
+
+def options_of(formats: str) -> Iterator[tuple[str, str]]:
+    """Each option of FORMATS.md's text, behind the program whose it is."""
+    program = "dcop"
+    for line in formats.splitlines():
+        if line.startswith("#"):
+            found = re.search(r"Words of `(\w+)`", line)
+            program = found[1] if found else "dcop"
+        found = re.match(r"\| `(--\w+)` \|", line)
+        if found:
+            yield program, found[1]
 
 
 def stands(folder: Path) -> dict[str, object]:
@@ -109,7 +127,7 @@ class Crates(unittest.TestCase):
         self.assertIn(f"\n## {__version__}\n", (TOP / "CHANGELOG.md").read_text())
 
 
-@unittest.skipUnless(all(BUILT.values()), "no built programs")
+@unittest.skipUnless(all(NEEDED.values()), "no built programs")
 class Installed(unittest.TestCase):
     """What `./install` does for a user who has not proved the programs."""
 
@@ -121,7 +139,7 @@ class Installed(unittest.TestCase):
         cls.programs, cls.prefix = cls.home / "programs", cls.home / ".local"
         cls.programs.mkdir()
         for name, path in BUILT.items():
-            shutil.copy(path or "", cls.programs / name)
+            shutil.copy(path, cls.programs / name)
         (cls.programs / "UNPROVED").write_text("compiled without proofs\n")
         cls.told = cls.install()
         cls.first = stands(cls.prefix)
@@ -143,6 +161,22 @@ class Installed(unittest.TestCase):
         told = ran("sefwllon", "solve", PAIR, home=self.home).stdout
         self.assertEqual(told.splitlines()[0], "cost 2, and none is better (verified by a check that was compiled without proofs)")
 
+    def test_a_timetable_is_made_from_any_folder(self):
+        (self.home / "elsewhere").mkdir()
+        shutil.copy(FRONT / "examples" / "meetings.csv", self.home / "elsewhere")
+        told = ran("env", "-C", "elsewhere", "sefwllon", "meetings", "meetings.csv", home=self.home)
+        self.assertEqual((told.returncode, told.stdout.splitlines()[0]), (0, "cost 0, and none is better (verified by a check that was compiled without proofs)"), told.stderr)
+
+    @unittest.skipUnless(shutil.which("man"), "passed over: no man")
+    def test_man_finds_the_pages(self):
+        for name in [*BUILT, "sefwllon"]:
+            self.assertEqual(ran("man", "--where", name, home=self.home).stdout, f"{self.prefix}/share/man/man1/{name}.1\n")
+        self.assertEqual(ran("man", "--where", "5", "dcop", home=self.home).stdout, f"{self.prefix}/share/man/man5/dcop.5\n")
+        told = ran("man", "dcop", home=self.home)
+        self.assertEqual((told.returncode, told.stderr), (0, ""))
+        self.assertIn("dcop - solve a problem of distributed constraint optimisation", " ".join(told.stdout.split()))
+        self.assertRegex(told.stdout, r"\n +2\. +Then the pairs are looked at")
+
     def test_python_finds_the_package(self):
         told = ran(FRONT / "python.sh", "-c", "import sefwllon; print(sefwllon.__version__)", home=self.home)
         self.assertEqual(told.stdout, f"{__version__}\n", told.stderr)
@@ -152,21 +186,26 @@ class Installed(unittest.TestCase):
         told = " ".join(ran("sefwllon", "dcop", "--help", home=self.home).stdout.split())
         self.assertIn(f"without words it prints `{refused[0]}` (NoCommand: no word is given), and for `--help` `{refused[1]}`", told)
         self.assertLess(told.index(refused[1]), 700)
-        for name in ("dcop_order", "dcop_search"):
+        for name in BUILT.keys() - {"dcop", "dcop_serve"}:
             refused = ran(name, "--help", home=self.home).stdout.strip()
             told = " ".join(ran("sefwllon", name, "--help", home=self.home).stdout.split())
             self.assertIn(f"for `--help` it prints `{refused}`", told)
+        if SERVE:
+            refused = [ran("dcop_serve", *words, home=self.home).stdout.strip() for words in ((), ("--help",))]
+            told = " ".join(ran("sefwllon", "dcop_serve", "--help", home=self.home).stdout.split())
+            self.assertIn(f"without words it prints `{refused[0]}`, and for `--help` `{refused[1]}`", told)
         ended = ran("sefwllon", "dcop", "solve", home=self.home)
         self.assertEqual((ended.returncode, ended.stdout), (3, ""))
         self.assertIn("run `dcop solve` itself", ended.stderr)
 
     def test_the_pages_of_the_manual(self):
         pages = sorted((self.prefix / "share/man").rglob("*.*"))
-        self.assertEqual([it.name for it in pages], ["dcop.1", "dcop_order.1", "dcop_search.1", "sefwllon.1", "dcop.5"])
+        self.assertEqual([it.name for it in pages], [*(f"{name}.1" for name in sorted([*BUILT, "sefwllon"])), "dcop.5"])
         told = (self.prefix / "share/man/man1/dcop.1").read_text().replace("\\-", "-")
-        formats = re.sub(r"### Words of `dcop_trace`.*?(?=\n## )", "", (TOP / "docs/FORMATS.md").read_text(), flags=re.DOTALL)
-        for option in re.findall(r"^\| `(--\w+)` \|", formats, re.MULTILINE):
-            self.assertTrue(any(f"\\fB{option}\\fR" in page.read_text().replace("\\-", "-") for page in pages), option)
+        for place, option in options_of((TOP / "docs/FORMATS.md").read_text()):
+            if place in BUILT:
+                page = self.prefix / f"share/man/man1/{place}.1"
+                self.assertIn(f"\\fB{option}\\fR", page.read_text().replace("\\-", "-"), page)
         self.assertIn("\\fBrefused words at 1 kind 2\\fR (UnknownCommand: the first word is no command)", told)
         self.assertLess(told.index("refused words at 1 kind 2"), told.index(".SH Command words"))
         if shutil.which("groff"):
@@ -181,6 +220,7 @@ class Installed(unittest.TestCase):
             ("dcop solve --me", "--method"),
             ("dcop solve --method ", "plain dpop adopt auto cut"),
             ("dcop_search --format w", "wcsp"),
+            *([("dcop_trace --fo", "--format")] if TRACE else []),
             ("sefwllon meet", "meetings"),
             ("sefwllon solve --method ad", "adopt"),
             ("sefwllon draw g", "graph"),
@@ -190,10 +230,16 @@ class Installed(unittest.TestCase):
             script = f". {folder / words[0]}; COMP_WORDS=({quoted}); COMP_CWORD={len(words) - 1}; _sefwllon_{words[0]} 2> /dev/null; echo ${{COMPREPLY[*]}}"
             self.assertEqual(subprocess.run(["bash", "-c", script], capture_output=True, text=True).stdout, f"{wanted}\n")
 
+    @unittest.skipUnless(BASH_COMPLETION.is_file(), "passed over: no bash-completion")
+    def test_bash_finds_the_words_by_itself(self):
+        for name in ({*BUILT} - {"dcop_serve"}) | {"sefwllon"}:
+            told = ran("bash", "-c", f". {BASH_COMPLETION}; _completion_loader {name}; complete -p {name}", home=self.home)
+            self.assertEqual(told.stdout, f"complete -F _sefwllon_{name} {name}\n", told.stderr)
+
     def test_the_files_of_other_shells_and_of_editors_are_sound(self):
         for shell, found in (("zsh", "share/zsh/site-functions/_*"), ("fish", "share/fish/vendor_completions.d/*.fish")):
             files = sorted(self.prefix.glob(found))
-            self.assertEqual(len(files), 4)
+            self.assertEqual({it.stem.removeprefix("_") for it in files}, {*BUILT, "sefwllon"} - {"dcop_serve"})
             for file in files if shutil.which(shell) else []:
                 made = subprocess.run([shell, "-n", str(file)], capture_output=True, text=True)
                 self.assertEqual((made.returncode, made.stderr), (0, ""), file)
@@ -251,6 +297,63 @@ class Installed(unittest.TestCase):
         told = subprocess.run(["dpkg-deb", "-f", str(self.home / "a" / names[1])], capture_output=True, text=True).stdout
         self.assertIn(f"\nVersion: {__version__}\n", told)
         self.assertIn("compiled without proofs", told)
+
+    def package(self) -> Path:
+        """The Debian package."""
+        made = ran(TOP / "package", "--programs", self.programs, "--to", self.home / "package", home=self.home)
+        self.assertEqual(made.returncode, 0, made.stderr)
+        return self.home / "package" / f"sefwllon_{__version__}_amd64.deb"
+
+    @unittest.skipUnless(shutil.which("dpkg") and os.geteuid() == 0, "passed over: no dpkg, or not as root")
+    def test_dpkg_installs_the_package_and_takes_it_away(self):
+        """Into a folder of its own that has nothing but the list of what is installed; what it depends on is that of this machine."""
+        root = self.home / "own"
+        for name in ("status", "available"):
+            (root / "var/lib/dpkg/updates").mkdir(parents=True, exist_ok=True)
+            (root / "var/lib/dpkg/info").mkdir(exist_ok=True)
+            (root / "var/lib/dpkg" / name).touch()
+
+        def dpkg(*words: str) -> None:
+            command = ["dpkg", f"--root={root}", "--log=/dev/null", "--force-depends", "--force-script-chrootless", *words]
+            told = subprocess.run(command, capture_output=True, text=True)
+            self.assertEqual(told.returncode, 0, told.stderr)
+
+        before = {path for path in stands(root) if not path.startswith("var")}
+        dpkg("--install", str(self.package()))
+        self.assertEqual(ran(root / "usr/bin/dcop", "solve", home=self.home, text=PAIR.read_text()).stdout, SOLVED)
+        told = ran(root / "usr/bin/sefwllon", "solve", root / "usr/share/doc/sefwllon/examples/pair.dcop", home=self.home).stdout
+        self.assertEqual(told.splitlines()[0], "cost 2, and none is better (verified by a check that was compiled without proofs)")
+        dpkg("--purge", "sefwllon")
+        self.assertEqual({path for path in stands(root) if not path.startswith("var")}, before)
+
+    @unittest.skipUnless(CHROOT and os.geteuid() == 0, "passed over: no clean Debian, which SEFWLLON_CHROOT names, or not as root")
+    def test_the_package_works_on_a_machine_without_the_kit(self):
+        root = Path(CHROOT or "")
+
+        def inside(command: str) -> str:
+            told = subprocess.run(
+                ["chroot", str(root), "/usr/bin/env", "-i", "HOME=/root", "PATH=/usr/sbin:/usr/bin:/sbin:/bin", "LANG=C.UTF-8", "sh", "-ec", command],
+                stdin=subprocess.DEVNULL, capture_output=True, text=True,
+            )  # fmt: skip
+            self.assertEqual((told.returncode, told.stderr), (0, ""), command)
+            return told.stdout
+
+        shutil.copy(self.package(), root / "sefwllon.deb")
+        self.addCleanup((root / "sefwllon.deb").unlink)
+        find = "find / -xdev -name '*sefwllon*' -o -xdev -name 'dcop*' | grep -v '^/sefwllon.deb$' | sort || true"
+        before = inside(find)
+        inside("dpkg --install /sefwllon.deb")
+        self.addCleanup(subprocess.run, ["chroot", str(root), "dpkg", "--purge", "sefwllon"], capture_output=True)
+        self.assertEqual(inside("! command -v rt"), "")
+        docs = "/usr/share/doc/sefwllon"
+        self.assertEqual(inside(f"cd /tmp; dcop solve < {docs}/examples/pair.dcop"), SOLVED)
+        told = inside(f"cd /tmp; sefwllon meetings {docs}/front/examples/meetings.csv")
+        self.assertEqual(told.splitlines()[0], "cost 0, and none is better (verified by a check that was compiled without proofs)")
+        self.assertEqual(inside("python3 -c 'import sefwllon; print(sefwllon.__version__)'"), f"{__version__}\n")
+        for name in [*BUILT, "sefwllon"]:
+            self.assertIn(f'.TH "{name.upper()}"', inside(f"zcat /usr/share/man/man1/{name}.1.gz").replace(".TH SEFWLLON", '.TH "SEFWLLON"'))
+        inside("dpkg --purge sefwllon")
+        self.assertEqual(inside(find), before)
 
     def test_the_programs_need_the_c_library_alone(self):
         for name in BUILT:

@@ -3,6 +3,7 @@
 from __future__ import annotations
 
 import hashlib
+import io
 import os
 import random
 import signal
@@ -13,14 +14,15 @@ import unittest
 from pathlib import Path
 from unittest import mock
 
-from sefwllon.lab import needs
+from sefwllon.lab import needs, parcel, runs
 from sefwllon.lab.generators import KINDS
 from sefwllon.lab.measured import measured
 from sefwllon.lab.pool import Local, Task
 from sefwllon.lab.rows import COLUMNS, line_of, read_rows
 from sefwllon.lab.runs import tree_of
 from sefwllon.lab.slices import restricted
-from sefwllon.problem import parse
+from sefwllon.lab.sweep import Told
+from sefwllon.problem import Trouble, parse
 
 from .case import FAKE, FAKE_SEARCH, FRONT, ORDER, PAIR, REAL, SEARCH, Case
 from .lab import HAS, SECONDS, begun, held, script, steady, until
@@ -273,6 +275,43 @@ class Sweep(Lab):
         self.assertIn(round(ran.seconds, 1), (0.2, 0.3, 0.4, 0.5))
         ran = measured(["sleep", "100"], "", clock=0.1)
         self.assertEqual((ran.status, ran.seconds < 0.1), (None, True))
+
+
+class Terminal(io.StringIO):
+    def isatty(self) -> bool:
+        return True
+
+
+class Telling(unittest.TestCase):
+    def test_a_bar_on_a_terminal_and_else_a_line_now_and_then(self):
+        with mock.patch("sys.stderr", Terminal()) as seen:
+            told = Told(4)
+            for status in ("solved", "wide"):
+                told.take(status)
+                told.show(2)
+            told.end()
+        bars = seen.getvalue().split("\r\x1b[K")[1:]
+        self.assertEqual([bar[:42] for bar in bars], ["[######..................] 1/4 runs, 1 sol", "[############............] 2/4 runs, 1 sol", ""])
+        with mock.patch("sys.stderr", io.StringIO()) as seen, mock.patch("time.monotonic", side_effect=[4.0, 11.0, 12.0, 22.0]):
+            told = Told(4, began=0.0, last=0.0)
+            for size in (2, 2, 2, 0):
+                told.take("solved")
+                told.show(size)
+            told.end()
+        self.assertEqual(seen.getvalue(), "2/4 runs, 2 solved, 11 s, about 11 s left\n4/4 runs, 4 solved, 22 s; waiting for a worker\n")
+
+
+class Sent(Lab):
+    def test_a_program_or_a_problem_that_came_as_another_is_not_used(self):
+        sums = {"dcop": hashlib.sha256(b"a program").hexdigest()}
+        with mock.patch("pkgutil.get_data", return_value=b"a program"):
+            path = Path(parcel.written(Path(self.folder, "dcop"), "dcop", sums["dcop"]))
+            self.assertEqual((path.read_bytes(), path.stat().st_mode & 0o777), (b"a program", 0o700))
+        with mock.patch("pkgutil.get_data", return_value=b"another"), self.assertRaisesRegex(Trouble, "dcop came with another content than was sent"):
+            parcel.written(Path(self.folder, "dcop"), "dcop", sums["dcop"])
+        job = {"file": "p.dcop", "name": "p.dcop", "content": PAIR.encode(), "checksum": hashlib.sha256(b"").hexdigest(), "method": "dpop", "time": 9.0}
+        with self.assertRaisesRegex(Trouble, "p.dcop came with another content than was sent"):
+            runs.run(job, {})
 
 
 @unittest.skipUnless(HAS["matplotlib"], "passed over: no python3-matplotlib")

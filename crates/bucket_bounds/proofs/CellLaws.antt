@@ -4,11 +4,15 @@ use Rattle.std.specs.List.{All}
 use Rattle.std.proofs.lemmas.Bool.{cases_eq, cond-true, cond-false, eq-eqb, ne_eqb, true≢false}
 use Rattle.std.proofs.lemmas.List.Elements.{All-head, All-tail}
 use Rattle.std.proofs.lemmas.List.Sums.{sum_by-cons}
-use Rattle.dcop_base.specs.Table.{CostTable, has, cell_place}
+use Rattle.dcop_base.specs.Table.{CostTable, AreWithin, has, cell_place}
 use Rattle.dcop_base.specs.Values.{cell_with, cost_with, with_own}
 use Rattle.dcop_base.proofs.TableLaws.{none-passes}
 use Rattle.shared_costs.specs.Values.{AreValues, AgreeBelow}
 use Rattle.std.proofs.Common.{inl, inr, slice_index}
+
+-- the values are within the table's sizes
+abbrev pub IsWithin : (ℕ → ℕ) → CostTable → Type 0
+IsWithin value t = AreWithin t.sizes (map value t.scope)
 
 map_same : (P : ℕ → Type 0) (f g : ℕ → ℕ) (vs : List ℕ) → ((v : ℕ) → P v → f v ≡ g v) → All P vs → map f vs ≡ map g vs
 map_same P f g [] same all = refl

@@ -1,19 +1,22 @@
 -- Laws of groups: one that is opened, and one to which a table is added.
-use Rattle.std.proofs.Common.{◌≡◌, ℕ, ◌+◌, ◌*◌, ◌<◌, ◌≤◌, true, eqb, List, [], ◌∷◌, ◌++◌, map, length, set, take, drop, get_or, slice_index, refl, sym, ap, subst, ◌∙◌, inl, inr, arith}
-use Rattle.std.specs.List.{All}
+use Rattle.std.proofs.Common.{◌≡◌, ℕ, zero, suc, ◌+◌, ◌*◌, ◌<◌, ◌≤◌, ◌||◌, Bool, true, false, eqb, List, [], ◌∷◌, ◌++◌, map, length, set, take, drop, get_or, slice_index, append_assoc, refl, sym, ap, subst, ◌∙◌, inl, inr, arith}
+use Rattle.std.specs.List.{All, list_any}
+use Rattle.std.specs.List.Sorted.{IsPermutation}
+use Rattle.std.proofs.Math.Bool.{or-false}
 use Rattle.std.proofs.lemmas.Bool.{or_cases, or_left, or_right, eqb-true, eq-eqb, true≢false}
-use Rattle.std.proofs.lemmas.List.{take_more, take_all, drop_all, length-set, append-nil}
+use Rattle.std.proofs.lemmas.List.{take_more, take_all, drop_all, length-set, length-append, append-nil}
+use Rattle.std.proofs.lemmas.List.Concat.{flat_map-append}
 use Rattle.std.proofs.lemmas.List.Elements.{All-nil, All-cons, All-head, All-tail, All-append, All-set}
-use Rattle.std.proofs.lemmas.List.Sums.{sum_by-append, sum_by-cons, sum_by-set}
+use Rattle.std.proofs.lemmas.List.Folds.{list_any-append}
+use Rattle.std.proofs.lemmas.List.Sorted.{IsPermutation-refl, IsPermutation-trans, IsPermutation-append_left, IsPermutation-append_right, IsPermutation-to_front}
 use Rattle.dcop_base.specs.Limits.{joined_limit}
-use Rattle.dcop_base.specs.Table.{CostTable, has, product}
-use Rattle.dcop_base.specs.Values.{cell_with, cost_with}
+use Rattle.dcop_base.specs.Table.{CostTable, has, has_repeat, product}
 use Rattle.dcop_base.proofs.TableLaws.{parts-of}
-use Rattle.shared_costs.specs.Tables.{IsTableOver, IsOfDepth}
+use Rattle.shared_costs.specs.Tables.{IsTableOver}
 use Rattle.bucket_bounds.specs.Union.{cells_over, times_more, IsUnion}
-use Rattle.bucket_bounds.specs.Groups.{IsHeld, IsGroup, IsGroupAt, IsGroupOf, AddsTo, Fits, AreGroups, groups_cost}
+use Rattle.bucket_bounds.specs.Groups.{IsGroup, IsGroupOf, AddsTo, Fits, AreGroups, tables_of}
+use Rattle.bucket_bounds.specs.Parting.{IsScopeOf, LiesAmong}
 use Rattle.bucket_bounds.specs.declared.group.Group.{Group}
-use Rattle.bucket_bounds.proofs.KeptLaws.{cost_more, all_end}
 
 -- what holds of each number that stands in a list, and what of all of them
 pub all_had : (P : ℕ → Type 0) (xs : List ℕ) → ((u : ℕ) → has xs u ≡ true → P u) → All P xs
@@ -34,12 +37,6 @@ union_all P old scope new is olds scopes = all_had P new (λ u h. elim (or_cases
   | inr late ↦ had_of P scope u scopes late
 ])
 
-union_old : (old scope new : List ℕ) (u : ℕ) → IsUnion old scope new → has old u ≡ true → has new u ≡ true
-union_old old scope new u is h = is.both u ∙ or_left (has old u) (has scope u) h
-
-union_scope : (old scope new : List ℕ) (u : ℕ) → IsUnion old scope new → has scope u ≡ true → has new u ≡ true
-union_scope old scope new u is h = is.both u ∙ or_right (has old u) (has scope u) h
-
 -- the sizes of a table's variables
 sizes_positive : (f : ℕ → ℕ) (vs : List ℕ) → All (λ s. 1 ≤ s) (map f vs) → All (λ v. 1 ≤ f v) vs
 sizes_positive f [] all = All-nil (λ v. 1 ≤ f v)
@@ -54,99 +51,127 @@ times_none : (sizes vs : List ℕ) → times_more sizes [] vs ≡ cells_over siz
 times_none sizes [] = refl
 times_none sizes (v ∷ vs) = ap (λ (n : ℕ). slice_index sizes v * n) (times_none sizes vs)
 
+-- what holds of the variables that tables name
+pub named_all : (P : ℕ → Type 0) (ts : List CostTable) → ((u : ℕ) → list_any (λ t. has t.scope u) ts ≡ true → P u) → All (λ t. All P t.scope) ts
+named_all P [] each = All-nil (λ t. All P t.scope)
+named_all P (t ∷ ts) each = All-cons (λ (t : CostTable). All P t.scope) t ts
+    (all_had P t.scope (λ u h. each u (or_left (has t.scope u) (list_any (λ (t : CostTable). has t.scope u) ts) h)))
+    (named_all P ts (λ u h. each u (or_right (has t.scope u) (list_any (λ (t : CostTable). has t.scope u) ts) h)))
+
+pub named_of : (P : ℕ → Type 0) (ts : List CostTable) (u : ℕ) → All (λ t. All P t.scope) ts → list_any (λ t. has t.scope u) ts ≡ true → P u
+named_of P [] u all h = absurd (true≢false (sym h))
+named_of P (t ∷ ts) u all h = elim (or_cases (has t.scope u) (list_any (λ (t : CostTable). has t.scope u) ts) h) [
+  | inl here ↦ had_of P t.scope u (All-head (λ (t : CostTable). All P t.scope) t ts all) here
+  | inr later ↦ named_of P ts u (All-tail (λ (t : CostTable). All P t.scope) t ts all) later
+]
+
+-- the variables that tables name
+pub scope_named : (ts : List CostTable) (vars : List ℕ) → IsScopeOf ts vars → All (LiesAmong vars) ts
+scope_named ts vars is = named_all (λ v. has vars v ≡ true) ts (λ u h. is.both u ∙ h)
+
+pub scope_sizes : (sizes : List ℕ) (ts : List CostTable) (vars : List ℕ) → All (IsTableOver sizes) ts → IsScopeOf ts vars → All (λ v. 1 ≤ slice_index sizes v) vars
+scope_sizes sizes ts vars over is =
+    all_had (λ v. 1 ≤ slice_index sizes v) vars (λ u h. named_of (λ v. 1 ≤ slice_index sizes v) ts u (λ k d lt. scope_positive sizes (get_or ts k d) (over k d lt)) (sym (is.both u) ∙ h))
+
+pub scope_within : (sizes : List ℕ) (ts : List CostTable) (vars : List ℕ) → All (IsTableOver sizes) ts → IsScopeOf ts vars → All (λ v. v < length sizes) vars
+scope_within sizes ts vars over is =
+    all_had (λ v. v < length sizes) vars (λ u h. named_of (λ v. v < length sizes) ts u (λ k d lt. (over k d lt).within) (sym (is.both u) ∙ h))
+
+-- the scope of one table, and of one more
+pub scope_one : (t : CostTable) (vars : List ℕ) → has_repeat vars ≡ false → ((u : ℕ) → has vars u ≡ has t.scope u) → IsScopeOf (t ∷ []) vars
+scope_one t vars apart same = record { apart = apart; both = λ u. same u ∙ sym (or-false (has t.scope u)) }
+
+scope_more : (ts : List CostTable) (t : CostTable) (old new : List ℕ) → IsScopeOf ts old → IsUnion old t.scope new → IsScopeOf (ts ++ t ∷ []) new
+scope_more ts t old new is union = record {
+  apart = union.apart is.apart;
+  both = λ u.
+      let names : CostTable → Bool = λ t. has t.scope u in
+      union.both u ∙ ap (λ (b : Bool). b || has t.scope u) (is.both u) ∙ ap (λ (b : Bool). list_any names ts || b) (sym (or-false (has t.scope u))) ∙ sym (list_any-append names ts (t ∷ []));
+}
+
 -- a group of one table
 module _ (sizes : List ℕ) (t : CostTable) (g : Group) (is : IsTableOver sizes t) (opens : IsGroupOf t g) where
-  pub one_group : IsGroup sizes g
-  one_group = record {
-    apart = opens.vars.apart refl;
-    within = union_all (λ v. v < length sizes) [] t.scope g.vars opens.vars (All-nil (λ v. v < length sizes)) is.within;
-    positive = union_all (λ v. 1 ≤ slice_index sizes v) [] t.scope g.vars opens.vars (All-nil (λ v. 1 ≤ slice_index sizes v)) (scope_positive sizes t is);
-    cells =
-        let full = (parts-of t.scope t.sizes t.cells is.whole).full ∙ ap product is.sized in
-        let more = opens.vars.cells sizes in
-        let none = times_none sizes t.scope in
-        omega (arith, opens.cells, full, more, none);
-    few = inl (ap (λ (ts : List CostTable). length ts) opens.tables);
-    held = subst (λ (ts : List CostTable). All (IsHeld sizes g.vars) ts) (sym opens.tables)
-        (All-cons (IsHeld sizes g.vars) t [] (record { table = is; among = all_had (λ v. has g.vars v ≡ true) t.scope (λ u h. union_scope [] t.scope g.vars u opens.vars h) }) (All-nil (IsHeld sizes g.vars)));
-  }
-
-  pub one_group_at : (p : ℕ) → IsOfDepth p t → IsGroupAt p g
-  one_group_at p deep = record {
-    names = union_scope [] t.scope g.vars p opens.vars deep.names;
-    last = union_all (λ v. v ≤ p) [] t.scope g.vars opens.vars (All-nil (λ v. v ≤ p)) deep.last;
-    tables = subst (λ (ts : List CostTable). All (IsOfDepth p) ts) (sym opens.tables) (All-cons (IsOfDepth p) t [] deep (All-nil (IsOfDepth p)));
-  }
+  one_group : (limit : ℕ) → IsGroup sizes limit g
+  one_group limit =
+      let one : length g.tables.items ≡ 1 = ap (λ (ts : List CostTable). length ts) opens.tables in
+      record {
+        some = omega (arith, one);
+        tables = subst (λ (ts : List CostTable). All (IsTableOver sizes) ts) (sym opens.tables) (All-cons (IsTableOver sizes) t [] is (All-nil (IsTableOver sizes)));
+        vars = subst (λ (ts : List CostTable). IsScopeOf ts g.vars) (sym opens.tables) (scope_one t g.vars (opens.vars.apart refl) (λ u. opens.vars.both u));
+        cells =
+            let full = (parts-of t.scope t.sizes t.cells is.whole).full ∙ ap product is.sized in
+            let more = opens.vars.cells sizes in
+            let none = times_none sizes t.scope in
+            omega (arith, opens.cells, full, more, none);
+        few = inl one;
+      }
 
 -- a group with one table more
 module _ (sizes : List ℕ) (t : CostTable) (old new : Group) (is : IsTableOver sizes t) (adds : AddsTo sizes old t new) where
-  pub more_group : (limit : ℕ) → IsGroup sizes old → Fits sizes t.scope limit old → limit ≤ joined_limit → IsGroup sizes new
+  more_group : (limit : ℕ) → IsGroup sizes limit old → Fits sizes t.scope limit old → limit ≤ joined_limit → IsGroup sizes limit new
   more_group limit group fits small =
       let count : new.cells ≡ old.cells * times_more sizes old.vars t.scope = omega (arith, adds.cells, fits, small) in
+      let long = ap (λ (ts : List CostTable). length ts) adds.tables ∙ length-append old.tables.items (t ∷ []) in
       record {
-        apart = adds.vars.apart group.apart;
-        within = union_all (λ v. v < length sizes) old.vars t.scope new.vars adds.vars group.within is.within;
-        positive = union_all (λ v. 1 ≤ slice_index sizes v) old.vars t.scope new.vars adds.vars group.positive (scope_positive sizes t is);
+        some = omega (arith, long);
+        tables = subst (λ (ts : List CostTable). All (IsTableOver sizes) ts) (sym adds.tables) (All-append (IsTableOver sizes) old.tables.items (t ∷ []) group.tables (All-cons (IsTableOver sizes) t [] is (All-nil (IsTableOver sizes))));
+        vars = subst (λ (ts : List CostTable). IsScopeOf ts new.vars) (sym adds.tables) (scope_more old.tables.items t old.vars new.vars group.vars adds.vars);
         cells = count ∙ ap (λ (n : ℕ). n * times_more sizes old.vars t.scope) group.cells ∙ sym (adds.vars.cells sizes);
-        few = inr (omega (arith, count, fits, small));
-        held = subst (λ (ts : List CostTable). All (IsHeld sizes new.vars) ts) (sym adds.tables)
-            (All-append (IsHeld sizes new.vars) old.tables.items (t ∷ [])
-            (λ k d lt. (let h = group.held k d lt in record { table = h.table; among = λ j e within. union_old old.vars t.scope new.vars (get_or (get_or old.tables.items k d).scope j e) adds.vars (h.among j e within) }))
-            (All-cons (IsHeld sizes new.vars) t [] (record { table = is; among = all_had (λ v. has new.vars v ≡ true) t.scope (λ u h. union_scope old.vars t.scope new.vars u adds.vars h) }) (All-nil (IsHeld sizes new.vars))));
+        few = inr (omega (arith, count, fits));
       }
 
-  pub more_group_at : (p : ℕ) → IsGroupAt p old → IsOfDepth p t → IsGroupAt p new
-  more_group_at p at deep = record {
-    names = union_old old.vars t.scope new.vars p adds.vars at.names;
-    last = union_all (λ v. v ≤ p) old.vars t.scope new.vars adds.vars at.last deep.last;
-    tables = subst (λ (ts : List CostTable). All (IsOfDepth p) ts) (sym adds.tables) (All-append (IsOfDepth p) old.tables.items (t ∷ []) at.tables (All-cons (IsOfDepth p) t [] deep (All-nil (IsOfDepth p))));
-  }
+-- a group within a limit is within a greater one
+pub wider_groups : (sizes : List ℕ) (less more : ℕ) (groups : List Group) → less ≤ more → All (IsGroup sizes less) groups → All (IsGroup sizes more) groups
+wider_groups sizes less more groups le all k d lt =
+    let g = all k d lt in
+    record {
+      some = g.some;
+      tables = g.tables;
+      vars = g.vars;
+      cells = g.cells;
+      few = elim g.few [ inl one ↦ inl one | inr small ↦ inr (omega (arith, small, le)) ];
+    }
+
+-- the tables of groups, with a group of one table more, or with one table more in a group
+tables_opened : (groups : List Group) (t : CostTable) (g : Group) → g.tables.items ≡ t ∷ [] → tables_of (groups ++ g ∷ []) ≡ tables_of groups ++ t ∷ []
+tables_opened groups t g e = flat_map-append (λ (g : Group). g.tables.items) groups (g ∷ []) ∙ ap (λ (us : List CostTable). tables_of groups ++ us) (append-nil g.tables.items ∙ e)
+
+tables_widened : (groups : List Group) (place : ℕ) (old new : Group) (t : CostTable) → place < length groups → old ≡ get_or groups place old → new.tables.items ≡ old.tables.items ++ t ∷ [] → IsPermutation (tables_of groups ++ t ∷ []) (tables_of (set groups place new))
+tables_widened [] place old new t lt found e = absurd (omega (arith, lt))
+tables_widened (g ∷ gs) zero old new t lt found e =
+    let xs = g.tables.items in
+    let rest = tables_of gs in
+    let now : new.tables.items ++ rest ≡ xs ++ (t ∷ rest) = ap (λ (us : List CostTable). us ++ rest) (e ∙ ap (λ (h : Group). h.tables.items ++ t ∷ []) found) ∙ append_assoc xs (t ∷ []) rest in
+    subst (λ (us : List CostTable). IsPermutation us (new.tables.items ++ rest)) (sym (append_assoc xs rest (t ∷ [])))
+    (subst (λ (us : List CostTable). IsPermutation (xs ++ (rest ++ t ∷ [])) us) (sym now) (IsPermutation-append_right xs (rest ++ t ∷ []) (t ∷ rest) (IsPermutation-to_front rest t)))
+tables_widened (g ∷ gs) (suc k) old new t lt found e =
+    subst (λ (us : List CostTable). IsPermutation us (g.tables.items ++ tables_of (set gs k new))) (sym (append_assoc g.tables.items (tables_of gs) (t ∷ [])))
+    (IsPermutation-append_right g.tables.items (tables_of gs ++ t ∷ []) (tables_of (set gs k new)) (tables_widened gs k old new t (omega (arith, lt)) found e))
 
 -- groups of none, and of one table more
-pub groups_none : (sizes : List ℕ) → AreGroups sizes [] []
-groups_none sizes = record { each = All-nil (IsGroup sizes); costs = λ value. refl; depth = λ p all. All-nil (IsGroupAt p) }
+pub groups_none : (sizes : List ℕ) (limit : ℕ) → AreGroups sizes limit [] []
+groups_none sizes limit = record { each = All-nil (IsGroup sizes limit); parted = IsPermutation-refl [] }
 
-module _ (sizes : List ℕ) (ts : List CostTable) (k : ℕ) (t : CostTable) (groups news : List Group) (lt : k < length ts) (is : t ≡ get_or ts k t) (over : IsTableOver sizes t) (before : AreGroups sizes (take k ts) groups) where
+module _ (sizes : List ℕ) (limit : ℕ) (ts : List CostTable) (k : ℕ) (t : CostTable) (groups news : List Group) (lt : k < length ts) (is : t ≡ get_or ts k t) (over : IsTableOver sizes t) (before : AreGroups sizes limit (take k ts) groups) where
   next : take (k + 1) ts ≡ take k ts ++ t ∷ []
   next = take_more ts k t lt ∙ ap (λ (u : CostTable). take k ts ++ u ∷ []) (sym is)
 
-  total : (value : ℕ → ℕ) → cost_with (take (k + 1) ts) value ≡ cost_with (take k ts) value + cell_with t value
-  total value = ap (λ (us : List CostTable). cost_with us value) next ∙ cost_more (take k ts) t value
+  now : (after : List CostTable) → IsPermutation (tables_of groups ++ t ∷ []) after → IsPermutation (take (k + 1) ts) after
+  now after order =
+      subst (λ (us : List CostTable). IsPermutation us after) (sym next) (IsPermutation-trans (take k ts ++ t ∷ []) (tables_of groups ++ t ∷ []) after (IsPermutation-append_left (t ∷ []) (take k ts) (tables_of groups) before.parted) order)
 
-  both : (p : ℕ) → All (IsOfDepth p) (take (k + 1) ts) → All (IsOfDepth p) (take k ts) × IsOfDepth p t
-  both p all = all_end (IsOfDepth p) (take k ts) t (subst (λ (us : List CostTable). All (IsOfDepth p) us) next all)
-
-  pub groups_opened : (g : Group) → IsGroupOf t g → news ≡ groups ++ g ∷ [] → AreGroups sizes (take (k + 1) ts) news
+  pub groups_opened : (g : Group) → IsGroupOf t g → news ≡ groups ++ g ∷ [] → AreGroups sizes limit (take (k + 1) ts) news
   groups_opened g opens e = record {
-    each = subst (λ (gs : List Group). All (IsGroup sizes) gs) (sym e) (All-append (IsGroup sizes) groups (g ∷ []) before.each (All-cons (IsGroup sizes) g [] (one_group sizes t g over opens) (All-nil (IsGroup sizes))));
-    costs = λ value.
-        let cost : Group → ℕ = λ g. cost_with g.tables.items value in
-        let sum = ap (λ (gs : List Group). groups_cost gs value) e ∙ sum_by-append cost groups (g ∷ []) in
-        let last : groups_cost (g ∷ []) value ≡ cost_with g.tables.items value + 0 = sum_by-cons cost g [] in
-        let own = ap (λ (us : List CostTable). cost_with us value) opens.tables in
-        let only : cost_with (t ∷ []) value ≡ cell_with t value + 0 = sum_by-cons (λ (u : CostTable). cell_with u value) t [] in
-        omega (arith, sum, last, own, only, before.costs value, total value);
-    depth = λ p all.
-        let parts = both p all in
-        subst (λ (gs : List Group). All (IsGroupAt p) gs) (sym e) (All-append (IsGroupAt p) groups (g ∷ []) (before.depth p parts.0) (All-cons (IsGroupAt p) g [] (one_group_at sizes t g over opens p parts.1) (All-nil (IsGroupAt p))));
+    each = subst (λ (gs : List Group). All (IsGroup sizes limit) gs) (sym e) (All-append (IsGroup sizes limit) groups (g ∷ []) before.each (All-cons (IsGroup sizes limit) g [] (one_group sizes t g over opens limit) (All-nil (IsGroup sizes limit))));
+    parted = subst (λ (gs : List Group). IsPermutation (take (k + 1) ts) (tables_of gs)) (sym e)
+        (subst (λ (us : List CostTable). IsPermutation (take (k + 1) ts) us) (sym (tables_opened groups t g opens.tables)) (now (tables_of groups ++ t ∷ []) (IsPermutation-refl (tables_of groups ++ t ∷ []))));
   }
 
-  pub groups_widened : (limit place : ℕ) (old new : Group) → limit ≤ joined_limit → place < length groups → old ≡ get_or groups place old → Fits sizes t.scope limit old → AddsTo sizes old t new → news ≡ set groups place new → AreGroups sizes (take (k + 1) ts) news
-  groups_widened limit place old new small inside found fits adds e = record {
-    each = subst (λ (gs : List Group). All (IsGroup sizes) gs) (sym e)
-        (All-set (IsGroup sizes) groups place new (more_group sizes t old new over adds limit (subst (IsGroup sizes) (sym found) (before.each place old inside)) fits small) before.each);
-    costs = λ value.
-        let cost : Group → ℕ = λ g. cost_with g.tables.items value in
-        let sum = ap (λ (gs : List Group). groups_cost gs value) e in
-        let swap = sum_by-set cost groups place new old inside in
-        let was = ap cost found in
-        let own = ap (λ (us : List CostTable). cost_with us value) adds.tables ∙ cost_more old.tables.items t value in
-        omega (arith, sum, swap, was, own, before.costs value, total value);
-    depth = λ p all.
-        let parts = both p all in
-        let early = before.depth p parts.0 in
-        subst (λ (gs : List Group). All (IsGroupAt p) gs) (sym e)
-        (All-set (IsGroupAt p) groups place new (more_group_at sizes t old new over adds p (subst (IsGroupAt p) (sym found) (early place old inside)) parts.1) early);
+  pub groups_widened : (place : ℕ) (old new : Group) → limit ≤ joined_limit → place < length groups → old ≡ get_or groups place old → Fits sizes t.scope limit old → AddsTo sizes old t new → news ≡ set groups place new → AreGroups sizes limit (take (k + 1) ts) news
+  groups_widened place old new small inside found fits adds e = record {
+    each = subst (λ (gs : List Group). All (IsGroup sizes limit) gs) (sym e)
+        (All-set (IsGroup sizes limit) groups place new (more_group sizes t old new over adds limit (subst (IsGroup sizes limit) (sym found) (before.each place old inside)) fits small) before.each);
+    parted = subst (λ (gs : List Group). IsPermutation (take (k + 1) ts) (tables_of gs)) (sym e) (now (tables_of (set groups place new)) (tables_widened groups place old new t inside found adds.tables));
   }
 
 -- what a list holds after one of its items was written in place

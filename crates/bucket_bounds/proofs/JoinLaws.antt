@@ -1,23 +1,25 @@
 -- Laws of joined tables: zeros, tables that are added one by one, and what the joined table of a group is.
-use Rattle.std.proofs.Common.{◌≡◌, ℕ, ◌+◌, ◌<◌, ◌≤◌, true, min, List, [], ◌∷◌, ◌++◌, map, length, take, get_or, replicate, slice_index, refl, sym, ap, ap₂, subst, ◌∙◌, arith}
-use Rattle.std.specs.List.{All}
-use Rattle.std.proofs.lemmas.List.{length-append, take_more, get_or-replicate}
-use Rattle.std.proofs.lemmas.List.Elements.{All-nil, All-cons, All-head, All-tail, All-append}
-use Rattle.std.proofs.lemmas.List.Sums.{sum_by-append, sum_by-cons}
+use Rattle.std.proofs.Common.{◌≡◌, ℕ, ◌+◌, ◌<◌, true, min, List, [], ◌∷◌, ◌++◌, map, length, take, get_or, replicate, slice_index, refl, sym, ap, ap₂, subst, ◌∙◌, arith}
+use Rattle.std.specs.List.{All, AllZip}
+use Rattle.std.proofs.lemmas.List.{take_more, get_or-replicate}
+use Rattle.std.proofs.lemmas.List.Elements.{All-head, All-tail}
+use Rattle.std.proofs.lemmas.List.Sums.{sum_by-cons}
+use Rattle.std.proofs.lemmas.Slice.Zip.{all_zipped_more}
 use Rattle.dcop_base.specs.Limits.{amount_limit}
 use Rattle.dcop_base.specs.Table.{CostTable, IsTable, IsTableOfParts, AreWithin, product, cell_place, has}
 use Rattle.dcop_base.specs.Values.{cell_with, cost_with}
-use Rattle.dcop_base.proofs.TableLaws.{cell_place-lt}
+use Rattle.dcop_base.proofs.TableLaws.{parts-of, cell_place-lt}
 use Rattle.cost_table.specs.Cells.{cell_of, place_in}
 use Rattle.util_kernel.specs.Lanes.{plus}
 use Rattle.util_join.specs.Join.{IsSum, LiesIn}
-use Rattle.shared_costs.specs.Tables.{IsTableOver, IsOfDepth}
-use Rattle.bucket_bounds.specs.Groups.{IsHeld, IsGroup, IsGroupAt, groups_cost}
-use Rattle.bucket_bounds.specs.Parting.{LiesAmong}
-use Rattle.bucket_bounds.specs.Joining.{IsCostOf, HasGained, IsZeroFor, IsJoin, AreJoined}
+use Rattle.shared_costs.specs.Tables.{IsTableOver}
+use Rattle.bucket_bounds.specs.Groups.{IsGroup}
+use Rattle.bucket_bounds.specs.Parting.{IsScopeOf, LiesAmong}
+use Rattle.bucket_bounds.specs.Parts.{IsJoinOf}
+use Rattle.bucket_bounds.specs.Joining.{AreUncapped, HasGained, IsCostOf, IsZeroFor}
 use Rattle.bucket_bounds.specs.declared.group.Group.{Group}
 use Rattle.bucket_bounds.specs.Union.{IsTurned}
-use Rattle.bucket_bounds.proofs.GroupLaws.{all_had, had_of}
+use Rattle.bucket_bounds.proofs.GroupLaws.{all_had, had_of, scope_within, scope_one}
 use Rattle.bucket_bounds.proofs.KeptLaws.{cost_more}
 use Rattle.bucket_bounds.proofs.ProjectLaws.{read_map, within_map}
 
@@ -90,12 +92,12 @@ read_each f over [] all = refl
 read_each f over (v ∷ vs) all =
     ap₂ (λ (x : ℕ) (xs : List ℕ). x ∷ xs) (sym (read_map f over v (All-head (λ v. has over v ≡ true) v vs all))) (read_each f over vs (All-tail (λ v. has over v ≡ true) v vs all))
 
-pub held_lies : (sizes vars : List ℕ) (zero t : CostTable) → IsZeroFor sizes vars zero → IsHeld sizes vars t → LiesIn zero.scope zero.sizes t
-held_lies sizes vars zero t is held =
+pub held_lies : (sizes vars : List ℕ) (zero t : CostTable) → IsZeroFor sizes vars zero → IsTableOver sizes t → LiesAmong vars t → LiesIn zero.scope zero.sizes t
+held_lies sizes vars zero t is table named =
     let f : ℕ → ℕ = λ v. slice_index sizes v in
     let over = is.over in
-    let among : All (λ v. has over v ≡ true) t.scope = λ k d lt. is.turned.same (get_or t.scope k d) ∙ held.among k d lt in
-    let lies : LiesIn over (map f over) t = record { among = among; sized = held.table.sized ∙ read_each f over t.scope among } in
+    let among : All (λ v. has over v ≡ true) t.scope = λ k d lt. is.turned.same (get_or t.scope k d) ∙ named k d lt in
+    let lies : LiesIn over (map f over) t = record { among = among; sized = table.sized ∙ read_each f over t.scope among } in
     subst (λ (vs : List ℕ). LiesIn vs zero.sizes t) (sym is.zero.same_scope) (subst (λ (ss : List ℕ). LiesIn over ss t) (sym is.zero.same_sizes) lies)
 
 -- what holds of variables holds of them in another order
@@ -103,56 +105,39 @@ pub turned_all : (P : ℕ → Type 0) (vars over : List ℕ) → IsTurned vars o
 turned_all P vars over turned all = all_had P over (λ u h. had_of P vars u all (sym (turned.same u) ∙ h))
 
 -- what was made of zeros by adding the tables of a group is its joined table
-pub join_is : (sizes : List ℕ) (g : Group) (zero t : CostTable) → IsGroup sizes g → IsZeroFor sizes g.vars zero → HasGained g.tables.items zero t → IsTable t → IsJoin sizes g t
-join_is sizes g zero t group is gained whole =
+pub join_is : (sizes : List ℕ) (limit : ℕ) (g : Group) (zero t : CostTable) → IsGroup sizes limit g → AreUncapped sizes g.tables.items → IsZeroFor sizes g.vars zero → HasGained g.tables.items zero t → IsTable t → IsJoinOf sizes g.tables.items t
+join_is sizes limit g zero t group uncapped is gained whole =
     let f : ℕ → ℕ = λ v. slice_index sizes v in
     let over = is.over in
     let cost = gains over (map f over) (λ value. 0) g.tables.items zero t is.zero gained in
-    let within = turned_all (λ v. v < length sizes) g.vars over is.turned group.within in
+    let within = turned_all (λ v. v < length sizes) g.vars over is.turned (scope_within sizes g.tables.items g.vars group.tables group.vars) in
     record {
+      some = group.some;
       table = record {
         whole = whole;
         within = subst (λ (vs : List ℕ). All (λ v. v < length sizes) vs) (sym cost.same_scope) within;
         sized = cost.same_sizes ∙ ap (λ (vs : List ℕ). map f vs) (sym cost.same_scope);
       };
-      cost = λ value are small. let cell = cost.cells value (within_map sizes value over are within) in omega (arith, cell, small);
-      depth = λ p at. record {
-        names = ap (λ (vs : List ℕ). has vs p) cost.same_scope ∙ is.turned.same p ∙ at.names;
-        last = subst (λ (vs : List ℕ). All (λ v. v ≤ p) vs) (sym cost.same_scope) (turned_all (λ v. v ≤ p) g.vars over is.turned at.last);
-      };
-      among = subst (λ (vs : List ℕ). All (λ v. has g.vars v ≡ true) vs) (sym cost.same_scope) (all_had (λ v. has g.vars v ≡ true) over (λ u h. sym (is.turned.same u) ∙ h));
+      scope = subst (λ (vs : List ℕ). IsScopeOf g.tables.items vs) (sym cost.same_scope)
+          (record { apart = is.turned.apart group.vars.apart; both = λ u. is.turned.same u ∙ group.vars.both u });
+      cells = λ value are. let cell = cost.cells value (within_map sizes value over are within) in let small = uncapped value are in omega (arith, cell, small);
     }
 
+-- the joined table of one table is the table
+pub join_one : (sizes : List ℕ) (limit : ℕ) (g : Group) (t copy : CostTable) → IsGroup sizes limit g → g.tables.items ≡ t ∷ [] → copy ≡ t → IsJoinOf sizes g.tables.items copy
+join_one sizes limit g t copy group one same =
+    let over = All-head (IsTableOver sizes) t [] (subst (λ (ts : List CostTable). All (IsTableOver sizes) ts) one group.tables) in
+    subst (λ (u : CostTable). IsJoinOf sizes g.tables.items u) (sym same) (subst (λ (ts : List CostTable). IsJoinOf sizes ts t) (sym one) (record {
+      some = omega arith;
+      table = over;
+      scope = scope_one t t.scope (parts-of t.scope t.sizes t.cells over.whole).apart (λ u. refl);
+      cells = λ value are. let only = sum_by-cons (λ (u : CostTable). cell_with u value) t [] in omega (arith, only);
+    }))
+
 -- the joined tables of groups, one more
-pub joined_more : (sizes : List ℕ) (groups : List Group) (k : ℕ) (g : Group) (ts news : List CostTable) (t : CostTable) → k < length groups → g ≡ get_or groups k g → AreJoined sizes (take k groups) ts → IsJoin sizes g t → news ≡ ts ++ t ∷ []
-    → AreJoined sizes (take (k + 1) groups) news
+pub joined_more : (sizes : List ℕ) (groups : List Group) (k : ℕ) (g : Group) (ts news : List CostTable) (t : CostTable) → k < length groups → g ≡ get_or groups k g → AllZip (λ g t. IsJoinOf sizes g.tables.items t) (take k groups) ts → IsJoinOf sizes g.tables.items t → news ≡ ts ++ t ∷ []
+    → AllZip (λ g t. IsJoinOf sizes g.tables.items t) (take (k + 1) groups) news
 joined_more sizes groups k g ts news t lt is before join e =
+    let Joins : Group → CostTable → Type 0 = λ g t. IsJoinOf sizes g.tables.items t in
     let next : take (k + 1) groups ≡ take k groups ++ g ∷ [] = take_more groups k g lt ∙ ap (λ (u : Group). take k groups ++ u ∷ []) (sym is) in
-    record {
-      tables = subst (λ (us : List CostTable). All (IsTableOver sizes) us) (sym e) (All-append (IsTableOver sizes) ts (t ∷ []) before.tables (All-cons (IsTableOver sizes) t [] join.table (All-nil (IsTableOver sizes))));
-      costs = λ value are small.
-          let cost : Group → ℕ = λ g. cost_with g.tables.items value in
-          let sum = ap (λ (gs : List Group). groups_cost gs value) next ∙ sum_by-append cost (take k groups) (g ∷ []) in
-          let last : groups_cost (g ∷ []) value ≡ cost_with g.tables.items value + 0 = sum_by-cons cost g [] in
-          let early = before.costs value are (omega (arith, sum, last, small)) in
-          let own = join.cost value are (omega (arith, sum, last, small)) in
-          let total = ap (λ (us : List CostTable). cost_with us value) e ∙ cost_more ts t value in
-          omega (arith, sum, last, early, own, total);
-      depth = λ p all.
-          let parts = groups_end (IsGroupAt p) (take k groups) g (subst (λ (gs : List Group). All (IsGroupAt p) gs) next all) in
-          subst (λ (us : List CostTable). All (IsOfDepth p) us) (sym e) (All-append (IsOfDepth p) ts (t ∷ []) (before.depth p parts.0) (All-cons (IsOfDepth p) t [] (join.depth p parts.1) (All-nil (IsOfDepth p))));
-      many =
-          let own = ap (λ (us : List CostTable). length us) e ∙ length-append ts (t ∷ []) in
-          let all = ap (λ (gs : List Group). length gs) next ∙ length-append (take k groups) (g ∷ []) in
-          omega (arith, own, all, before.many);
-      named = λ vars all.
-          let parts = groups_end (λ (g : Group). All (λ v. has vars v ≡ true) g.vars) (take k groups) g (subst (λ (gs : List Group). All (λ (g : Group). All (λ v. has vars v ≡ true) g.vars) gs) next all) in
-          let own : LiesAmong vars t = λ j d lt. had_of (λ v. has vars v ≡ true) g.vars (get_or t.scope j d) parts.1 (join.among j d lt) in
-          subst (λ (us : List CostTable). All (LiesAmong vars) us) (sym e) (All-append (LiesAmong vars) ts (t ∷ []) (before.named vars parts.0) (All-cons (LiesAmong vars) t [] own (All-nil (LiesAmong vars))));
-    }
-  where
-    groups_end : (P : Group → Type 0) (gs : List Group) (g : Group) → All P (gs ++ g ∷ []) → All P gs × P g
-    groups_end P [] g all = (All-nil P, All-head P g [] all)
-    groups_end P (u ∷ us) g all =
-        let rest = groups_end P us g (All-tail P u (us ++ g ∷ []) all) in
-        (All-cons P u us (All-head P u (us ++ g ∷ []) all) rest.0, rest.1)
+    subst (λ (gs : List Group). AllZip Joins gs news) (sym next) (subst (λ (us : List CostTable). AllZip Joins (take k groups ++ g ∷ []) us) (sym e) (all_zipped_more Joins (take k groups) ts g t before join))

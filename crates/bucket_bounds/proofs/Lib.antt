@@ -3,10 +3,12 @@ pub mod ChainLaws
 pub mod RestLaws
 pub mod UnionLaws
 pub mod ItemLaws
+pub mod ByCellsLaws
 pub mod KeptLaws
 pub mod ProjectLaws
 pub mod GroupLaws
 pub mod PartingLaws
 pub mod JoinLaws
+pub mod MiniLaws
 pub mod PartLaws
 pub mod StepLaws

@@ -1,6 +1,6 @@
 -- Laws of parting: a group that has no room for a scope shows that all together are too wide.
 use Rattle.std.proofs.Common.{◌≡◌, ℕ, ◌+◌, ◌*◌, ◌<◌, ◌≤◌, ◌||◌, min, Bool, true, false, cond, eqb, List, [], ◌∷◌, ◌++◌, map, length, set, take, get_or, slice_index, refl, sym, ap, subst, ◌∙◌, inl, inr, mul-le-mul_left, arith}
-use Rattle.std.specs.List.{All, AllZip, list_any}
+use Rattle.std.specs.List.{All, AllZip}
 use Rattle.std.specs.List.Sorted.{IsPermutation}
 use Rattle.std.proofs.lemmas.Bool.{cases_Bool, cond-true, cond-false, eqb-true, ne_eqb, or_cases, or_from, or_parts, or_left, or_right, true≢false}
 use Rattle.std.proofs.lemmas.List.{take_more, length-append, length-set}
@@ -16,11 +16,11 @@ use Rattle.util_project.specs.Projection.{IsProjection}
 use Rattle.shared_costs.specs.Tables.{IsTableOver}
 use Rattle.bucket_bounds.specs.Union.{cells_over, times_more}
 use Rattle.bucket_bounds.specs.Groups.{IsGroup, IsGroupOf, AddsTo}
-use Rattle.bucket_bounds.specs.Parting.{IsScopeOf, AreTooWide, AreReplacedDuly, LiesAmong, IsTooWideFor, ArePartedDuly}
+use Rattle.bucket_bounds.specs.Parting.{AreTooWide, AreReplacedDuly, LiesAmong, IsTooWideFor, ArePartedDuly}
 use Rattle.bucket_bounds.specs.Made.{IsItem}
 use Rattle.bucket_bounds.specs.declared.bucket.Bucket.{Bucket}
 use Rattle.bucket_bounds.specs.declared.group.Group.{Group}
-use Rattle.bucket_bounds.proofs.GroupLaws.{all_had, had_of, union_all, scope_positive}
+use Rattle.bucket_bounds.proofs.GroupLaws.{union_all, scope_named, scope_sizes}
 use Rattle.bucket_bounds.proofs.KeptLaws.{all_end}
 use Rattle.bucket_bounds.proofs.ProjectLaws.{projection_bound}
 
@@ -82,7 +82,7 @@ product-positive f (y ∷ ys) all =
     both : (a b : ℕ) → 1 ≤ a → 1 ≤ b → 1 ≤ a * b
     both a b one rest = let grown = mul-le-mul_left a rest in omega (arith, grown, one)
 
-product-among : (f : ℕ → ℕ) (xs ys : List ℕ) → has_repeat xs ≡ false → All (λ v. has ys v ≡ true) xs → All (λ v. 1 ≤ f v) ys → product (map f xs) ≤ product (map f ys)
+pub product-among : (f : ℕ → ℕ) (xs ys : List ℕ) → has_repeat xs ≡ false → All (λ v. has ys v ≡ true) xs → All (λ v. 1 ≤ f v) ys → product (map f xs) ≤ product (map f ys)
 product-among f [] ys apart among positive = product-positive f ys positive
 product-among f (x ∷ xs) ys apart among positive =
     let parts = or_parts (has xs x) (has_repeat xs) apart in
@@ -142,7 +142,7 @@ module _ (sizes : List ℕ) (limit : ℕ) (ts : List CostTable) (k : ℕ) (t : C
   both_of : (P : CostTable → Type 0) → All P (take (k + 1) ts) → All P (take k ts) × P t
   both_of P all = all_end P (take k ts) t (subst (λ (us : List CostTable). All P us) (take_more ts k t lt ∙ ap (λ (u : CostTable). take k ts ++ u ∷ []) (sym is)) all)
 
-  pub duly_opened : (g : Group) → All (IsGroup sizes) groups → All (IsTooWideFor sizes t.scope limit) groups → IsGroupOf t g → news ≡ groups ++ g ∷ [] → ArePartedDuly sizes limit (take (k + 1) ts) news
+  pub duly_opened : (g : Group) → All (IsGroup sizes limit) groups → All (IsTooWideFor sizes t.scope limit) groups → IsGroupOf t g → news ≡ groups ++ g ∷ [] → ArePartedDuly sizes limit (take (k + 1) ts) news
   duly_opened g each full opens e = record {
     named = λ vars all.
         let Names : Group → Type 0 = λ g. All (λ v. has vars v ≡ true) g.vars in
@@ -155,7 +155,7 @@ module _ (sizes : List ℕ) (limit : ℕ) (ts : List CostTable) (k : ℕ) (t : C
         let parts = both_of (LiesAmong vars) room.named in
         let group = each 0 g some in
         let high = subst (λ (n : ℕ). limit < n * times_more sizes first.vars t.scope) group.cells (full 0 g some) in
-        let low = more-among sizes vars first.vars t.scope group.apart (parts-of t.scope t.sizes t.cells over.whole).apart (before.named vars parts.0 0 g some) parts.1 room.positive in
+        let low = more-among sizes vars first.vars t.scope group.vars.apart (parts-of t.scope t.sizes t.cells over.whole).apart (before.named vars parts.0 0 g some) parts.1 room.positive in
         omega (arith, high, low);
   }
 
@@ -171,28 +171,6 @@ module _ (sizes : List ℕ) (limit : ℕ) (ts : List CostTable) (k : ℕ) (t : C
         let count : length news ≡ length groups = ap (λ (gs : List Group). length gs) e ∙ length-set groups place new in
         before.wide (omega (arith, two, count)) vars (record { positive = room.positive; named = (both_of (LiesAmong vars) room.named).0 });
   }
-
--- what holds of the variables that tables name
-named_all : (P : ℕ → Type 0) (ts : List CostTable) → ((u : ℕ) → list_any (λ t. has t.scope u) ts ≡ true → P u) → All (λ t. All P t.scope) ts
-named_all P [] each = All-nil (λ t. All P t.scope)
-named_all P (t ∷ ts) each = All-cons (λ (t : CostTable). All P t.scope) t ts
-    (all_had P t.scope (λ u h. each u (or_left (has t.scope u) (list_any (λ (t : CostTable). has t.scope u) ts) h)))
-    (named_all P ts (λ u h. each u (or_right (has t.scope u) (list_any (λ (t : CostTable). has t.scope u) ts) h)))
-
-named_of : (P : ℕ → Type 0) (ts : List CostTable) (u : ℕ) → All (λ t. All P t.scope) ts → list_any (λ t. has t.scope u) ts ≡ true → P u
-named_of P [] u all h = absurd (true≢false (sym h))
-named_of P (t ∷ ts) u all h = elim (or_cases (has t.scope u) (list_any (λ (t : CostTable). has t.scope u) ts) h) [
-  | inl here ↦ had_of P t.scope u (All-head (λ (t : CostTable). All P t.scope) t ts all) here
-  | inr later ↦ named_of P ts u (All-tail (λ (t : CostTable). All P t.scope) t ts all) later
-]
-
--- the variables that tables name
-pub scope_named : (ts : List CostTable) (vars : List ℕ) → IsScopeOf ts vars → All (LiesAmong vars) ts
-scope_named ts vars is = named_all (λ v. has vars v ≡ true) ts (λ u h. is.both u ∙ h)
-
-pub scope_sizes : (sizes : List ℕ) (ts : List CostTable) (vars : List ℕ) → All (IsTableOver sizes) ts → IsScopeOf ts vars → All (λ v. 1 ≤ slice_index sizes v) vars
-scope_sizes sizes ts vars over is =
-    all_had (λ v. 1 ≤ slice_index sizes v) vars (λ u h. named_of (λ v. 1 ≤ slice_index sizes v) ts u (λ k d lt. scope_positive sizes (get_or ts k d) (over k d lt)) (sym (is.both u) ∙ h))
 
 -- tables that were parted, in some order, into two groups or more
 pub parted_wide : (sizes : List ℕ) (limit : ℕ) (ts items : List CostTable) (groups : List Group) → IsPermutation ts items → All (IsTableOver sizes) ts → ArePartedDuly sizes limit items groups → 2 ≤ length groups → AreTooWide sizes limit ts

@@ -16,8 +16,7 @@ use Rattle.util_project.specs.Projection.{IsProjection, size_in, cell_at_value}
 use Rattle.shared_costs.specs.Values.{AreValues}
 use Rattle.shared_costs.specs.Tables.{IsTableOver}
 use Rattle.bucket_bounds.specs.Made.{IsItem, IsBound}
-use Rattle.bucket_bounds.specs.Kept.{IsWithin}
-use Rattle.bucket_bounds.proofs.CellLaws.{below_without}
+use Rattle.bucket_bounds.proofs.CellLaws.{IsWithin, below_without}
 
 one-add : (n : ℕ) → 1 + n ≡ suc n
 one-add n = omega arith

@@ -1,15 +1,10 @@
 -- Joined tables of groups.
-use Rattle.std.specs.Prelude.{◌≡◌, ℕ, ◌+◌, ◌≤◌, min, true, List, map, length, slice_index}
-use Rattle.std.specs.List.{All}
+use Rattle.std.specs.Prelude.{◌≡◌, ℕ, ◌+◌, ◌≤◌, min, List, map, slice_index}
 use Rattle.dcop_base.specs.Limits.{amount_limit}
-use Rattle.dcop_base.specs.Table.{CostTable, AreWithin, has}
+use Rattle.dcop_base.specs.Table.{CostTable, AreWithin}
 use Rattle.dcop_base.specs.Values.{cell_with, cost_with}
 use Rattle.shared_costs.specs.Values.{AreValues}
-use Rattle.shared_costs.specs.Tables.{IsTableOver, IsOfDepth}
 use Rattle.bucket_bounds.specs.Union.{IsTurned}
-use Rattle.bucket_bounds.specs.Groups.{IsGroupAt, groups_cost}
-use Rattle.bucket_bounds.specs.Parting.{LiesAmong}
-use Rattle.bucket_bounds.specs.declared.group.Group.{Group}
 
 -- a table over these variables with these sizes, of which each cell is this cost of the same values, capped
 pub record IsCostOf (over sizes : List ℕ) (costs : (ℕ → ℕ) → ℕ) (t : CostTable) : Type 0 where
@@ -29,17 +24,6 @@ pub record IsZeroFor (sizes vars : List ℕ) (t : CostTable) : Type 0 where
   pub turned : IsTurned vars over
   pub zero : IsCostOf over (map (λ v. slice_index sizes v) over) (λ value. 0) t
 
--- the joined table of a group: at each values it costs what the tables of the group cost, where that is no capped sum
-pub record IsJoin (sizes : List ℕ) (g : Group) (t : CostTable) : Type 0 where
-  pub table : IsTableOver sizes t
-  pub cost : (value : ℕ → ℕ) → AreValues sizes value → cost_with g.tables.items value ≤ amount_limit → cell_with t value ≡ cost_with g.tables.items value
-  pub depth : (p : ℕ) → IsGroupAt p g → IsOfDepth p t
-  pub among : LiesAmong g.vars t
-
--- the joined tables of groups
-pub record AreJoined (sizes : List ℕ) (groups : List Group) (ts : List CostTable) : Type 0 where
-  pub tables : All (IsTableOver sizes) ts
-  pub costs : (value : ℕ → ℕ) → AreValues sizes value → groups_cost groups value ≤ amount_limit → cost_with ts value ≡ groups_cost groups value
-  pub depth : (p : ℕ) → All (IsGroupAt p) groups → All (IsOfDepth p) ts
-  pub many : length ts ≡ length groups
-  pub named : (vars : List ℕ) → All (λ g. All (λ v. has vars v ≡ true) g.vars) groups → All (LiesAmong vars) ts
+-- no sum of these tables is capped
+abbrev pub AreUncapped : List ℕ → List CostTable → Type 0
+AreUncapped sizes ts = (value : ℕ → ℕ) → AreValues sizes value → cost_with ts value ≤ amount_limit

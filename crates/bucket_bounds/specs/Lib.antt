@@ -5,7 +5,10 @@ pub mod Laws
 pub mod Made
 pub mod Union
 pub mod Kept
+pub mod Keeping
 pub mod Groups
 pub mod Joining
 pub mod Parts
 pub mod Parting
+pub mod MiniBuckets
+pub mod ByCells

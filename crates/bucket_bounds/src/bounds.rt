@@ -3,13 +3,15 @@
 ghost use Rattle.std.specs.Prelude.{◌≡◌, ◌+◌, ◌-◌, ◌++◌, ◌<◌, ◌≤◌, min, not, length, IfOk};
 ghost use Rattle.std.specs.List.{All, filter};
 ghost use Rattle.dcop_base.specs.Limits.{joined_limit, variable_limit};
+ghost use Rattle.dcop_base.specs.Faults.{cell_count};
 ghost use Rattle.dcop_base.specs.Table.{has};
 ghost use Rattle.shared_costs.specs.Tables.{AreDepths};
 ghost use Rattle.bucket_bounds.specs.Bounds.{AreBounds, kept_cells};
 ghost use Rattle.bucket_bounds.specs.Exact.{AreExactUnparted};
+ghost use Rattle.bucket_bounds.specs.Joining.{AreUncapped};
 ghost use Rattle.bucket_bounds.specs.Made.{IsItem, IsBound, AreMade};
-ghost use Rattle.bucket_bounds.specs.Parting.{IsPartedDuly, IsReplacedDuly, AreReplacedDuly};
-ghost use Rattle.bucket_bounds.specs.Parts.{AreUncapped, IsBucketWith};
+ghost use Rattle.bucket_bounds.specs.MiniBuckets.{IsMiniBucket, AreMiniBuckets};
+ghost use Rattle.bucket_bounds.specs.Parting.{IsPartedDuly, AreReplacedDuly};
 
 use crate::bucket::BucketList;
 use crate::making::{Made, bucket_with};
@@ -35,6 +37,8 @@ pub fn bounds_of(
     requires cells { length sizes.now ≤ cells }
     ensures bounds { IfOk result (AreBounds sizes.now depths.now) }
     ensures kept { IfOk result (λ buckets. kept_cells buckets ≤ cells) }
+    ensures buckets { IfOk result
+        (AreMiniBuckets sizes.now (min limit joined_limit) cells 0) }
     ensures made { IfOk result (AreMade sizes.now 0) }
     ensures exact { IfOk result (AreExactUnparted sizes.now depths.now) }
     ensures parted { IfOk result (All (IsPartedDuly sizes.now (min limit joined_limit))) }
@@ -75,10 +79,11 @@ fn next_bucket(
     requires capped { AreUncapped sizes.now
         (tables.now ++ filter (λ t. has t.scope var) bounds.now) }
     requires widest { widest ≤ joined_limit }
-    ensures made { IfOk result
-        (IsBucketWith sizes.now var tables.now (filter (λ t. has t.scope var) bounds.now) room) }
+    ensures taken { IfOk result (λ made. (made.bucket.tables ≡ tables.now)
+        × (made.bucket.came ≡ filter (λ t. has t.scope var) bounds.now)) }
+    ensures mini { IfOk result (λ made. IsMiniBucket sizes.now widest var room made.bucket) }
+    ensures room { IfOk result (λ made. cell_count made.bucket.sent + made.room ≡ room) }
     ensures parted { IfOk result (λ made. IsPartedDuly sizes.now widest made.bucket) }
-    ensures replaced { IfOk result (λ made. IsReplacedDuly sizes.now made.room var made.bucket) }
 {
     let tables = TableList::from_vec(clones_of(alloc, tables)?);
     let came = TableList::from_vec(naming(alloc, bounds, var)?);

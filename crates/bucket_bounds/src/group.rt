@@ -32,7 +32,8 @@ pub(crate) fn groups_of(
 ) -> Result<Vec<Group>, NoMemory>
     requires tables { All (IsTableOver sizes.now) tables.now }
     requires limit { limit ≤ joined_limit }
-    ensures groups { IfOk result (λ groups. AreGroups sizes.now tables.now groups.items) }
+    ensures groups { IfOk result
+        (λ groups. AreGroups sizes.now limit tables.now groups.items) }
     ensures parted { IfOk result
         (λ groups. ArePartedDuly sizes.now limit tables.now groups.items) }
 {

@@ -1,13 +1,14 @@
 //! Joined tables of groups.
 
 ghost use Rattle.std.specs.Prelude.{◌≡◌, ◌≤◌, ◌∷◌, IfOk};
-ghost use Rattle.std.specs.List.{All};
+ghost use Rattle.std.specs.List.{All, AllZip};
 ghost use Rattle.dcop_base.specs.Limits.{joined_limit};
 ghost use Rattle.dcop_base.specs.Table.{IsTable};
 ghost use Rattle.util_join.specs.Join.{LiesIn};
 ghost use Rattle.bucket_bounds.specs.Groups.{IsGroup};
 ghost use Rattle.bucket_bounds.specs.Union.{IsTurned};
-ghost use Rattle.bucket_bounds.specs.Joining.{HasGained, IsJoin, IsZeroFor, AreJoined};
+ghost use Rattle.bucket_bounds.specs.Joining.{AreUncapped, HasGained, IsZeroFor};
+ghost use Rattle.bucket_bounds.specs.Parts.{IsJoinOf};
 
 use crate::group::Group;
 use dcop_base::{NoMemory, Table, VarId, VarList, sizes_of};
@@ -20,8 +21,10 @@ pub(crate) fn joined_tables(
     sizes: &[u16],
     groups: &[Group],
 ) -> Result<Vec<Table>, NoMemory>
-    requires { All (IsGroup sizes.now) groups.now }
-    ensures { IfOk result (λ tables. AreJoined sizes.now groups.now tables.items) }
+    requires groups { All (IsGroup sizes.now joined_limit) groups.now }
+    requires capped { All (λ g. AreUncapped sizes.now g.tables.items) groups.now }
+    ensures { IfOk result (λ tables.
+        AllZip (λ g t. IsJoinOf sizes.now g.tables.items t) groups.now tables.items) }
 {
     let mut tables = Vec::new(alloc);
     for group in groups {
@@ -32,8 +35,9 @@ pub(crate) fn joined_tables(
 
 /// The joined table of a group: the sum of its tables; that of one table is the table.
 fn joined_of(alloc: Global, sizes: &[u16], group: &Group) -> Result<Table, NoMemory>
-    requires { IsGroup sizes.now group.now }
-    ensures { IfOk result (IsJoin sizes.now group.now) }
+    requires group { IsGroup sizes.now joined_limit group.now }
+    requires capped { AreUncapped sizes.now group.now.tables.items }
+    ensures { IfOk result (IsJoinOf sizes.now group.now.tables.items) }
 {
     if let [table] = group.tables.as_slice() {
         return Ok(table.clone()?);
@@ -48,7 +52,7 @@ fn joined_of(alloc: Global, sizes: &[u16], group: &Group) -> Result<Table, NoMem
 /// A joined table of zeros over the variables of a group, the last one first: all tables that are
 /// added name it, so more of the cells to which one of their cells is added lie side by side.
 fn zeros_for(alloc: Global, sizes: &[u16], group: &Group) -> Result<Joined, NoMemory>
-    requires group { IsGroup sizes.now group.now }
+    requires group { IsGroup sizes.now joined_limit group.now }
     requires few { group.now.cells ≤ joined_limit }
     ensures { IfOk result (IsZeroFor sizes.now group.now.vars) }
 {

@@ -1,8 +1,9 @@
 //! What a bucket sends of its projections.
 
-ghost use Rattle.std.specs.Prelude.{◌≡◌, ◌<◌, ◌≤◌, min, length, OnOk, IfOk, slice_index};
-ghost use Rattle.std.specs.List.{All};
-ghost use Rattle.bucket_bounds.specs.Kept.{IsLeastOf, IsKept, AreKept};
+ghost use Rattle.std.specs.Prelude.{◌≡◌, min, OnOk, IfOk};
+ghost use Rattle.std.specs.List.{fold};
+ghost use Rattle.bucket_bounds.specs.ByCells.{AreRising};
+ghost use Rattle.bucket_bounds.specs.Keeping.{IsKept, IsKeptOf};
 
 use dcop_base::{NoMemory, Table};
 use std::alloc::Global;
@@ -23,7 +24,8 @@ pub(crate) struct Kept {
 /// Keeps projections while there is room for so many cells, the first ones first, and replaces the
 /// others by their least cell. Those without variables are always replaced, by their only cell.
 pub(crate) fn kept_of(alloc: Global, projections: &[Table], room: u64) -> Result<Kept, NoMemory>
-    ensures { IfOk result (AreKept projections.now room) }
+    requires { AreRising projections.now }
+    ensures { IfOk result (IsKeptOf room projections.now) }
 {
     let mut kept = Kept {
         sent: Vec::new(alloc),
@@ -59,13 +61,7 @@ fn keep(kept: &mut Kept, table: &Table) -> Result<(), NoMemory>
 
 /// The least cell; `u64::MAX` of none.
 fn least_of(cells: &[u64]) -> u64
-    ensures lower { All (λ c. result ≤ c) cells.now }
-    ensures least { 1 ≤ length cells.now → IsLeastOf cells.now result }
-    ensures only { length cells.now ≡ 1 → result ≡ slice_index cells.now 0 }
+    ensures { result ≡ fold min u64.MAX cells.now }
 {
-    let mut least = u64::MAX;
-    for cell in cells {
-        least = least.min(*cell);
-    }
-    least
+    cells.iter().fold(u64::MAX, |least, cell| least.min(*cell))
 }

@@ -23,5 +23,9 @@ mod union;
 
 pub use bounds::bounds_of;
 pub use bucket::{Bucket, BucketList};
-pub use law::{bounds_are_at_most_the_rest, first_bound_is_at_most_the_optimum};
+pub use law::{
+    bounds_are_at_most_the_rest, first_bound_is_at_most_the_optimum,
+    mini_buckets_are_at_most_the_optimum, mini_buckets_are_at_most_the_rest,
+    unparted_mini_buckets_are_exact,
+};
 pub use limit::limit_within;

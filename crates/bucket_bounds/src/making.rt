@@ -1,12 +1,15 @@
 //! Buckets in the making.
 
-ghost use Rattle.std.specs.Prelude.{◌≡◌, ◌++◌, ◌<◌, ◌≤◌, true, length, IfOk};
+ghost use Rattle.std.specs.Prelude.{◌≡◌, ◌+◌, ◌++◌, ◌<◌, ◌≤◌, true, length, IfOk};
 ghost use Rattle.std.specs.List.{All};
 ghost use Rattle.dcop_base.specs.Limits.{joined_limit};
+ghost use Rattle.dcop_base.specs.Faults.{cell_count};
 ghost use Rattle.dcop_base.specs.Table.{has};
 ghost use Rattle.bucket_bounds.specs.Made.{IsItem};
-ghost use Rattle.bucket_bounds.specs.Parting.{AreTooWide, IsPartedDuly, IsReplacedDuly};
-ghost use Rattle.bucket_bounds.specs.Parts.{AreShared, AreUncapped, AreSentOf, IsBucketWith};
+ghost use Rattle.bucket_bounds.specs.MiniBuckets.{IsMiniBucket, IsSentOf};
+ghost use Rattle.bucket_bounds.specs.Parting.{AreTooWide, IsPartedDuly};
+ghost use Rattle.bucket_bounds.specs.Joining.{AreUncapped};
+ghost use Rattle.bucket_bounds.specs.Parts.{AreParts};
 
 use crate::bucket::Bucket;
 use crate::by_cells::put_by_cells;
@@ -42,9 +45,11 @@ pub(crate) fn bucket_with(
     requires came { All (IsItem sizes.now var) came }
     requires capped { AreUncapped sizes.now (tables ++ came) }
     requires limit { limit ≤ joined_limit }
-    ensures made { IfOk result (λ made. IsBucketWith sizes.now var tables came room made) }
+    ensures taken { IfOk result
+        (λ made. (made.bucket.tables ≡ tables) × (made.bucket.came ≡ came)) }
+    ensures mini { IfOk result (λ made. IsMiniBucket sizes.now limit var room made.bucket) }
+    ensures room { IfOk result (λ made. cell_count made.bucket.sent + made.room ≡ room) }
     ensures parted { IfOk result (λ made. IsPartedDuly sizes.now limit made.bucket) }
-    ensures replaced { IfOk result (λ made. IsReplacedDuly sizes.now made.room var made.bucket) }
 {
     let parts = parts_of(alloc, sizes, var, tables.as_slice(), came.as_slice(), limit)?;
     let kept = sent_of(alloc, var, parts.as_slice(), room)?;
@@ -77,7 +82,7 @@ fn parts_of(
     requires capped { AreUncapped sizes.now (tables.now ++ came.now) }
     requires limit { limit ≤ joined_limit }
     ensures parts { IfOk result
-        (λ parts. AreShared sizes.now var (tables.now ++ came.now) parts.items) }
+        (λ parts. AreParts sizes.now limit (tables.now ++ came.now) parts.items) }
     ensures parted { IfOk result
         (λ parts. 2 ≤ length parts.items → AreTooWide sizes.now limit (tables.now ++ came.now)) }
 {
@@ -93,7 +98,9 @@ fn parts_of(
 /// first where there is not room for all.
 fn sent_of(alloc: Global, var: VarId, parts: &[Table], room: u64) -> Result<Kept, NoMemory>
     requires { All (λ t. has t.scope var ≡ true) parts.now }
-    ensures { IfOk result (AreSentOf var parts.now room) }
+    ensures sent { IfOk result
+        (λ kept. IsSentOf var room parts.now kept.sent.items kept.fixed kept.replaced) }
+    ensures room { IfOk result (λ kept. cell_count kept.sent.items + kept.room ≡ room) }
 {
     let projections = projections_of(alloc, parts, var)?;
     let mut smallest_first = Vec::new(alloc);

@@ -3,8 +3,7 @@
 ghost use Rattle.std.specs.Prelude.{◌≡◌, ◌<◌, length, IfOk, OnOk};
 ghost use Rattle.std.specs.List.{All};
 ghost use Rattle.shared_costs.specs.Sharing.{IsSharing};
-ghost use Rattle.shared_costs.specs.Tables.{AreTablesOver, IsOfDepth};
-ghost use Rattle.bucket_bounds.specs.Parts.{AreShared};
+ghost use Rattle.shared_costs.specs.Tables.{AreTablesOver};
 
 use dcop_base::{NoMemory, Table, VarId};
 use shared_costs::{SharedTable, share};
@@ -18,10 +17,8 @@ pub(crate) fn shared_tables(
     var: VarId,
 ) -> Result<Vec<Table>, NoMemory>
     requires tables { AreTablesOver sizes.now tables.items }
-    requires depth { All (IsOfDepth var) tables.items }
     requires var { var < length sizes.now }
-    ensures shared { IfOk result (λ shared. AreShared sizes.now var tables.items shared.items) }
-    ensures many { IfOk result (λ shared. length shared.items ≡ length tables.items) }
+    ensures { IfOk result (λ shared. IsSharing sizes.now tables.items shared.items) }
 {
     if tables.len() < 2 {
         return Ok(tables);

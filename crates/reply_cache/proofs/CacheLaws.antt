@@ -51,10 +51,10 @@ misses_more old mid new found was now counted same noted more =
     more ∙ ap (λ (n : ℕ). n + missed found) counted ∙ sym (misses_of-push old found) ∙ ap (λ (xs : List Bool). misses_of (xs ++ found ∷ [])) (sym same) ∙ ap misses_of (sym noted)
 
 -- what a look finds is the reply to its key
-pub reply_found : (is_reply : List ℕ → List ℕ → Type 0) (key given : List ℕ) (found : Option (List ℕ)) (entries : List (List ℕ × List ℕ)) → AreReplies is_reply entries → found ≡ lookup (same_key key) entries → key ≡ given
-    → IfSome found (λ r. is_reply given r)
-reply_found is_reply key given None entries are is same = tt
-reply_found is_reply key given (Some value) entries are is same = subst (λ (k : List ℕ). is_reply k value) same (found_reply is_reply key value entries are (sym is))
+pub reply_found : (is_reply : List ℕ → List ℕ → Type 0) (key : List ℕ) (found : Option (List ℕ)) (entries : List (List ℕ × List ℕ)) → AreReplies is_reply entries → found ≡ lookup (same_key key) entries
+    → IfSome found (λ r. is_reply key r)
+reply_found is_reply key None entries are is = tt
+reply_found is_reply key (Some value) entries are is = found_reply is_reply key value entries are (sym is)
 
 -- after a reply was kept, or could not be
 pub kept_either : {X E : Type 0} (is_reply : List ℕ → List ℕ → Type 0) (key value : List ℕ) (old new : LruCache (List ℕ) (List ℕ)) (result : Result X E) → AreReplies is_reply old.entries → is_reply key value

@@ -9,6 +9,7 @@ ghost use Rattle.reply_cache.specs.Cache.{fresh_cache, same_key, reply_at, looke
 
 use crate::maker::Maker;
 use crate::share::LookShare;
+use crate::shared::SharedBytes;
 use dcop_base::{Bytes, NoMemory};
 use lru::LruCache;
 use std::alloc::Global;
@@ -22,8 +23,7 @@ use std::sync::ledger::{Book, Ledger};
 /// other the number of those that found nothing.
 #[derive(Drop)]
 pub struct ReplyCache<M: Maker, A: Ledger, B: Ledger> {
-    alloc: Global,
-    entries: LruCache<Bytes, Bytes>,
+    entries: LruCache<Bytes, SharedBytes>,
     finds: Vec<bool>,
     looks: Book<A>,
     misses: Book<B>,
@@ -60,7 +60,6 @@ impl<M: Maker, A: Ledger, B: Ledger> ReplyCache<M, A, B> {
         ensures { IfOk result (λ c. c ≡ fresh_cache entries) }
     {
         Ok(ReplyCache {
-            alloc,
             entries: LruCache::new(alloc, NonZeroUsize::new(entries as usize).unwrap())?,
             finds: Vec::new(alloc),
             looks,
@@ -69,8 +68,9 @@ impl<M: Maker, A: Ledger, B: Ledger> ReplyCache<M, A, B> {
         })
     }
 
-    /// A copy of the reply that is kept at a key; `None` exactly where none is. The look is counted
-    /// in the share, and the entry that was found comes first.
+    /// The reply that is kept at a key, with the cache as one of its owners; `None` exactly where none
+    /// is. The look is counted in the share, and the entry that was found comes first. No key and no
+    /// reply is copied, so it takes as long whatever their lengths, but for comparing the keys.
     ///
     /// # Errors
     ///
@@ -78,8 +78,8 @@ impl<M: Maker, A: Ledger, B: Ledger> ReplyCache<M, A, B> {
     pub fn look(
         &mut self,
         share: &mut LookShare<A, B>,
-        key: &[u8],
-    ) -> Result<Option<Bytes>, NoMemory>
+        key: &Bytes,
+    ) -> Result<Option<SharedBytes>, NoMemory>
         requires parts { (0 < share.old.looks.parts) × (0 < share.old.misses.parts) }
         ensures found { IfOk result (λ found. found ≡ reply_at self.old key.now) }
         ensures looked { OnOk result (self.new ≡ looked_at self.old key.now) }
@@ -90,10 +90,9 @@ impl<M: Maker, A: Ledger, B: Ledger> ReplyCache<M, A, B> {
         ensures unchanged { OnErr result (self.new ≡ self.old) }
         ensures uncounted { OnErr result ((share.new.looks.amount ≡ share.old.looks.amount) × (share.new.misses.amount ≡ share.old.misses.amount)) }
     {
-        let key = copy(self.alloc, key)?;
-        let found = kept_reply(self.alloc, &self.entries, &key)?;
+        let found = kept_reply(&self.entries, key)?;
         self.finds.reserve(1)?;
-        self.entries.promote(&key);
+        self.entries.promote(key);
         note(
             &mut self.finds,
             &mut self.looks,
@@ -113,7 +112,7 @@ impl<M: Maker, A: Ledger, B: Ledger> ReplyCache<M, A, B> {
     /// # Errors
     ///
     /// [`NoMemory`] where memory was wanted and not had; nothing is changed.
-    pub fn keep(&mut self, key: Bytes, value: Bytes) -> Result<(), NoMemory>
+    pub fn keep(&mut self, key: Bytes, value: SharedBytes) -> Result<(), NoMemory>
         requires reply { M.is_reply key value }
         requires short { length key ≤ key_limit }
         ensures kept { OnOk result (self.new ≡ kept_at self.old key value) }
@@ -145,23 +144,15 @@ impl<M: Maker, A: Ledger, B: Ledger> ReplyCache<M, A, B> {
     }
 }
 
-// A copy of bytes.
-fn copy(alloc: Global, bytes: &[u8]) -> Result<Bytes, NoMemory>
-    ensures { IfOk result (λ copy. copy ≡ bytes.now) }
-{
-    Ok(Bytes::from_vec(Vec::from_slice(alloc, bytes)?))
-}
-
-// A copy of the reply that is kept at a key.
+// The reply that is kept at a key, with one owner more.
 fn kept_reply(
-    alloc: Global,
-    entries: &LruCache<Bytes, Bytes>,
+    entries: &LruCache<Bytes, SharedBytes>,
     key: &Bytes,
-) -> Result<Option<Bytes>, NoMemory>
+) -> Result<Option<SharedBytes>, NoMemory>
     ensures { IfOk result (λ found. found ≡ lookup (same_key key.now) entries.now.entries) }
 {
     match entries.peek(key) {
-        Some(reply) => Ok(Some(copy(alloc, reply.as_slice())?)),
+        Some(reply) => Ok(Some(reply.share()?)),
         None => Ok(None),
     }
 }

@@ -61,6 +61,13 @@ module _ {S K M A B : Type 0} where
     out = omega (arith, out, h.out, length-append peers (p ∷ []));
   }
 
+  -- one was given back, and those behind it will be
+  pub one_back : (all : Option (List (S × K))) (p : Peer S K M A B) (old rest : List (Peer S K M A B)) (closed closed' : Option (List (S × K))) → all ≡ all_behind closed (map (λ q. connection q) old) → old ≡ p ∷ rest
+      → closed' ≡ last_of closed (connection p) → all ≡ all_behind closed' (map (λ q. connection q) rest)
+  one_back all p old rest closed closed' h first back =
+      h ∙ ap (λ (ps : List (Peer S K M A B)). all_behind closed (map (λ q. connection q) ps)) first ∙ sym (all_behind_more closed (connection p) (map (λ q. connection q) rest))
+      ∙ ap (λ (c : Option (List (S × K))). all_behind c (map (λ q. connection q) rest)) (sym back)
+
   -- a peer that was just accepted can be served
   pub fresh_peers : (made : M → ℕ) (peers : List (Peer S K M A B)) → All (λ p. IsNew made p) peers → All (λ p. IsFresh made p) peers
   fresh_peers made peers new k d lt =

@@ -1,7 +1,7 @@
 -- Connections that wait, and those that were given back.
-use Rattle.std.proofs.Common.{◌≡◌, List, [], ◌∷◌, ◌++◌, Option, Some, None, refl, sym, ap, append_assoc, append-nil}
+use Rattle.std.proofs.Common.{◌≡◌, List, [], ◌∷◌, ◌++◌, Option, Some, None, Result, Ok, Err, OnErr, refl, sym, ap, append_assoc, append-nil}
 use Rattle.serve_edge.specs.Listener.{first_of, last_of}
-use Rattle.serve_clients.specs.Sessions.{all_before, all_behind}
+use Rattle.serve_clients.specs.Sessions.{all_before, all_behind, AreReturned}
 
 pub all_before_none : {C : Type 0} (w : Option (List C)) → all_before [] w ≡ w
 all_before_none None = refl
@@ -18,3 +18,8 @@ all_behind_none (Some xs) = ap Some (append-nil xs)
 pub all_behind_more : {C : Type 0} (w : Option (List C)) (c : C) (cs : List C) → all_behind (last_of w c) cs ≡ all_behind w (c ∷ cs)
 all_behind_more None c cs = refl
 all_behind_more (Some xs) c cs = ap Some (append_assoc xs (c ∷ []) cs)
+
+-- where nothing was accepted, nothing is given back
+pub none_returned : {C X E : Type 0} (result : Result X E) (waiting closed : Option (List C)) → OnErr result (AreReturned waiting waiting closed closed)
+none_returned (Ok x) waiting closed = tt
+none_returned (Err e) waiting closed = record { connections = []; taken = sym (all_before_none waiting); given = sym (all_behind_none closed) }

@@ -4,6 +4,8 @@ use Rattle.dcop_edge.specs.Faults.{Rose}
 use Rattle.solve_serve.specs.declared.peers.Peer.{Peer}
 use Rattle.solve_serve.specs.declared.end.SessionEnd.{SessionEnd}
 use Rattle.solve_serve.specs.declared.end.SessionEnd.TheVariants.{Memory}
+use Rattle.serve_edge.specs.declared.fault.ListenFault.{ListenFault}
+use Rattle.serve_edge.specs.declared.fault.ListenFault.TheVariants as listens
 use Rattle.serve_clients.specs.declared.fault.ServeFault.{ServeFault}
 use Rattle.serve_clients.specs.declared.fault.ServeFault.TheVariants as faults
 
@@ -12,6 +14,11 @@ abbrev pub HasServeCause : {T : Type 0} → ℕ → ℕ → Result T ServeFault 
 HasServeCause old new (Ok value) = new ≡ old
 HasServeCause old new (Err faults.Link) = (old ≤ new) × Rose old new
 HasServeCause old new (Err faults.NoMemory) = new ≡ old
+
+-- why clients are not served, where a listener gave no connection
+abbrev pub serve_fault : ListenFault → ServeFault
+serve_fault listens.Failed = faults.Link
+serve_fault listens.NoMemory = faults.NoMemory
 
 -- the end that is there
 abbrev pub end_in : Option SessionEnd → SessionEnd

@@ -17,6 +17,12 @@ all_before cs known = option_map (λ xs. cs ++ xs) known
 abbrev pub all_behind : {C : Type 0} → Option (List C) → List C → Option (List C)
 all_behind known cs = option_map (λ xs. xs ++ cs) known
 
+-- the connections that were accepted, some or none, were given back as they were, in order
+pub record AreReturned {C : Type 0} (waiting waiting' closed closed' : Option (List C)) : Type 0 where
+  pub connections : List C
+  pub taken : waiting ≡ all_before connections waiting'
+  pub given : closed' ≡ all_behind closed connections
+
 -- a session: the connection that was accepted and the same one given back, how it ended, and its looks, misses and calls
 pub record Session (S K : Type 0) : Type 0 where
   pub taken : S × K

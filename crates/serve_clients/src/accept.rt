@@ -1,18 +1,20 @@
 //! Accepting connections.
 
-ghost use Rattle.std.specs.Prelude.{◌≡◌, ◌≤◌, ◌<◌, ◌+◌, All, map, length, IfOk, OnOk};
+ghost use Rattle.std.specs.Prelude.{◌≡◌, ◌≤◌, ◌<◌, ◌+◌, All, map, length, IfOk, OnOk, OnErr};
 ghost use Rattle.serve_edge.specs.Listener.{HasListenCause, first_of};
-ghost use Rattle.serve_clients.specs.Sessions.{all_before};
+ghost use Rattle.serve_clients.specs.Sessions.{all_before, AreReturned};
 ghost use Rattle.serve_clients.specs.Clients.{HasServeCause, connection, IsNew};
 
 use crate::fault::ServeFault;
+use crate::give::return_all;
 use reply_cache::{FreshMaker, LookShare};
 use serve_edge::{ListenFault, Listener};
 use solve_serve::{Peer, PeerList};
 use std::alloc::Global;
 use std::sync::ledger::Ledger;
 
-/// Accepts so many connections, and gives each a fresh maker and one part of each ledger.
+/// Accepts so many connections, and gives each a fresh maker and one part of each ledger. Where one
+/// cannot be had, those before it are given back.
 pub(crate) fn accept_all<L: Listener, M: FreshMaker, A: Ledger, B: Ledger>(
     alloc: Global,
     listener: &mut L,
@@ -25,8 +27,10 @@ pub(crate) fn accept_all<L: Listener, M: FreshMaker, A: Ledger, B: Ledger>(
     ensures count { IfOk result (λ peers. length peers.items ≡ clients) }
     ensures new { IfOk result (λ peers. All (λ p. IsNew M.calls p) peers.items) }
     ensures waiting { IfOk result (λ peers. L.waiting listener.old ≡ all_before (map (λ p. connection p) peers.items) (L.waiting listener.new)) }
-    ensures closed { L.closed listener.new ≡ L.closed listener.old }
+    ensures closed { OnOk result (L.closed listener.new ≡ L.closed listener.old) }
     ensures lent { IfOk result (λ peers. L.lent listener.new ≡ L.lent listener.old + length peers.items) }
+    ensures returned { OnErr result (AreReturned (L.waiting listener.old) (L.waiting listener.new) (L.closed listener.old) (L.closed listener.new)) }
+    ensures none_lent { OnErr result (L.lent listener.new ≡ L.lent listener.old) }
     ensures looks { OnOk result ((whole.new.looks.parts ≡ 0) × (whole.new.looks.amount ≡ 0)) }
     ensures misses { OnOk result ((whole.new.misses.parts ≡ 0) × (whole.new.misses.amount ≡ 0)) }
 {
@@ -34,8 +38,10 @@ pub(crate) fn accept_all<L: Listener, M: FreshMaker, A: Ledger, B: Ledger>(
     for _ in 0..clients {
         match accept_one(listener, whole) {
             Ok(peer) => peers.push_reserved(peer),
-            Err(ListenFault::Failed) => return Err(ServeFault::Link),
-            Err(ListenFault::NoMemory) => return Err(ServeFault::NoMemory),
+            Err(fault) => {
+                return_all(listener, peers);
+                return Err(ServeFault::from(fault));
+            }
         }
     }
     Ok(peers)
@@ -53,6 +59,8 @@ fn accept_one<L: Listener, M: FreshMaker, A: Ledger, B: Ledger>(
     ensures waiting { IfOk result (λ p. L.waiting listener.old ≡ first_of (connection p) (L.waiting listener.new)) }
     ensures closed { L.closed listener.new ≡ L.closed listener.old }
     ensures lent { OnOk result (L.lent listener.new ≡ L.lent listener.old + 1) }
+    ensures none_waiting { OnErr result (L.waiting listener.new ≡ L.waiting listener.old) }
+    ensures none_lent { OnErr result (L.lent listener.new ≡ L.lent listener.old) }
     ensures looks { OnOk result ((whole.new.looks.parts + 1 ≡ whole.old.looks.parts) × (whole.new.looks.amount ≡ 0)) }
     ensures misses { OnOk result ((whole.new.misses.parts + 1 ≡ whole.old.misses.parts) × (whole.new.misses.amount ≡ 0)) }
 {

@@ -1,9 +1,9 @@
 //! Serving the clients of a listener.
 
-ghost use Rattle.std.specs.Prelude.{◌≡◌, ◌≤◌, ◌<◌, IfOk};
+ghost use Rattle.std.specs.Prelude.{◌≡◌, ◌≤◌, ◌<◌, IfOk, OnErr};
 ghost use Rattle.reply_cache.specs.Limits.{entry_limit};
 ghost use Rattle.solve_serve.specs.Peers.{peer_limit, server_limit};
-ghost use Rattle.serve_clients.specs.Sessions.{HaveServed};
+ghost use Rattle.serve_clients.specs.Sessions.{HaveServed, AreReturned};
 ghost use Rattle.serve_clients.specs.Clients.{HasServeCause};
 
 use crate::accept::accept_all;
@@ -46,7 +46,8 @@ pub struct Outcome {
 /// # Errors
 ///
 /// [`ServeFault::Link`] where the listener failed in this call, [`ServeFault::NoMemory`] where memory
-/// was wanted and not had. Either way no session was begun.
+/// was wanted and not had. Either way no session was begun, and each connection that was accepted
+/// was given back.
 pub fn serve_clients<R: Threads + Wait + Sync, L: Listener, M: FreshMaker, G: Gate>(
     rt: &R,
     alloc: Global,
@@ -60,6 +61,8 @@ pub fn serve_clients<R: Threads + Wait + Sync, L: Listener, M: FreshMaker, G: Ga
     ensures served { IfOk result (λ o. HaveServed L.S.left L.S.faults L.K.held L.K.faults M.is_reply plan.clients o.ends.items o.looks
         (L.waiting listener.old) (L.waiting listener.new) (L.closed listener.old) (L.closed listener.new)) }
     ensures cause { HasServeCause (L.faults listener.old) (L.faults listener.new) result }
+    ensures returned { OnErr result (AreReturned (L.waiting listener.old) (L.waiting listener.new) (L.closed listener.old) (L.closed listener.new)) }
+    ensures none_lent { L.lent listener.new ≡ L.lent listener.old }
 {
     let looks = Blank::new(plan.clients as u64);
     let misses = Blank::new(plan.clients as u64);
@@ -91,6 +94,8 @@ fn serve_with<
     ensures served { IfOk result (λ o. HaveServed L.S.left L.S.faults L.K.held L.K.faults M.is_reply plan.clients o.ends.items o.looks
         (L.waiting listener.old) (L.waiting listener.new) (L.closed listener.old) (L.closed listener.new)) }
     ensures cause { HasServeCause (L.faults listener.old) (L.faults listener.new) result }
+    ensures returned { OnErr result (AreReturned (L.waiting listener.old) (L.waiting listener.new) (L.closed listener.old) (L.closed listener.new)) }
+    ensures none_lent { L.lent listener.new ≡ L.lent listener.old }
 {
     let (looks, all_looks) = looks.open::<A>();
     let (misses, all_misses) = misses.open::<B>();

@@ -46,3 +46,17 @@ impl From<Failed> for ServeFault {
         ServeFault::Link
     }
 }
+
+impl From<ListenFault> for ServeFault {
+    ghost use Rattle.std.specs.Prelude.{◌≡◌};
+    ghost use Rattle.serve_clients.specs.Clients.{serve_fault};
+
+    ghost from_gives = { λ fault e. e ≡ serve_fault fault };
+
+    fn from(fault: ListenFault) -> Self {
+        match fault {
+            ListenFault::Failed => ServeFault::Link,
+            ListenFault::NoMemory => ServeFault::NoMemory,
+        }
+    }
+}

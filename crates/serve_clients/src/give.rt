@@ -25,6 +25,7 @@ pub(crate) fn give_all<L: Listener, M: Drop, A: Ledger, B: Ledger>(
     ensures closed { L.closed listener.new ≡ all_behind (L.closed listener.old) (map (λ p. connection p) peers.items) }
     ensures waiting { L.waiting listener.new ≡ L.waiting listener.old }
     ensures faults { L.faults listener.new ≡ L.faults listener.old }
+    ensures none_lent { L.lent listener.new + length peers.items ≡ L.lent listener.old }
     ensures ends { ends.new.items ≡ ends.old.items ++ map (λ p. end_of p) peers.items }
     ensures looks { whole.new.looks.amount ≡ whole.old.looks.amount + total (λ p. looks_of p) peers.items }
     ensures look_parts { whole.new.looks.parts ≡ whole.old.looks.parts + total (λ p. look_parts_of p) peers.items }
@@ -68,4 +69,42 @@ fn give_one<L: Listener, M: Drop, A: Ledger, B: Ledger>(
     whole.looks.merge(looks);
     whole.misses.merge(misses);
     ends.push_reserved(end.unwrap());
+}
+
+/// Gives all connections back, in order, whose sessions were not begun.
+pub(crate) fn return_all<L: Listener, M: Drop, A: Ledger, B: Ledger>(
+    listener: &mut L,
+    peers: PeerList<L::S, L::K, M, A, B>,
+)
+    requires lent { length peers.items ≤ L.lent listener.old }
+    ensures closed { L.closed listener.new ≡ all_behind (L.closed listener.old) (map (λ p. connection p) peers.items) }
+    ensures waiting { L.waiting listener.new ≡ L.waiting listener.old }
+    ensures faults { L.faults listener.new ≡ L.faults listener.old }
+    ensures none_lent { L.lent listener.new + length peers.items ≡ L.lent listener.old }
+{
+    let mut rest = VecDeque::from_vec(peers);
+    while let Some(peer) = rest.pop_front() {
+        return_one(listener, peer);
+    }
+}
+
+/// Gives one connection back, whose session was not begun.
+fn return_one<L: Listener, M: Drop, A: Ledger, B: Ledger>(
+    listener: &mut L,
+    peer: Peer<L::S, L::K, M, A, B>,
+)
+    requires lent { 0 < L.lent listener.old }
+    ensures closed { L.closed listener.new ≡ last_of (L.closed listener.old) (connection peer) }
+    ensures waiting { L.waiting listener.new ≡ L.waiting listener.old }
+    ensures faults { L.faults listener.new ≡ L.faults listener.old }
+    ensures lent { L.lent listener.new + 1 ≡ L.lent listener.old }
+{
+    let Peer {
+        source,
+        sink,
+        maker: _,
+        share: _,
+        end: _,
+    } = peer;
+    listener.close(source, sink);
 }

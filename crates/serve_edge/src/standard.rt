@@ -7,23 +7,40 @@ use crate::fault::ListenFault;
 use crate::listener::Listener;
 use dcop_edge::{Failed, StdSink, StdSource};
 use std::io;
+use std::io::{Error, ErrorKind};
 use std::net::{Net, TcpListener, TcpStream};
+use std::time::Duration;
+
+/// For how many seconds a read waits for a first byte, and a write for room for one, before it
+/// fails.
+pub const MAX_SILENCE: u64 = 30;
 
 /// Listens on 127.0.0.1. Nothing is told of its connections; a call that the system refuses is a
-/// fault, want of memory included.
+/// fault, want of memory and of descriptors included. A connection that its client gave up before it
+/// was accepted is none: the next one is given. On a connection a read that brings nothing for so
+/// long, and a write that takes nothing for so long, is a fault of its source or of its sink.
 #[derive(Drop)]
 pub struct StdListener<'a, R> {
     net: &'a R,
+    silence: u64,
     socket: Option<TcpListener>,
     lent: u64,
     faults: u64,
 }
 
 impl<'a, R: Net<Listener = TcpListener, Stream = TcpStream>> StdListener<'a, R> {
-    /// A listener that is not open yet. It takes no memory.
+    /// A listener that is not open yet, whose connections wait for [`MAX_SILENCE`]. It takes no
+    /// memory.
     pub fn new(net: &'a R) -> Self {
+        StdListener::with_silence(net, MAX_SILENCE)
+    }
+
+    /// A listener that is not open yet, whose connections wait for so many seconds, at least one. It
+    /// takes no memory.
+    pub fn with_silence(net: &'a R, seconds: u64) -> Self {
         StdListener {
             net,
+            silence: seconds,
             socket: None,
             lent: 0,
             faults: 0,
@@ -67,7 +84,7 @@ impl<'a, R: Net<Listener = TcpListener, Stream = TcpStream>> Listener for StdLis
 
     fn accept(&mut self) -> Result<(Self::S, Self::K), ListenFault> {
         if self.lent < u64::MAX {
-            if let Some((source, sink)) = accepted(&self.socket) {
+            if let Some((source, sink)) = accepted(&self.socket, self.silence) {
                 self.lent += 1;
                 return Ok((StdSource::new(source), StdSink::new(sink)));
             }
@@ -83,16 +100,34 @@ impl<'a, R: Net<Listener = TcpListener, Stream = TcpStream>> Listener for StdLis
     }
 }
 
-// The next connection, as two handles of it; `None` where it is refused.
-fn accepted(socket: &Option<TcpListener>) -> Option<(TcpStream, TcpStream)> {
+// The next connection that is not given up, as two handles of it; `None` where it is refused.
+fn accepted(socket: &Option<TcpListener>, silence: u64) -> Option<(TcpStream, TcpStream)> {
     let socket = socket.as_ref()?;
-    both_handles(socket).ok()
+    for _ in 0..u64::MAX {
+        match both_handles(socket, silence) {
+            Ok(handles) => return Some(handles),
+            Err(error) => {
+                if !is_given_up(&error) {
+                    return None;
+                }
+            }
+        }
+    }
+    None
 }
 
-// The next connection, as two handles of it. What is sent goes out at once.
-fn both_handles(socket: &TcpListener) -> io::Result<(TcpStream, TcpStream)> {
+// The next connection, as two handles of it. What is sent goes out at once, and neither handle waits
+// for more than so many seconds.
+fn both_handles(socket: &TcpListener, silence: u64) -> io::Result<(TcpStream, TcpStream)> {
     let (stream, _address) = socket.accept()?;
     stream.set_nodelay(true)?;
+    stream.set_read_timeout(Some(Duration::from_secs(silence)))?;
+    stream.set_write_timeout(Some(Duration::from_secs(silence)))?;
     let other = stream.try_clone()?;
     Ok((stream, other))
+}
+
+// Whether this is the fault of a connection that its client gave up before it was accepted.
+fn is_given_up(error: &Error) -> bool {
+    error.kind() == ErrorKind::ConnectionAborted || error.kind() == ErrorKind::ConnectionReset
 }

@@ -1,5 +1,6 @@
 -- Laws of scaled tables: scaled cells, and what they sum to.
-use Rattle.std.proofs.Common.{◌≡◌, ℕ, zero, suc, ◌+◌, ◌*◌, ◌<◌, ◌≤◌, List, [], ◌∷◌, length, get_or, map, max, None, refl, sym, ap, ap₂, ◌∙◌, subst, arith}
+use Rattle.std.proofs.Common.{◌≡◌, ℕ, zero, suc, ◌+◌, ◌*◌, ◌<◌, ◌≤◌, List, [], ◌∷◌, length, get_or, map, max, None, refl, sym, ap, ap₂, ◌∙◌, subst, pow-suc, arith}
+use Rattle.std.specs.Int.{IsPowerOfTwo}
 use Rattle.std.specs.List.{All, fold}
 use Rattle.std.proofs.Math.Nat.{mul-le-mul_left}
 use Rattle.std.proofs.lemmas.List.{get_or-map, length-map}
@@ -105,3 +106,7 @@ scaled-parts t u scale scope sizes from cells eu whole es ez ef ec h =
       cells = same-cells;
       whole = subst (λ (xs : List ℕ). table_fault xs sizes cells ≡ None) (sym same-scope) (subst (λ (xs : List ℕ). table_fault t.scope xs cells ≡ None) (sym same-sizes) (scaled-whole t scale cells table h same-cells));
     }
+
+-- twice a power of two is one
+pub twice-power : (n m : ℕ) → m ≡ n * 2 → IsPowerOfTwo n → IsPowerOfTwo m
+twice-power n m e power = (suc power.0, e ∙ ap (λ (k : ℕ). k * 2) power.1 ∙ sym (pow-suc 2 power.0))

@@ -1,5 +1,6 @@
 -- Laws of shared costs.
 use Rattle.std.proofs.Common.{◌≡◌, ◌≤◌, ◌*◌, ℕ, List, [], ◌∙◌, arith}
+use Rattle.std.specs.Int.{IsPowerOfTwo}
 use Rattle.dcop_base.specs.Limits.{amount_limit}
 use Rattle.dcop_base.specs.Table.{CostTable}
 use Rattle.dcop_base.specs.Faults.{greatest_sum}
@@ -12,11 +13,11 @@ use Rattle.shared_costs.specs.Depths.{AreByDepth}
 use Rattle.shared_costs.proofs.ScaleLaws.{cost-scaled}
 
 -- scaled, shared and by their depth
-pub shared-costs : (sizes : List ℕ) (tables : List CostTable) (joints : List (ℕ × ℕ)) (scaled shared : List CostTable) (scale : ℕ) (depths : List (List CostTable)) → 1 ≤ scale → scale * greatest_sum tables ≤ amount_limit → AreScaled scale tables scaled → IsSharing sizes scaled shared → AreByDepth sizes shared [] depths → AreSharedCosts (record { sizes = sizes; tables = tables; joints = joints }) (record { scale = scale; depths = depths })
-shared-costs sizes tables joints scaled shared scale depths some within times sharing by =
+pub shared-costs : (sizes : List ℕ) (tables : List CostTable) (joints : List (ℕ × ℕ)) (scaled shared : List CostTable) (scale : ℕ) (depths : List (List CostTable)) → IsPowerOfTwo scale → 1 ≤ scale → scale * greatest_sum tables ≤ amount_limit → AreScaled scale tables scaled → IsSharing sizes scaled shared → AreByDepth sizes shared [] depths → AreSharedCosts (record { sizes = sizes; tables = tables; joints = joints }) (record { scale = scale; depths = depths })
+shared-costs sizes tables joints scaled shared scale depths power some within times sharing by =
     let same : (value : ℕ → ℕ) → depths_cost depths value ≡ cost_with shared value = λ value. omega (arith, by.sums value) in
     record {
-      scale = record { some = some; within = within };
+      scale = record { power = power; some = some; within = within };
       depths = record { many = by.many; each = by.each; capped = λ value w. omega (arith, same value, sharing.tables.capped value w) };
       sums = λ value w. same value ∙ sharing.sums value w ∙ cost-scaled scale tables scaled value times;
     }

@@ -1,5 +1,6 @@
 -- The shared costs of a problem: what the search looks at in place of the problem's own tables.
 use Rattle.std.specs.Prelude.{◌≡◌, ℕ, ◌*◌, ◌≤◌}
+use Rattle.std.specs.Int.{IsPowerOfTwo}
 use Rattle.dcop_base.specs.Limits.{amount_limit}
 use Rattle.dcop_base.specs.Faults.{greatest_sum}
 use Rattle.dcop_base.specs.Problem.{Dcop}
@@ -8,8 +9,9 @@ use Rattle.shared_costs.specs.Values.{AreValues}
 use Rattle.shared_costs.specs.Tables.{AreDepths, depths_cost}
 use Rattle.shared_costs.specs.declared.shared.SharedCosts.{SharedCosts}
 
--- a scale by which no sum of the problem's cells gets above the greatest amount
+-- a scale: a power of two, times which no sum of the problem's cells gets above the greatest amount
 pub record IsScale (p : Dcop) (scale : ℕ) : Type 0 where
+  pub power : IsPowerOfTwo scale
   pub some : 1 ≤ scale
   pub within : scale * greatest_sum p.tables ≤ amount_limit
 

@@ -1,6 +1,7 @@
 //! The scale of costs, and scaled tables.
 
 ghost use Rattle.std.specs.Prelude.{◌≡◌, ◌*◌, ◌≤◌, ◌+◌, IfOk};
+ghost use Rattle.std.specs.Int.{IsPowerOfTwo};
 ghost use Rattle.dcop_base.specs.Faults.{greatest_sum};
 ghost use Rattle.dcop_base.specs.Limits.{amount_limit};
 ghost use Rattle.dcop_base.specs.Table.{greatest};
@@ -17,6 +18,7 @@ const MAX_SCALE: u64 = 64;
 /// tables stays within [`CAP`].
 pub(crate) fn scale_of(tables: &[Table]) -> u64
     requires { greatest_sum tables.now ≤ amount_limit }
+    ensures power { IsPowerOfTwo result }
     ensures some { 1 ≤ result }
     ensures within { result * greatest_sum tables.now ≤ amount_limit }
 {

@@ -3,4 +3,5 @@ mod WriteLaws
 pub mod RequestLaws
 mod GrownLaws
 pub mod SessionLaws
+mod TurnLaws
 pub mod ExactLaws

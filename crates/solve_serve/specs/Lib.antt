@@ -4,4 +4,5 @@ pub mod Answers
 pub mod Session
 pub mod Ends
 pub mod Peers
+pub mod Turns
 pub mod Exact

@@ -8,7 +8,7 @@ use crate::stop::Stop;
 use crate::write::write_all;
 use dcop_base::{Bytes, NoMemory};
 use dcop_edge::Sink;
-use reply_cache::{LookShare, MAX_KEY, Maker, ReplyCache};
+use reply_cache::{LookShare, MAX_KEY, Maker, ReplyCache, SharedBytes};
 use std::alloc::Global;
 use std::marker::Sync;
 use std::sync::ledger::Ledger;
@@ -24,7 +24,7 @@ pub(crate) fn answer<R: Threads + Wait + Sync, K: Sink, M: Maker, A: Ledger, B: 
     cache: &Mutex<ReplyCache<M, A, B>>,
     share: &mut LookShare<A, B>,
     maker: &mut M,
-    request: &[u8],
+    request: &Bytes,
 ) -> Result<(), Stop>
     requires parts { (0 < share.old.looks.parts) × (0 < share.old.misses.parts) }
     requires calls { M.calls maker.old < 2 ^ 63 }
@@ -49,8 +49,8 @@ fn reply_to<R: Threads + Wait + Sync, M: Maker, A: Ledger, B: Ledger>(
     cache: &Mutex<ReplyCache<M, A, B>>,
     share: &mut LookShare<A, B>,
     maker: &mut M,
-    key: &[u8],
-) -> Result<Bytes, NoMemory>
+    key: &Bytes,
+) -> Result<SharedBytes, NoMemory>
     requires parts { (0 < share.old.looks.parts) × (0 < share.old.misses.parts) }
     requires calls { M.calls maker.old < 2 ^ 63 }
     ensures replied { IfOk result (λ reply. M.is_reply key.now reply) }
@@ -65,31 +65,30 @@ fn reply_to<R: Threads + Wait + Sync, M: Maker, A: Ledger, B: Ledger>(
     if let Some(reply) = found {
         return Ok(reply);
     }
-    let reply = maker.make(rt, alloc, key)?;
-    if key.len() <= MAX_KEY {
+    let made = maker.make(rt, alloc, key.as_slice())?;
+    let reply = SharedBytes::new(alloc, made)?;
+    if key.as_slice().len() <= MAX_KEY {
         keep(rt, alloc, cache, key, &reply);
     }
     Ok(reply)
 }
 
-/// Keeps a reply; where memory was wanted, it is not kept.
+/// Keeps a reply, which it shares; where memory was wanted, it is not kept.
 fn keep<R: Wait, M: Maker, A: Ledger, B: Ledger>(
     rt: &R,
     alloc: Global,
     cache: &Mutex<ReplyCache<M, A, B>>,
-    key: &[u8],
-    reply: &Bytes,
+    key: &Bytes,
+    reply: &SharedBytes,
 )
     requires reply { M.is_reply key.now reply.now }
     requires short { length key.now ≤ key_limit }
 {
-    let Ok(key) = Vec::from_slice(alloc, key) else {
+    let Ok(key) = Vec::from_slice(alloc, key.as_slice()) else {
         return;
     };
-    let Ok(reply) = Vec::from_slice(alloc, reply.as_slice()) else {
+    let Ok(reply) = reply.share() else {
         return;
     };
-    let _kept = cache
-        .lock(rt)
-        .keep(Bytes::from_vec(key), Bytes::from_vec(reply));
+    let _kept = cache.lock(rt).keep(Bytes::from_vec(key), reply);
 }

@@ -5,7 +5,7 @@
 //! written is the frames of their replies, why the session ended, and that the maker was called
 //! just where a look at the cache found nothing: so a reply from the cache is the reply without it,
 //! of which there is one for each key ([`replies_are_one`]).
-//! [`serve_peers`] serves many sessions beside each other.
+//! [`serve_peers`] serves many sessions beside each other, each as soon as a worker is free.
 #![tactic(auto)]
 
 mod answer;
@@ -13,9 +13,11 @@ mod end;
 mod law;
 mod limit;
 mod peers;
+mod permit;
 mod request;
 mod session;
 mod stop;
+mod turns;
 mod write;
 
 pub use end::SessionEnd;

@@ -4,14 +4,15 @@ ghost use Rattle.std.specs.Prelude.{◌≡◌, ◌≤◌, ◌<◌, All, length};
 ghost use Rattle.solve_serve.specs.Peers.{peer_limit, server_limit, IsFresh, IsServed, AreServed};
 
 use crate::end::SessionEnd;
+use crate::permit::Permits;
 use crate::session::serve_one;
+use crate::turns::each_in_order;
 use dcop_edge::{Gate, Sink, Source};
 use reply_cache::{LookShare, Maker, ReplyCache};
 use std::alloc::Global;
 use std::marker::{Send, Sync};
 use std::sync::ledger::Ledger;
 use std::sync::{Mutex, Wait};
-use std::thread;
 use std::thread::Threads;
 
 /// The two ends of a session, what serves it, and how it ended.
@@ -33,9 +34,10 @@ pub struct Peer<S, K, M, A: Ledger, B: Ledger> {
 pub type PeerList<S, K, M, A, B> = Vec<Peer<S, K, M, A, B>>;
 
 /// Serves all peers, each by [`serve_one`] with its place in the list, from 0, as the session's
-/// number: at most 64 peers, by so many workers beside each other, 1 to 16. Where no thread can be
-/// had, the sessions are served one after another. Afterwards each peer's end is there. It takes
-/// memory; want of it is the end of a session.
+/// number: at most 64 peers, by so many workers beside each other, 1 to 16. Sessions begin in the
+/// order of the list, each as soon as a worker is free. Where no thread can be had, the sessions are
+/// served one after another. Afterwards each peer's end is there. It takes memory; want of it is the
+/// end of a session.
 pub fn serve_peers<
     R: Threads + Wait + Sync,
     S: Source + Send,
@@ -77,17 +79,21 @@ fn serve_all<
     workers: u32,
     gate: &G,
 )
-    requires workers { 0 < workers }
     requires few { length peers.old ≤ peer_limit }
     requires fresh { All (λ p. IsFresh M.calls p) peers.old }
     ensures served { AreServed S.left S.faults K.held K.faults M.calls M.is_reply peers.old peers.new }
 {
+    let permits = Permits::new(workers);
+    let permits = &permits;
     let serve = |i: usize, peer: &mut Peer<S, K, M, A, B>|
         requires inside { i < 64 }
         requires fresh { IsFresh M.calls peer.now }
         ensures { IsServed S.left S.faults K.held K.faults M.calls M.is_reply peer.entry.now peer.exit.now }
-    { serve_peer(rt, alloc, i as u32, peer, cache, gate) };
-    thread::for_each_mut(rt, peers, workers as usize, &serve);
+    {
+        serve_peer(rt, alloc, i as u32, peer, cache, gate);
+        permits.give(rt);
+    };
+    each_in_order(rt, permits, &serve, peers);
 }
 
 /// Serves one peer.

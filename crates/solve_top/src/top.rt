@@ -66,13 +66,6 @@ pub fn solve<
     gate: &G,
     dialer: &mut D,
 ) -> Status
-    ensures answered { result ≢ Status.NoMemory → Solves (map string_bytes words.now)
-        (D.is_honest dialer.old) (D.faults dialer.old) (D.faults dialer.new)
-        (source_state (S.left source.old) (S.faults source.old))
-        (source_state (S.left source.new) (S.faults source.new))
-        (sink_state (K.held sink.old) (K.finished sink.old))
-        (sink_state (K.held sink.new) (K.finished sink.new)) result }
-    ensures unwritten { result ≡ Status.NoMemory → sink.new ≡ sink.old }
     ensures read_fault { result ≡ Status.ReadFault →
         Rose (S.faults source.old) (S.faults source.new) }
     ensures write_fault { result ≡ Status.WriteFault →
@@ -81,6 +74,13 @@ pub fn solve<
         AskForNodes (map string_bytes words.now) × Rose (D.faults dialer.old) (D.faults dialer.new) }
     ensures link_differs { result ≡ Status.LinkDiffers →
         AskForNodes (map string_bytes words.now) × (¬ D.is_honest dialer.old) }
+    ensures answered { result ≢ Status.NoMemory → Solves (map string_bytes words.now)
+        (D.is_honest dialer.old) (D.faults dialer.old) (D.faults dialer.new)
+        (source_state (S.left source.old) (S.faults source.old))
+        (source_state (S.left source.new) (S.faults source.new))
+        (sink_state (K.held sink.old) (K.finished sink.old))
+        (sink_state (K.held sink.new) (K.finished sink.new)) result }
+    ensures unwritten { result ≡ Status.NoMemory → sink.new ≡ sink.old }
     ensures source_failed { S.faults source.old < S.faults source.new →
         (result ≡ Status.ReadFault) ⊎ (result ≡ Status.WriteFault) ⊎ (result ≡ Status.NoMemory) }
     ensures sink_failed { K.faults sink.old < K.faults sink.new → result ≡ Status.WriteFault }

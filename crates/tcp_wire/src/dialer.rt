@@ -5,23 +5,24 @@ ghost use Rattle.dcop_edge.specs.Faults.{Rose};
 ghost use Rattle.wire_edge.specs.Dialer.{HasDialCause, IsNew, TellsNothing};
 ghost use Rattle.wire_edge.specs.declared.dialer.DialFault.TheVariants.{Failed as failed};
 
+use crate::connection::connect;
 use crate::wire::TcpWire;
 use futures::Future;
-use futures::future::join;
 use std::alloc::{AllocGlobal, Global};
 use std::io;
-use std::net::{Net, SocketAddr};
+use std::net::Net;
 use std::random::RandomSource;
 use std::sync::Wait;
 use std::thread::Threads;
 use std::time::Clock;
-use tokio::net::{TcpListener, TcpStream};
 use tokio::runtime::LocalRuntime;
 use wire_edge::{DialFault, Dialer};
 
-/// Opens each pair of wires as one connection on 127.0.0.1. Its first call of `pair` or `drive` makes
-/// the event loop of `tokio`. Every refusal is counted as a fault, want of memory included. It does
-/// not promise that its wires are joined.
+/// Opens each pair of wires as one connection on 127.0.0.1: it dials, and then accepts the end whose
+/// peer has the address of the one that dialled; whoever else connects to that port is closed. A dial
+/// that fails ends that at once, and 30 seconds end it. Its first call of `pair` or `drive` makes the
+/// event loop of `tokio`. Every refusal is counted as a fault, want of memory included. It does not
+/// promise that its wires are joined.
 #[derive(Drop)]
 pub struct TcpDialer {
     runtime: Option<LocalRuntime>,
@@ -41,11 +42,13 @@ impl TcpDialer {
     }
 
     // Counts one more fault.
-    fn fault(&mut self)
+    fn fault(&mut self) -> DialFault
+        ensures failed { result ≡ failed }
         ensures rose { (self.old.faults ≤ self.new.faults) × Rose self.old.faults self.new.faults }
         ensures same { self.new.runtime ≡ self.old.runtime }
     {
         self.faults = self.faults.saturating_add(1);
+        DialFault::Failed
     }
 }
 
@@ -65,23 +68,6 @@ where
         Some(runtime) => Ok(runtime),
         None => LocalRuntime::new(rt),
     }
-}
-
-// The two ends of a new connection.
-fn connect<R>(rt: &R, runtime: &mut LocalRuntime) -> io::Result<(TcpStream, TcpStream)>
-where
-    R: Wait + Clock + RandomSource + Net + AllocGlobal,
-{
-    let here = SocketAddr::from(([127, 0, 0, 1], 0));
-    let mut listener = TcpListener::bind(rt, here, runtime.handle().reactor())?;
-    let addr = listener.local_addr()?;
-    let dialed = TcpStream::connect(rt, addr, runtime.handle().reactor());
-    let (first, accepted) = runtime.block_on(rt, join(dialed, listener.accept()))?;
-    let first = first?;
-    let (second, _addr) = accepted?;
-    first.set_nodelay(true)?;
-    second.set_nodelay(true)?;
-    Ok((first, second))
 }
 
 impl Dialer for TcpDialer {
@@ -107,14 +93,12 @@ impl Dialer for TcpDialer {
         ensures kept { keeps_loop self.old → keeps_loop self.new }
     {
         let Ok(mut runtime) = runtime_of(rt, self.runtime.take()) else {
-            self.fault();
-            return Err(DialFault::Failed);
+            return Err(self.fault());
         };
         let opened = connect(rt, &mut runtime);
         self.runtime = Some(runtime);
         let Ok((first, second)) = opened else {
-            self.fault();
-            return Err(DialFault::Failed);
+            return Err(self.fault());
         };
         Ok((TcpWire::new(first), TcpWire::new(second)))
     }
@@ -132,14 +116,12 @@ impl Dialer for TcpDialer {
         ensures kept { keeps_loop self.old → keeps_loop self.new }
     {
         let Ok(mut runtime) = runtime_of(rt, self.runtime.take()) else {
-            self.fault();
-            return Err(DialFault::Failed);
+            return Err(self.fault());
         };
         let driven = runtime.block_on(rt, future);
         self.runtime = Some(runtime);
         let Ok(output) = driven else {
-            self.fault();
-            return Err(DialFault::Failed);
+            return Err(self.fault());
         };
         Ok(output)
     }
@@ -152,7 +134,7 @@ impl Dialer for TcpDialer {
         ensures same { self.new.runtime ≡ self.old.runtime }
     {
         if wire.faults > 0 {
-            self.fault();
+            let _counted = self.fault();
         }
     }
 }

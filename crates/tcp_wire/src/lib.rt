@@ -6,6 +6,7 @@
 //! and nothing else.
 #![tactic(auto)]
 
+mod connection;
 mod dialer;
 mod wire;
 

@@ -205,10 +205,14 @@ class Sharing:
                 "their answers together are one of the whole is not proved; the cost is added up from the file"
             )
         for part, why in self.failed:
-            self.best.notes.append(f"a slice with {len(part.fixed)} variables fixed was not answered: {why}")
+            self.best.notes.append(f"a slice with {counted(len(part.fixed), 'variable')} fixed was not answered: {why}")
         if self.failed and not self.best.solved and not self.best.stopped:
-            self.best.stopped = f"{len(self.failed)} slices were not answered"
+            self.best.stopped = f"{counted(len(self.failed), 'slice')} {'was' if len(self.failed) == 1 else 'were'} not answered"
 
     def told(self) -> dict[str, object]:
         """What is told of the slices in JSON."""
         return {"slices": {**self.ends, "failed": len(self.failed), "workers": dict(self.places)}}
+
+
+def counted(count: int, what: str) -> str:
+    return f"{count} {what}{'' if count == 1 else 's'}"

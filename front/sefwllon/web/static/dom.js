@@ -17,13 +17,18 @@ export function el(tag, properties = {}, ...children) {
 
 export const by = (id) => document.getElementById(id);
 
+/** Gives an element a property, where it has another one: what stays as it is is not laid out anew. */
+export function put(node, name, value) {
+  if (node[name] !== value) node[name] = value;
+}
+
 export function show(node, shown = true) {
-  node.hidden = !shown;
+  put(node, "hidden", !shown);
 }
 
 /** Words in an element, which is hidden where there are none. */
 export function say(node, words) {
-  node.textContent = words ?? "";
+  put(node, "textContent", words ?? "");
   show(node, Boolean(words));
 }
 

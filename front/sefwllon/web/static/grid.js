@@ -1,5 +1,5 @@
 // A table to type and to paste into. Below its rows one is always empty.
-import { el, say, show } from "./dom.js";
+import { el, put, say, show } from "./dom.js";
 import { parse } from "./csv.js";
 
 export class Grid {
@@ -69,11 +69,10 @@ export class Grid {
   fill(line, row) {
     this.columns.forEach((column, place) => {
       const cell = line.cells[place];
-      if (column.shown) cell.textContent = row ? column.shown(row) : "";
+      if (column.shown) put(cell, "textContent", row ? column.shown(row) : "");
       else {
-        const value = row?.[column.key] || (column.options ? column.options[0] : "");
-        if (cell.value !== value) cell.value = value;
-        if (!column.options) cell.placeholder = this.rows.length ? "" : (column.hint ?? "");
+        put(cell, "value", row?.[column.key] || (column.options ? column.options[0] : ""));
+        if (!column.options) put(cell, "placeholder", this.rows.length ? "" : (column.hint ?? ""));
       }
     });
     show(line.remove, Boolean(row));

@@ -3,8 +3,8 @@ import { line, markOf, parse } from "./csv.js";
 
 export const empty = () => ({ slots: [], people: [], meetings: [], wishes: [], others: [], comments: [], held: {}, values: null });
 
-/** The names of a list, which stand between semicolons. */
-export const names = (cell) => cell.split(";").map((word) => word.trim()).filter(Boolean);
+/** The names of a list, which stand between semicolons or commas. */
+export const names = (cell) => cell.split(/[;,]/).map((word) => word.trim()).filter(Boolean);
 const list = (words) => words.join("; ");
 
 /** The lines of the CSV, and beside each the table and the row that it is of. */
@@ -69,6 +69,13 @@ function absent(plan, name, slots) {
   const person = plan.people.find((other) => other.name === name);
   if (person) person.absent = list([...new Set([...names(person.absent), ...names(slots)])]);
   else plan.people.push({ name, absent: slots });
+}
+
+/** How many meetings each person has who has one. */
+export function meetingsOf(plan) {
+  const counts = new Map();
+  for (const meeting of plan.meetings) for (const name of new Set(names(meeting.people))) counts.set(name, (counts.get(name) ?? 0) + 1);
+  return counts;
 }
 
 /** The plan with a row for each person who takes part in a meeting. */

@@ -15,6 +15,7 @@ const WEEKDAYS = [["Mon", 1], ["Tue", 2], ["Wed", 3], ["Thu", 4], ["Fri", 5], ["
 export class Timetable {
   constructor() {
     this.plan = plans.empty();
+    this.counts = new Map(); // how many meetings each person has
     this.title = "timetable";
     this.look = null; // what the service says of the plan as it is
     this.results = []; // the answers so far, and for which plan each is
@@ -34,7 +35,6 @@ export class Timetable {
 
   makeTables() {
     const grid = (table, title, columns) => new Grid(title, columns, (rows) => this.edit(plans.changed(this.plan, table, rows)));
-    const shared = (person) => this.plan.meetings.filter((meeting) => plans.names(meeting.people).includes(person.name)).length;
     this.grids = {
       slots: grid("slots", "Slots", [
         { key: "name", title: "Slot", hint: "Mon 9" },
@@ -48,7 +48,7 @@ export class Timetable {
       people: grid("people", "People and absences", [
         { key: "name", title: "Person", hint: "Ida" },
         { key: "absent", title: "Absent in", hint: "Mon 9; Tue 9", wide: true },
-        { key: "meets", title: "Meetings", shown: (person) => String(shared(person)) },
+        { key: "meets", title: "Meetings", shown: (person) => String(this.counts.get(person.name) ?? 0) },
       ]),
       wishes: grid("wishes", "Wishes", [
         { key: "taste", title: "Wish", options: ["like", "dislike"] },
@@ -144,6 +144,7 @@ export class Timetable {
   }
 
   refresh() {
+    this.counts = plans.meetingsOf(this.plan);
     for (const [table, grid] of Object.entries(this.grids)) grid.set(this.plan[table]);
     by("undo").disabled = !this.history.past.length;
     by("redo").disabled = !this.history.future.length;
@@ -152,9 +153,7 @@ export class Timetable {
     show(by("release"), held > 0);
     by("release").textContent = `Let go of ${held} held`;
     sessionStorage.setItem(DRAFT, JSON.stringify({ title: this.title, plan: this.plan }));
-    const people = this.plan.people.map((person) => person.name);
-    const who = by("who").value;
-    by("who").replaceChildren(el("option", { value: "" }, "everyone"), ...people.map((name) => el("option", { value: name, selected: name === who }, name)));
+    this.drawPeople();
     this.draw();
     clearTimeout(this.timer);
     this.timer = setTimeout(() => this.lookAt(), LOOK_AFTER);
@@ -325,6 +324,16 @@ export class Timetable {
 
   // ---- what is shown
 
+  /** Whose meetings can be shown alone. */
+  drawPeople() {
+    const people = this.plan.people.map((person) => person.name);
+    const drawn = JSON.stringify(people);
+    if (drawn === this.drawnPeople) return;
+    this.drawnPeople = drawn;
+    const who = by("who").value;
+    by("who").replaceChildren(el("option", { value: "" }, "everyone"), ...people.map((name) => el("option", { value: name, selected: name === who }, name)));
+  }
+
   draw() {
     const look = this.look ?? { slots: [], unmet: [], breaks: [] };
     const values = this.plan.values ?? {};
@@ -355,8 +364,9 @@ export class Timetable {
     for (const id of ["save-ics", "save-svg"]) by(id).disabled = !whole;
     by("save-report").disabled = !result?.answer.report;
     const why = result?.answer.why ?? [];
-    by("breaks").replaceChildren(...[...look.breaks.map((one) => one.sentence), ...why].map((line) => el("li", {}, line)));
-    by("notes").replaceChildren(...(look.notes ?? []).map((line) => el("li", {}, line)));
+    const points = (lines) => lines.map((line) => el("li", {}, unnumbered(line)));
+    by("breaks").replaceChildren(...points([...look.breaks.map((one) => one.sentence), ...why]));
+    by("notes").replaceChildren(...points(look.notes ?? []));
     if (!this.plan.values || !this.look) return;
     if (result) {
       const { sentence, stopped } = result.answer;
@@ -428,6 +438,9 @@ export class Timetable {
 }
 
 const wishKey = (wish) => JSON.stringify([wish.meeting, wish.taste, wish.who, wish.slots, wish.cost]);
+
+/** A sentence without the numbers of lines: the tables have none. */
+const unnumbered = (line) => line.replace(/^line \d+: /, "").replaceAll(/ \(line \d+\)/g, "");
 
 function difference(more) {
   if (more === 0) return ", as the best that was found";

@@ -1,16 +1,18 @@
-use Rattle.std.proofs.Common.{◌≡◌, ◌+◌, ◌++◌, ◌-◌, ℕ, min, not, List, reverse, sym, ap₂, subst, ◌∙◌, arith}
+use Rattle.std.proofs.Common.{◌≡◌, ◌+◌, ◌++◌, ◌-◌, ℕ, min, not, List, reverse, sym, ap, ap₂, subst, ◌∙◌, arith}
 use Rattle.std.specs.List.{All, filter}
 use Rattle.std.proofs.lemmas.List.Elements.{All-cons}
 use Rattle.dcop_base.specs.Limits.{joined_limit}
 use Rattle.dcop_base.specs.Table.{CostTable, has}
 use Rattle.bucket_bounds.specs.Bounds.{AreBounds, kept_cells}
 use Rattle.bucket_bounds.specs.Exact.{AreExactUnparted}
+use Rattle.bucket_bounds.specs.Joining.{AreUncapped}
 use Rattle.bucket_bounds.specs.Made.{IsItem, IsBound, AreMade}
+use Rattle.bucket_bounds.specs.MiniBuckets.{AreMiniBuckets}
 use Rattle.bucket_bounds.specs.Parting.{IsPartedDuly, AreReplacedDuly}
-use Rattle.bucket_bounds.specs.Parts.{AreUncapped, IsBucketWith}
 use Rattle.bucket_bounds.specs.declared.bucket.Bucket.{Bucket}
+use Rattle.bucket_bounds.proofs.ByCellsLaws.{turned_round}
 use Rattle.bucket_bounds.proofs.RestLaws.{are_bounds, are_exact}
-use Rattle.bucket_bounds.proofs.StepLaws.{IsChain, chain_at, next_items, next_bounds_are, next_uncapped, chain_next, chain_end, turned_more, turned_round}
+use Rattle.bucket_bounds.proofs.StepLaws.{IsChain, chain_at, next_items, next_bounds_are, next_uncapped, chain_next, chain_end, turned_more}
 use Rattle.bucket_bounds.proofs.bounds.bounds_of.Goals as goal
 
 pub next_bucket-requires-clause-tables : goal.next_bucket-requires-clause-tables
@@ -20,10 +22,10 @@ next_bucket-requires-clause-tables c =
     let p : ℕ = c.loop-place.place - 1 in
     let positive = c.loop-place-test.true in
     let bs : List Bucket = reverse c.loop-place.last_first.items in
-    let chain = chain_at sizes depths c.args.cells c.loop-place.room c.loop-place.place (p + 1) bs c.loop-place.bounds.items (omega (arith, positive)) c.loop-place.invariant.0 in
+    let chain = chain_at sizes depths c.min-widest.result c.args.cells c.loop-place.room c.loop-place.place (p + 1) bs c.loop-place.bounds.items (omega (arith, positive)) c.loop-place.invariant.0 in
     let within = chain.within in
     subst (λ (ts : List CostTable). All (IsItem sizes p) ts) (sym c.as_slice-tables.ensures)
-    (next_items sizes depths c.args.cells c.loop-place.room p bs c.loop-place.bounds.items c.index-depths-place.result c.requires.depths (omega (arith, within)) c.index-depths-place.is chain)
+    (next_items sizes depths c.min-widest.result c.args.cells c.loop-place.room p bs c.loop-place.bounds.items c.index-depths-place.result c.requires.depths (omega (arith, within)) c.index-depths-place.is chain)
 
 pub next_bucket-requires-clause-bounds : goal.next_bucket-requires-clause-bounds
 next_bucket-requires-clause-bounds c =
@@ -32,10 +34,10 @@ next_bucket-requires-clause-bounds c =
     let p : ℕ = c.loop-place.place - 1 in
     let positive = c.loop-place-test.true in
     let bs : List Bucket = reverse c.loop-place.last_first.items in
-    let chain = chain_at sizes depths c.args.cells c.loop-place.room c.loop-place.place (p + 1) bs c.loop-place.bounds.items (omega (arith, positive)) c.loop-place.invariant.0 in
+    let chain = chain_at sizes depths c.min-widest.result c.args.cells c.loop-place.room c.loop-place.place (p + 1) bs c.loop-place.bounds.items (omega (arith, positive)) c.loop-place.invariant.0 in
     let within = chain.within in
     subst (λ (ts : List CostTable). All (IsBound sizes (p + 1)) ts) (sym c.as_slice.ensures.value)
-    (next_bounds_are sizes depths c.args.cells c.loop-place.room p bs c.loop-place.bounds.items c.index-depths-place.result c.requires.depths (omega (arith, within)) c.index-depths-place.is chain)
+    (next_bounds_are sizes depths c.min-widest.result c.args.cells c.loop-place.room p bs c.loop-place.bounds.items c.index-depths-place.result c.requires.depths (omega (arith, within)) c.index-depths-place.is chain)
 
 pub next_bucket-requires-clause-capped : goal.next_bucket-requires-clause-capped
 next_bucket-requires-clause-capped c =
@@ -44,11 +46,11 @@ next_bucket-requires-clause-capped c =
     let p : ℕ = c.loop-place.place - 1 in
     let positive = c.loop-place-test.true in
     let bs : List Bucket = reverse c.loop-place.last_first.items in
-    let chain = chain_at sizes depths c.args.cells c.loop-place.room c.loop-place.place (p + 1) bs c.loop-place.bounds.items (omega (arith, positive)) c.loop-place.invariant.0 in
+    let chain = chain_at sizes depths c.min-widest.result c.args.cells c.loop-place.room c.loop-place.place (p + 1) bs c.loop-place.bounds.items (omega (arith, positive)) c.loop-place.invariant.0 in
     let within = chain.within in
     subst (λ (ts : List CostTable). AreUncapped sizes (ts ++ filter (λ t. has t.scope p) c.as_slice.result.now)) (sym c.as_slice-tables.ensures)
     (subst (λ (bounds : List CostTable). AreUncapped sizes (c.index-depths-place.result ++ filter (λ t. has t.scope p) bounds)) (sym c.as_slice.ensures.value)
-    (next_uncapped sizes depths c.args.cells c.loop-place.room p bs c.loop-place.bounds.items c.index-depths-place.result c.requires.depths (omega (arith, within)) c.index-depths-place.is chain))
+    (next_uncapped sizes depths c.min-widest.result c.args.cells c.loop-place.room p bs c.loop-place.bounds.items c.index-depths-place.result c.requires.depths (omega (arith, within)) c.index-depths-place.is chain))
 
 pub loop-place-preserved : goal.loop-place-preserved
 loop-place-preserved c =
@@ -61,15 +63,14 @@ loop-place-preserved c =
     let tables : List CostTable = c.index-depths-place.result in
     let made = c.in_ok-made.made in
     let next : List CostTable = c.in_ok-bounds.bounds.items in
-    let chain = chain_at sizes depths c.args.cells c.loop-place.room c.loop-place.place (p + 1) bs bounds (omega (arith, positive)) c.loop-place.invariant.0 in
+    let chain = chain_at sizes depths c.min-widest.result c.args.cells c.loop-place.room c.loop-place.place (p + 1) bs bounds (omega (arith, positive)) c.loop-place.invariant.0 in
     let within = chain.within in
-    let is : IsBucketWith sizes p tables (filter (λ t. has t.scope p) bounds) c.loop-place.room made =
-    subst (λ (ts : List CostTable). IsBucketWith sizes p ts (filter (λ t. has t.scope p) bounds) c.loop-place.room made) c.as_slice-tables.ensures
-    (subst (λ (us : List CostTable). IsBucketWith sizes p c.as_slice-tables.result.now (filter (λ t. has t.scope p) us) c.loop-place.room made) c.as_slice.ensures.value c.in_ok-made.ensures.made) in
+    let taken = c.in_ok-made.ensures.taken in
+    let come = taken.1 ∙ ap (λ (ts : List CostTable). filter (λ (t : CostTable). has t.scope p) ts) c.as_slice.ensures.value in
     let now : next ≡ filter (λ t. not (has t.scope p)) bounds ++ made.bucket.sent =
     c.in_ok-bounds.ensures ∙ ap₂ (λ (ts us : List CostTable). filter (λ t. not (has t.scope p)) ts ++ us) c.as_slice-in-loop-place.ensures.value c.as_slice-in-loop-place-2.ensures in (
-      subst (λ (bs : List Bucket). IsChain sizes depths c.args.cells p bs next made.room) (sym (turned_more c.loop-place.last_first.items c.push.new.self.items made.bucket c.in_ok-push.ensures.items))
-          (chain_next sizes depths c.args.cells c.loop-place.room p bs bounds tables c.requires.depths (omega (arith, within)) c.index-depths-place.is chain made next is c.in_ok-made.ensures.replaced now),
+      subst (λ (bs : List Bucket). IsChain sizes depths c.min-widest.result c.args.cells p bs next made.room) (sym (turned_more c.loop-place.last_first.items c.push.new.self.items made.bucket c.in_ok-push.ensures.items))
+          (chain_next sizes depths c.min-widest.result c.args.cells c.loop-place.room p bs bounds tables c.requires.depths (omega (arith, within)) c.index-depths-place.is chain made next (taken.0 ∙ c.as_slice-tables.ensures) come c.in_ok-made.ensures.mini c.in_ok-made.ensures.room now),
       c.loop-place.invariant.1,
       c.loop-place.invariant.2,
       subst (λ (bs : List Bucket). All (IsPartedDuly sizes c.min-widest.result) bs) (sym (turned_more c.loop-place.last_first.items c.push.new.self.items made.bucket c.in_ok-push.ensures.items))
@@ -81,7 +82,7 @@ returns-clause-bounds c =
     let sizes = c.args.sizes.now in
     let depths = c.args.depths.now in
     let bs : List Bucket = reverse c.loop-place.last_first.items in
-    let end = chain_end sizes depths c.args.cells c.loop-place.room c.loop-place.place bs c.loop-place.bounds.items c.loop-place-test.false c.loop-place.invariant.0 in
+    let end = chain_end sizes depths c.min-widest.result c.args.cells c.loop-place.room c.loop-place.place bs c.loop-place.bounds.items c.loop-place-test.false c.loop-place.invariant.0 in
     let is = turned_round c.loop-place.last_first.items c.reverse.new.self c.as_mut_slice.result.now c.from_vec.result c.loop-place.last_first.len c.as_mut_slice.ensures.value c.reverse.ensures.after c.as_mut_slice.ensures.len c.from_vec.ensures in
     subst (λ (bs : List Bucket). AreBounds sizes depths bs) (sym is) (are_bounds sizes depths bs end.0 c.requires.depths.many end.1)
 
@@ -90,9 +91,9 @@ returns-clause-exact c =
     let sizes = c.args.sizes.now in
     let depths = c.args.depths.now in
     let bs : List Bucket = reverse c.loop-place.last_first.items in
-    let end = chain_end sizes depths c.args.cells c.loop-place.room c.loop-place.place bs c.loop-place.bounds.items c.loop-place-test.false c.loop-place.invariant.0 in
+    let end = chain_end sizes depths c.min-widest.result c.args.cells c.loop-place.room c.loop-place.place bs c.loop-place.bounds.items c.loop-place-test.false c.loop-place.invariant.0 in
     let is = turned_round c.loop-place.last_first.items c.reverse.new.self c.as_mut_slice.result.now c.from_vec.result c.loop-place.last_first.len c.as_mut_slice.ensures.value c.reverse.ensures.after c.as_mut_slice.ensures.len c.from_vec.ensures in
-    subst (λ (bs : List Bucket). AreExactUnparted sizes depths bs) (sym is) (are_exact sizes depths bs end.0 c.requires.depths.many end.1)
+    subst (λ (bs : List Bucket). AreExactUnparted sizes depths bs) (sym is) (are_exact sizes depths bs end.0 end.1)
 
 pub returns-clause-parted : goal.returns-clause-parted
 returns-clause-parted c =
@@ -106,7 +107,7 @@ returns-clause-made c =
     let sizes = c.args.sizes.now in
     let depths = c.args.depths.now in
     let bs : List Bucket = reverse c.loop-place.last_first.items in
-    let end = chain_end sizes depths c.args.cells c.loop-place.room c.loop-place.place bs c.loop-place.bounds.items c.loop-place-test.false c.loop-place.invariant.0 in
+    let end = chain_end sizes depths c.min-widest.result c.args.cells c.loop-place.room c.loop-place.place bs c.loop-place.bounds.items c.loop-place-test.false c.loop-place.invariant.0 in
     let is = turned_round c.loop-place.last_first.items c.reverse.new.self c.as_mut_slice.result.now c.from_vec.result c.loop-place.last_first.len c.as_mut_slice.ensures.value c.reverse.ensures.after c.as_mut_slice.ensures.len c.from_vec.ensures in
     subst (λ (bs : List Bucket). AreMade sizes 0 bs) (sym is) end.1
 
@@ -115,6 +116,16 @@ returns-clause-replaced c =
     let sizes = c.args.sizes.now in
     let depths = c.args.depths.now in
     let bs : List Bucket = reverse c.loop-place.last_first.items in
-    let end = chain_end sizes depths c.args.cells c.loop-place.room c.loop-place.place bs c.loop-place.bounds.items c.loop-place-test.false c.loop-place.invariant.0 in
+    let end = chain_end sizes depths c.min-widest.result c.args.cells c.loop-place.room c.loop-place.place bs c.loop-place.bounds.items c.loop-place-test.false c.loop-place.invariant.0 in
     let is = turned_round c.loop-place.last_first.items c.reverse.new.self c.as_mut_slice.result.now c.from_vec.result c.loop-place.last_first.len c.as_mut_slice.ensures.value c.reverse.ensures.after c.as_mut_slice.ensures.len c.from_vec.ensures in
     subst (λ (bs : List Bucket). AreReplacedDuly sizes (c.args.cells - kept_cells bs) 0 bs) (sym is) end.2
+
+pub returns-clause-buckets : goal.returns-clause-buckets
+returns-clause-buckets c =
+    let sizes = c.args.sizes.now in
+    let depths = c.args.depths.now in
+    let bs : List Bucket = reverse c.loop-place.last_first.items in
+    let end = chain_end sizes depths c.min-widest.result c.args.cells c.loop-place.room c.loop-place.place bs c.loop-place.bounds.items c.loop-place-test.false c.loop-place.invariant.0 in
+    let is = turned_round c.loop-place.last_first.items c.reverse.new.self c.as_mut_slice.result.now c.from_vec.result c.loop-place.last_first.len c.as_mut_slice.ensures.value c.reverse.ensures.after c.as_mut_slice.ensures.len c.from_vec.ensures in
+    subst (λ (bs : List Bucket). AreMiniBuckets sizes (min c.args.limit joined_limit) c.args.cells 0 bs) (sym is)
+    (subst (λ (limit : ℕ). AreMiniBuckets sizes limit c.args.cells 0 bs) c.loop-place.invariant.2 end.3)

@@ -1,9 +1,9 @@
 use Rattle.std.proofs.Common.{◌++◌, List, sym, ap₂, subst, ◌∙◌}
 use Rattle.std.specs.List.{All}
 use Rattle.dcop_base.specs.Table.{CostTable}
+use Rattle.bucket_bounds.specs.Joining.{AreUncapped}
 use Rattle.bucket_bounds.specs.Made.{IsItem}
-use Rattle.bucket_bounds.specs.Parts.{AreUncapped}
-use Rattle.bucket_bounds.proofs.StepLaws.{come_items}
+use Rattle.bucket_bounds.proofs.MiniLaws.{come_items}
 use Rattle.bucket_bounds.proofs.bounds.next_bucket.Goals as goal
 
 pub bucket_with-requires-clause-came : goal.bucket_with-requires-clause-came

@@ -32,7 +32,7 @@ loop-table-preserved c =
           let new : Group = w.add_to.new.group in
           let adds : AddsTo sizes old t new = subst (λ (g : Group). AddsTo sizes g t new) (sym w.index-as_mut_slice-place.is) w.in_ok-add_to-in-Some.ensures in
           let now = ap (λ v. v.items) w.groups-is ∙ written groups w.as_mut_slice.result.now c.loop-table.groups.len place new w.as_mut_slice.ensures.value w.as_mut_slice.ensures.len in (
-            groups_widened sizes tables k t groups c.match-place_of.groups.items c.loop-table-test.true c.table-item.is over c.loop-table.invariant.0 c.args.limit place old new c.requires.limit inside found fits adds now,
+            groups_widened sizes c.args.limit tables k t groups c.match-place_of.groups.items c.loop-table-test.true c.table-item.is over c.loop-table.invariant.0 place old new c.requires.limit inside found fits adds now,
             duly_widened sizes c.args.limit tables k t groups c.match-place_of.groups.items c.loop-table-test.true c.table-item.is over c.loop-table.invariant.1 place old new inside found adds now,
           )
       | in-None+in_ok-group_of-in-None+in_ok-push-in-None w ↦
@@ -41,7 +41,7 @@ loop-table-preserved c =
           let full : All (IsTooWideFor sizes t.scope c.args.limit) groups =
           subst (λ (gs : List Group). All (IsTooWideFor sizes t.scope c.args.limit) gs) c.as_slice.ensures.value
           (subst (λ (vs : List ℕ). All (IsTooWideFor sizes vs c.args.limit) c.as_slice.result.now) scope w.in-None.ensures.full) in (
-            groups_opened sizes tables k t groups c.match-place_of.groups.items c.loop-table-test.true c.table-item.is over c.loop-table.invariant.0 g w.in_ok-group_of-in-None.ensures now,
+            groups_opened sizes c.args.limit tables k t groups c.match-place_of.groups.items c.loop-table-test.true c.table-item.is over c.loop-table.invariant.0 g w.in_ok-group_of-in-None.ensures now,
             duly_opened sizes c.args.limit tables k t groups c.match-place_of.groups.items c.loop-table-test.true c.table-item.is over c.loop-table.invariant.1 g c.loop-table.invariant.0.each full w.in_ok-group_of-in-None.ensures now,
           )
     ]

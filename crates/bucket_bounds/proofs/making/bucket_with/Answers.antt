@@ -1,28 +1,30 @@
-use Rattle.std.proofs.Common.{◌++◌, List, length, refl, sym, ap, ap₂, subst, ◌∙◌}
-use Rattle.dcop_base.specs.Table.{CostTable}
-use Rattle.bucket_bounds.specs.Parts.{AreShared, AreSentOf}
-use Rattle.bucket_bounds.specs.declared.bucket.Bucket.{Bucket}
-use Rattle.bucket_bounds.specs.declared.making.Made.{Made}
-use Rattle.bucket_bounds.proofs.PartLaws.{bucket_is, replaced_is}
+use Rattle.std.proofs.Common.{◌≡◌, true, ◌++◌, List, length, sym, ap, ap₂, subst, ◌∙◌}
+use Rattle.std.specs.List.{All}
+use Rattle.std.proofs.lemmas.List.Elements.{All-append}
+use Rattle.dcop_base.specs.Table.{CostTable, has}
+use Rattle.bucket_bounds.specs.Made.{IsItem}
+use Rattle.bucket_bounds.specs.MiniBuckets.{IsSentOf}
+use Rattle.bucket_bounds.specs.Parts.{AreParts}
+use Rattle.bucket_bounds.proofs.MiniLaws.{parts_items}
 use Rattle.bucket_bounds.proofs.making.bucket_with.Goals as goal
 
-pub returns-clause-made : goal.returns-clause-made
-returns-clause-made c =
-    let sizes = c.args.sizes.now in
-    let p = c.args.var in
-    let kept = c.in_ok-kept.kept in
-    let bucket : Bucket = record { tables = c.args.tables; came = c.args.came; sent = c.from_vec.result; fixed = kept.fixed; groups = c.len.result; replaced = kept.replaced } in
-    let made : Made = record { bucket = bucket; room = kept.room } in
-    bucket_is sizes p c.args.tables c.args.came c.in_ok-parts.parts.items c.args.room kept made c.requires.var c.requires.capped
-    (subst (λ (ts : List CostTable). AreShared sizes p ts c.in_ok-parts.parts.items) (ap₂ (λ (ts us : List CostTable). ts ++ us) c.as_slice.ensures c.as_slice-2.ensures) c.in_ok-parts.ensures.parts)
-    (subst (λ (ts : List CostTable). AreSentOf p ts c.args.room kept) c.as_slice-3.ensures.value c.in_ok-kept.ensures)
-    refl refl c.from_vec.ensures refl (c.len.ensures ∙ sym c.as_slice-3.ensures.len ∙ ap (λ (ts : List CostTable). length ts) c.as_slice-3.ensures.value) refl refl
+pub sent_of-requires : goal.sent_of-requires
+sent_of-requires c =
+    let parts : List CostTable = c.in_ok-parts.parts.items in
+    let are = subst (λ (ts : List CostTable). AreParts c.args.sizes.now c.args.limit ts parts) (ap₂ (λ (ts us : List CostTable). ts ++ us) c.as_slice.ensures c.as_slice-2.ensures) c.in_ok-parts.ensures.parts in
+    let items = parts_items c.args.sizes.now c.args.limit (c.args.tables ++ c.args.came) parts are c.args.var (All-append (IsItem c.args.sizes.now c.args.var) c.args.tables c.args.came c.requires.tables c.requires.came) in
+    subst (λ (ts : List CostTable). All (λ t. has t.scope c.args.var ≡ true) ts) (sym c.as_slice-3.ensures.value) (λ k d lt. (items k d lt).1.names)
 
-pub returns-clause-replaced : goal.returns-clause-replaced
-returns-clause-replaced c =
-    let sizes = c.args.sizes.now in
-    let p = c.args.var in
+pub returns-clause-mini : goal.returns-clause-mini
+returns-clause-mini c =
     let kept = c.in_ok-kept.kept in
-    replaced_is sizes p c.args.tables c.args.came c.in_ok-parts.parts.items c.args.room kept c.requires.tables c.requires.came
-    (subst (λ (ts : List CostTable). AreShared sizes p ts c.in_ok-parts.parts.items) (ap₂ (λ (ts us : List CostTable). ts ++ us) c.as_slice.ensures c.as_slice-2.ensures) c.in_ok-parts.ensures.parts)
-    (subst (λ (ts : List CostTable). AreSentOf p ts c.args.room kept) c.as_slice-3.ensures.value c.in_ok-kept.ensures)
+    let parts : List CostTable = c.in_ok-parts.parts.items in
+    record {
+      within = c.requires.var;
+      tables = c.requires.tables;
+      parts = parts;
+      parted = subst (λ (ts : List CostTable). AreParts c.args.sizes.now c.args.limit ts parts) (ap₂ (λ (ts us : List CostTable). ts ++ us) c.as_slice.ensures c.as_slice-2.ensures) c.in_ok-parts.ensures.parts;
+      groups = c.len.ensures ∙ sym c.as_slice-3.ensures.len ∙ ap (λ (ts : List CostTable). length ts) c.as_slice-3.ensures.value;
+      sent = subst (λ (ts : List CostTable). IsSentOf c.args.var c.args.room parts ts kept.fixed kept.replaced) (sym c.from_vec.ensures)
+          (subst (λ (ts : List CostTable). IsSentOf c.args.var c.args.room ts kept.sent.items kept.fixed kept.replaced) c.as_slice-3.ensures.value c.in_ok-kept.ensures.sent);
+    }

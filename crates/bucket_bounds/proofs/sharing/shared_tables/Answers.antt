@@ -2,12 +2,12 @@ use Rattle.std.proofs.Common.{◌≡◌, List, length, take, drop, ◌++◌, sym
 use Rattle.std.proofs.lemmas.Result.{IfOk-weaker}
 use Rattle.dcop_base.specs.Table.{CostTable}
 use Rattle.shared_costs.specs.Sharing.{IsSharing}
-use Rattle.bucket_bounds.specs.Parts.{AreShared}
-use Rattle.bucket_bounds.proofs.PartLaws.{rewritten, sharing_long, shared_is}
+use Rattle.bucket_bounds.proofs.MiniLaws.{sharing_long}
+use Rattle.bucket_bounds.proofs.PartLaws.{rewritten}
 use Rattle.bucket_bounds.proofs.sharing.shared_tables.Goals as goal
 
-pub returns-clause-shared : goal.returns-clause-shared
-returns-clause-shared c =
+pub returns : goal.returns
+returns c =
     let old : List CostTable = c.args.tables.items in
     let copies : List CostTable = c.in_ok-shared.shared.items in
     let new : List CostTable = c.share_all.new.tables in
@@ -15,7 +15,6 @@ returns-clause-shared c =
     let is : IsSharing c.args.sizes.now old new = subst (λ (ts : List CostTable). IsSharing c.args.sizes.now ts new) same c.in_ok-share_all.ensures in
     let copied : copies ≡ old = c.in_ok-shared.ensures ∙ c.as_slice.ensures.value in
     let long = ap (λ (ts : List CostTable). length ts) (sym c.as_mut_slice.ensures.value) ∙ c.as_mut_slice.ensures.len in
-    IfOk-weaker c.tables_of.result (λ t. t.items ≡ take c.in_ok-shared.shared.len (new ++ drop (length new) copies)) (λ t. AreShared c.args.sizes.now c.args.var old t.items)
-    (λ t e. subst (λ (ts : List CostTable). AreShared c.args.sizes.now c.args.var old ts)
-    (sym (e ∙ rewritten copies new c.in_ok-shared.shared.len long (sharing_long c.args.sizes.now old new is ∙ ap (λ (ts : List CostTable). length ts) (sym copied))))
-    (shared_is c.args.sizes.now c.args.var old new c.requires.depth is)) c.tables_of.ensures
+    IfOk-weaker c.tables_of.result (λ t. t.items ≡ take c.in_ok-shared.shared.len (new ++ drop (length new) copies)) (λ t. IsSharing c.args.sizes.now old t.items)
+    (λ t e. subst (λ (ts : List CostTable). IsSharing c.args.sizes.now old ts)
+    (sym (e ∙ rewritten copies new c.in_ok-shared.shared.len long (sharing_long c.args.sizes.now old new is ∙ ap (λ (ts : List CostTable). length ts) (sym copied)))) is) c.tables_of.ensures

@@ -1,4 +1,5 @@
 use Rattle.std.proofs.Common.{[], ◌∷◌, length, ap, arith, length-append}
+use Rattle.serve_clients.proofs.ConnectionLaws.{none_returned}
 use Rattle.serve_clients.proofs.ClientLaws.{standing, one_came}
 use Rattle.serve_clients.proofs.accept.accept_all.Goals as goal
 
@@ -17,3 +18,6 @@ loop-preserved g c =
       omega (arith, inv.5, c.in-Ok.ensures.misses.0),
       c.in-Ok.ensures.misses.1,
     )
+
+pub returns-in_err-peers-clause-returned : goal.returns-in_err-peers-clause-returned
+returns-in_err-peers-clause-returned g c = none_returned c.from_residual.result (g.L.Listener.waiting c.args.listener.now) (g.L.Listener.closed c.args.listener.now)

@@ -2,6 +2,7 @@ use Rattle.std.proofs.Common.{◌++◌, List, Option, map, sym, ap, ◌∙◌, a
 use Rattle.solve_serve.specs.declared.end.SessionEnd.{SessionEnd}
 use Rattle.serve_clients.specs.Sessions.{all_before, all_behind}
 use Rattle.serve_clients.specs.Clients.{connection, end_of}
+use Rattle.serve_clients.proofs.ConnectionLaws.{none_returned}
 use Rattle.serve_clients.proofs.ClientLaws.{fresh_peers}
 use Rattle.serve_clients.proofs.SessionLaws.{look_parts_back, miss_parts_back, have_served}
 use Rattle.serve_clients.proofs.clients.serve_with.Goals as goal
@@ -29,6 +30,9 @@ returns-clause-served g c =
     (g.L.Listener.waiting c.args.listener.now) (g.L.Listener.waiting c.give_all.new.listener) (g.L.Listener.closed c.args.listener.now) (g.L.Listener.closed c.give_all.new.listener)
     c.in_ok-peers.ensures.count c.in_ok-peers.ensures.new c.serve_peers.ensures.served
     (c.in_ok-peers.ensures.waiting ∙ ap (λ (w : Option (List (g.row.L-S.Denot × g.row.L-K.Denot))). all_before (map (λ p. connection p) ps) w) (sym given.waiting))
-    (given.closed ∙ ap (λ (w : Option (List (g.row.L-S.Denot × g.row.L-K.Denot))). all_behind w (map (λ q. connection q) qs)) c.accept_all.ensures.closed)
+    (given.closed ∙ ap (λ (w : Option (List (g.row.L-S.Denot × g.row.L-K.Denot))). all_behind w (map (λ q. connection q) qs)) c.in_ok-peers.ensures.closed)
     (given.ends ∙ ap (λ (es : List SessionEnd). es ++ map (λ q. end_of q) qs) c.in_ok-ends.ensures.items)
     (omega (arith, c.counted-looks.ensures, given.looks, c.in_ok-peers.ensures.looks.1))
+
+pub returns-in_err-cache-clause-returned : goal.returns-in_err-cache-clause-returned
+returns-in_err-cache-clause-returned g c = none_returned c.from_residual.result (g.L.Listener.waiting c.args.listener.now) (g.L.Listener.closed c.args.listener.now)

@@ -18,7 +18,8 @@ loop-peer-preserved g c =
       given.waiting ∙ inv.1,
       given.faults ∙ inv.2,
       omega (arith, inv.3, given.lent, one),
-      omega (arith, inv.4, given.capacity, one, c.give_one.new.ends.ok.0, c.loop-peer.ends.ok.0, ap length given.ends, length-append c.loop-peer.ends.items (end_of c.in-Some.peer ∷ [])),
+      omega (arith, inv.4, given.lent, one),
+      omega (arith, inv.5, given.capacity, one, c.give_one.new.ends.ok.0, c.loop-peer.ends.ok.0, ap length given.ends, length-append c.loop-peer.ends.items (end_of c.in-Some.peer ∷ [])),
     )
 
 pub returns-clause-closed : goal.returns-clause-closed

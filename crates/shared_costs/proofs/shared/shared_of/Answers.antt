@@ -39,4 +39,4 @@ returns c =
     let sharing = subst (λ (ts : List CostTable). IsSharing c.args.sizes.now ts new) c.as_mut_slice.ensures.value c.in_ok-share_all.ensures in
     let long : length new ≡ c.in_ok-shared.shared.len = omega (arith, c.share_all.auto.tables, c.as_mut_slice.ensures.len) in
     let depths = subst (λ (ts : List CostTable). AreByDepth c.args.sizes.now ts [] c.in_ok-depths.depths) (take_at new (drop (length new) shared) c.in_ok-shared.shared.len long) c.in_ok-depths.ensures in
-    λ joints. shared-costs c.args.sizes.now c.args.tables.now joints shared new c.scale_of-scale.result c.in_ok-depths.depths c.scale_of-scale.ensures.some c.scale_of-scale.ensures.within c.in_ok-shared.ensures sharing depths
+    λ joints. shared-costs c.args.sizes.now c.args.tables.now joints shared new c.scale_of-scale.result c.in_ok-depths.depths c.scale_of-scale.ensures.power c.scale_of-scale.ensures.some c.scale_of-scale.ensures.within c.in_ok-shared.ensures sharing depths

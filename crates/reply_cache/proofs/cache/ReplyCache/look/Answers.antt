@@ -11,4 +11,4 @@ invariant_of-self-2 g c =
     )
 
 pub returns-clause-reply : goal.returns-clause-reply
-returns-clause-reply g c = reply_found g.M.Maker.is_reply _ c.args.key.now c.in_ok-found.found _ c.self.invariant.0 c.in_ok-found.ensures c.in_ok-key.ensures
+returns-clause-reply g c = reply_found g.M.Maker.is_reply c.args.key.now c.in_ok-found.found _ c.self.invariant.0 c.in_ok-found.ensures
