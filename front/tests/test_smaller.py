@@ -57,7 +57,7 @@ def likely(problem: Problem) -> Folding:
 def crowded(seed: int, goal: str = "min") -> Problem:
     """Meetings of which some must not be at once, and some wish for one slot."""
     draw = random.Random(seed)
-    count, size = 7, 4
+    count, size = 6, 3
     tables = [Table((at,), tuple(0 if value == 0 else draw.randrange(1, 5) for value in range(size))) for at in range(0, count, 2)]
     for pair in itertools.combinations(range(count), 2):
         if draw.random() < 0.5:
@@ -169,7 +169,7 @@ class Chain(Case):
 
     def test_the_answer_is_the_best_and_says_what_it_rests_on(self):
         rests, methods = set(), set()
-        for seed, goal in itertools.product((0, 1, 8, 10), ("min", "max")):
+        for seed, goal in itertools.product((0, 1, 5), ("min", "max")):
             problem = crowded(seed, goal)
             answer = self.solved(problem)
             values = [int(value) for value in answer["values"].values()]
@@ -201,7 +201,7 @@ class Chain(Case):
 
     @unittest.skipUnless(REAL and SEARCH, "no built dcop_search")
     def test_the_real_programs_answers_are_the_best_of_all_assignments(self):
-        for seed, goal in itertools.product(range(4, 12), ("min", "max")):
+        for seed, goal in itertools.product(range(12), ("min", "max")):
             problem = crowded(seed, goal)
             more = {"fake": "", "program": REAL, "search": SEARCH, "order": ORDER or ""}
             with mock.patch.object(solving.Solver, "by_dpop", without_whole(solving.Solver.by_dpop)):
