@@ -140,7 +140,7 @@ most_first budget count before nodes None some room_left le = omega arith
 most_first budget count before nodes (Some best) some (inl e) le = absurd (let none = e in cc)
 most_first budget count before nodes (Some best) some (inr lt) le = omega arith
 
-none_not_some : (best : Option ℕ) (n : ℕ) → best ≡ None → best ≡ Some n → ⊥
+pub none_not_some : (best : Option ℕ) (n : ℕ) → best ≡ None → best ≡ Some n → ⊥
 none_not_some best n e h = let both = sym e ∙ h in cc
 
 module _ (sizes : List ℕ) (buckets : List Bucket) (rules : Rules) (grounds : AreGrounds sizes rules.scale buckets) where

@@ -6,3 +6,4 @@ mod DescentLaws
 mod FirstLaws
 mod ScaleLaws
 mod SearchLaws
+mod VisitLaws

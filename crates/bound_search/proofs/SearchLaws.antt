@@ -1,5 +1,5 @@
 -- What a search comes to, in the problem's own costs.
-use Rattle.std.proofs.Common.{◌≡◌, ℕ, ◌+◌, ◌*◌, ◌≤◌, true, false, List, length, get_or, Option, Some, None, refl, sym, ap, subst, ◌∙◌, inl, inr, arith}
+use Rattle.std.proofs.Common.{◌≡◌, ℕ, ◌+◌, ◌*◌, ◌≤◌, true, false, List, length, get_or, Option, Some, None, refl, sym, ap, ap₂, subst, ◌∙◌, inl, inr, arith}
 use Rattle.std.proofs.lemmas.Bool.{cases_Bool}
 use Rattle.dcop_base.specs.Limits.{amount_limit}
 use Rattle.dcop_base.specs.Table.{CostTable}
@@ -18,6 +18,7 @@ use Rattle.bound_search.specs.Searched.{IsSearched, most_nodes}
 use Rattle.bound_search.specs.Grounds.{AreGrounds, scaled_cost}
 use Rattle.bound_search.specs.Descent.{IsRoom, IsStanding}
 use Rattle.bound_search.specs.First.{HasSearched}
+use Rattle.bound_search.specs.Visits.{Far, far, HasVisited}
 use Rattle.bound_search.specs.declared.known.Known.{Known}
 use Rattle.bound_search.specs.declared.progress.Progress.{Progress}
 use Rattle.bound_search.specs.declared.rules.Rules.{Rules}
@@ -87,10 +88,11 @@ module _ (p : Dcop) (shared : SharedCosts) (buckets : List Bucket) (problem : Is
   -- a search of the problem
   pub searched_is : (error budget : ℕ) (before known : Known) (found : List ℕ) (old new : Progress) (ended : Ended) → IsStanding p.sizes buckets (record { scale = shared.scale; error = error; budget = budget }) found new
       → HasSearched p.sizes buckets (record { scale = shared.scale; error = error; budget = budget }) old new
+      → HasVisited p.sizes buckets (record { scale = shared.scale; error = error; budget = budget }) (far old.best old.nodes) (far new.best new.nodes)
       → before.best ≡ old.best → before.found ≡ old.found → before.nodes ≡ old.nodes → old.lower ≡ 18446744073709551615
       → known.best ≡ new.best → known.found ≡ new.found → known.nodes ≡ new.nodes → known.values ≡ found → ended.lower ≡ unscaled shared.scale new.lower → ended.spent ≡ new.spent
-      → IsSearched p buckets error budget before known ended
-  searched_is error budget before known found old new ended standing searched old_best old_found old_nodes top best is_found nodes values lower spent =
+      → IsSearched p shared.scale buckets error budget before known ended
+  searched_is error budget before known found old new ended standing searched visits old_best old_found old_nodes top best is_found nodes values lower spent =
       let further = searched.further in
       let within = lower_within (record { scale = shared.scale; error = error; budget = budget }) old new searched in
       record {
@@ -128,4 +130,6 @@ module _ (p : Dcop) (shared : SharedCosts) (buckets : List Bucket) (problem : Is
         effort = λ none first. (let least = searched.effort (sym old_found ∙ none) (sym is_found ∙ first) in omega (arith, least, nodes, old_nodes));
         straight = λ exact few. (let straight = searched.straight exact (omega (arith, few, old_nodes)) in
             record { whole = spent ∙ straight.0; few = omega (arith, straight.1, nodes, old_nodes) });
+        visits = subst (λ (s : Far). HasVisited p.sizes buckets (record { scale = shared.scale; error = error; budget = budget }) s (far known.best known.nodes)) (sym (ap₂ far old_best old_nodes))
+            (subst (λ (s : Far). HasVisited p.sizes buckets (record { scale = shared.scale; error = error; budget = budget }) (far old.best old.nodes) s) (sym (ap₂ far best nodes)) visits);
       }

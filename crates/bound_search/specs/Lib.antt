@@ -4,3 +4,4 @@ pub mod First
 pub mod Grounds
 pub mod Known
 pub mod Searched
+pub mod Visits

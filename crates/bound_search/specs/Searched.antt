@@ -5,6 +5,7 @@ use Rattle.bucket_bounds.specs.Exact.{AreExact}
 use Rattle.bucket_bounds.specs.declared.bucket.Bucket.{Bucket}
 use Rattle.bucket_bounds.specs.Bounds.{tables_in}
 use Rattle.bound_search.specs.Known.{IsKnown, KnowsMore}
+use Rattle.bound_search.specs.Visits.{far, HasVisited}
 use Rattle.bound_search.specs.declared.known.Known.{Known}
 use Rattle.bound_search.specs.declared.searching.Ended.{Ended}
 
@@ -42,8 +43,8 @@ pub record GoesStraight (count : ℕ) (old new : Known) (ended : Ended) : Type 0
   pub whole : ended.spent ≡ false
   pub few : new.nodes ≤ old.nodes + count
 
--- a search of a problem, by these buckets: what is known before and afterwards, and how it ended
-pub record IsSearched (p : Dcop) (buckets : List Bucket) (error budget : ℕ) (old new : Known) (ended : Ended) : Type 0 where
+-- a search of a problem, by these buckets of costs with this scale: what is known before and afterwards, and how it ended
+pub record IsSearched (p : Dcop) (scale : ℕ) (buckets : List Bucket) (error budget : ℕ) (old new : Known) (ended : Ended) : Type 0 where
   pub known : IsKnown p new
   pub more : KnowsMore old new
   pub found : old.best ≡ None → new.found ≡ true
@@ -54,3 +55,4 @@ pub record IsSearched (p : Dcop) (buckets : List Bucket) (error budget : ℕ) (o
   pub nodes : new.nodes ≤ most_nodes budget (length p.sizes) old.best old.nodes
   pub tree : new.nodes ≤ old.nodes + tree_nodes p.sizes
   pub straight : AreExact p.sizes (tables_in buckets) buckets → old.nodes + length p.sizes ≤ budget → GoesStraight (length p.sizes) old new ended
+  pub visits : HasVisited p.sizes buckets (record { scale = scale; error = error; budget = budget }) (far old.best old.nodes) (far new.best new.nodes)

@@ -8,6 +8,7 @@ ghost use Rattle.shared_costs.specs.Values.{AgreeBelow};
 ghost use Rattle.bound_search.specs.Estimate.{estimate};
 ghost use Rattle.bound_search.specs.Grounds.{AreGrounds};
 ghost use Rattle.bound_search.specs.Descent.{HasDescended, IsOpened, IsRoom, IsStanding};
+ghost use Rattle.bound_search.specs.Visits.{far, Visits};
 
 use crate::progress::Progress;
 use crate::room::room_of;
@@ -43,6 +44,8 @@ pub(crate) fn descend(
     ensures standing { IsStanding sizes.now buckets.now rules found.new progress.new }
     ensures descended { HasDescended sizes.now buckets.now rules depth least
         (slice_index values.old) progress.old progress.new }
+    ensures visits { Visits (drop depth sizes.now) buckets.now rules depth (slice_index values.old)
+        (far progress.old.best progress.old.nodes) (far progress.new.best progress.new.nodes) }
 {
     if depth == sizes.len() {
         found.copy_from_slice(values);

@@ -11,6 +11,7 @@ ghost use Rattle.bound_search.specs.Descent.{IsStanding};
 ghost use Rattle.bound_search.specs.First.{HasSearched, constants_cost, first_sum};
 ghost use Rattle.bound_search.specs.Known.{IsKnown};
 ghost use Rattle.bound_search.specs.Searched.{IsSearched};
+ghost use Rattle.bound_search.specs.Visits.{far, HasVisited};
 
 use crate::descent::descend;
 use crate::known::Known;
@@ -60,8 +61,8 @@ pub fn search(
     requires bounds { AreBounds problem.now.sizes shared.now.depths buckets.now }
     requires known { IsKnown problem.now known.old }
     requires few { known.old.nodes ≤ 4611686018427387904 }
-    ensures { IfOk result (IsSearched problem.now buckets.now limits.error limits.budget
-        known.old known.new) }
+    ensures { IfOk result (IsSearched problem.now shared.now.scale buckets.now limits.error
+        limits.budget known.old known.new) }
 {
     problem_is_whole(problem);
     let rules = Rules {
@@ -111,6 +112,8 @@ fn search_from_top(
     requires standing { IsStanding sizes.now buckets.now rules found.old progress.old }
     ensures standing { OnOk result (IsStanding sizes.now buckets.now rules found.new progress.new) }
     ensures searched { OnOk result (HasSearched sizes.now buckets.now rules progress.old progress.new) }
+    ensures visits { OnOk result (HasVisited sizes.now buckets.now rules
+        (far progress.old.best progress.old.nodes) (far progress.new.best progress.new.nodes)) }
 {
     let mut values = vec![in alloc; Val(0); sizes.len()]?;
     let mut rows = vec![in alloc; 0; total_of(sizes)]?;

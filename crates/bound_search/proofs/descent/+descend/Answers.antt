@@ -1,6 +1,7 @@
-use Rattle.std.proofs.Common.{◌≡◌, ℕ, ◌+◌, ◌<◌, length, get_or, set, sym, ap, subst, ◌∙◌, arith}
-use Rattle.std.proofs.lemmas.List.{get_or-set_same}
+use Rattle.std.proofs.Common.{◌≡◌, ℕ, ◌+◌, ◌<◌, List, length, get_or, set, drop, sym, ap, subst, ◌∙◌, arith}
+use Rattle.std.proofs.lemmas.List.{drop_all, get_or-set_same}
 use Rattle.std.proofs.lemmas.List.Elements.{length_all_zip}
+use Rattle.dcop_base.specs.Values.{with_own}
 use Rattle.shared_costs.specs.Values.{AgreeBelow}
 use Rattle.bound_search.specs.Estimate.{estimate}
 use Rattle.bound_search.specs.Descent.{HasDescended}
@@ -8,6 +9,8 @@ use Rattle.bound_search.specs.declared.progress.Progress.{Progress}
 use Rattle.bound_search.proofs.RowLaws.{values_of, within_set, agree_set, agree_more, agree_less, row_agrees, sum_left}
 use Rattle.bound_search.proofs.EstimateLaws.{estimate_agrees}
 use Rattle.bound_search.proofs.DescentLaws.{visiting_start, visiting_next, visiting_end, descent_taken, standing_taken, standing_opened, standing_stopped, few_left, entry_is}
+use Rattle.bound_search.specs.Visits.{far, Visits}
+use Rattle.bound_search.proofs.VisitLaws.{visits_taken, visits_start, visits_next, visits_end}
 use Rattle.bound_search.proofs.descent.+descend.Goals as goal
 
 pub returns-then-depth-sizes-clause-standing : goal.returns-then-depth-sizes-clause-standing
@@ -25,6 +28,16 @@ returns-then-depth-sizes-clause-descended t c =
     subst (λ (n : ℕ). HasDescended c.args.sizes.now c.args.buckets.now c.args.rules n c.args.least value c.args.progress.now c.take.new.progress) (sym c.if-depth-sizes.true)
     (descent_taken c.args.sizes.now c.args.buckets.now c.args.rules c.requires.grounds c.args.least value c.args.progress.now c.take.new.progress (values_of c.args.sizes.now c.args.values.now c.requires.within) is c.requires.room c.requires.standing.room
     c.take.ensures.best c.take.ensures.found c.take.ensures.nodes c.take.ensures.lower c.take.ensures.spent c.take.ensures.room)
+
+pub returns-then-depth-sizes-clause-visits : goal.returns-then-depth-sizes-clause-visits
+returns-then-depth-sizes-clause-visits t c =
+    let value : ℕ → ℕ = λ v. get_or c.args.values.now v 0 in
+    let is : c.args.least ≡ estimate (length c.args.sizes.now) c.args.buckets.now value = c.requires.least ∙ ap (λ (n : ℕ). estimate n c.args.buckets.now value) c.if-depth-sizes.true in
+    let old = far c.args.progress.now.best c.args.progress.now.nodes in
+    let new = far c.take.new.progress.best c.take.new.progress.nodes in
+    subst (λ (n : ℕ). Visits (drop n c.args.sizes.now) c.args.buckets.now c.args.rules n value old new) (sym c.if-depth-sizes.true)
+    (subst (λ (left : List ℕ). Visits left c.args.buckets.now c.args.rules (length c.args.sizes.now) value old new) (sym (drop_all (length c.args.sizes.now) c.args.sizes.now (omega arith)))
+    (visits_taken c.args.sizes.now c.args.buckets.now c.args.rules c.requires.grounds c.args.least value c.args.progress.now c.take.new.progress (values_of c.args.sizes.now c.args.values.now c.requires.within) is c.take.ensures.best c.take.ensures.nodes))
 
 pub bounds-values-depth : goal.bounds-values-depth
 bounds-values-depth t c =
@@ -48,12 +61,14 @@ visits-init t c =
     let size = c.requires.grounds.sized c.args.depth 0 inside in
     let value : ℕ → ℕ = λ v. get_or c.args.values.now v 0 in
     let long : length c.split_at_mut-row.result.0.now ≡ get_or c.args.sizes.now c.args.depth 0 = c.split_at_mut-row.ensures.front_len ∙ c.from.ensures in
+    let each : (a : ℕ) → a < length c.fill_estimates.new.row → get_or c.fill_estimates.new.row a 0 ≡ estimate (c.args.depth + 1) c.args.buckets.now (with_own c.args.depth a value) =
+    λ a lt. c.fill_estimates.ensures a (omega (arith, lt, c.fill_estimates.auto.row)) ∙ row_agrees c.args.sizes.now c.args.rules.scale c.args.buckets.now c.requires.grounds c.args.values.now c.args.depth a 0 inside in
     record {
       within = within_set c.args.sizes.now c.args.values.now c.args.depth 0 c.requires.within (omega (arith, size.0));
       same = agree_set c.args.values.now c.args.depth 0;
       standing = c.requires.standing;
-      visiting = visiting_start c.args.sizes.now c.args.buckets.now c.args.rules c.requires.grounds c.args.depth c.args.least value c.fill_estimates.new.row c.args.progress.now inside (values_of c.args.sizes.now c.args.values.now c.requires.within) c.requires.least (c.fill_estimates.auto.row ∙ long)
-          (λ a lt. c.fill_estimates.ensures a (omega (arith, lt, c.fill_estimates.auto.row)) ∙ row_agrees c.args.sizes.now c.args.rules.scale c.args.buckets.now c.requires.grounds c.args.values.now c.args.depth a 0 inside);
+      visiting = visiting_start c.args.sizes.now c.args.buckets.now c.args.rules c.requires.grounds c.args.depth c.args.least value c.fill_estimates.new.row c.args.progress.now inside (values_of c.args.sizes.now c.args.values.now c.requires.within) c.requires.least (c.fill_estimates.auto.row ∙ long) each;
+      turned = visits_start c.args.sizes.now c.args.buckets.now c.args.rules c.requires.grounds c.args.depth value c.fill_estimates.new.row c.args.progress.now inside (values_of c.args.sizes.now c.args.values.now c.requires.within) (c.fill_estimates.auto.row ∙ long) each;
       rest = omega (arith, sum_left c.args.sizes.now c.args.depth inside, c.requires.rows, c.split_at_mut-row.ensures.back_len, c.from.ensures);
     }
 
@@ -65,6 +80,12 @@ returns-then-not-opens-clause-descended t c =
     let inside : c.args.depth < length c.args.sizes.now = omega (arith, c.if-depth-sizes.false, c.requires.depth) in
     visiting_end c.args.sizes.now c.args.buckets.now c.args.rules c.requires.grounds c.args.depth c.args.least (λ v. get_or c.args.values.now v 0) c.visits.row c.args.progress.now c.visits.progress c.opens.new.progress c.least_of-value.result.0 c.least_of-value.result.1 inside c.requires.room c.visits.invariant.standing.room
     c.least_of-value.ensures.place c.least_of-value.ensures.entry c.least_of-value.ensures.least c.visits.invariant.visiting c.if-not-opens.ensures
+
+pub returns-then-not-opens-clause-visits : goal.returns-then-not-opens-clause-visits
+returns-then-not-opens-clause-visits t c =
+    let inside : c.args.depth < length c.args.sizes.now = omega (arith, c.if-depth-sizes.false, c.requires.depth) in
+    visits_end c.args.sizes.now c.args.buckets.now c.args.rules c.requires.grounds c.args.depth c.args.least (λ v. get_or c.args.values.now v 0) c.visits.row c.args.progress.now c.visits.progress c.opens.new.progress c.least_of-value.result.0 c.least_of-value.result.1 inside (values_of c.args.sizes.now c.args.values.now c.requires.within) c.visits.invariant.standing.room
+    c.least_of-value.ensures.place c.least_of-value.ensures.entry c.least_of-value.ensures.least c.visits.invariant.visiting c.if-not-opens.ensures c.visits.invariant.turned
 
 pub bounds-values-depth-in-visits : goal.bounds-values-depth-in-visits
 bounds-values-depth-in-visits t c =
@@ -129,5 +150,7 @@ visits-preserved t c =
       standing = c.descend.ensures.standing;
       visiting = visiting_next c.args.sizes.now c.args.buckets.now c.args.rules c.requires.grounds c.args.depth c.args.least value behind c.visits.row c.args.progress.now c.visits.progress c.opens.new.progress c.descend.new.progress a c.least_of-value.result.1 inside c.visits.invariant.standing.room.counted
           c.least_of-value.ensures.place c.least_of-value.ensures.entry c.least_of-value.ensures.least c.visits.invariant.visiting c.if-not-opens.ensures agree own c.descend.ensures.descended;
+      turned = visits_next c.args.sizes.now c.args.buckets.now c.args.rules c.requires.grounds c.args.depth c.args.least value behind c.visits.row c.args.progress.now c.visits.progress c.opens.new.progress c.descend.new.progress a c.least_of-value.result.1 inside (values_of c.args.sizes.now c.args.values.now c.requires.within) c.visits.invariant.standing.room
+          c.least_of-value.ensures.place c.least_of-value.ensures.entry c.least_of-value.ensures.least c.visits.invariant.visiting c.if-not-opens.ensures agree own c.descend.ensures.visits c.visits.invariant.turned;
       rest = omega (arith, c.visits.invariant.rest, c.descend.auto.rows);
     }

@@ -5,6 +5,7 @@ use Rattle.shared_costs.specs.Values.{AgreeBelow}
 use Rattle.bound_search.specs.Descent.{IsStanding}
 use Rattle.bound_search.proofs.DescentLaws.{IsVisiting}
 use Rattle.bound_search.proofs.TreeLaws.{to_visit}
+use Rattle.bound_search.proofs.VisitLaws.{IsTurned}
 use Rattle.bound_search.proofs.descent.+descend.Given as goal
 
 abbrev pub decreases-descend : goal.decreases-descend
@@ -19,5 +20,6 @@ invariant-visits l = record {
   same : AgreeBelow l.depth (slice_index l.fn.values) (slice_index l.values);
   standing : IsStanding l.sizes l.buckets l.rules l.found l.progress;
   visiting : IsVisiting l.sizes l.buckets l.rules l.depth l.least (slice_index l.fn.values) l.row l.fn.progress l.progress;
+  turned : IsTurned l.sizes l.buckets l.rules l.depth (slice_index l.fn.values) l.row l.fn.progress l.progress;
   rest : sum (drop (l.depth + 1) l.sizes) ≤ length l.rest;
 }

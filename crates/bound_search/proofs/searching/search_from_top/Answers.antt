@@ -1,6 +1,7 @@
 use Rattle.std.proofs.Common.{ℕ, List, get_or, refl, sym, subst, ◌∙◌}
 use Rattle.dcop_base.specs.Table.{AreWithin}
 use Rattle.bound_search.proofs.FirstLaws.{first_is, first_within, zeros_are_values, searched_none}
+use Rattle.bound_search.proofs.VisitLaws.{visited_none, visited_all}
 use Rattle.bound_search.proofs.searching.search_from_top.Goals as goal
 
 pub first_estimate-first-requires : goal.first_estimate-first-requires
@@ -9,6 +10,14 @@ first_estimate-first-requires c = record { within = first_within c.args.sizes.no
 pub returns-then-first-progress-clause-searched : goal.returns-then-first-progress-clause-searched
 returns-then-first-progress-clause-searched c =
     searched_none c.args.sizes.now c.args.buckets.now c.args.rules c.requires.grounds c.first_estimate-first.result c.args.progress.now _ c.first_estimate-first.ensures c.if-first-progress.true c.requires.standing.room c.requires.new.0 c.requires.new.1 refl
+
+pub returns-then-first-progress-clause-visits : goal.returns-then-first-progress-clause-visits
+returns-then-first-progress-clause-visits c =
+    visited_none c.args.sizes.now c.args.buckets.now c.args.rules c.requires.grounds c.first_estimate-first.result c.args.progress.now _ c.first_estimate-first.ensures c.if-first-progress.true c.requires.standing.room refl
+
+pub returns-clause-visits : goal.returns-clause-visits
+returns-clause-visits c =
+    visited_all c.args.sizes.now c.args.buckets.now c.args.rules c.requires.grounds (λ v. get_or c.as_mut_slice.result.now v 0) c.args.progress.now c.descend.new.progress c.descend.ensures.visits
 
 pub descend-requires-clause-within : goal.descend-requires-clause-within
 descend-requires-clause-within c =

@@ -1,0 +1,48 @@
+-- What a search visits, value by value, and how many nodes that are.
+use Rattle.std.specs.Prelude.{◌≡◌, ℕ, ◌+◌, ◌*◌, ◌<◌, ◌⊎◌, List, [], ◌∷◌, Option, Some, None}
+use Rattle.std.specs.List.{range_with_len}
+use Rattle.std.specs.List.Sorted.{IsPermutation, IsNonDecreasingBy}
+use Rattle.dcop_base.specs.Values.{with_own}
+use Rattle.bucket_bounds.specs.declared.bucket.Bucket.{Bucket}
+use Rattle.bound_search.specs.Estimate.{estimate, IsPassedOver}
+use Rattle.bound_search.specs.Grounds.{scaled_cost}
+use Rattle.bound_search.specs.declared.rules.Rules.{Rules}
+
+-- how far a search has come: what a better assignment costs less than, and how many nodes were visited
+pub record Far : Type 0 where
+  pub best : Option ℕ
+  pub nodes : ℕ
+
+-- this is known, and so many nodes were visited
+abbrev pub far : Option ℕ → ℕ → Far
+far best nodes = record { best = best; nodes = nodes }
+
+-- a value with this estimate is a node: it is not passed over, and nothing is known yet or the budget is not reached
+abbrev pub IsNode : Rules → ℕ → Far → Type 0
+IsNode rules f old = (¬ IsPassedOver rules.scale rules.error old.best f) × ((old.best ≡ None) ⊎ (old.nodes < rules.budget))
+
+-- a value with this estimate has its turn: it is a node, which is counted, and then what is behind it is searched; or it is none, and nothing is visited
+abbrev pub IsTurn : Rules → ℕ → (Far → Far → Type 0) → Far → Far → Type 0
+IsTurn rules f Behind old new = (IsNode rules f old × Behind (far old.best (old.nodes + 1)) new) ⊎ ((¬ IsNode rules f old) × (new ≡ old))
+
+-- these values have their turns, one after the other
+abbrev pub AreTurns : Rules → (ℕ → ℕ) → (ℕ → Far → Far → Type 0) → List ℕ → Far → Far → Type 0
+AreTurns rules f Behind [] old new = new ≡ old
+AreTurns rules f Behind (a ∷ later) old new = (mid : Far) × (IsTurn rules (f a) (Behind a) old mid) × (AreTurns rules f Behind later mid new)
+
+-- each value of a variable with this size has one turn, in ascending order of the estimates
+pub record VisitsEach (rules : Rules) (f : ℕ → ℕ) (size : ℕ) (Behind : ℕ → Far → Far → Type 0) (old new : Far) : Type 0 where
+  pub order : List ℕ
+  pub each : IsPermutation (range_with_len 0 size) order
+  pub ascending : IsNonDecreasingBy f order
+  pub turns : AreTurns rules f Behind order old new
+
+-- what is visited from this depth on, behind these values of the variables before, where the others have these sizes: the values of the next one, and behind each node what is visited from the next depth on; with no variable left the assignment becomes the best known one
+abbrev pub Visits : List ℕ → List Bucket → Rules → ℕ → (ℕ → ℕ) → Far → Far → Type 0
+Visits [] buckets rules depth value old new = (cost : ℕ) × (scaled_cost buckets value ≡ rules.scale * cost) × (new ≡ far (Some cost) old.nodes)
+Visits (size ∷ sizes) buckets rules depth value old new =
+    VisitsEach rules (λ a. estimate (depth + 1) buckets (with_own depth a value)) size (λ a before after. Visits sizes buckets rules (depth + 1) (with_own depth a value) before after) old new
+
+-- a whole search: the estimate at depth 0 is passed over, and nothing is visited; or it goes from the first variable on
+abbrev pub HasVisited : List ℕ → List Bucket → Rules → Far → Far → Type 0
+HasVisited sizes buckets rules old new = (IsPassedOver rules.scale rules.error old.best (estimate 0 buckets (λ v. 0)) × (new ≡ old)) ⊎ (Visits sizes buckets rules 0 (λ v. 0) old new)
