@@ -5,10 +5,13 @@ from __future__ import annotations
 import os
 import shutil
 import subprocess
+import threading
 import time
 from collections.abc import Callable
+from contextlib import suppress
 from dataclasses import dataclass
 from pathlib import Path
+from typing import IO
 
 from .problem import Trouble
 
@@ -225,16 +228,25 @@ def end(process: subprocess.Popen[bytes]) -> None:
 def ended(
     process: subprocess.Popen[bytes], given: bytes | None, until: float | None, tick: Callable[[], None] | None
 ) -> bytes | None:
-    """What a program prints until it ends; None where its time is over first."""
+    """What a program prints until it ends; None where its time is over first. It is given its text by a thread of its own: `communicate`
+    gives no more of it once its time was over before all was taken."""
+    stdin, process.stdin = process.stdin, None
+    if stdin is not None:
+        threading.Thread(target=give, args=(stdin, given or b""), daemon=True).start()
     while True:
         left = None if until is None else max(0.0, until - time.monotonic())
         if tick:
             left = TICK if left is None else min(left, TICK)
         try:
-            return process.communicate(given, timeout=left)[0]
+            return process.communicate(timeout=left)[0]
         except subprocess.TimeoutExpired:
-            given = None
             if until is not None and time.monotonic() >= until:
                 return None
             if tick:
                 tick()
+
+
+def give(stdin: IO[bytes], text: bytes) -> None:
+    """Gives a program its text, as far as it takes it."""
+    with suppress(OSError), stdin:
+        stdin.write(text)

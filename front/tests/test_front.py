@@ -164,6 +164,16 @@ class Solving(Case):
         self.front("solve", "--time", "300ms", str(PROBLEMS / "tracking.dcop"), program=script)
         self.assertEqual(Path(mark).read_text(), "ended\n")
 
+    def test_a_program_that_takes_its_text_late_gets_all_of_it(self):
+        script = self.file("late", "#!/bin/sh\nsleep 0.6\nexec wc -c\n")
+        os.chmod(script, 0o755)
+        ticks: list[int] = []
+        answer = programs.run("dcop", [script], "x" * 10**6, time.monotonic() + 60, lambda: ticks.append(1))
+        self.assertEqual((answer.text.strip(), answer.status, len(ticks) > 0), ("1000000", 0, True))
+        none = self.file("none", "#!/bin/sh\necho none\n")
+        os.chmod(none, 0o755)
+        self.assertEqual(programs.run("dcop", [none], "x" * 10**6, None).text, "none\n")
+
     def test_what_was_checked_without_proofs_is_told_as_such(self):
         pair, link = str(PROBLEMS / "pair.dcop"), self.file("dcop", "")
         script = self.file("dcop", f"#!/bin/sh\nexec {FAKE} \"$@\"\n")
