@@ -98,11 +98,12 @@ class Cluster:
         future.release()
         return Done(task.number, told.get("result"), told.get("fault"), told.get("where", ""))
 
-    def later(self, future: Any) -> None:
-        """A result that is lost, and made anew, is asked for again, as long as the scheduler is there."""
+    def later(self, future: Any) -> Done | None:
+        """Nothing yet: a result that is lost, and made anew, is asked for again, as long as the scheduler is there."""
         if self.client.status != "running":
             raise Gone(self.address) from None
         self.ready.put(future)
+        return None
 
     def close(self) -> None:
         """Lets go of what is under way. Programs that run on workers end by themselves, at their time limit at the latest."""
