@@ -7,6 +7,7 @@ from __future__ import annotations
 
 import os
 import re
+import shlex
 import shutil
 import stat
 import subprocess
@@ -53,13 +54,8 @@ def make(root: Path) -> None:
             (root / name).symlink_to(f"usr/{name}")
     listed = subprocess.run(["dpkg-query", "--listfiles", *found.values()], capture_output=True, text=True, check=True).stdout
     there = sorted({line[1:] for line in listed.splitlines() if line.startswith("/") and len(line) > 2 and os.path.lexists(line)})
-    packed = subprocess.Popen(["tar", "-C", "/", "--no-recursion", "-cf", "-", "-T", "-"], stdin=subprocess.PIPE, stdout=subprocess.PIPE)
-    unpacked = subprocess.Popen(["tar", "-C", str(root), "--keep-directory-symlink", "-xpf", "-"], stdin=packed.stdout)
-    assert packed.stdin
-    with packed.stdin as names_in:
-        names_in.write("\n".join(there).encode())
-    if unpacked.wait() or packed.wait():
-        raise OSError("the files of the packages could not be copied")
+    copied = f"set -o pipefail; tar -C / --no-recursion -cf - -T - | tar -C {shlex.quote(str(root))} --keep-directory-symlink -xpf -"
+    subprocess.run(["bash", "-c", copied], input="\n".join(there), text=True, check=True)
     for name in ("passwd", "group"):
         shutil.copy(root / "usr/share/base-passwd" / f"{name}.master", root / "etc" / name)
     for name in ("null", "zero", "urandom"):
