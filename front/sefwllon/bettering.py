@@ -1,5 +1,5 @@
-"""A short search of the front's own for better assignments (tabu search; Glover, ORSA Journal on Computing 1, 1989). What an
-assignment costs is added up from the file; nothing else is claimed of it."""
+"""A first assignment, and a short search of the front's own for better ones (tabu search; Glover, ORSA Journal on Computing 1, 1989).
+What an assignment costs is added up from the file; nothing else is claimed of it."""
 
 from __future__ import annotations
 
@@ -11,6 +11,44 @@ from .problem import Problem
 
 TABU = 5
 """For how many steps, and up to so many and half the variables more, a variable does not go back to a value that it left."""
+
+
+def made(problem: Problem) -> list[int]:
+    """An assignment that is made value by value: next comes a variable with the fewest values that cost least with those that have theirs,
+    and takes one of these (as DSATUR does; Brélaz, Communications of the ACM 22, 1979)."""
+    sign, sizes = 1 if problem.goal == "min" else -1, [variable.size for variable in problem.variables]
+    rows = [[0] * size for size in sizes]
+    of: list[list[int]] = [[] for _ in sizes]
+    for at, table in enumerate(problem.tables):
+        for variable in table.scope:
+            of[variable].append(at)
+    left = [len(table.scope) for table in problem.tables]
+    values: list[int] = [0] * len(sizes)
+    fewest = {variable: (size, -len(of[variable])) for variable, size in enumerate(sizes)}
+
+    def count(at: int) -> None:
+        """Counts what a table costs whose other variables have their values."""
+        table = problem.tables[at]
+        for place, variable in enumerate(table.scope):
+            if variable in fewest:
+                step = prod(sizes[other] for other in table.scope[place + 1 :])
+                first = problem.place(table, values) - step * values[variable]
+                costs = table.costs[first : first + step * sizes[variable] : step]
+                rows[variable] = [cost + sign * more for cost, more in zip(rows[variable], costs)]
+                fewest[variable] = (rows[variable].count(min(rows[variable])), -len(of[variable]))
+
+    for at, open_ones in enumerate(left):
+        if open_ones == 1:
+            count(at)
+    while fewest:
+        variable = min(fewest, key=fewest.__getitem__)
+        del fewest[variable]
+        values[variable] = rows[variable].index(min(rows[variable]))
+        for at in of[variable]:
+            left[at] -= 1
+            if left[at] == 1:
+                count(at)
+    return values
 
 
 class Bettering:

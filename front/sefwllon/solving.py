@@ -11,7 +11,7 @@ from dataclasses import dataclass, field
 from functools import cached_property
 
 from .best import OWN, START, Best, is_better
-from .bettering import Bettering
+from .bettering import Bettering, made
 from .explain import explain
 from .folding import Folding
 from .instead import Instead
@@ -251,13 +251,22 @@ class Solver:
             case "adopt":
                 self.by_adopt(step.budget)
 
+    @cached_property
+    def small(self) -> bool:
+        return sum(len(table.costs) for table in self.problem.tables) < LARGE
+
     def start(self) -> None:
-        """Finds an assignment here, where no program came to one yet: the first values, bettered."""
+        """Finds an assignment here, where no program came to one yet: one that is made value by value, and of a small problem the first
+        values too, both bettered."""
         if self.best.values is not None or self.rival is not None:
             return
-        latest = time.monotonic() + START_SECONDS
-        self.bettering = Bettering(self.problem, [0] * len(self.problem.variables))
-        self.bettering.descend(latest)
+        self.bettering = Bettering(self.problem, made(self.problem))
+        self.bettering.descend(time.monotonic() + START_SECONDS)
+        if self.small:
+            other = Bettering(self.problem, [0] * len(self.problem.variables))
+            other.descend(time.monotonic() + START_SECONDS)
+            if is_better(other.best_cost, self.bettering.best_cost, self.problem.goal):
+                self.bettering = other
         self.best.start(list(self.bettering.best), self.problem)
 
     def better(self, latest: float) -> None:
@@ -331,8 +340,7 @@ class Solver:
         """The search with this budget, of a smaller problem where there is one."""
         self.start()
         self.better(time.monotonic() + START_SECONDS)
-        small = sum(len(table.costs) for table in self.problem.tables) < LARGE
-        new = self.method == "auto" and self.whole and not self.folded and not (small and budget == NODES[0])
+        new = self.method == "auto" and self.whole and not self.folded and not (self.small and budget == NODES[0])
         if new:
             self.fold()
         if self.instead and not self.best.stopped and not self.decided:

@@ -11,6 +11,7 @@ from pathlib import Path
 from unittest import mock
 
 from sefwllon import folding, solving
+from sefwllon.bettering import made
 from sefwllon.folding import Folding
 from sefwllon.problem import Problem, Table, Variable
 from sefwllon.smaller import Smaller
@@ -115,6 +116,25 @@ class Together(unittest.TestCase):
         late = Folding(problem, 0.0)
         late.fold_sure()
         self.assertEqual((late.folds, late.fold_likely(set())), ([], False))
+
+
+class Made(unittest.TestCase):
+    def test_two_sides_get_two_colours(self):
+        for seed in range(20):
+            draw = random.Random(seed)
+            pairs = [tuple(draw.sample((a, b), 2)) for a in range(6) for b in range(6, 12) if draw.random() < 0.4]
+            for goal, costs in (("min", (9, 0, 0, 9)), ("max", (0, 9, 9, 0))):
+                problem = Problem(goal, [Variable(f"v{at}", 2) for at in range(12)], [Table(pair, costs) for pair in pairs])
+                self.assertEqual(problem.cost(made(problem)), 0 if goal == "min" else 9 * len(pairs))
+
+    def test_the_last_value_is_the_best_with_the_others(self):
+        for seed in range(60):
+            problem = drawn(seed)
+            values, sign = made(problem), 1 if problem.goal == "min" else -1
+            costs = [
+                min(sign * problem.cost([*values[:at], value, *values[at + 1 :]]) for value in range(variable.size)) for at, variable in enumerate(problem.variables)
+            ]
+            self.assertIn(sign * problem.cost(values), costs, seed)
 
 
 class Narrow(unittest.TestCase):
