@@ -1,12 +1,16 @@
 #!/usr/bin/env bash
 # How long a server takes for 64 clients, each with 1,000 requests of ten problems, and how much memory;
-# and whether its memory grows over ten runs of the same requests.
+# how much quicker sixteen workers are than one where each reply is long and all are kept; and whether its
+# memory grows over ten runs of the same requests.
 #
 # usage: bench/serve.sh SERVER PROGRAM [PORT]
-# SERVER is the built program `dcop_serve`, PROGRAM the built program `dcop`, PORT the first of ten ports
-# that are free, else 20000. The problems are random, of 12 variables of size 4 with 16 tables. Prints
+# SERVER is the built program `dcop_serve`, PROGRAM the built program `dcop`, PORT the first of fourteen
+# ports that are free, else 20000. The problems are random, of 12 variables of size 4 with 16 tables. Prints
 # for 1, 4 and 16 workers, with a cache for all ten and with a cache of one entry, the time of a request
-# and the most memory that the server had; and the time of a call of `dcop` on the same problems. Then,
+# and the most memory that the server had; and the time of a call of `dcop` on the same problems. Then 64
+# clients ask for one problem of 1,000 variables without tables, whose reply is of 41 kB: for 1 and 16 workers
+# it prints the replies of a second, best of two runs, and their ratio; four processes ask, which throw away
+# what they read but for each first reply. Then,
 # for 1 and 6 workers and both caches, one server serves ten runs, each of 6 clients with 990 requests:
 # behind each it prints the memory that the server holds and the most that it held, and behind all how
 # much it holds at the end, as a ratio to what it held behind the second run. Every reply is compared
@@ -126,17 +130,96 @@ for workers in 1, 4, 16:
         print(f"workers {workers}, entries {entries}: {took / count * 1e6:.1f} us a request, {most:.1f} MB")
         at += 1
 
-# A server deals its clients out to its workers in the order in which they came, as many in a row to
-# each, and a worker serves its own one after another: in each run come the next of each worker. The
-# last stay while memory is read, and ask less than a session may, so that the server has not ended.
+# Long replies, all of them kept. The processes that ask read into one buffer, and compare the first reply.
+ASKERS, LONG = 4, 1000
+text = "\n".join(["dcop 1", *(f"var v{i:031} 2" for i in range(LONG)), "end", ""]).encode()
+path = f"{folder}/long"
+with open(path, "wb") as file:
+    file.write(text)
+_, _, reply = best([program, "solve", "--method", "dpop"], path)
+request, long_reply = frame(text), frame(reply)
+ASKER = """
+import socket, sys, threading
+at, clients, count, size = map(int, sys.argv[1:5])
+request, reply = open(sys.argv[5], "rb").read(), open(sys.argv[6], "rb").read()
+links = [socket.create_connection(("127.0.0.1", at), 600) for _ in range(clients)]
+for link in links:
+    link.setsockopt(socket.IPPROTO_TCP, socket.TCP_NODELAY, 1)
+print("connected", flush=True)
+sys.stdin.readline()
+wrong = []
+def first(link):
+    link.sendall(request)
+    got = b""
+    while len(got) < size:
+        got += link.recv(size - len(got))
+    if got != reply:
+        wrong.append(link)
+def rest(link):
+    for _ in range(count - 1):
+        link.sendall(request)
+        left = size
+        while left:
+            got = link.recv_into(room, left, socket.MSG_TRUNC)
+            if got == 0:
+                wrong.append(link)
+                return
+            left -= got
+room = bytearray(size)
+def all_of(link):
+    first(link)
+    rest(link)
+    link.close()
+threads = [threading.Thread(target=all_of, args=(link,)) for link in links]
+for thread in threads:
+    thread.start()
+for thread in threads:
+    thread.join()
+sys.exit(1 if wrong else 0)
+"""
+for name, data in ("request", request), ("reply", long_reply):
+    with open(f"{folder}/{name}", "wb") as file:
+        file.write(data)
+
+
+# The replies of a second, where so many workers answer so many clients, each so often.
+def long_rate(at, workers, count):
+    words = [server, str(at), str(CLIENTS), "16", str(workers)]
+    child = subprocess.Popen(words, stdout=subprocess.PIPE)
+    connected(at).close()
+    sizes = [(CLIENTS - 1) // ASKERS + (number < (CLIENTS - 1) % ASKERS) for number in range(ASKERS)]
+    askers = [subprocess.Popen([sys.executable, "-c", ASKER, str(at), str(size), str(count), str(len(long_reply)), f"{folder}/request", f"{folder}/reply"],
+                               stdin=subprocess.PIPE, stdout=subprocess.PIPE) for size in sizes]
+    for asker in askers:
+        assert asker.stdout.readline() == b"connected\n"
+    begun = time.perf_counter()
+    for asker in askers:
+        asker.stdin.write(b"go\n")
+        asker.stdin.close()
+    codes = [asker.wait() for asker in askers]
+    took = time.perf_counter() - begun
+    told = child.communicate()[0].decode()
+    assert codes == [0] * ASKERS and child.returncode == 0 and f"served {(CLIENTS - 1) * count}\n" in told, (codes, told[-200:])
+    return (CLIENTS - 1) * count / took
+
+
+rates = {}
+for workers in 1, 16:
+    rates[workers] = max(long_rate(at + turn, workers, 200) for turn in range(2))
+    at += 2
+    print(f"workers {workers}, replies of {len(reply) / 1000:.1f} kB: {rates[workers]:.0f} a second")
+print(f"16 workers answer {rates[16] / rates[1]:.2f} times as many as one")
+
+# Clients are served in the order in which they came, each as soon as a worker is free: in each run come the
+# next. The last stay while memory is read, and ask less than a session may, so that the server has not ended.
 clients, batches = RUNS * CLIENTS_A_RUN, BATCHES - 1
 for workers in 1, CLIENTS_A_RUN:
-    own, turn = clients // workers, CLIENTS_A_RUN // workers
+    turn = CLIENTS_A_RUN // workers
     for entries in 16, 1:
         child, connections = begin(at, clients, entries, workers)
         held = []
         for run in range(RUNS):
-            firsts = range(run * turn, clients, own)
+            firsts = range(run * CLIENTS_A_RUN, (run + 1) * CLIENTS_A_RUN, turn)
             groups = [connections[first:first + turn] for first in firsts]
             last = [group[-1] for group in groups]
             ask_beside(groups, batches, last)

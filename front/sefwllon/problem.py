@@ -4,7 +4,7 @@ from __future__ import annotations
 
 import re
 from dataclasses import dataclass, field
-from itertools import product
+from itertools import filterfalse, product
 from math import prod
 
 MOST_VARIABLES = 1_000
@@ -155,7 +155,7 @@ def lines_of(text: str) -> list[tuple[int, list[str], str]]:
     found = []
     for number, line in enumerate(text.split("\n"), 1):
         bare = line[:-1] if line.endswith("\r") else line
-        words = [word for word in re.split(r"[ \t]+", bare.split("#", 1)[0]) if word]
+        words = [word for word in bare.split("#", 1)[0].replace("\t", " ").split(" ") if word]
         if words:
             found.append((number, words, line))
     return found
@@ -184,10 +184,11 @@ def parse(text: str) -> Problem:
                     scope = tuple(places[name] for name in rest[:colon])
                 except KeyError as fault:
                     raise TextFault(number, f"a name is wrong: {fault}") from None
-                bad = next((word for word in rest[colon + 1 :] if not is_number(word)), None)
+                cells = rest[colon + 1 :]
+                bad = next(filterfalse(_NUMBER.match, cells), None)
                 if bad is not None:
                     raise TextFault(number, f"{bad} is no number")
-                costs = tuple(int(word) for word in rest[colon + 1 :])
+                costs = tuple(map(int, cells))
                 if len(costs) != prod(problem.variables[v].size for v in scope):
                     raise TextFault(number, f"the table has {len(costs)} costs")
                 problem.tables.append(Table(scope, costs))

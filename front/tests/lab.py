@@ -55,6 +55,13 @@ def held(folder: str, program: str) -> str:
     return script(folder, "held", f"echo >> {folder}/begun", waits, f'exec {program} "$@"')
 
 
+def let_one_on(folder: str) -> None:
+    """Lets a program go on that is held, if one waits: a run that was lost has begun its program in vain."""
+    begun, limit = Path(folder, "begun"), Path(folder, "limit")
+    if begun.read_text().count("\n") > int(limit.read_text()):
+        limit.write_text(str(int(limit.read_text()) + 1))
+
+
 def threes(count: int) -> str:
     """A problem of variables with three values, each two of which share a table."""
     draw, names = random.Random(count), [f"v{at}" for at in range(count)]

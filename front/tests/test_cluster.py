@@ -15,7 +15,7 @@ from sefwllon.lab.rows import read_rows
 from sefwllon.problem import parse
 
 from .case import ORDER, REAL, SEARCH, Case
-from .lab import HAS, SECONDS, Engine, begun, held, script, steady, threes, until
+from .lab import HAS, SECONDS, Engine, begun, held, let_one_on, script, steady, threes, until
 from .test_chain import drawn
 
 PASSED_OVER = [name for name, there in (("built programs", REAL and ORDER and SEARCH), ("python3-distributed", HAS["distributed"])) if not there]
@@ -119,8 +119,8 @@ class Killed(OnCluster):
         self.addCleanup(process.kill)
         until(lambda: Path(self.out).exists() and Path(self.out).read_text().count("\n") > 3, "three rows")
         engine.workers[0].send_signal(signal.SIGKILL)
-        limit.write_text("12")
-        until(lambda: Path(self.out).read_text().count("\n") > 8, "eight rows")
+        until(lambda: let_one_on(self.folder) or process.poll() is not None or Path(self.out).read_text().count("\n") > 8, "eight rows")
+        self.assertIsNone(process.poll(), "the sweep goes on with the other worker")
         engine.scheduler.send_signal(signal.SIGKILL)
         _, why = process.communicate(timeout=SECONDS)
         self.assertEqual((process.returncode, "is gone; the same command goes on" in why, why.count("Traceback")), (3, True, 0), why)

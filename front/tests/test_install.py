@@ -15,6 +15,7 @@ from pathlib import Path
 
 from sefwllon import __version__, programs
 
+from . import clean
 from .case import FRONT, ORDER, PROBLEMS, REAL, SEARCH, SERVE, TRACE
 
 TOP = FRONT.parent
@@ -26,8 +27,6 @@ BUILT = {name: path for name, path in {**NEEDED, "dcop_serve": SERVE, "dcop_trac
 VARIABLES = [variable for variable, _ in programs.PLACES.values()]
 BASH_COMPLETION = Path("/usr/share/bash-completion/bash_completion")
 """What has bash look for the words of a program when they are wanted."""
-CHROOT = os.environ.get("SEFWLLON_CHROOT")
-"""A folder with a clean Debian that has Python, where one was made: `.ci/run` makes it by debootstrap."""
 
 
 STAND_IN = """#!/bin/sh
@@ -326,9 +325,10 @@ class Installed(unittest.TestCase):
         dpkg("--purge", "sefwllon")
         self.assertEqual({path for path in stands(root) if not path.startswith("var")}, before)
 
-    @unittest.skipUnless(CHROOT and os.geteuid() == 0, "passed over: no clean Debian, which SEFWLLON_CHROOT names, or not as root")
-    def test_the_package_works_on_a_machine_without_the_kit(self):
-        root = Path(CHROOT or "")
+    @unittest.skipUnless(clean.can_be_made(), "passed over: no Debian, or not as root")
+    def test_the_package_works_on_a_debian_without_the_kit(self):
+        root = self.home / "clean"
+        clean.make(root)
 
         def inside(command: str) -> str:
             told = subprocess.run(
@@ -339,11 +339,9 @@ class Installed(unittest.TestCase):
             return told.stdout
 
         shutil.copy(self.package(), root / "sefwllon.deb")
-        self.addCleanup((root / "sefwllon.deb").unlink)
         find = "find / -xdev -name '*sefwllon*' -o -xdev -name 'dcop*' | grep -v '^/sefwllon.deb$' | sort || true"
         before = inside(find)
         inside("dpkg --install /sefwllon.deb")
-        self.addCleanup(subprocess.run, ["chroot", str(root), "dpkg", "--purge", "sefwllon"], capture_output=True)
         self.assertEqual(inside("! command -v rt"), "")
         docs = "/usr/share/doc/sefwllon"
         self.assertEqual(inside(f"cd /tmp; dcop solve < {docs}/examples/pair.dcop"), SOLVED)

@@ -1,7 +1,7 @@
 -- What a search comes to, in the problem's own costs.
-use Rattle.std.proofs.Common.{◌≡◌, ℕ, ◌+◌, ◌*◌, ◌≤◌, true, false, List, length, get_or, Option, Some, None, refl, sym, ap, ap₂, subst, ◌∙◌, inl, inr, arith}
+use Rattle.std.proofs.Common.{◌≡◌, ℕ, ◌+◌, ◌*◌, ◌≤◌, true, false, List, length, get_or, Option, Some, None, refl, sym, ap, subst, ◌∙◌, inl, inr, arith}
 use Rattle.std.proofs.lemmas.Bool.{cases_Bool}
-use Rattle.dcop_base.specs.Limits.{amount_limit}
+use Rattle.dcop_base.specs.Limits.{amount_limit, count_limit}
 use Rattle.dcop_base.specs.Table.{CostTable}
 use Rattle.dcop_base.specs.Problem.{Dcop, IsAssignment, cost}
 use Rattle.dcop_base.specs.Whole.{IsProblem}
@@ -16,7 +16,7 @@ use Rattle.bound_search.specs.Estimate.{unscaled, IsPassedOver}
 use Rattle.bound_search.specs.Known.{IsBelow, IsKnown, IsNoWorse}
 use Rattle.bound_search.specs.Searched.{IsSearched, most_nodes}
 use Rattle.bound_search.specs.Grounds.{AreGrounds, scaled_cost}
-use Rattle.bound_search.specs.Descent.{IsRoom, IsStanding}
+use Rattle.bound_search.specs.Descent.{IsRoom, IsStanding, far_of}
 use Rattle.bound_search.specs.First.{HasSearched}
 use Rattle.bound_search.specs.Visits.{Far, far, HasVisited}
 use Rattle.bound_search.specs.declared.known.Known.{Known}
@@ -26,6 +26,7 @@ use Rattle.bound_search.specs.declared.searching.Ended.{Ended}
 use Rattle.bound_search.proofs.RowLaws.{values_of}
 use Rattle.bound_search.proofs.FirstLaws.{zeros_are_values}
 use Rattle.bound_search.proofs.ScaleLaws.{unscaled_low, scale_apart}
+use Rattle.bound_search.proofs.VisitLaws.{far_same}
 
 module _ (p : Dcop) (shared : SharedCosts) (buckets : List Bucket) (problem : IsProblem p) (costs : AreSharedCosts p shared) (bounds : AreBounds p.sizes shared.depths buckets) where
   -- at each values the buckets' tables sum to the scaled cost
@@ -88,11 +89,11 @@ module _ (p : Dcop) (shared : SharedCosts) (buckets : List Bucket) (problem : Is
   -- a search of the problem
   pub searched_is : (error budget : ℕ) (before known : Known) (found : List ℕ) (old new : Progress) (ended : Ended) → IsStanding p.sizes buckets (record { scale = shared.scale; error = error; budget = budget }) found new
       → HasSearched p.sizes buckets (record { scale = shared.scale; error = error; budget = budget }) old new
-      → HasVisited p.sizes buckets (record { scale = shared.scale; error = error; budget = budget }) (far old.best old.nodes) (far new.best new.nodes)
-      → before.best ≡ old.best → before.found ≡ old.found → before.nodes ≡ old.nodes → old.lower ≡ 18446744073709551615
+      → HasVisited p.sizes buckets (record { scale = shared.scale; error = error; budget = budget }) (far_of old) (far_of new)
+      → before.best ≡ old.best → before.found ≡ old.found → before.nodes ≡ old.nodes → old.lower ≡ 18446744073709551615 → old.spent ≡ false
       → known.best ≡ new.best → known.found ≡ new.found → known.nodes ≡ new.nodes → known.values ≡ found → ended.lower ≡ unscaled shared.scale new.lower → ended.spent ≡ new.spent
       → IsSearched p shared.scale buckets error budget before known ended
-  searched_is error budget before known found old new ended standing searched visits old_best old_found old_nodes top best is_found nodes values lower spent =
+  searched_is error budget before known found old new ended standing searched visits old_best old_found old_nodes top unspent best is_found nodes values lower spent =
       let further = searched.further in
       let within = lower_within (record { scale = shared.scale; error = error; budget = budget }) old new searched in
       record {
@@ -130,6 +131,8 @@ module _ (p : Dcop) (shared : SharedCosts) (buckets : List Bucket) (problem : Is
         effort = λ none first. (let least = searched.effort (sym old_found ∙ none) (sym is_found ∙ first) in omega (arith, least, nodes, old_nodes));
         straight = λ exact few. (let straight = searched.straight exact (omega (arith, few, old_nodes)) in
             record { whole = spent ∙ straight.0; few = omega (arith, straight.1, nodes, old_nodes) });
-        visits = subst (λ (s : Far). HasVisited p.sizes buckets (record { scale = shared.scale; error = error; budget = budget }) s (far known.best known.nodes)) (sym (ap₂ far old_best old_nodes))
-            (subst (λ (s : Far). HasVisited p.sizes buckets (record { scale = shared.scale; error = error; budget = budget }) (far old.best old.nodes) s) (sym (ap₂ far best nodes)) visits);
+        visits = (let rules : Rules = record { scale = shared.scale; error = error; budget = budget } in
+            let from : far_of old ≡ far before.best before.nodes count_limit false = far_same old.best before.best old.nodes before.nodes old.lower count_limit old.spent false (sym old_best) (sym old_nodes) top unspent in
+            let to : far_of new ≡ far known.best known.nodes new.lower ended.spent = far_same new.best known.best new.nodes known.nodes new.lower new.lower new.spent ended.spent (sym best) (sym nodes) refl (sym spent) in
+            (new.lower, subst (λ (s : Far). HasVisited p.sizes buckets rules s (far known.best known.nodes new.lower ended.spent)) from (subst (λ (s : Far). HasVisited p.sizes buckets rules (far_of old) s) to visits), lower));
       }

@@ -1,26 +1,27 @@
 -- Laws of what a search visits: the values of a row have their turns, least first.
-use Rattle.std.proofs.Common.{◌≡◌, ◌≢◌, ℕ, zero, suc, ◌+◌, ◌*◌, ◌-◌, ◌/◌, ◌<◌, ◌≤◌, Bool, true, false, cond, ltb, List, [], ◌∷◌, ◌++◌, length, get_or, set, drop, Some, refl, sym, ap, ap₂, subst, ◌∙◌, inl, inr, arith}
+use Rattle.std.proofs.Common.{◌≡◌, ◌≢◌, ℕ, zero, suc, ◌+◌, ◌*◌, ◌-◌, ◌/◌, ◌<◌, ◌≤◌, ◌⊎◌, Bool, true, false, min, cond, ltb, List, [], ◌∷◌, ◌++◌, length, get_or, set, drop, Option, Some, refl, sym, ap, ap₂, subst, ◌∙◌, inl, inr, arith}
 use Rattle.std.specs.List.{filter, range_with_len}
 use Rattle.std.specs.List.Sorted.{IsPermutation, IsNonDecreasingBy}
 use Rattle.std.proofs.lemmas.Bool.{cases_Bool, cases_lt, cases_eq, cond-true, cond-false, lt-ltb, le-ltb}
 use Rattle.std.proofs.lemmas.List.{append-nil, drop_more, length-drop, length-set, length_push, get_or_push, get_or-set_same, get_or-set_other}
 use Rattle.std.proofs.lemmas.List.Sorted.{IsPermutation-refl, IsPermutation-trans, IsPermutation-cons, IsPermutation-middle, IsPermutation-pop_more, IsNonDecreasingBy-short, IsNonDecreasingBy-push}
+use Rattle.dcop_base.specs.Limits.{amount_limit, count_limit}
 use Rattle.dcop_base.specs.Values.{with_own}
 use Rattle.dcop_optimum.proofs.OptimumLaws.{least_upto}
 use Rattle.shared_costs.specs.Values.{AreValues, AgreeBelow}
 use Rattle.bucket_bounds.specs.declared.bucket.Bucket.{Bucket}
 use Rattle.bound_search.specs.Estimate.{estimate}
 use Rattle.bound_search.specs.Grounds.{AreGrounds}
-use Rattle.bound_search.specs.Descent.{IsRoom, IsOpened}
+use Rattle.bound_search.specs.Descent.{IsRoom, IsOpened, far_of}
 use Rattle.bound_search.specs.First.{first_sum}
-use Rattle.bound_search.specs.Visits.{Far, far, IsNode, IsTurn, AreTurns, VisitsEach, Visits, HasVisited}
+use Rattle.bound_search.specs.Visits.{Far, far, IsNode, PassesOver, LeavesOpen, IsTurn, AreTurns, VisitsEach, Visits, HasVisited}
 use Rattle.bound_search.specs.declared.progress.Progress.{Progress}
 use Rattle.bound_search.specs.declared.rules.Rules.{Rules}
 use Rattle.bound_search.proofs.EstimateLaws.{estimate_agrees, estimate_within, estimate_all, own_agrees, own_before, own_is, own_values}
 use Rattle.bound_search.proofs.RowLaws.{agree_more}
 use Rattle.bound_search.proofs.TreeLaws.{done, to_visit, to_visit_next}
 use Rattle.bound_search.proofs.ScaleLaws.{cost_back}
-use Rattle.bound_search.proofs.DescentLaws.{IsVisiting, none_not_some}
+use Rattle.bound_search.proofs.DescentLaws.{IsVisiting}
 use Rattle.bound_search.proofs.FirstLaws.{first_is, first_within}
 
 -- numbers of a range by a test that all pass, that none passes, and by two tests that tell one number apart
@@ -136,8 +137,8 @@ module _ (rules : Rules) (f : ℕ → ℕ) (Behind : ℕ → Far → Far → Typ
     turns = before.turns;
   }
 
-  -- where no value that is left is a node, all have their turns and nothing is visited
-  turned_all : (n : ℕ) (row : List ℕ) (old now : Far) → 1 ≤ length row → to_visit row ≤ n → ((a : ℕ) → a < length row → get_or row a 0 < done → (get_or row a 0 ≡ f a) × (¬ IsNode rules (f a) now)) → HasTurned row old now → VisitsEach rules f (length row) Behind old now
+  -- where the turns of all values that are left change nothing, all have them
+  turned_all : (n : ℕ) (row : List ℕ) (old now : Far) → 1 ≤ length row → to_visit row ≤ n → ((a : ℕ) → a < length row → get_or row a 0 < done → (get_or row a 0 ≡ f a) × IsTurn rules (f a) (Behind a) now now) → HasTurned row old now → VisitsEach rules f (length row) Behind old now
   turned_all zero row old now some few left before =
       turned_end row old now (λ a inside. elim (cases_lt (get_or row a 0) done) [
         | inl below ↦ absurd (let next = to_visit_next row a inside below in omega (arith, next, few))
@@ -158,7 +159,7 @@ module _ (rules : Rules) (f : ℕ → ℕ) (Behind : ℕ → Far → Far → Typ
               | inl own ↦ absurd (let marked = ap (λ (k : ℕ). get_or (set row a done) k 0) own ∙ get_or-set_same row a done 0 inside in omega (arith, marked, less))
               | inr other ↦ (let same = get_or-set_other row a b done 0 other in let there = left b (omega (arith, h, long)) (omega (arith, same, less)) in (same ∙ there.0, there.1))
             ])
-            (turned_next row old now now a inside below here.0 low (inr (here.1, refl)) before))
+            (turned_next row old now now a inside below here.0 low here.1 before))
         | inr le ↦ turned_end row old now (λ k h. (let least = low k h in omega (arith, least, le))) before
       ]
 
@@ -168,15 +169,19 @@ turns_same rules f g Behind Under same under [] old new turns = turns
 turns_same rules f g Behind Under same under (a ∷ later) old new turns =
     let mid : Far = turns.0 in
     let turn : IsTurn rules (g a) (Under a) old mid = elim turns.1 [
-      | inl node ↦ inl (subst (λ (n : ℕ). IsNode rules n old) (same a) node.0, under a (far old.best (old.nodes + 1)) mid node.1)
-      | inr none ↦ inr (subst (λ (n : ℕ). ¬ IsNode rules n old) (same a) none.0, none.1)
+      | inl node ↦ inl (subst (λ (n : ℕ). IsNode rules n old) (same a) node.0, under a (far old.best (old.nodes + 1) old.least old.left_open) mid node.1)
+      | inr none ↦ inr (subst (λ (n : ℕ). PassesOver rules n old mid ⊎ LeavesOpen rules n old mid) (same a) none)
     ] in
     (mid, turn, turns_same rules f g Behind Under same under later mid new turns.2)
+
+-- two that have come so far are one
+pub far_same : (best best_too : Option ℕ) (nodes nodes_too least least_too : ℕ) (left left_too : Bool) → best ≡ best_too → nodes ≡ nodes_too → least ≡ least_too → left ≡ left_too → far best nodes least left ≡ far best_too nodes_too least_too left_too
+far_same best best_too nodes nodes_too least least_too left left_too b n l o = rw (b, n, l, o) refl
 
 -- the values of a row at this depth that are marked have had their turns
 abbrev pub IsTurned : List ℕ → List Bucket → Rules → ℕ → (ℕ → ℕ) → List ℕ → Progress → Progress → Type 0
 IsTurned sizes buckets rules depth value row old now =
-    HasTurned rules (λ a. estimate (depth + 1) buckets (with_own depth a value)) (λ a before after. Visits (drop (depth + 1) sizes) buckets rules (depth + 1) (with_own depth a value) before after) row (far old.best old.nodes) (far now.best now.nodes)
+    HasTurned rules (λ a. estimate (depth + 1) buckets (with_own depth a value)) (λ a before after. Visits (drop (depth + 1) sizes) buckets rules (depth + 1) (with_own depth a value) before after) row (far_of old) (far_of now)
 
 module _ (sizes : List ℕ) (buckets : List Bucket) (rules : Rules) (grounds : AreGrounds sizes rules.scale buckets) where
   -- what is visited depends on the values of earlier variables alone
@@ -199,66 +204,114 @@ module _ (sizes : List ℕ) (buckets : List Bucket) (rules : Rules) (grounds : A
       }
 
   -- behind all variables the assignment becomes the best
-  pub visits_taken : (f : ℕ) (value : ℕ → ℕ) (old new : Progress) → AreValues sizes value → f ≡ estimate (length sizes) buckets value → new.best ≡ Some (f / rules.scale) → new.nodes ≡ old.nodes → Visits [] buckets rules (length sizes) value (far old.best old.nodes) (far new.best new.nodes)
-  visits_taken f value old new all is best nodes =
+  pub visits_taken : (f : ℕ) (value : ℕ → ℕ) (old new : Progress) → AreValues sizes value → f ≡ estimate (length sizes) buckets value → new.best ≡ Some (f / rules.scale) → new.nodes ≡ old.nodes → new.lower ≡ min old.lower f → new.spent ≡ old.spent → Visits [] buckets rules (length sizes) value (far_of old) (far_of new)
+  visits_taken f value old new all is best nodes lower spent =
       let whole = grounds.whole value all in
       let cost : f ≡ rules.scale * whole.0 = is ∙ estimate_all sizes rules.scale buckets grounds value ∙ whole.1 in
-      (whole.0, whole.1, ap₂ far (best ∙ ap (λ (n : ℕ). Some n) (cost_back rules.scale whole.0 f grounds.scaled cost)) nodes)
+      let known : new.best ≡ Some whole.0 = best ∙ ap (λ (n : ℕ). Some n) (cost_back rules.scale whole.0 f grounds.scaled cost) in
+      let least : new.lower ≡ min old.lower (rules.scale * whole.0) = lower ∙ ap (λ (n : ℕ). min old.lower n) cost in
+      (whole.0, whole.1, far_same new.best (Some whole.0) new.nodes old.nodes new.lower (min old.lower (rules.scale * whole.0)) new.spent old.spent known nodes least spent)
 
   -- a row of estimates, before the first value has its turn
   pub visits_start : (depth : ℕ) (value : ℕ → ℕ) (row : List ℕ) (old : Progress) → depth < length sizes → AreValues sizes value → length row ≡ get_or sizes depth 0 → ((a : ℕ) → a < length row → get_or row a 0 ≡ estimate (depth + 1) buckets (with_own depth a value)) → IsTurned sizes buckets rules depth value row old old
   visits_start depth value row old lt all long each =
-      turned_start rules (λ a. estimate (depth + 1) buckets (with_own depth a value)) (λ a before after. Visits (drop (depth + 1) sizes) buckets rules (depth + 1) (with_own depth a value) before after) row (far old.best old.nodes)
+      turned_start rules (λ a. estimate (depth + 1) buckets (with_own depth a value)) (λ a before after. Visits (drop (depth + 1) sizes) buckets rules (depth + 1) (with_own depth a value) before after) row (far_of old)
       (λ a h. (let most = estimate_within sizes rules.scale buckets grounds (depth + 1) (with_own depth a value) (omega (arith, lt)) (own_values sizes rules.scale buckets grounds depth a value all (omega (arith, h, long))) in
       omega (arith, each a h, most)))
 
   -- the least value that is left is a node, and what is below it was searched
   pub visits_next : (depth f : ℕ) (value behind : ℕ → ℕ) (row : List ℕ) (old now mid new : Progress) (a m : ℕ) → depth < length sizes → AreValues sizes value → IsRoom rules now.best now.room → a < length row → m ≡ get_or row a 0 → ((k : ℕ) → k < length row → m ≤ get_or row k 0)
       → IsVisiting sizes buckets rules depth f value row old now → IsOpened rules.budget m now mid true → AgreeBelow depth value behind → behind depth ≡ a
-      → Visits (drop (depth + 1) sizes) buckets rules (depth + 1) behind (far mid.best mid.nodes) (far new.best new.nodes) → IsTurned sizes buckets rules depth value row old now → IsTurned sizes buckets rules depth value (set row a done) old new
+      → Visits (drop (depth + 1) sizes) buckets rules (depth + 1) behind (far_of mid) (far_of new) → IsTurned sizes buckets rules depth value row old now → IsTurned sizes buckets rules depth value (set row a done) old new
   visits_next depth f value behind row old now mid new a m lt all room inside at least visiting opened agree own visits turned =
       let below : get_or row a 0 < done = omega (arith, at, opened.0, room.counted) in
       let entry = visiting.entries a inside below in
       let within = estimate_within sizes rules.scale buckets grounds (depth + 1) (with_own depth a value) (omega (arith, lt)) (own_values sizes rules.scale buckets grounds depth a value all (omega (arith, inside, visiting.long))) in
-      let node : IsNode rules (estimate (depth + 1) buckets (with_own depth a value)) (far now.best now.nodes) = (room.below (estimate (depth + 1) buckets (with_own depth a value)) within (omega (arith, entry, at, opened.0)), opened.1) in
-      let under = visits_agree (drop (depth + 1) sizes) (depth + 1) (with_own depth a value) behind (far mid.best mid.nodes) (far new.best new.nodes) (let long = length-drop (depth + 1) sizes in omega (arith, lt, long)) (own_agrees depth a value behind agree own) visits in
-      let counted = subst (λ (q : Progress). Visits (drop (depth + 1) sizes) buckets rules (depth + 1) (with_own depth a value) (far q.best q.nodes) (far new.best new.nodes)) opened.2 under in
+      let node : IsNode rules (estimate (depth + 1) buckets (with_own depth a value)) (far_of now) = (room.below (estimate (depth + 1) buckets (with_own depth a value)) within (omega (arith, entry, at, opened.0)), opened.1) in
+      let under = visits_agree (drop (depth + 1) sizes) (depth + 1) (with_own depth a value) behind (far_of mid) (far_of new) (let long = length-drop (depth + 1) sizes in omega (arith, lt, long)) (own_agrees depth a value behind agree own) visits in
+      let counted = subst (λ (q : Progress). Visits (drop (depth + 1) sizes) buckets rules (depth + 1) (with_own depth a value) (far_of q) (far_of new)) opened.2 under in
       turned_next rules (λ a. estimate (depth + 1) buckets (with_own depth a value)) (λ a before after. Visits (drop (depth + 1) sizes) buckets rules (depth + 1) (with_own depth a value) before after) row
-      (far old.best old.nodes) (far now.best now.nodes) (far new.best new.nodes) a inside below entry (λ k h. (let low = least k h in omega (arith, low, at))) (inl (node, counted)) turned
+      (far_of old) (far_of now) (far_of new) a inside below entry (λ k h. (let low = least k h in omega (arith, low, at))) (inl (node, counted)) turned
+
+  -- what stops the visits is passed over or left open
+  stopped_turn : (f : ℕ) (old new : Progress) → f ≤ amount_limit → IsRoom rules old.best old.room → IsOpened rules.budget f old new false → PassesOver rules f (far_of old) (far_of new) ⊎ LeavesOpen rules f (far_of old) (far_of new)
+  stopped_turn f old new within room stopped =
+      let same : (spent : Bool) → stopped.0 ≡ spent → far_of new ≡ far old.best old.nodes (min old.lower f) spent = λ spent e.
+      ap far_of stopped.1 ∙ ap (λ (b : Bool). far old.best old.nodes (min old.lower f) b) e in
+      elim stopped.2 [
+        | inl passed ↦ inl (room.above f within passed.0, same old.spent passed.1)
+        | inr reached ↦ inr (room.below f within reached.0, reached.2, reached.3, same true reached.1)
+      ]
+
+  -- with it all later ones are passed over or left open, and change nothing
+  stopped_later : (f g : ℕ) (old new : Progress) → g ≤ amount_limit → f ≤ g → IsRoom rules old.best old.room → IsOpened rules.budget f old new false → PassesOver rules g (far_of new) (far_of new) ⊎ LeavesOpen rules g (far_of new) (far_of new)
+  stopped_later f g old new within more room stopped =
+      let Later : Progress → Type 0 = λ q. PassesOver rules g (far_of q) (far_of q) ⊎ LeavesOpen rules g (far_of q) (far_of q) in
+      let least : min old.lower f ≡ min (min old.lower f) g = omega (arith, more) in
+      let same : (spent : Bool) → stopped.0 ≡ spent → far old.best old.nodes (min old.lower f) stopped.0 ≡ far old.best old.nodes (min (min old.lower f) g) spent = λ spent e.
+      far_same old.best old.best old.nodes old.nodes (min old.lower f) (min (min old.lower f) g) stopped.0 spent refl refl least e in
+      subst Later (sym stopped.1) (elim stopped.2 [
+        | inl passed ↦ inl (room.above g within (omega (arith, passed.0, more)), same stopped.0 refl)
+        | inr reached ↦ elim (cases_lt g old.room) [
+          | inl below ↦ inr (room.below g within below, reached.2, reached.3, same true reached.1)
+          | inr above ↦ inl (room.above g within above, same stopped.0 refl)
+        ]
+      ])
 
   -- the least value that is left is no node, so none is
   pub visits_end : (depth f : ℕ) (value : ℕ → ℕ) (row : List ℕ) (old now new : Progress) (a m : ℕ) → depth < length sizes → AreValues sizes value → IsRoom rules now.best now.room → a < length row → m ≡ get_or row a 0 → ((k : ℕ) → k < length row → m ≤ get_or row k 0)
-      → IsVisiting sizes buckets rules depth f value row old now → IsOpened rules.budget m now new false → IsTurned sizes buckets rules depth value row old now → Visits (drop depth sizes) buckets rules depth value (far old.best old.nodes) (far new.best new.nodes)
+      → IsVisiting sizes buckets rules depth f value row old now → IsOpened rules.budget m now new false → IsTurned sizes buckets rules depth value row old now → Visits (drop depth sizes) buckets rules depth value (far_of old) (far_of new)
   visits_end depth f value row old now new a m lt all room inside at least visiting stopped turned =
-      let g : ℕ → ℕ = λ a. estimate (depth + 1) buckets (with_own depth a value) in
-      let Under : ℕ → Far → Far → Type 0 = λ a before after. Visits (drop (depth + 1) sizes) buckets rules (depth + 1) (with_own depth a value) before after in
-      let none : (b : ℕ) → b < length row → get_or row b 0 < done → (get_or row b 0 ≡ g b) × (¬ IsNode rules (g b) (far now.best now.nodes)) =
-      λ b h below.
-      (let entry = visiting.entries b h below in
-      let within = estimate_within sizes rules.scale buckets grounds (depth + 1) (with_own depth b value) (omega (arith, lt)) (own_values sizes rules.scale buckets grounds depth b value all (omega (arith, h, visiting.long))) in
-      let low = least b h in (
-        entry,
-        λ node. elim stopped.2 [
-          | inl passed ↦ node.0 (room.above (g b) within (omega (arith, passed.0, at, low, entry)))
-          | inr reached ↦ elim node.1 [
-            | inl unknown ↦ none_not_some now.best reached.3.0 unknown reached.3.1
-            | inr less ↦ omega (arith, less, reached.2)
-          ]
-        ],
-      )) in
-      let each = turned_all rules g Under (to_visit row) row (far old.best old.nodes) (far now.best now.nodes) (omega (arith, inside)) (omega arith) none turned in
-      let sized = subst (λ (n : ℕ). VisitsEach rules g n Under (far old.best old.nodes) (far now.best now.nodes)) visiting.long each in
-      let here : Visits (drop depth sizes) buckets rules depth value (far old.best old.nodes) (far now.best now.nodes) = subst (λ (ss : List ℕ). Visits ss buckets rules depth value (far old.best old.nodes) (far now.best now.nodes)) (sym (drop_more sizes depth 0 lt)) sized in
-      subst (λ (q : Progress). Visits (drop depth sizes) buckets rules depth value (far old.best old.nodes) (far q.best q.nodes)) (sym stopped.1) here
+      let g : ℕ → ℕ = λ b. estimate (depth + 1) buckets (with_own depth b value) in
+      let Under : ℕ → Far → Far → Type 0 = λ b before after. Visits (drop (depth + 1) sizes) buckets rules (depth + 1) (with_own depth b value) before after in
+      let own : (b : ℕ) → b < length row → AreValues sizes (with_own depth b value) = λ b h. own_values sizes rules.scale buckets grounds depth b value all (omega (arith, h, visiting.long)) in
+      let within : (b : ℕ) → b < length row → g b ≤ amount_limit = λ b h. estimate_within sizes rules.scale buckets grounds (depth + 1) (with_own depth b value) (omega (arith, lt)) (own b h) in
+      let low : (k : ℕ) → k < length row → get_or row a 0 ≤ get_or row k 0 = λ k h. (let most = least k h in omega (arith, most, at)) in
+      let each : VisitsEach rules g (length row) Under (far_of old) (far_of new) = elim (cases_lt (get_or row a 0) done) [
+        | inl below ↦
+            let entry = visiting.entries a inside below in
+            let is : m ≡ g a = at ∙ entry in
+            let here = subst (λ (n : ℕ). PassesOver rules n (far_of now) (far_of new) ⊎ LeavesOpen rules n (far_of now) (far_of new)) is (stopped_turn m now new (omega (arith, is, within a inside)) room stopped) in
+            let long = length-set row a done in
+            let later : (b : ℕ) → b < length (set row a done) → get_or (set row a done) b 0 < done → (get_or (set row a done) b 0 ≡ g b) × IsTurn rules (g b) (Under b) (far_of new) (far_of new) = λ b h less.
+            elim (cases_eq b a) [
+              | inl same ↦ absurd (let marked = ap (λ (k : ℕ). get_or (set row a done) k 0) same ∙ get_or-set_same row a done 0 inside in omega (arith, marked, less))
+              | inr other ↦
+                  let same = get_or-set_other row a b done 0 other in
+                  let there : b < length row = omega (arith, h, long) in
+                  let entry = visiting.entries b there (omega (arith, same, less)) in
+                  (same ∙ entry, inr (stopped_later m (g b) now new (within b there) (omega (arith, least b there, entry)) room stopped))
+            ] in
+            subst (λ (n : ℕ). VisitsEach rules g n Under (far_of old) (far_of new)) long
+            (turned_all rules g Under (to_visit (set row a done)) (set row a done) (far_of old) (far_of new) (omega (arith, inside, long)) (omega arith) later
+            (turned_next rules g Under row (far_of old) (far_of now) (far_of new) a inside below entry low (inr here) turned))
+        | inr marked ↦
+            let some = own_is depth a value in
+            let most = visiting.low (with_own depth a value) (own a inside) (own_before depth a value) in
+            let capped = grounds.depths.capped (with_own depth a value) (own a inside) in
+            let entry : get_or row (with_own depth a value depth) 0 ≡ get_or row a 0 = ap (λ (k : ℕ). get_or row k 0) some in
+            let least_is : min now.lower m ≡ now.lower = omega (arith, most, capped, entry, marked, at) in
+            let spent_is : stopped.0 ≡ now.spent = elim stopped.2 [
+              | inl passed ↦ passed.1
+              | inr reached ↦ absurd (omega (arith, reached.0, room.counted, at, marked))
+            ] in
+            let still : far_of new ≡ far_of now = ap far_of stopped.1 ∙ far_same now.best now.best now.nodes now.nodes (min now.lower m) now.lower stopped.0 now.spent refl refl least_is spent_is in
+            subst (λ (s : Far). VisitsEach rules g (length row) Under (far_of old) s) (sym still)
+            (turned_end rules g Under row (far_of old) (far_of now) (λ k h. (let most = low k h in omega (arith, most, marked))) turned)
+      ] in
+      subst (λ (ss : List ℕ). Visits ss buckets rules depth value (far_of old) (far_of new)) (sym (drop_more sizes depth 0 lt))
+      (subst (λ (n : ℕ). VisitsEach rules g n Under (far_of old) (far_of new)) visiting.long each)
 
   -- where the first estimate is passed over, nothing is visited
-  pub visited_none : (first : ℕ) (old new : Progress) → first ≡ first_sum buckets → old.room ≤ first → IsRoom rules old.best old.room → new ≡ record { best = old.best; found = old.found; nodes = old.nodes; lower = first; spent = old.spent; room = old.room } → HasVisited sizes buckets rules (far old.best old.nodes) (far new.best new.nodes)
-  visited_none first old new is over room e =
+  pub visited_none : (first : ℕ) (old new : Progress) → first ≡ first_sum buckets → old.room ≤ first → IsRoom rules old.best old.room → old.lower ≡ count_limit → new ≡ record { best = old.best; found = old.found; nodes = old.nodes; lower = first; spent = old.spent; room = old.room } → HasVisited sizes buckets rules (far_of old) (far_of new)
+  visited_none first old new is over room top e =
       let within = first_within sizes rules.scale buckets grounds in
-      let at = first_is sizes rules.scale buckets grounds (λ v. 0) in
-      let passed = room.above (estimate 0 buckets (λ v. 0)) (omega (arith, within, at)) (omega (arith, over, is, at)) in
-      subst (λ (q : Progress). HasVisited sizes buckets rules (far old.best old.nodes) (far q.best q.nodes)) (sym e) (inl (passed, refl))
+      let at : first ≡ estimate 0 buckets (λ v. 0) = is ∙ first_is sizes rules.scale buckets grounds (λ v. 0) in
+      let passed = room.above first (omega (arith, within, is)) over in
+      let least : first ≡ min old.lower first = omega (arith, within, is, top) in
+      let far_new : far_of new ≡ far old.best old.nodes (min old.lower first) old.spent = ap far_of e ∙ ap (λ (n : ℕ). far old.best old.nodes n old.spent) least in
+      inl (subst (λ (n : ℕ). PassesOver rules n (far_of old) (far_of new)) at (passed, far_new))
 
   -- a descent from the first variable on
-  pub visited_all : (value : ℕ → ℕ) (old new : Progress) → Visits sizes buckets rules 0 value (far old.best old.nodes) (far new.best new.nodes) → HasVisited sizes buckets rules (far old.best old.nodes) (far new.best new.nodes)
-  visited_all value old new visits = inr (visits_agree sizes 0 (λ v. 0) value (far old.best old.nodes) (far new.best new.nodes) (omega arith) (λ v lt. absurd (omega (arith, lt))) visits)
+  pub visited_all : (value : ℕ → ℕ) (old new : Progress) → Visits sizes buckets rules 0 value (far_of old) (far_of new) → HasVisited sizes buckets rules (far_of old) (far_of new)
+  visited_all value old new visits = inr (visits_agree sizes 0 (λ v. 0) value (far_of old) (far_of new) (omega arith) (λ v lt. absurd (omega (arith, lt))) visits)

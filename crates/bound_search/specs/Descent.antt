@@ -10,6 +10,7 @@ use Rattle.bound_search.specs.Estimate.{IsPassedOver}
 use Rattle.bound_search.specs.Known.{IsBelow, IsNoWorse}
 use Rattle.bound_search.specs.Searched.{most_nodes, tree_nodes, TakesEffort}
 use Rattle.bound_search.specs.Grounds.{scaled_cost}
+use Rattle.bound_search.specs.Visits.{Far, far}
 use Rattle.bound_search.specs.declared.progress.Progress.{Progress}
 use Rattle.bound_search.specs.declared.rules.Rules.{Rules}
 
@@ -60,6 +61,10 @@ pub record HasDescended (sizes : List ℕ) (buckets : List Bucket) (rules : Rule
   pub tree : new.nodes ≤ old.nodes + tree_nodes (drop depth sizes)
   pub effort : TakesEffort (length sizes - depth) old.found old.nodes new.found new.nodes
   pub straight : AreExact sizes (tables_in buckets) buckets → old.nodes + (length sizes - depth) ≤ rules.budget → IsStraight (length sizes - depth) f old new
+
+-- how far a search has come
+abbrev pub far_of : Progress → Far
+far_of now = far now.best now.nodes now.lower now.spent
 
 -- what becomes of a search when the next value has this estimate: the value is a node, or passed over, or left open
 abbrev pub IsOpened : ℕ → ℕ → Progress → Progress → Bool → Type 0

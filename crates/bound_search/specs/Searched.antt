@@ -1,9 +1,11 @@
 -- What a search comes to.
 use Rattle.std.specs.Prelude.{◌≡◌, ℕ, ◌+◌, ◌*◌, ◌≤◌, ◌⊎◌, max, Bool, true, false, List, [], ◌∷◌, Option, Some, None, length}
+use Rattle.dcop_base.specs.Limits.{count_limit}
 use Rattle.dcop_base.specs.Problem.{Dcop, IsAssignment, cost}
 use Rattle.bucket_bounds.specs.Exact.{AreExact}
 use Rattle.bucket_bounds.specs.declared.bucket.Bucket.{Bucket}
 use Rattle.bucket_bounds.specs.Bounds.{tables_in}
+use Rattle.bound_search.specs.Estimate.{unscaled}
 use Rattle.bound_search.specs.Known.{IsKnown, KnowsMore}
 use Rattle.bound_search.specs.Visits.{far, HasVisited}
 use Rattle.bound_search.specs.declared.known.Known.{Known}
@@ -43,7 +45,7 @@ pub record GoesStraight (count : ℕ) (old new : Known) (ended : Ended) : Type 0
   pub whole : ended.spent ≡ false
   pub few : new.nodes ≤ old.nodes + count
 
--- a search of a problem, by these buckets of costs with this scale: what is known before and afterwards, and how it ended
+-- a search of a problem, by these buckets of costs with this scale: what is known before and afterwards, and how it ended: with the least estimate as the lower bound, and spent where a value was left open
 pub record IsSearched (p : Dcop) (scale : ℕ) (buckets : List Bucket) (error budget : ℕ) (old new : Known) (ended : Ended) : Type 0 where
   pub known : IsKnown p new
   pub more : KnowsMore old new
@@ -55,4 +57,4 @@ pub record IsSearched (p : Dcop) (scale : ℕ) (buckets : List Bucket) (error bu
   pub nodes : new.nodes ≤ most_nodes budget (length p.sizes) old.best old.nodes
   pub tree : new.nodes ≤ old.nodes + tree_nodes p.sizes
   pub straight : AreExact p.sizes (tables_in buckets) buckets → old.nodes + length p.sizes ≤ budget → GoesStraight (length p.sizes) old new ended
-  pub visits : HasVisited p.sizes buckets (record { scale = scale; error = error; budget = budget }) (far old.best old.nodes) (far new.best new.nodes)
+  pub visits : (least : ℕ) × HasVisited p.sizes buckets (record { scale = scale; error = error; budget = budget }) (far old.best old.nodes count_limit false) (far new.best new.nodes least ended.spent) × (ended.lower ≡ unscaled scale least)

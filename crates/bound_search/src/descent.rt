@@ -7,8 +7,8 @@ ghost use Rattle.dcop_base.specs.Values.{with_own};
 ghost use Rattle.shared_costs.specs.Values.{AgreeBelow};
 ghost use Rattle.bound_search.specs.Estimate.{estimate};
 ghost use Rattle.bound_search.specs.Grounds.{AreGrounds};
-ghost use Rattle.bound_search.specs.Descent.{HasDescended, IsOpened, IsRoom, IsStanding};
-ghost use Rattle.bound_search.specs.Visits.{far, Visits};
+ghost use Rattle.bound_search.specs.Descent.{HasDescended, IsOpened, IsRoom, IsStanding, far_of};
+ghost use Rattle.bound_search.specs.Visits.{Visits};
 
 use crate::progress::Progress;
 use crate::room::room_of;
@@ -45,7 +45,7 @@ pub(crate) fn descend(
     ensures descended { HasDescended sizes.now buckets.now rules depth least
         (slice_index values.old) progress.old progress.new }
     ensures visits { Visits (drop depth sizes.now) buckets.now rules depth (slice_index values.old)
-        (far progress.old.best progress.old.nodes) (far progress.new.best progress.new.nodes) }
+        (far_of progress.old) (far_of progress.new) }
 {
     if depth == sizes.len() {
         found.copy_from_slice(values);

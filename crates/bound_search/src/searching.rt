@@ -7,11 +7,11 @@ ghost use Rattle.bucket_bounds.specs.Bounds.{AreBounds};
 ghost use Rattle.dcop_base.specs.Limits.{amount_limit, variable_limit};
 ghost use Rattle.bound_search.specs.Estimate.{unscaled};
 ghost use Rattle.bound_search.specs.Grounds.{AreGrounds};
-ghost use Rattle.bound_search.specs.Descent.{IsStanding};
+ghost use Rattle.bound_search.specs.Descent.{IsStanding, far_of};
 ghost use Rattle.bound_search.specs.First.{HasSearched, constants_cost, first_sum};
 ghost use Rattle.bound_search.specs.Known.{IsKnown};
 ghost use Rattle.bound_search.specs.Searched.{IsSearched};
-ghost use Rattle.bound_search.specs.Visits.{far, HasVisited};
+ghost use Rattle.bound_search.specs.Visits.{HasVisited};
 
 use crate::descent::descend;
 use crate::known::Known;
@@ -113,7 +113,7 @@ fn search_from_top(
     ensures standing { OnOk result (IsStanding sizes.now buckets.now rules found.new progress.new) }
     ensures searched { OnOk result (HasSearched sizes.now buckets.now rules progress.old progress.new) }
     ensures visits { OnOk result (HasVisited sizes.now buckets.now rules
-        (far progress.old.best progress.old.nodes) (far progress.new.best progress.new.nodes)) }
+        (far_of progress.old) (far_of progress.new)) }
 {
     let mut values = vec![in alloc; Val(0); sizes.len()]?;
     let mut rows = vec![in alloc; 0; total_of(sizes)]?;

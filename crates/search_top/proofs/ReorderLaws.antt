@@ -1,5 +1,5 @@
 -- The report of a search on a file in another order is one on the file, with what was found told in its own order.
-use Rattle.std.proofs.Common.{◌≡◌, ℕ, ◌+◌, ◌<◌, ◌≤◌, List, [], ◌∷◌, length, map, Option, Some, None, IfSome, refl, sym, ap, subst, ◌∙◌}
+use Rattle.std.proofs.Common.{◌≡◌, ℕ, ◌+◌, ◌<◌, ◌≤◌, List, [], ◌∷◌, length, map, Option, Some, None, IfSome, option_map, refl, sym, ap, subst, ◌∙◌}
 use Rattle.std.specs.List.{AllZip, slice_index}
 use Rattle.std.proofs.lemmas.List.Elements.{length_all_zip}
 use Rattle.std.proofs.lemmas.List.Sums.{sum_by-cons}
@@ -7,20 +7,27 @@ use Rattle.problem_text.proofs.NamesLaws.{length-map}
 use Rattle.dcop_base.specs.Table.{CostTable, AreWithin, values_at, greatest}
 use Rattle.dcop_base.specs.Problem.{IsAssignment, cost}
 use Rattle.dcop_base.specs.Faults.{greatest_sum}
+use Rattle.dcop_base.specs.Whole.{IsProblem}
 use Rattle.dcop_optimum.specs.Goal.{top_of}
 use Rattle.problem_text.specs.File.{TextFile}
 use Rattle.problem_text.specs.declared.file.Goal.{Goal}
-use Rattle.problem_solved.specs.Goal.{IsAtMostWorse}
+use Rattle.problem_solved.specs.Goal.{solved, IsAtMostWorse}
 use Rattle.problem_order.specs.Reordered.{IsTableFor, IsReordered}
 use Rattle.problem_order.specs.Costs.{CostTheSame}
+use Rattle.search_top.specs.Outcomes.{IsOutcome, TellsOutcome}
 use Rattle.search_top.specs.Outside.{AreToldOutside}
 use Rattle.search_top.specs.Report.{IsBetterSum, IsFoundIn, IsBoundOf, EndsBy, IsSearchReport, most_visited}
+use Rattle.search_top.specs.Staged.{IsOfStages}
+use Rattle.search_top.specs.Stages.{AreStages}
+use Rattle.search_top.specs.Turning.{told_sum, found_told, report_told}
 use Rattle.search_top.specs.declared.report.Found.{Found}
 use Rattle.search_top.specs.declared.report.SearchEnding.{SearchEnding}
 use Rattle.search_top.specs.declared.report.SearchEnding.TheVariants.{Solved, Spent, NoneBetter}
 use Rattle.search_top.specs.declared.report.SearchReport.{SearchReport}
+use Rattle.search_top.specs.declared.stages.Outcome.{Outcome}
 use Rattle.search_top.specs.declared.words.Asked.{Asked}
 use Rattle.search_top.proofs.OutsideLaws.{within_outside}
+use Rattle.search_top.proofs.TellLaws.{found-is, some-told, bound-told, within-told, ends-is, visited-told, effort-is}
 
 -- the same tables in another order have the same greatest cells
 greatest_sum_same : (order : List ℕ) (ts us : List CostTable) → AllZip (IsTableFor order) ts us → greatest_sum us ≡ greatest_sum ts
@@ -60,6 +67,10 @@ better_same : (goal goal' : Goal) (cost cost' : ℕ) (better : Option ℕ) → g
 better_same goal goal' cost cost' better same equal is =
     subst (λ (g : Goal). IfSome better (λ asked. IsBetterSum g cost' asked)) same
     (subst (λ (n : ℕ). IfSome better (λ asked. IsBetterSum goal n asked)) equal is)
+
+-- what is said of a goal and a top sum is said of the same ones
+same_told : (Said : Goal → ℕ → Type 0) (goal goal' : Goal) (top top' : ℕ) → goal ≡ goal' → top ≡ top' → Said goal top → Said goal' top'
+same_told Said goal goal' top top' one other is = subst (λ (g : Goal). Said g top') one (subst (λ (t : ℕ). Said goal t) other is)
 
 module _ (old new : TextFile) (order : List ℕ) (reordered : IsReordered old order new) where
   pub count_same : length new.problem.sizes ≡ length order
@@ -125,16 +136,49 @@ module _ (old new : TextFile) (order : List ℕ) (reordered : IsReordered old or
       within = is.within;
     }
 
-    pub report_outside : (inside : SearchReport) (found : Option Found) → IsSearchReport new.goal new.problem asked inside → AreToldOutside order inside.found found → IsSearchReport old.goal old.problem asked (with_found inside found)
-    report_outside inside found is told = record {
-      same_goal = is.same_goal ∙ reordered.goal;
-      error = is.error;
-      found = found_outside inside.found found told is.found;
-      some = λ any. (let one = is.some any in let other = some_told order inside.found found told one.0 one.1 in (other.0, other.1));
-      bound = bound_outside inside.bound is.bound;
-      within = (let top : top_of new.problem ≡ top_of old.problem = greatest_sum_same order old.problem.tables new.problem.tables reordered.tables in
-          subst (λ (n : ℕ). inside.bound ≤ n) top is.within);
-      ends = ends_outside inside found told inside.ending is.ends;
-      nodes = subst (λ (n : ℕ). inside.nodes ≤ most_visited asked.budget n asked.better) (count_same ∙ reordered.is_order.many) is.nodes;
-      effort = told_effort (length old.problem.sizes ≤ inside.nodes) inside.found found told (subst (λ (n : ℕ). IfSome inside.found (λ one. n ≤ inside.nodes)) (count_same ∙ reordered.is_order.many) is.effort);
-    }
+    module _ (o : Outcome) (found : Option Found) (whole : IsProblem new.problem)
+        (is : IsOutcome (solved new.goal new.problem) asked (option_map (told_sum new.goal (top_of new.problem)) asked.better) o)
+        (told : AreToldOutside order (found_told new.goal (top_of new.problem) o.known) found) where
+      top : top_of new.problem ≡ top_of old.problem
+      top = greatest_sum_same order old.problem.tables new.problem.tables reordered.tables
+
+      count : length new.problem.sizes ≡ length old.problem.sizes
+      count = count_same ∙ reordered.is_order.many
+
+      abbrev told_inside : SearchReport
+      told_inside = report_told new.goal (top_of new.problem) asked o
+
+      stages_outside : IsOfStages old.goal old.problem asked (with_found told_inside found)
+      stages_outside = record {
+        order = order;
+        inside = new.problem;
+        ordered = record { is_order = reordered.is_order; sizes = reordered.sizes; tables = reordered.tables };
+        count = is.stages.0;
+        outcome = o;
+        stages = same_told (λ goal sum. AreStages (solved goal new.problem) asked (option_map (told_sum goal sum) asked.better) is.stages.0 o) new.goal old.goal (top_of new.problem) (top_of old.problem) reordered.goal top is.stages.1;
+        nodes = refl;
+        bound = same_told (λ goal sum. told_sum new.goal (top_of new.problem) o.ended.lower ≡ told_sum goal sum o.ended.lower) new.goal old.goal (top_of new.problem) (top_of old.problem) reordered.goal top refl;
+        found = same_told (λ goal sum. AreToldOutside order (found_told goal sum o.known) found) new.goal old.goal (top_of new.problem) (top_of old.problem) reordered.goal top told;
+        ending = refl;
+      }
+
+      -- the report of an outcome, with what was found told outside
+      told_outside : IsSearchReport old.goal old.problem asked (with_found told_inside found)
+      told_outside = record {
+        same_goal = reordered.goal;
+        error = refl;
+        found = found_outside told_inside.found found told (found-is new.goal new.problem asked o whole is);
+        some = λ any. (let one = some-told new.goal new.problem asked o is any in let other = some_told order told_inside.found found told one.0 one.1 in (other.0, other.1));
+        bound = bound_outside told_inside.bound (bound-told new.goal new.problem o.ended.lower whole is.lower);
+        within = subst (λ (n : ℕ). told_inside.bound ≤ n) top (within-told new.goal new.problem o.ended.lower whole is.lower);
+        ends = ends_outside told_inside found told told_inside.ending (ends-is new.goal new.problem asked o whole is);
+        nodes = subst (λ (n : ℕ). told_inside.nodes ≤ most_visited asked.budget n asked.better) count (visited-told new.goal new.problem asked.budget o.known.nodes asked.better is.nodes);
+        effort = told_effort (length old.problem.sizes ≤ told_inside.nodes) told_inside.found found told (subst (λ (n : ℕ). IfSome told_inside.found (λ one. n ≤ told_inside.nodes)) count (effort-is new.goal new.problem asked o whole is));
+        stages = stages_outside;
+      }
+
+    pub report_outside : (inside : SearchReport) (found : Option Found) → IsProblem new.problem → TellsOutcome new.goal new.problem asked inside → AreToldOutside order inside.found found
+        → IsSearchReport old.goal old.problem asked (with_found inside found)
+    report_outside inside found whole tells =
+        subst (λ (r : SearchReport). AreToldOutside order r.found found → IsSearchReport old.goal old.problem asked (with_found r found)) (sym tells.told)
+        (told_outside tells.outcome found whole tells.came)

@@ -1,13 +1,21 @@
 -- What stages of a search come to, one behind the other.
-use Rattle.std.proofs.Common.{◌≡◌, ℕ, ◌≤◌, ◌⊎◌, max, Bool, true, false, length, Option, Some, None, refl, sym, subst, ◌∙◌, inl, inr, arith}
+use Rattle.std.proofs.Common.{◌≡◌, ℕ, zero, suc, ◌+◌, ◌≤◌, ◌⊎◌, max, min, Bool, true, false, List, length, Option, Some, None, Result, Ok, Err, IfOk, refl, sym, subst, ◌∙◌, inl, inr, arith}
 use Rattle.std.proofs.lemmas.Bool.{cases_Bool}
+use Rattle.dcop_base.specs.Limits.{joined_limit}
 use Rattle.dcop_base.specs.Problem.{Dcop, cost}
+use Rattle.dcop_base.specs.declared.memory.NoMemory.{NoMemory}
+use Rattle.shared_costs.specs.Shared.{AreSharedCosts}
+use Rattle.shared_costs.specs.declared.shared.SharedCosts.{SharedCosts}
+use Rattle.bucket_bounds.specs.Bounds.{AreBounds, kept_cells}
+use Rattle.bucket_bounds.specs.MiniBuckets.{AreMiniBuckets}
+use Rattle.bucket_bounds.specs.declared.bucket.Bucket.{Bucket}
 use Rattle.bound_search.specs.Known.{IsKnown, IsNoWorse, IsBelow}
-use Rattle.bound_search.specs.Searched.{EndsSo, most_nodes}
+use Rattle.bound_search.specs.Searched.{HasEnded, IsSpent, EndsSo, IsSearched, most_nodes}
 use Rattle.bound_search.specs.declared.known.Known.{Known}
 use Rattle.bound_search.specs.declared.searching.Ended.{Ended}
 use Rattle.search_top.specs.Report.{most_visited}
-use Rattle.search_top.specs.Stages.{IsStage, IsSoFar, IsOutcome}
+use Rattle.search_top.specs.Stages.{IsApart, IsNothingYet, IsStage}
+use Rattle.search_top.specs.Outcomes.{IsLowerBound, IsSoFar, IsOutcome}
 use Rattle.search_top.specs.declared.stages.Outcome.{Outcome}
 use Rattle.search_top.specs.declared.words.Asked.{Asked}
 
@@ -59,41 +67,110 @@ ends_whole error budget whole known ended ends how = elim ends [
   ]
 ]
 
+-- a search that has ended is not spent
+pub has_ended : (error budget : ℕ) (known : Known) (ended : Ended) → EndsSo error budget known ended → ended.spent ≡ false → HasEnded error known ended.lower
+has_ended error budget known ended ends none = elim ends [
+  | inl done ↦ done.1
+  | inr spent ↦ absurd (not_both ended.spent none spent.0)
+]
+
+pub has_spent : (error budget : ℕ) (known : Known) (ended : Ended) → EndsSo error budget known ended → ended.spent ≡ true → IsSpent budget known
+has_spent error budget known ended ends spent = elim ends [
+  | inl done ↦ absurd (not_both ended.spent done.0 spent)
+  | inr reached ↦ reached.1
+]
+
+-- so it has by a greater bound
+ended_above : (error : ℕ) (known : Known) (low lower : ℕ) → low ≤ lower → HasEnded error known low → HasEnded error known lower
+ended_above error known low lower above done = record {
+  best = done.best;
+  known_is = done.known_is;
+  within = (let within = done.within in omega (arith, above, within));
+}
+
+-- a stage, by what was made in it
+pub stage_made : (p : Dcop) (asked : Asked) (budget : ℕ) (before : Outcome) (shared : SharedCosts) (limit : ℕ) (buckets : List Bucket) (known : Known) (own : Ended) (lower : ℕ) (spent : Bool)
+    → before.ended.spent ≡ true → budget ≤ asked.budget → AreSharedCosts p shared → AreBounds p.sizes shared.depths buckets
+    → AreMiniBuckets p.sizes (min limit joined_limit) asked.cells 0 buckets → kept_cells buckets ≤ asked.cells
+    → IsSearched p shared.scale buckets asked.error budget before.known known own → lower ≡ max own.lower before.ended.lower
+    → (spent ≡ true → (own.spent ≡ true) × IsApart asked.error known.best lower)
+    → (spent ≡ false → (own.spent ≡ false) ⊎ ((sum : ℕ) × (known.best ≡ Some sum) × (sum ≤ lower + asked.error)))
+    → IsStage p asked budget before (record { known = known; ended = record { lower = lower; spent = spent } })
+stage_made p asked budget before shared limit buckets known own lower spent needed within costs bounds mini kept searched greatest apart ended = record {
+  needed = needed;
+  within = within;
+  shared = shared;
+  costs = costs;
+  buckets = buckets;
+  bounds = bounds;
+  limit = min limit joined_limit;
+  joined = omega arith;
+  mini = mini;
+  kept = kept;
+  own = own;
+  searched = searched;
+  lower = greatest;
+  spent = apart;
+  ended = λ none. elim (ended none) [
+    | inl last ↦ ended_above asked.error known own.lower lower (omega (arith, greatest)) (has_ended asked.error budget known own searched.ends last)
+    | inr near ↦ record { best = near.0; known_is = near.1; within = near.2 }
+  ];
+}
+
+-- how the stages ended, by the budget of the last one
+stage_ends : (p : Dcop) (asked : Asked) (budget : ℕ) (before after : Outcome) → IsStage p asked budget before after → EndsSo asked.error budget after.known after.ended
+stage_ends p asked budget before after stage = elim (cases_Bool after.ended.spent) [
+  | inl spent ↦ inr (spent, has_spent asked.error budget after.known stage.own stage.searched.ends (stage.spent spent).0)
+  | inr none ↦ inl (none, stage.ended none)
+]
+
 module _ (p : Dcop) (asked : Asked) (best : Option ℕ) where
   -- before the first stage
-  pub so_far_first : (o : Outcome) → IsKnown p o.known → o.known.best ≡ best → o.known.found ≡ false → o.known.nodes ≡ 0 → o.ended.lower ≡ 0 → IsSoFar p asked best o
-  so_far_first o known same none zero_nodes zero_lower = record {
-    known = known;
-    same = λ h. same;
-    better = λ h. absurd (not_both o.known.found none h);
-    lower = λ values within. omega (arith, zero_lower);
-    first = λ h. zero_nodes;
-    few = omega (arith, zero_nodes);
-    effort = λ h. absurd (not_both o.known.found none h);
-    nodes = omega (arith, zero_nodes);
-  }
+  pub so_far_first : (o : Outcome) → IsKnown p o.known → IsNothingYet best o → IsSoFar p asked best o
+  so_far_first o known yet =
+      let zero_nodes = yet.nodes in
+      let zero_lower = yet.lower in
+      record {
+        stages = (zero, yet);
+        spent = yet.spent;
+        known = known;
+        same = λ h. yet.sought;
+        better = λ h. absurd (not_both o.known.found yet.none h);
+        lower = λ values within. omega (arith, zero_lower);
+        first = λ h. zero_nodes;
+        few = omega (arith, zero_nodes);
+        effort = λ h. absurd (not_both o.known.found yet.none h);
+        nodes = omega (arith, zero_nodes);
+      }
 
-  module _ (budget : ℕ) (before after : Outcome) (few : budget ≤ asked.budget) (so_far : IsSoFar p asked best before) (stage : IsStage p asked budget before after) where
+  module _ (budget : ℕ) (before after : Outcome) (so_far : IsSoFar p asked best before) (stage : IsStage p asked budget before after) where
     was_none : after.known.found ≡ false → before.known.found ≡ false
     was_none none = elim (cases_Bool before.known.found) [
-      | inl had ↦ absurd (not_both after.known.found none (stage.more.still had))
+      | inl had ↦ absurd (not_both after.known.found none (stage.searched.more.still had))
       | inr had_none ↦ had_none
     ]
 
     same_still : after.known.found ≡ false → after.known.best ≡ best
-    same_still none = stage.more.same none ∙ so_far.same (was_none none)
+    same_still none = stage.searched.more.same none ∙ so_far.same (was_none none)
 
     better_still : after.known.found ≡ true → IsBelow after.known.best best
     better_still found = elim (cases_Bool before.known.found) [
-      | inl had ↦ below_still after.known.best before.known.best best stage.more.best (so_far.better had)
-      | inr none ↦ subst (λ (b : Option ℕ). IsBelow after.known.best b) (so_far.same none) (stage.more.better none found)
+      | inl had ↦ below_still after.known.best before.known.best best stage.searched.more.best (so_far.better had)
+      | inr none ↦ subst (λ (b : Option ℕ). IsBelow after.known.best b) (so_far.same none) (stage.searched.more.better none found)
     ]
 
     found_some : best ≡ None → after.known.found ≡ true
     found_some any = elim (cases_Bool before.known.found) [
-      | inl had ↦ stage.more.still had
-      | inr none ↦ stage.found (so_far.same none ∙ any)
+      | inl had ↦ stage.searched.more.still had
+      | inr none ↦ stage.searched.found (so_far.same none ∙ any)
     ]
+
+    lower_still : IsLowerBound p after.ended.lower
+    lower_still values within =
+        let before_least = so_far.lower values within in
+        let own_least = stage.searched.lower values within in
+        let greatest = stage.lower in
+        omega (arith, before_least, own_least, greatest)
 
     nothing_before : before.known.best ≡ None → (before.known.nodes ≡ 0) × (best ≡ None)
     nothing_before none = (
@@ -106,39 +183,54 @@ module _ (p : Dcop) (asked : Asked) (best : Option ℕ) where
 
     effort_still : after.known.found ≡ true → length p.sizes ≤ after.known.nodes
     effort_still found = elim (cases_Bool before.known.found) [
-      | inl had ↦ (let least = so_far.effort had in omega (arith, least, stage.counted))
-      | inr none ↦ (let least = stage.effort none found in omega (arith, least))
+      | inl had ↦ (let least = so_far.effort had in let counted = stage.searched.counted in omega (arith, least, counted))
+      | inr none ↦ (let least = stage.searched.effort none found in omega (arith, least))
     ]
 
-    -- after one more stage
-    pub so_far_more : IsSoFar p asked best after
-    so_far_more = record {
-      known = stage.known;
+    nodes_still : after.known.nodes ≤ most_visited asked.budget (length p.sizes) best
+    nodes_still = most_still budget asked.budget (length p.sizes) best before.known.best before.known.nodes after.known.nodes stage.within so_far.nodes nothing_before stage.searched.nodes
+
+    ends_so : EndsSo asked.error budget after.known after.ended
+    ends_so = stage_ends p asked budget before after stage
+
+    -- after one more stage that is spent
+    pub so_far_more : after.ended.spent ≡ true → IsSoFar p asked best after
+    so_far_more spent = record {
+      stages = (suc so_far.stages.0, (budget, before, so_far.stages.1, stage));
+      spent = spent;
+      known = stage.searched.known;
       same = same_still;
       better = better_still;
-      lower = stage.lower;
-      first = λ none. absurd (something_known asked.error budget after.known after.ended stage.ends none);
+      lower = lower_still;
+      first = λ none. absurd (something_known asked.error budget after.known after.ended ends_so none);
       effort = effort_still;
-      few = most_within budget asked.budget (length p.sizes) before.known.best before.known.nodes after.known.nodes few so_far.few so_far.first stage.nodes;
-      nodes = most_still budget asked.budget (length p.sizes) best before.known.best before.known.nodes after.known.nodes few so_far.nodes nothing_before stage.nodes;
+      few = most_within budget asked.budget (length p.sizes) before.known.best before.known.nodes after.known.nodes stage.within so_far.few so_far.first stage.searched.nodes;
+      nodes = nodes_still;
     }
 
     -- after the last one
     pub outcome_is : (after.ended.spent ≡ false) ⊎ (asked.budget ≤ after.known.nodes) ⊎ (budget ≡ asked.budget) → IsOutcome p asked best after
     outcome_is how = record {
-      known = stage.known;
+      stages = (suc so_far.stages.0, (budget, before, so_far.stages.1, stage));
+      known = stage.searched.known;
       some = found_some;
       same = same_still;
       better = better_still;
-      lower = stage.lower;
+      lower = lower_still;
       ends = elim how [
-        | inl not_spent ↦ ends_whole asked.error budget asked.budget after.known after.ended stage.ends (inl not_spent)
+        | inl not_spent ↦ ends_whole asked.error budget asked.budget after.known after.ended ends_so (inl not_spent)
         | inr rest ↦ elim rest [
-          | inl reached ↦ ends_whole asked.error budget asked.budget after.known after.ended stage.ends (inr reached)
-          | inr whole ↦ subst (λ (b : ℕ). EndsSo asked.error b after.known after.ended) whole stage.ends
+          | inl reached ↦ ends_whole asked.error budget asked.budget after.known after.ended ends_so (inr reached)
+          | inr whole ↦ subst (λ (b : ℕ). EndsSo asked.error b after.known after.ended) whole ends_so
         ]
       ];
-      apart = stage.apart;
+      apart = λ spent. (stage.spent spent).1;
       effort = effort_still;
-      nodes = so_far_more.nodes;
+      nodes = nodes_still;
     }
+
+-- the same of a last stage that had the whole budget, unless memory was wanted
+pub last_outcome : (p : Dcop) (asked : Asked) (best : Option ℕ) (before : Outcome) (result : Result Outcome NoMemory) → IsSoFar p asked best before → IfOk result (IsStage p asked asked.budget before)
+    → IfOk result (IsOutcome p asked best)
+last_outcome p asked best before (Ok after) so_far stage = outcome_is p asked best asked.budget before after so_far stage (inr (inr refl))
+last_outcome p asked best before (Err none) so_far stage = tt

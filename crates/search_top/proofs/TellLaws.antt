@@ -1,5 +1,5 @@
 -- What came of a search on the problem solved, told of the problem.
-use Rattle.std.proofs.Common.{◌≡◌, ℕ, ◌+◌, ◌<◌, ◌≤◌, Bool, true, false, List, length, replicate, Option, Some, None, IfSome, option_map, if◌then◌else◌, refl, sym, ap, subst, ◌∙◌, arith, inl, inr}
+use Rattle.std.proofs.Common.{◌≡◌, ℕ, ◌+◌, ◌<◌, ◌≤◌, Bool, true, false, List, length, replicate, Option, Some, None, IfSome, option_map, if◌then◌else◌, refl, sym, ap, subst, ◌∙◌, arith}
 use Rattle.std.proofs.lemmas.List.Elements.{All-weaker}
 use Rattle.dcop_base.specs.Problem.{Dcop, IsAssignment, cost}
 use Rattle.dcop_base.specs.Whole.{IsProblem}
@@ -12,25 +12,15 @@ use Rattle.problem_text.specs.declared.file.Goal.{Goal}
 use Rattle.problem_text.specs.declared.file.Goal.TheVariants.{Min, Max}
 use Rattle.problem_solved.specs.Goal.{solved, IsAtMostWorse}
 use Rattle.bound_search.specs.Known.{IsBelow}
-use Rattle.bound_search.specs.Searched.{HasEnded, EndsSo}
-use Rattle.search_top.specs.Report.{IsBetterSum, IsFoundIn, IsBoundOf, HasSpent, EndsBy, IsSearchReport, most_visited}
-use Rattle.search_top.specs.Stages.{IsApart, IsOutcome}
-use Rattle.search_top.specs.Turning.{told_sum, found_told, ending_told}
+use Rattle.search_top.specs.Outcomes.{IsOutcome, TellsOutcome}
+use Rattle.search_top.specs.Report.{IsBetterSum, IsFoundIn, IsBoundOf, HasSpent, EndsBy, most_visited}
+use Rattle.search_top.specs.Stages.{IsApart}
+use Rattle.search_top.specs.Turning.{told_sum, found_told, ending_told, report_told}
 use Rattle.search_top.specs.declared.report.Found.{Found}
 use Rattle.search_top.specs.declared.report.SearchReport.{SearchReport}
 use Rattle.search_top.specs.declared.stages.Outcome.{Outcome}
 use Rattle.search_top.specs.declared.words.Asked.{Asked}
-
--- the report of what came of a search
-abbrev pub report_told : Goal → ℕ → Asked → Outcome → SearchReport
-report_told goal top asked o = record {
-  ending = ending_told o.known.found o.ended.spent;
-  goal = goal;
-  error = asked.error;
-  nodes = o.known.nodes;
-  bound = told_sum goal top o.ended.lower;
-  found = found_told goal top o.known;
-}
+use Rattle.search_top.proofs.StageLaws.{has_ended, has_spent}
 
 -- an assignment with its sum
 abbrev pub with_sum : Goal → ℕ → List ℕ → ℕ → Found
@@ -70,7 +60,7 @@ sought-told Min top error sum lower most = most
 sought-told Max top error sum lower most = omega (arith, most)
 
 -- some assignment costs at least the lower bound, so the bound is at most the top sum
-within-told : (goal : Goal) (p : Dcop) (lower : ℕ) → IsProblem p → ((values : List ℕ) → IsAssignment (solved goal p) values → lower ≤ cost (solved goal p) values)
+pub within-told : (goal : Goal) (p : Dcop) (lower : ℕ) → IsProblem p → ((values : List ℕ) → IsAssignment (solved goal p) values → lower ≤ cost (solved goal p) values)
     → told_sum goal (top_of p) lower ≤ top_of p
 within-told Min p lower whole below =
     let ones = All-weaker (λ s. (1 ≤ s) × (s ≤ size_limit)) (λ s. 1 ≤ s) (λ s both. both.0) p.sizes whole.sizes in
@@ -118,15 +108,6 @@ sought-of : (goal : Goal) (top : ℕ) (better : Option ℕ) (best : ℕ) → opt
 sought-of goal top None best e = cc
 sought-of goal top (Some sum) best e = (sum, refl, cc e)
 
--- a search that has ended is not spent
-not-spent : (error budget : ℕ) (o : Outcome) → EndsSo error budget o.known o.ended → o.ended.spent ≡ false → HasEnded error o.known o.ended.lower
-not-spent error budget o (inl ended) whole = ended.1
-not-spent error budget o (inr spent) whole = let e = sym whole ∙ spent.0 in cc
-
-spent-so : (error budget : ℕ) (o : Outcome) → EndsSo error budget o.known o.ended → o.ended.spent ≡ true → budget ≤ o.known.nodes
-spent-so error budget o (inl ended) spent = let e = sym spent ∙ ended.0 in cc
-spent-so error budget o (inr reached) spent = reached.1.reached
-
 -- what is more than so much above the bound there is more than so much worse
 apart-told : (goal : Goal) (top error sum lower : ℕ) → sum ≤ top → lower + error < sum → IsAtMostWorse goal error (told_sum goal top sum) (told_sum goal top lower) → ⊥
 apart-told Min top error sum lower most apart near = omega (arith, apart, near)
@@ -167,7 +148,7 @@ some-within best sum top e le = subst (λ (b : Option ℕ). IfSome b (λ n. n �
 spent-told : (goal : Goal) (p : Dcop) (asked : Asked) (o : Outcome) → IsProblem p → IsOutcome (solved goal p) asked (option_map (told_sum goal (top_of p)) asked.better) o
     → o.ended.spent ≡ true → HasSpent asked (report_told goal (top_of p) asked o)
 spent-told goal p asked o whole is spent = record {
-  reached = spent-so asked.error asked.budget o is.ends spent;
+  reached = (has_spent asked.error asked.budget o.known o.ended is.ends spent).reached;
   apart = apart-found goal (top_of p) asked.error o.ended.lower o.known.found o.known.best o.known.values
       (λ known. let found = is.known.found known in some-within o.known.best (cost (solved goal p) o.known.values) (top_of p) found.cost (cost-within goal p o.known.values whole found.assignment))
       (is.apart spent);
@@ -180,14 +161,14 @@ ends-told : (goal : Goal) (p : Dcop) (asked : Asked) (o : Outcome) → IsProblem
     → (found spent : Bool) → o.known.found ≡ found → o.ended.spent ≡ spent → EndsBy asked (report_told goal (top_of p) asked o) (ending_told found spent)
 ends-told goal p asked o whole is found true known spent = spent-told goal p asked o whole is spent
 ends-told goal p asked o whole is true false known spent =
-    let ended = not-spent asked.error asked.budget o is.ends spent in
+    let ended = has_ended asked.error asked.budget o.known o.ended is.ends spent in
     record {
       found = with_sum goal (top_of p) o.known.values ended.best;
       known = found-some goal (top_of p) o.known.found o.known.best o.known.values ended.best known ended.known_is;
       within = worse-told goal (top_of p) asked.error ended.best o.ended.lower ended.within;
     }
 ends-told goal p asked o whole is false false known spent =
-    let ended = not-spent asked.error asked.budget o is.ends spent in
+    let ended = has_ended asked.error asked.budget o.known o.ended is.ends spent in
     let sought = sought-of goal (top_of p) asked.better ended.best (sym (is.same known) ∙ ended.known_is) in
     let most = ended.within in
     let same = sought.2 in
@@ -199,7 +180,7 @@ ends-told goal p asked o whole is false false known spent =
     }
 
 -- without a sum to be bettered an assignment is told
-some-told : (goal : Goal) (p : Dcop) (asked : Asked) (o : Outcome) → IsOutcome (solved goal p) asked (option_map (told_sum goal (top_of p)) asked.better) o
+pub some-told : (goal : Goal) (p : Dcop) (asked : Asked) (o : Outcome) → IsOutcome (solved goal p) asked (option_map (told_sum goal (top_of p)) asked.better) o
     → asked.better ≡ None → (found : Found) × (found_told goal (top_of p) o.known ≡ Some found)
 some-told goal p asked o is none =
     let known = is.some (ap (λ (b : Option ℕ). option_map (told_sum goal (top_of p)) b) none) in
@@ -207,7 +188,7 @@ some-told goal p asked o is none =
     (with_sum goal (top_of p) o.known.values sum, found-some goal (top_of p) o.known.found o.known.best o.known.values sum known (is.known.found known).cost)
 
 -- no sum is better than the bound that is told
-bound-told : (goal : Goal) (p : Dcop) (lower : ℕ) → IsProblem p → ((values : List ℕ) → IsAssignment (solved goal p) values → lower ≤ cost (solved goal p) values)
+pub bound-told : (goal : Goal) (p : Dcop) (lower : ℕ) → IsProblem p → ((values : List ℕ) → IsAssignment (solved goal p) values → lower ≤ cost (solved goal p) values)
     → IsBoundOf goal p (told_sum goal (top_of p) lower)
 bound-told goal p lower whole below values is =
     let least = below values (assignment-in goal p values is) in
@@ -219,7 +200,7 @@ most-visited : (told : ℕ → ℕ) (budget count : ℕ) (better : Option ℕ) �
 most-visited told budget count None = refl
 most-visited told budget count (Some sum) = refl
 
-visited-told : (goal : Goal) (p : Dcop) (budget nodes : ℕ) (better : Option ℕ) → nodes ≤ most_visited budget (length (solved goal p).sizes) (option_map (told_sum goal (top_of p)) better)
+pub visited-told : (goal : Goal) (p : Dcop) (budget nodes : ℕ) (better : Option ℕ) → nodes ≤ most_visited budget (length (solved goal p).sizes) (option_map (told_sum goal (top_of p)) better)
     → nodes ≤ most_visited budget (length p.sizes) better
 visited-told goal p budget nodes better few =
     subst (λ (most : ℕ). nodes ≤ most) (most-visited (told_sum goal (top_of p)) budget (length p.sizes) better)
@@ -232,17 +213,18 @@ effort-told goal top false best values said = tt
 effort-told goal top true None values said = tt
 effort-told goal top true (Some sum) values said = said refl
 
--- what came of a search is told as the report of one on the problem
-pub outcome-told : (goal : Goal) (p : Dcop) (asked : Asked) (o : Outcome) → IsProblem p
-    → IsOutcome (solved goal p) asked (option_map (told_sum goal (top_of p)) asked.better) o → IsSearchReport goal p asked (report_told goal (top_of p) asked o)
-outcome-told goal p asked o whole is = record {
-  same_goal = refl;
-  error = refl;
-  found = found-in goal p asked.better o.known.found o.known.best o.known.values whole (λ known. let found = is.known.found known in (found.assignment, found.cost)) is.better;
-  some = some-told goal p asked o is;
-  bound = bound-told goal p o.ended.lower whole is.lower;
-  within = within-told goal p o.ended.lower whole is.lower;
-  ends = ends-told goal p asked o whole is o.known.found o.ended.spent refl refl;
-  nodes = visited-told goal p asked.budget o.known.nodes asked.better is.nodes;
-  effort = effort-told goal (top_of p) o.known.found o.known.best o.known.values (λ known. subst (λ (n : ℕ). n ≤ o.known.nodes) (sizes-solved goal p) (is.effort known));
-}
+module _ (goal : Goal) (p : Dcop) (asked : Asked) (o : Outcome) (whole : IsProblem p) (is : IsOutcome (solved goal p) asked (option_map (told_sum goal (top_of p)) asked.better) o) where
+  -- what is told as found is an assignment of the problem, with its sum
+  pub found-is : IfSome (found_told goal (top_of p) o.known) (IsFoundIn goal p asked.better)
+  found-is = found-in goal p asked.better o.known.found o.known.best o.known.values whole (λ known. let found = is.known.found known in (found.assignment, found.cost)) is.better
+
+  pub ends-is : EndsBy asked (report_told goal (top_of p) asked o) (ending_told o.known.found o.ended.spent)
+  ends-is = ends-told goal p asked o whole is o.known.found o.ended.spent refl refl
+
+  pub effort-is : IfSome (found_told goal (top_of p) o.known) (λ told. length p.sizes ≤ o.known.nodes)
+  effort-is = effort-told goal (top_of p) o.known.found o.known.best o.known.values (λ known. subst (λ (n : ℕ). n ≤ o.known.nodes) (sizes-solved goal p) (is.effort known))
+
+-- what a report tells as found is so
+pub found-told : (goal : Goal) (p : Dcop) (asked : Asked) (r : SearchReport) → IsProblem p → TellsOutcome goal p asked r → IfSome r.found (IsFoundIn goal p asked.better)
+found-told goal p asked r whole tells =
+    subst (λ (s : SearchReport). IfSome s.found (IsFoundIn goal p asked.better)) (sym tells.told) (found-is goal p asked tells.outcome whole tells.came)

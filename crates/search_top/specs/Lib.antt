@@ -3,6 +3,8 @@ pub mod Report
 pub mod Text
 pub mod Outside
 pub mod Stages
+pub mod Staged
+pub mod Outcomes
 pub mod Turning
 pub mod Answering
 pub mod Showing

@@ -1,7 +1,17 @@
--- What was found on a file in another order, told in the file's own order.
-use Rattle.std.specs.Prelude.{◌≡◌, ℕ, List, length, Option, Some, None}
+-- A problem with its variables in another order, and what was found there, told in the problem's own order.
+use Rattle.std.specs.Prelude.{◌≡◌, ℕ, List, length, map, slice_index, Option, Some, None}
+use Rattle.std.specs.List.{AllZip}
+use Rattle.dcop_base.specs.Problem.{Dcop}
 use Rattle.dcop_base.specs.Table.{values_at}
+use Rattle.problem_order.specs.Order.{IsOrder}
+use Rattle.problem_order.specs.Reordered.{IsTableFor}
 use Rattle.search_top.specs.declared.report.Found.{Found}
+
+-- the same problem with its variables in this order: variable k of it is variable `order k` of the other
+pub record IsInOrder (p : Dcop) (order : List ℕ) (inside : Dcop) : Type 0 where
+  pub is_order : IsOrder (length p.sizes) order
+  pub sizes : inside.sizes ≡ map (λ v. slice_index p.sizes v) order
+  pub tables : AllZip (IsTableFor order) p.tables inside.tables
 
 -- as many values as the order has variables, which in that order are those that were found, and the same cost
 pub record IsToldOutside (order : List ℕ) (inside outside : Found) : Type 0 where

@@ -5,6 +5,7 @@ use Rattle.dcop_optimum.specs.Goal.{top_of}
 use Rattle.problem_text.specs.declared.file.Goal.{Goal}
 use Rattle.problem_text.specs.declared.file.Goal.TheVariants.{Min, Max}
 use Rattle.problem_solved.specs.Goal.{IsAtMostWorse}
+use Rattle.search_top.specs.Staged.{IsOfStages}
 use Rattle.search_top.specs.declared.words.Asked.{Asked}
 use Rattle.search_top.specs.declared.report.Found.{Found}
 use Rattle.search_top.specs.declared.report.SearchEnding.{SearchEnding}
@@ -56,7 +57,7 @@ EndsBy asked r Solved = HasSolved asked r
 EndsBy asked r Spent = HasSpent asked r
 EndsBy asked r NoneBetter = HasNoneBetter asked r
 
--- the report of a search that was asked for, on a problem with this goal; without a sum to be bettered there always is an assignment, and one that was found took a node for each variable at least
+-- the report of a search that was asked for, on a problem with this goal: it tells what the stages of the search came to; without a sum to be bettered there always is an assignment, and one that was found took a node for each variable at least
 pub record IsSearchReport (goal : Goal) (p : Dcop) (asked : Asked) (r : SearchReport) : Type 0 where
   pub same_goal : r.goal ≡ goal
   pub error : r.error ≡ asked.error
@@ -67,3 +68,4 @@ pub record IsSearchReport (goal : Goal) (p : Dcop) (asked : Asked) (r : SearchRe
   pub ends : EndsBy asked r r.ending
   pub nodes : r.nodes ≤ most_visited asked.budget (length p.sizes) asked.better
   pub effort : IfSome r.found (λ found. length p.sizes ≤ r.nodes)
+  pub stages : IsOfStages goal p asked r

@@ -6,6 +6,9 @@ use Rattle.bound_search.specs.declared.known.Known.{Known}
 use Rattle.search_top.specs.declared.report.Found.{Found}
 use Rattle.search_top.specs.declared.report.SearchEnding.{SearchEnding}
 use Rattle.search_top.specs.declared.report.SearchEnding.TheVariants.{Solved, Spent, NoneBetter}
+use Rattle.search_top.specs.declared.report.SearchReport.{SearchReport}
+use Rattle.search_top.specs.declared.stages.Outcome.{Outcome}
+use Rattle.search_top.specs.declared.words.Asked.{Asked}
 
 -- a cost of the problem solved as a sum of the problem, and the other way round: for goal max what it leaves of the top sum, 0 where it is above that
 abbrev pub told_sum : Goal → ℕ → ℕ → ℕ
@@ -20,3 +23,14 @@ found_told goal top known =
 -- how a search ended that found an assignment or not, and is spent or not
 abbrev pub ending_told : Bool → Bool → SearchEnding
 ending_told found spent = if spent then Spent else (if found then Solved else NoneBetter)
+
+-- the report of what stages came to, with the values in the order of the search
+abbrev pub report_told : Goal → ℕ → Asked → Outcome → SearchReport
+report_told goal top asked o = record {
+  ending = ending_told o.known.found o.ended.spent;
+  goal = goal;
+  error = asked.error;
+  nodes = o.known.nodes;
+  bound = told_sum goal top o.ended.lower;
+  found = found_told goal top o.known;
+}

@@ -1,9 +1,10 @@
 //! A search in stages, whose tables grow.
 
-ghost use Rattle.std.specs.Prelude.{◌≡◌, ℕ, ◌+◌, ◌≤◌, false, true, Some, IfOk};
+ghost use Rattle.std.specs.Prelude.{◌≡◌, ℕ, ◌+◌, ◌≤◌, ◌⊎◌, false, true, Some, IfOk};
 ghost use Rattle.shared_costs.specs.Shared.{AreSharedCosts};
 ghost use Rattle.bound_search.specs.Known.{IsKnown};
-ghost use Rattle.search_top.specs.Stages.{IsApart, IsLowerBound, IsStage, IsOutcome};
+ghost use Rattle.search_top.specs.Outcomes.{IsOutcome};
+ghost use Rattle.search_top.specs.Stages.{IsApart, IsNothingYet, IsStage};
 ghost use Rattle.search_top.specs.Words.{IsServed};
 
 use crate::words::Asked;
@@ -110,8 +111,8 @@ fn stage_budget(budget: u64, visited: u64, nodes: u64) -> u64
 
 /// What is known before a search.
 fn nothing_known(alloc: Global, problem: &Problem, best: Option<u64>) -> Result<Outcome, NoMemory>
-    ensures { IfOk result (λ o. (IsKnown problem.now o.known) × (o.known.best ≡ best)
-        × (o.known.found ≡ false) × (o.known.nodes ≡ 0) × (o.ended.lower ≡ 0)) }
+    ensures known { IfOk result (λ o. IsKnown problem.now o.known) }
+    ensures none { IfOk result (IsNothingYet best) }
 {
     let values = vec![in alloc; Val(0); problem.sizes.as_slice().len()]?;
     Ok(Outcome {
@@ -140,8 +141,9 @@ fn searched(
 ) -> Result<Outcome, NoMemory>
     requires asked { IsServed asked }
     requires shared { AreSharedCosts problem.now shared.now }
+    requires within { budget ≤ asked.budget }
+    requires needed { before.ended.spent ≡ true }
     requires known { IsKnown problem.now before.known }
-    requires lower { IsLowerBound problem.now before.ended.lower }
     requires few { before.known.nodes ≤ 1000000000000 }
     ensures { IfOk result (IsStage problem.now asked budget before) }
 {
@@ -165,11 +167,21 @@ fn searched(
         &mut known,
     )?;
     let lower = ended.lower.max(earlier.lower);
-    let spent = ended.spent && !is_within(known.best, lower, asked.error);
+    let spent = is_spent(ended.spent, known.best, lower, asked.error);
     Ok(Outcome {
         known,
         ended: Ended { lower, spent },
     })
+}
+
+/// Whether stages are spent: the last one is, and the best that is known is more than the error above
+/// their bound.
+fn is_spent(last: bool, best: Option<u64>, lower: u64, error: u64) -> bool
+    ensures spent { result ≡ true → (last ≡ true) × IsApart error best lower }
+    ensures ended { result ≡ false → (last ≡ false)
+        ⊎ ((sum : ℕ) × (best ≡ Some sum) × (sum ≤ lower + error)) }
+{
+    last && !is_within(best, lower, error)
 }
 
 /// Whether the best that is known is at most the error above a bound.

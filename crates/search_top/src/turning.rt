@@ -1,11 +1,9 @@
 //! The report of a search on a problem, from what came of it on the problem that is solved.
 
-ghost use Rattle.std.specs.Prelude.{◌≡◌, ◌≤◌, true, IfOk, option_map};
-ghost use Rattle.dcop_base.specs.Whole.{IsProblem};
+ghost use Rattle.std.specs.Prelude.{◌≡◌, IfOk, option_map};
 ghost use Rattle.dcop_optimum.specs.Goal.{top_of};
 ghost use Rattle.problem_solved.specs.Goal.{solved};
-ghost use Rattle.search_top.specs.Report.{IsSearchReport};
-ghost use Rattle.search_top.specs.Stages.{IsOutcome};
+ghost use Rattle.search_top.specs.Outcomes.{IsOutcome, TellsOutcome};
 ghost use Rattle.search_top.specs.Turning.{told_sum, found_told, ending_told};
 ghost use Rattle.search_top.specs.Words.{IsServed};
 
@@ -13,7 +11,7 @@ use crate::report::{Found, SearchEnding, SearchReport};
 use crate::stages::{Outcome, outcome_of};
 use crate::words::Asked;
 use bound_search::Known;
-use dcop_base::{NoMemory, Problem, problem_is_whole};
+use dcop_base::{NoMemory, Problem};
 use dcop_optimum::top_sum;
 use problem_solved::ProblemSolved;
 use problem_text::{Goal, ProblemFile};
@@ -30,9 +28,8 @@ pub(crate) fn search_report(
     asked: Asked,
 ) -> Result<SearchReport, NoMemory>
     requires { IsServed asked }
-    ensures { IfOk result (IsSearchReport file.now.goal file.now.problem asked) }
+    ensures { IfOk result (TellsOutcome file.now.goal file.now.problem asked) }
 {
-    problem_is_whole(&file.problem);
     let solved = ProblemSolved::of(alloc, file)?;
     let top = top_sum(&file.problem);
     let best = asked.better.map(|sum| told_sum(file.goal, top, sum));
@@ -43,10 +40,9 @@ pub(crate) fn search_report(
 /// What came of a search, told of the problem: for goal max each sum is what the problem solved leaves
 /// of the top sum.
 fn told(problem: &Problem, goal: Goal, asked: Asked, outcome: Outcome) -> SearchReport
-    requires whole { IsProblem problem.now }
-    requires outcome { IsOutcome (solved goal problem.now) asked
+    requires { IsOutcome (solved goal problem.now) asked
         (option_map (told_sum goal (top_of problem.now)) asked.better) outcome }
-    ensures { IsSearchReport goal problem.now asked result }
+    ensures { TellsOutcome goal problem.now asked result }
 {
     let top = top_sum(problem);
     let Outcome { known, ended } = outcome;

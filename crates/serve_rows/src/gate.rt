@@ -1,4 +1,4 @@
-//! A gate at which two sessions wait for each other.
+//! A gate at which the first two sessions wait for each other.
 
 use dcop_base::VarId;
 use dcop_edge::Gate;
@@ -8,7 +8,8 @@ use std::thread::yield_now;
 /// How often a session looks for the other one.
 const MOST_LOOKS: u32 = 100_000_000;
 
-/// Holds each session until the other one has come too, or it was looked for so often.
+/// Holds each of the first two sessions until the other one has come too, or it was looked for so
+/// often. Others pass.
 #[derive(Drop)]
 pub(crate) struct MeetingGate {
     first: AtomicU64,
@@ -31,19 +32,21 @@ impl MeetingGate {
         self.missed.load(Ordering::SeqCst)
     }
 
-    // The flag of this session, and that of the other one.
-    fn flags(&self, session: VarId) -> (&AtomicU64, &AtomicU64) {
-        if session.0 == 0 {
-            (&self.first, &self.second)
-        } else {
-            (&self.second, &self.first)
+    // The flag of this session, and that of the one for which it waits.
+    fn flags(&self, session: VarId) -> Option<(&AtomicU64, &AtomicU64)> {
+        match session.0 {
+            0 => Some((&self.first, &self.second)),
+            1 => Some((&self.second, &self.first)),
+            _ => None,
         }
     }
 }
 
 impl Gate for MeetingGate {
     fn pass(&self, session: VarId) {
-        let (own, other) = self.flags(session);
+        let Some((own, other)) = self.flags(session) else {
+            return;
+        };
         own.store(1, Ordering::SeqCst);
         for _ in 0..MOST_LOOKS {
             if other.load(Ordering::SeqCst) == 1 {

@@ -8,7 +8,9 @@ mod serving;
 mod session;
 mod socket;
 
-use serving::{Answered, answer_to, answer_to_both};
+use serving::{
+    Answered, AnsweredFew, AnsweredThree, answer_to, answer_to_both, answer_to_few, answer_to_three,
+};
 use session::{Ended, session_on};
 use socket::{AnsweredOver, answer_over_socket};
 use std::io;
@@ -24,7 +26,10 @@ fn main(rt: HostRuntime) -> io::Result<()> {
     print_refused(&rt, "80 1 1 1")?;
     print_refused(&rt, "2000 1 1")?;
     print_both(&rt)?;
-    print_over_socket(&rt)
+    print_three(&rt)?;
+    print_few(&rt)?;
+    print_over_socket(&rt, "serve-over-socket", false)?;
+    print_over_socket(&rt, "serve-silent", true)
 }
 
 // What comes of one session on these bytes.
@@ -74,8 +79,43 @@ where
     print!(rt; "serve-all-two, exit {code}:\n{text}")
 }
 
-// What comes of a client over a socket.
-fn print_over_socket<R>(rt: &R) -> io::Result<()>
+// What comes of three clients and two workers.
+fn print_three<R>(rt: &R) -> io::Result<()>
+where
+    R: Print + Threads + Wait + AllocGlobal + Sync,
+{
+    let Some(
+        AnsweredThree {
+            answered,
+            missed,
+            served,
+        },
+    ) = answer_to_three(rt)
+    else {
+        return println!(rt; "serve-three: otherwise");
+    };
+    println!(rt;
+        "serve-three: sessions that saw no other: {missed}, clients with a reply: {served}"
+    )?;
+    let Answered { code, text } = answered;
+    print!(rt; "serve-three, exit {code}:\n{text}")
+}
+
+// What comes of fewer clients than are awaited.
+fn print_few<R>(rt: &R) -> io::Result<()>
+where
+    R: Print + Threads + Wait + AllocGlobal + Sync,
+{
+    let Some(AnsweredFew { answered, unserved }) = answer_to_few(rt) else {
+        return println!(rt; "serve-few: otherwise");
+    };
+    println!(rt; "serve-few: connections given back unserved: {unserved}")?;
+    let Answered { code, text } = answered;
+    print!(rt; "serve-few, exit {code}: {text}")
+}
+
+// What comes of a client over a socket, which may fall silent.
+fn print_over_socket<R>(rt: &R, row: &str, is_silent: bool) -> io::Result<()>
 where
     R: Print
         + Threads
@@ -86,10 +126,10 @@ where
         + AllocGlobal
         + Sync,
 {
-    let Some(AnsweredOver { answered, replies }) = answer_over_socket(rt) else {
-        return println!(rt; "serve-over-socket: otherwise");
+    let Some(AnsweredOver { answered, replies }) = answer_over_socket(rt, is_silent) else {
+        return println!(rt; "{row}: otherwise");
     };
-    println!(rt; "serve-over-socket: replies to the client: {replies}")?;
+    println!(rt; "{row}: replies to the client: {replies}")?;
     let Answered { code, text } = answered;
-    print!(rt; "serve-over-socket, exit {code}:\n{text}")
+    print!(rt; "{row}, exit {code}:\n{text}")
 }

@@ -32,6 +32,26 @@ pub(crate) struct AnsweredBoth {
     pub(crate) second: u64,
 }
 
+/// What it answered to more clients than came, and what became of those that came.
+#[derive(Drop)]
+pub(crate) struct AnsweredFew {
+    /// What it answered.
+    pub(crate) answered: Answered,
+    /// How many connections were given back to which nothing was written.
+    pub(crate) unserved: u64,
+}
+
+/// What it answered to three clients, and what was written to all of them.
+#[derive(Drop)]
+pub(crate) struct AnsweredThree {
+    /// What it answered.
+    pub(crate) answered: Answered,
+    /// How many sessions of the first two saw no other one.
+    pub(crate) missed: u64,
+    /// How many clients got one reply to the pair of agents, and nothing else.
+    pub(crate) served: u64,
+}
+
 /// What is answered to these words where nobody connects.
 pub(crate) fn answer_to<R>(rt: &R, words: &str) -> Option<Answered>
 where
@@ -57,6 +77,43 @@ where
         missed: gate.missed(),
         first: replies_at(&listener, 0)?,
         second: replies_at(&listener, 1)?,
+    })
+}
+
+/// What is answered to three clients that each ask once, by two workers, where the first two sessions
+/// wait for each other: so the second one begins before the first has ended.
+pub(crate) fn answer_to_three<R>(rt: &R) -> Option<AnsweredThree>
+where
+    R: Threads + Wait + AllocGlobal + Sync,
+{
+    let alloc = rt.alloc();
+    let connections = vec![in alloc;
+        connection(alloc)?,
+        connection(alloc)?,
+        connection(alloc)?,
+    ].ok()?;
+    let mut listener = MemoryListener::new(alloc, connections, Vec::new(alloc)).ok()?;
+    let gate = MeetingGate::new();
+    let answered = answered_by(rt, "2000 3 4 2", &mut listener, &gate)?;
+    Some(AnsweredThree {
+        answered,
+        missed: gate.missed(),
+        served: given_back(&listener, 1),
+    })
+}
+
+/// What is answered where three clients are awaited and two come.
+pub(crate) fn answer_to_few<R>(rt: &R) -> Option<AnsweredFew>
+where
+    R: Threads + Wait + AllocGlobal + Sync,
+{
+    let alloc = rt.alloc();
+    let connections = vec![in alloc; connection(alloc)?, connection(alloc)?].ok()?;
+    let mut listener = MemoryListener::new(alloc, connections, Vec::new(alloc)).ok()?;
+    let answered = answered_by(rt, "2000 3 4 2", &mut listener, &OpenGate)?;
+    Some(AnsweredFew {
+        answered,
+        unserved: given_back(&listener, 0),
     })
 }
 
@@ -100,4 +157,15 @@ fn connection(alloc: Global) -> Option<(MemorySource, MemorySink)> {
 fn replies_at(listener: &MemoryListener, place: usize) -> Option<u64> {
     let (_source, sink) = listener.closed().get(place)?;
     replies_in(sink.bytes())
+}
+
+// How many connections were given back to which so many replies were written, and nothing else.
+fn given_back(listener: &MemoryListener, replies: u64) -> u64 {
+    let mut count: u64 = 0;
+    for (_source, sink) in listener.closed() {
+        if replies_in(sink.bytes()) == Some(replies) {
+            count = count.saturating_add(1);
+        }
+    }
+    count
 }

@@ -2,10 +2,10 @@
 
 ghost use Rattle.std.specs.Prelude.{◌≡◌, ◌≤◌, IfSome};
 
-use crate::pair::{TWICE, replies_in};
+use crate::pair::{ONCE, TWICE, replies_in};
 use crate::serving::{Answered, answered_by};
 use dcop_edge::{Failed, OpenGate};
-use serve_edge::{ListenFault, Listener, StdListener};
+use serve_edge::{ListenFault, Listener, MAX_SILENCE, StdListener};
 use serve_top::ServeStatus;
 use std::io::{Read, Write};
 use std::net::{Net, Shutdown, TcpListener, TcpStream};
@@ -34,7 +34,10 @@ const UNKNOWN: u64 = 0;
 /// Stands for no port, for ever.
 const NEVER: u64 = u64::MAX;
 
-/// What the top call answered to a client that asked twice for the same, and what the client got.
+/// For how many seconds a connection waits whose client falls silent.
+const SHORT_SILENCE: u64 = 3;
+
+/// What the top call answered to a client, and what the client got.
 #[derive(Drop)]
 pub(crate) struct AnsweredOver {
     /// What it answered.
@@ -43,8 +46,9 @@ pub(crate) struct AnsweredOver {
     pub(crate) replies: u64,
 }
 
-/// What is answered at a free port of 127.0.0.1 to one client that asks twice for the same.
-pub(crate) fn answer_over_socket<R>(rt: &R) -> Option<AnsweredOver>
+/// What is answered at a free port of 127.0.0.1 to one client that asks twice for the same and says
+/// that it is done, or, where it falls silent, asks once and says nothing more.
+pub(crate) fn answer_over_socket<R>(rt: &R, is_silent: bool) -> Option<AnsweredOver>
 where
     R: Threads
         + Wait
@@ -58,8 +62,8 @@ where
     let port = &port;
     let (replies, answered) = thread::join(
         rt,
-        move || replies_from(rt, port),
-        move || serve_once(rt, port),
+        move || replies_from(rt, port, is_silent),
+        move || serve_once(rt, port, is_silent),
     );
     Some(AnsweredOver {
         answered: answered?,
@@ -68,7 +72,7 @@ where
 }
 
 // Serves one client, and says so where there will be no port any more.
-fn serve_once<R>(rt: &R, told: &AtomicU64) -> Option<Answered>
+fn serve_once<R>(rt: &R, told: &AtomicU64, is_silent: bool) -> Option<Answered>
 where
     R: Threads
         + Wait
@@ -78,13 +82,18 @@ where
         + AllocGlobal
         + Sync,
 {
-    let answered = serve_somewhere(rt, told);
+    let silence = if is_silent {
+        SHORT_SILENCE
+    } else {
+        MAX_SILENCE
+    };
+    let answered = serve_somewhere(rt, told, silence);
     told.store(NEVER, Ordering::SeqCst);
     answered
 }
 
 // Serves one client at the first of some ports at which nobody else listens.
-fn serve_somewhere<R>(rt: &R, told: &AtomicU64) -> Option<Answered>
+fn serve_somewhere<R>(rt: &R, told: &AtomicU64, silence: u64) -> Option<Answered>
 where
     R: Threads
         + Wait
@@ -98,7 +107,7 @@ where
         let port = some_port(rt)?;
         let words = format!(in rt.alloc(); "{port} 1 4 1").ok()?;
         let mut listener = Announced {
-            listener: StdListener::new(rt),
+            listener: StdListener::with_silence(rt, silence),
             told,
         };
         let answered = answered_by(rt, &words, &mut listener, &OpenGate)?;
@@ -152,10 +161,14 @@ impl<'a, L: Listener + Drop> Listener for Announced<'a, L> {
     }
 }
 
-// How many replies come to a client that asks twice, once the server has told its port.
-fn replies_from<R: Net<Stream = TcpStream> + AllocGlobal>(rt: &R, told: &AtomicU64) -> Option<u64> {
+// How many replies come to a client, once the server has told its port.
+fn replies_from<R: Net<Stream = TcpStream> + AllocGlobal>(
+    rt: &R,
+    told: &AtomicU64,
+    is_silent: bool,
+) -> Option<u64> {
     let port = port_in(told)?;
-    let bytes = exchange(rt, port, TWICE).ok()?;
+    let bytes = exchange(rt, port, is_silent).ok()?;
     replies_in(&bytes)
 }
 
@@ -171,15 +184,19 @@ fn port_in(told: &AtomicU64) -> Option<u16> {
     None
 }
 
-// Sends these bytes and no more, and reads all that comes back.
+// Sends the requests of a client, and reads all that comes back.
 fn exchange<R: Net<Stream = TcpStream> + AllocGlobal>(
     rt: &R,
     port: u16,
-    bytes: &[u8],
+    is_silent: bool,
 ) -> io::Result<Vec<u8>> {
     let mut stream = TcpStream::connect(rt, ("127.0.0.1", port))?;
-    stream.write_all(bytes)?;
-    stream.shutdown(Shutdown::Write)?;
+    if is_silent {
+        stream.write_all(ONCE)?;
+    } else {
+        stream.write_all(TWICE)?;
+        stream.shutdown(Shutdown::Write)?;
+    }
     let mut back = Vec::new(rt.alloc());
     stream.read_to_end(&mut back)?;
     Ok(back)

@@ -26,7 +26,8 @@ use std::thread::Threads;
 /// [`ServeStatus::LinkFault`] and [`ServeStatus::WriteFault`] come only where the listener or the
 /// sink failed in this call. With `WriteFault` a prefix of the answer is written, with
 /// [`ServeStatus::NoMemory`], where memory was wanted and not had, nothing, and otherwise the whole
-/// answer, and the sink is finished.
+/// answer, and the sink is finished. Whatever comes of it, each connection that was accepted was given
+/// back.
 pub fn serve_all<R: Threads + Wait + Sync, L: Listener, K: Sink, M: FreshMaker, G: Gate>(
     rt: &R,
     alloc: Global,
@@ -49,6 +50,7 @@ pub fn serve_all<R: Threads + Wait + Sync, L: Listener, K: Sink, M: FreshMaker, 
     ensures sink_failed { K.faults sink.old < K.faults sink.new → result ≡ ServeStatus.WriteFault }
     ensures complete { IsOk (words_read (map string_bytes words.now)) → ¬ Rose (L.faults listener.old) (L.faults listener.new) → ¬ Rose (K.faults sink.old) (K.faults sink.new) →
         (result ≡ ServeStatus.Solved) ⊎ (result ≡ ServeStatus.NoMemory) }
+    ensures none_lent { L.lent listener.new ≡ L.lent listener.old }
 {
     answer_all::<R, L, K, M, G>(rt, alloc, words, listener, sink, gate)
 }
@@ -68,6 +70,7 @@ fn answer_all<R: Threads + Wait + Sync, L: Listener, K: Sink, M: FreshMaker, G: 
         (sinking (K.held sink.old) (K.finished sink.old) (K.faults sink.old))
         (sinking (K.held sink.new) (K.finished sink.new) (K.faults sink.new)) result }
     ensures unwritten { result ≡ ServeStatus.NoMemory → sink.new ≡ sink.old }
+    ensures none_lent { L.lent listener.new ≡ L.lent listener.old }
 {
     match answer_of::<R, L, M, G>(rt, alloc, words, listener, gate) {
         Ok(answer) => show(alloc, &answer, sink),
@@ -87,6 +90,7 @@ fn answer_of<R: Threads + Wait + Sync, L: Listener, M: FreshMaker, G: Gate>(
         (listening (L.faults listener.old) (L.waiting listener.old) (L.closed listener.old))
         (listening (L.faults listener.new) (L.waiting listener.new) (L.closed listener.new)) answer) }
     ensures told { IfOk result HasText }
+    ensures none_lent { L.lent listener.new ≡ L.lent listener.old }
 {
     match read_words(words) {
         Ok(asked) => served::<R, L, M, G>(rt, alloc, asked, listener, gate),
@@ -110,6 +114,7 @@ fn served<R: Threads + Wait + Sync, L: Listener, M: FreshMaker, G: Gate>(
         (listening (L.faults listener.old) (L.waiting listener.old) (L.closed listener.old))
         (listening (L.faults listener.new) (L.waiting listener.new) (L.closed listener.new)) answer) }
     ensures told { IfOk result HasText }
+    ensures none_lent { L.lent listener.new ≡ L.lent listener.old }
 {
     if listener.open(asked.port as u16).is_err() {
         return Ok(ServeAnswer::Link);

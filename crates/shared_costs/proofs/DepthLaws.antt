@@ -1,9 +1,11 @@
 -- Laws of tables by their depth: none, and one table more.
-use Rattle.std.proofs.Common.{◌≡◌, ◌≢◌, ℕ, ◌+◌, ◌<◌, ◌≤◌, true, List, [], ◌∷◌, ◌++◌, length, get_or, set, take, map, refl, sym, ap, ap₂, ◌∙◌, subst, inl, inr, length-set, get_or-set_same, get_or-set_other, arith}
+use Rattle.std.proofs.Common.{◌≡◌, ◌≢◌, ℕ, zero, suc, ◌+◌, ◌<◌, ◌≤◌, true, List, [], ◌∷◌, ◌++◌, length, get_or, set, take, map, refl, sym, ap, ap₂, ◌∙◌, subst, inl, inr, length-set, get_or-set_same, get_or-set_other, arith}
 use Rattle.std.specs.List.{All}
-use Rattle.std.proofs.lemmas.List.{get_or_past, length_push, get_or_push, take_at, length-map, get_or-map}
+use Rattle.std.specs.List.Sorted.{IsPermutation}
+use Rattle.std.proofs.lemmas.List.{append-nil, append_assoc, get_or_past, length_push, get_or_push, take_at, length-map, get_or-map}
 use Rattle.std.proofs.lemmas.List.Sums.{sum_by-cons, sum_by-set, sum_by_push}
 use Rattle.std.proofs.lemmas.List.Elements.{All-push, All-nil, All-head, All-tail, All-take}
+use Rattle.std.proofs.lemmas.List.Sorted.{IsPermutation-refl, IsPermutation-sym, IsPermutation-trans, IsPermutation-middle, IsPermutation-append_right}
 use Rattle.std.proofs.lemmas.Bool.{cases_lt}
 use Rattle.dcop_base.specs.Table.{CostTable, has}
 use Rattle.dcop_base.specs.Faults.{cell_count}
@@ -14,7 +16,7 @@ use Rattle.cost_table.proofs.PlaceLaws.{place_in-lt}
 use Rattle.cost_table.proofs.ProblemCutLaws.{at-place}
 use Rattle.cost_table.proofs.RunLaws.{product-some}
 use Rattle.dcop_base.specs.Values.{cell_with, cost_with}
-use Rattle.shared_costs.specs.Tables.{IsTableOver, IsOfDepth, depths_cost}
+use Rattle.shared_costs.specs.Tables.{IsTableOver, IsOfDepth, all_tables, depths_cost}
 use Rattle.shared_costs.specs.Depths.{AreByDepth}
 
 empty-at : (depths : List (List CostTable)) (p : ℕ) → All (λ ts. ts ≡ []) depths → get_or depths p [] ≡ []
@@ -28,10 +30,28 @@ empty-sum [] value none = refl
 empty-sum (ts ∷ rest) value none =
     sum_by-cons (λ ts. cost_with ts value) ts rest ∙ ap₂ (λ (m n : ℕ). m + n) (ap (λ (ts : List CostTable). cost_with ts value) (All-head (λ ts. ts ≡ []) ts rest none)) (empty-sum rest value (All-tail (λ ts. ts ≡ []) ts rest none))
 
+empty-all : (depths : List (List CostTable)) → All (λ ts. ts ≡ []) depths → all_tables depths ≡ []
+empty-all [] none = refl
+empty-all (ts ∷ rest) none =
+    ap₂ (λ (xs ys : List CostTable). xs ++ ys) (All-head (λ ts. ts ≡ []) ts rest none) (empty-all rest (All-tail (λ ts. ts ≡ []) ts rest none))
+
+-- a table more in the list of one depth is one more among all
+all-push : (depths : List (List CostTable)) (p : ℕ) (t : CostTable) → p < length depths → IsPermutation (t ∷ all_tables depths) (all_tables (set depths p (get_or depths p [] ++ (t ∷ []))))
+all-push [] p t lt = absurd (omega (arith, lt))
+all-push (ts ∷ rest) zero t lt =
+    subst (λ (us : List CostTable). IsPermutation (t ∷ (ts ++ all_tables rest)) us) (sym (append_assoc ts (t ∷ []) (all_tables rest)))
+    (IsPermutation-sym (ts ++ (t ∷ all_tables rest)) (t ∷ (ts ++ all_tables rest)) (IsPermutation-middle ts t (all_tables rest)))
+all-push (ts ∷ rest) (suc p) t lt =
+    let new : List CostTable = all_tables (set rest p (get_or rest p [] ++ (t ∷ []))) in
+    IsPermutation-trans (t ∷ (ts ++ all_tables rest)) (ts ++ (t ∷ all_tables rest)) (ts ++ new)
+    (IsPermutation-sym (ts ++ (t ∷ all_tables rest)) (t ∷ (ts ++ all_tables rest)) (IsPermutation-middle ts t (all_tables rest)))
+    (IsPermutation-append_right ts (t ∷ all_tables rest) new (all-push rest p t (omega (arith, lt))))
+
 pub depths-none : (sizes : List ℕ) (tables : List CostTable) (depths : List (List CostTable)) → length depths ≡ length sizes → All (λ ts. ts ≡ []) depths → AreByDepth sizes tables tables depths
 depths-none sizes tables depths e none = record {
   many = e;
   each = λ p lt. subst (λ (ts : List CostTable). All (λ t. IsTableOver sizes t × IsOfDepth p t) ts) (sym (empty-at depths p none)) (All-nil (λ t. IsTableOver sizes t × IsOfDepth p t));
+  all = subst (λ (us : List CostTable). IsPermutation tables us) (sym (ap (λ (us : List CostTable). tables ++ us) (empty-all depths none) ∙ append-nil tables)) (IsPermutation-refl tables);
   sums = λ value. omega (arith, empty-sum depths value none);
 }
 
@@ -50,6 +70,12 @@ depths-push sizes tables left rest depths p t list lt over of el e h =
               (All-push (λ t. IsTableOver sizes t × IsOfDepth p t) (get_or depths p []) t (h.each p lt) (over, of))))
         ]
       ];
+      all =
+          (let old : List CostTable = all_tables depths in
+          let new : List CostTable = all_tables (set depths p list) in
+          let before = subst (λ (us : List CostTable). IsPermutation tables us) (ap (λ (us : List CostTable). us ++ old) el ∙ append_assoc rest (t ∷ []) old) h.all in
+          let more = subst (λ (us : List CostTable). IsPermutation (t ∷ old) (all_tables (set depths p us))) (sym e) (all-push depths p t inside) in
+          IsPermutation-trans tables (rest ++ (t ∷ old)) (rest ++ new) before (IsPermutation-append_right rest (t ∷ old) new more));
       sums = λ value.
           (let f : List CostTable → ℕ = λ ts. cost_with ts value in
           let g : CostTable → ℕ = λ t. cell_with t value in

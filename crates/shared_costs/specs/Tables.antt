@@ -1,6 +1,6 @@
 -- Tables over the variables of a problem, and their depths. Variables are numbered in the order of the search.
 use Rattle.std.specs.Prelude.{◌≡◌, ℕ, ◌<◌, ◌≤◌, true, List, [], map, length, slice_index}
-use Rattle.std.specs.List.{All, sum_by, slice_index_or}
+use Rattle.std.specs.List.{All, flat_map, sum_by, slice_index_or}
 use Rattle.dcop_base.specs.Limits.{amount_limit}
 use Rattle.dcop_base.specs.Table.{CostTable, IsTable, has}
 use Rattle.dcop_base.specs.Values.{cost_with}
@@ -25,6 +25,14 @@ pub record IsOfDepth (p : ℕ) (t : CostTable) : Type 0 where
 -- what tables, listed by their depth, sum to at these values
 abbrev pub depths_cost : List (List CostTable) → (ℕ → ℕ) → ℕ
 depths_cost depths value = sum_by (λ ts. cost_with ts value) depths
+
+-- all tables of these lists, list by list
+abbrev pub all_tables : List (List CostTable) → List CostTable
+all_tables depths = flat_map (λ ts. ts) depths
+
+-- the scope of each of these tables
+abbrev pub scopes_of : List CostTable → List (List ℕ)
+scopes_of ts = map (λ t. t.scope) ts
 
 -- tables over the variables with these sizes, for each depth those of this depth; no sum of some of them is capped
 pub record AreDepths (sizes : List ℕ) (depths : List (List CostTable)) : Type 0 where

@@ -18,11 +18,11 @@ use std::time::Clock;
 use tokio::runtime::LocalRuntime;
 use wire_edge::{DialFault, Dialer};
 
-/// Opens each pair of wires as one connection on 127.0.0.1: it dials, and then accepts the end whose
-/// peer has the address of the one that dialled; whoever else connects to that port is closed. A dial
-/// that fails ends that at once, and 30 seconds end it. Its first call of `pair` or `drive` makes the
-/// event loop of `tokio`. Every refusal is counted as a fault, want of memory included. It does not
-/// promise that its wires are joined.
+/// Opens each pair of wires as one connection on 127.0.0.1: it dials, and then accepts until the peer
+/// has the address of the end that dialled; whoever else connects to that port is closed. A dial that
+/// fails is refused at once, and a connection that has not come after 30 seconds is refused then. Its
+/// first call of `pair` or `drive` makes the event loop of `tokio`. Every refusal is counted as a
+/// fault, want of memory included. It does not promise that its wires are joined.
 #[derive(Drop)]
 pub struct TcpDialer {
     runtime: Option<LocalRuntime>,

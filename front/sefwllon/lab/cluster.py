@@ -82,20 +82,28 @@ class Cluster:
     def taken(self, future: Any) -> Done | None:
         """What a task that is over gave. A result whose worker is gone is made anew by Dask, and comes later."""
         task, _ = self.tasks[future.key]
-        if future.status in ("cancelled", "lost"):
+        if future.status == "cancelled":
             raise Gone(self.address)
         try:
             told = future.result(timeout=RESULT_SECONDS)
         except TimeoutError:
-            self.ready.put(future)
-            return None
+            return self.later(future)
         except Exception as fault:
-            if self.client.status != "running" or future.status in ("cancelled", "lost"):
+            if future.status == "lost":
+                return self.later(future)
+            if self.client.status != "running" or future.status == "cancelled":
                 raise Gone(self.address) from None
             told = {"fault": failure(fault)}
         del self.tasks[future.key]
         future.release()
         return Done(task.number, told.get("result"), told.get("fault"), told.get("where", ""))
+
+    def later(self, future: Any) -> Done | None:
+        """Nothing yet: a result that is lost, and made anew, is asked for again, as long as the scheduler is there."""
+        if self.client.status != "running":
+            raise Gone(self.address) from None
+        self.ready.put(future)
+        return None
 
     def close(self) -> None:
         """Lets go of what is under way. Programs that run on workers end by themselves, at their time limit at the latest."""

@@ -4,12 +4,12 @@ use Rattle.std.proofs.lemmas.List.Elements.{length_all_zip}
 use Rattle.dcop_base.specs.Values.{with_own}
 use Rattle.shared_costs.specs.Values.{AgreeBelow}
 use Rattle.bound_search.specs.Estimate.{estimate}
-use Rattle.bound_search.specs.Descent.{HasDescended}
+use Rattle.bound_search.specs.Descent.{HasDescended, far_of}
 use Rattle.bound_search.specs.declared.progress.Progress.{Progress}
 use Rattle.bound_search.proofs.RowLaws.{values_of, within_set, agree_set, agree_more, agree_less, row_agrees, sum_left}
 use Rattle.bound_search.proofs.EstimateLaws.{estimate_agrees}
 use Rattle.bound_search.proofs.DescentLaws.{visiting_start, visiting_next, visiting_end, descent_taken, standing_taken, standing_opened, standing_stopped, few_left, entry_is}
-use Rattle.bound_search.specs.Visits.{far, Visits}
+use Rattle.bound_search.specs.Visits.{Visits}
 use Rattle.bound_search.proofs.VisitLaws.{visits_taken, visits_start, visits_next, visits_end}
 use Rattle.bound_search.proofs.descent.+descend.Goals as goal
 
@@ -33,11 +33,11 @@ pub returns-then-depth-sizes-clause-visits : goal.returns-then-depth-sizes-claus
 returns-then-depth-sizes-clause-visits t c =
     let value : ℕ → ℕ = λ v. get_or c.args.values.now v 0 in
     let is : c.args.least ≡ estimate (length c.args.sizes.now) c.args.buckets.now value = c.requires.least ∙ ap (λ (n : ℕ). estimate n c.args.buckets.now value) c.if-depth-sizes.true in
-    let old = far c.args.progress.now.best c.args.progress.now.nodes in
-    let new = far c.take.new.progress.best c.take.new.progress.nodes in
+    let old = far_of c.args.progress.now in
+    let new = far_of c.take.new.progress in
     subst (λ (n : ℕ). Visits (drop n c.args.sizes.now) c.args.buckets.now c.args.rules n value old new) (sym c.if-depth-sizes.true)
     (subst (λ (left : List ℕ). Visits left c.args.buckets.now c.args.rules (length c.args.sizes.now) value old new) (sym (drop_all (length c.args.sizes.now) c.args.sizes.now (omega arith)))
-    (visits_taken c.args.sizes.now c.args.buckets.now c.args.rules c.requires.grounds c.args.least value c.args.progress.now c.take.new.progress (values_of c.args.sizes.now c.args.values.now c.requires.within) is c.take.ensures.best c.take.ensures.nodes))
+    (visits_taken c.args.sizes.now c.args.buckets.now c.args.rules c.requires.grounds c.args.least value c.args.progress.now c.take.new.progress (values_of c.args.sizes.now c.args.values.now c.requires.within) is c.take.ensures.best c.take.ensures.nodes c.take.ensures.lower c.take.ensures.spent))
 
 pub bounds-values-depth : goal.bounds-values-depth
 bounds-values-depth t c =

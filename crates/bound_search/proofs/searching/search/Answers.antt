@@ -1,9 +1,9 @@
 use Rattle.std.proofs.Common.{◌≡◌, ℕ, false, List, length, drop, refl, sym, ap, subst, ◌∙◌}
 use Rattle.std.proofs.lemmas.List.{take_at}
 use Rattle.dcop_base.specs.Problem.{Dcop}
-use Rattle.bound_search.specs.Descent.{IsStanding}
+use Rattle.bound_search.specs.Descent.{IsStanding, far_of}
 use Rattle.bound_search.specs.First.{HasSearched}
-use Rattle.bound_search.specs.Visits.{far, HasVisited}
+use Rattle.bound_search.specs.Visits.{HasVisited}
 use Rattle.bound_search.specs.declared.progress.Progress.{Progress}
 use Rattle.bound_search.specs.declared.rules.Rules.{Rules}
 use Rattle.bound_search.proofs.SearchLaws.{standing_of, searched_is}
@@ -26,9 +26,9 @@ returns c =
     let new : Progress = c.search_from_top.new.progress in
     let standing = subst (λ (ss : List ℕ). IsStanding ss c.args.buckets.now rules c.search_from_top.new.found new) sizes c.in_ok-search_from_top.ensures.standing in
     let searched = subst (λ (ss : List ℕ). HasSearched ss c.args.buckets.now rules old new) sizes c.in_ok-search_from_top.ensures.searched in
-    let visits = subst (λ (ss : List ℕ). HasVisited ss c.args.buckets.now rules (far old.best old.nodes) (far new.best new.nodes)) sizes c.in_ok-search_from_top.ensures.visits in
+    let visits = subst (λ (ss : List ℕ). HasVisited ss c.args.buckets.now rules (far_of old) (far_of new)) sizes c.in_ok-search_from_top.ensures.visits in
     let long : length c.search_from_top.new.found ≡ c.in_ok-found.found.len = c.search_from_top.auto.found ∙ c.as_mut_slice.ensures.len in
     let values = c.from_vec.ensures ∙ take_at c.search_from_top.new.found (drop (length c.search_from_top.new.found) c.in_ok-found.found.items) c.in_ok-found.found.len long in
     searched_is c.args.problem.now c.args.shared.now c.args.buckets.now c.problem_is_whole.ensures c.requires.shared c.requires.bounds c.args.limits.error c.args.limits.budget c.args.known.now
     (record { best = new.best; found = new.found; values = c.from_vec.result; nodes = new.nodes }) c.search_from_top.new.found old new (record { lower = c.unscaled.result; spent = new.spent }) standing searched visits
-    refl refl refl refl refl refl refl values c.unscaled.ensures refl
+    refl refl refl refl refl refl refl refl values c.unscaled.ensures refl

@@ -13,7 +13,7 @@ returns-then-first-progress-clause-searched c =
 
 pub returns-then-first-progress-clause-visits : goal.returns-then-first-progress-clause-visits
 returns-then-first-progress-clause-visits c =
-    visited_none c.args.sizes.now c.args.buckets.now c.args.rules c.requires.grounds c.first_estimate-first.result c.args.progress.now _ c.first_estimate-first.ensures c.if-first-progress.true c.requires.standing.room refl
+    visited_none c.args.sizes.now c.args.buckets.now c.args.rules c.requires.grounds c.first_estimate-first.result c.args.progress.now _ c.first_estimate-first.ensures c.if-first-progress.true c.requires.standing.room c.requires.new.0 refl
 
 pub returns-clause-visits : goal.returns-clause-visits
 returns-clause-visits c =

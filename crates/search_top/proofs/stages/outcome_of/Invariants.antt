@@ -1,4 +1,4 @@
-use Rattle.search_top.specs.Stages.{IsSoFar}
+use Rattle.search_top.specs.Outcomes.{IsSoFar}
 use Rattle.search_top.proofs.stages.outcome_of.Given as goal
 
 abbrev pub invariant-loop-stage : goal.invariant-loop-stage

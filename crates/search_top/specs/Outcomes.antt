@@ -1,0 +1,50 @@
+-- What a search by stages came to, on the problem that is solved.
+use Rattle.std.specs.Prelude.{◌≡◌, ℕ, ◌≤◌, max, true, false, List, length, option_map, Option, None}
+use Rattle.dcop_base.specs.Problem.{Dcop, IsAssignment, cost}
+use Rattle.dcop_optimum.specs.Goal.{top_of}
+use Rattle.problem_text.specs.declared.file.Goal.{Goal}
+use Rattle.problem_solved.specs.Goal.{solved}
+use Rattle.bound_search.specs.Known.{IsKnown, IsBelow}
+use Rattle.bound_search.specs.Searched.{EndsSo}
+use Rattle.search_top.specs.Report.{most_visited}
+use Rattle.search_top.specs.Stages.{IsApart, AreStages}
+use Rattle.search_top.specs.Turning.{told_sum, report_told}
+use Rattle.search_top.specs.declared.report.SearchReport.{SearchReport}
+use Rattle.search_top.specs.declared.stages.Outcome.{Outcome}
+use Rattle.search_top.specs.declared.words.Asked.{Asked}
+
+-- no assignment costs less
+abbrev pub IsLowerBound : Dcop → ℕ → Type 0
+IsLowerBound p lower = (values : List ℕ) → IsAssignment p values → lower ≤ cost p values
+
+-- what stages came to that have not ended, in a search for an assignment that costs less than this; before the first one no nodes are visited
+pub record IsSoFar (p : Dcop) (asked : Asked) (best : Option ℕ) (o : Outcome) : Type 0 where
+  pub stages : (count : ℕ) × AreStages p asked best count o
+  pub spent : o.ended.spent ≡ true
+  pub known : IsKnown p o.known
+  pub same : o.known.found ≡ false → o.known.best ≡ best
+  pub better : o.known.found ≡ true → IsBelow o.known.best best
+  pub lower : IsLowerBound p o.ended.lower
+  pub first : o.known.best ≡ None → o.known.nodes ≡ 0
+  pub few : o.known.nodes ≤ max asked.budget (length p.sizes)
+  pub effort : o.known.found ≡ true → length p.sizes ≤ o.known.nodes
+  pub nodes : o.known.nodes ≤ most_visited asked.budget (length p.sizes) best
+
+-- what came of a search for an assignment that costs less than this, where something is to be bettered
+pub record IsOutcome (p : Dcop) (asked : Asked) (best : Option ℕ) (o : Outcome) : Type 0 where
+  pub stages : (count : ℕ) × AreStages p asked best count o
+  pub known : IsKnown p o.known
+  pub some : best ≡ None → o.known.found ≡ true
+  pub same : o.known.found ≡ false → o.known.best ≡ best
+  pub better : o.known.found ≡ true → IsBelow o.known.best best
+  pub lower : IsLowerBound p o.ended.lower
+  pub ends : EndsSo asked.error asked.budget o.known o.ended
+  pub apart : o.ended.spent ≡ true → IsApart asked.error o.known.best o.ended.lower
+  pub effort : o.known.found ≡ true → length p.sizes ≤ o.known.nodes
+  pub nodes : o.known.nodes ≤ most_visited asked.budget (length p.sizes) best
+
+-- a report that tells what came of a search on the problem solved
+pub record TellsOutcome (goal : Goal) (p : Dcop) (asked : Asked) (r : SearchReport) : Type 0 where
+  pub outcome : Outcome
+  pub came : IsOutcome (solved goal p) asked (option_map (told_sum goal (top_of p)) asked.better) outcome
+  pub told : r ≡ report_told goal (top_of p) asked outcome

@@ -1,0 +1,25 @@
+-- What a report tells of the stages of a search.
+use Rattle.std.specs.Prelude.{◌≡◌, ℕ, List, option_map}
+use Rattle.dcop_base.specs.Problem.{Dcop}
+use Rattle.dcop_optimum.specs.Goal.{top_of}
+use Rattle.problem_text.specs.declared.file.Goal.{Goal}
+use Rattle.problem_solved.specs.Goal.{solved}
+use Rattle.search_top.specs.Outside.{IsInOrder, AreToldOutside}
+use Rattle.search_top.specs.Stages.{AreStages}
+use Rattle.search_top.specs.Turning.{told_sum, found_told, ending_told}
+use Rattle.search_top.specs.declared.report.SearchReport.{SearchReport}
+use Rattle.search_top.specs.declared.stages.Outcome.{Outcome}
+use Rattle.search_top.specs.declared.words.Asked.{Asked}
+
+-- a report of stages: in some order of all variables the problem solved was searched in so many stages, from nothing visited, and the report tells what they came to, all their nodes, their bound, what they found in the variables' own order, and how they ended
+pub record IsOfStages (goal : Goal) (p : Dcop) (asked : Asked) (r : SearchReport) : Type 0 where
+  pub order : List ℕ
+  pub inside : Dcop
+  pub ordered : IsInOrder p order inside
+  pub count : ℕ
+  pub outcome : Outcome
+  pub stages : AreStages (solved goal inside) asked (option_map (told_sum goal (top_of p)) asked.better) count outcome
+  pub nodes : r.nodes ≡ outcome.known.nodes
+  pub bound : r.bound ≡ told_sum goal (top_of p) outcome.ended.lower
+  pub found : AreToldOutside order (found_told goal (top_of p) outcome.known) r.found
+  pub ending : r.ending ≡ ending_told outcome.known.found outcome.ended.spent
