@@ -14,6 +14,7 @@ use Rattle.problem_text.specs.declared.file.Goal.{Goal}
 use Rattle.problem_solved.specs.Goal.{solved, IsAtMostWorse}
 use Rattle.problem_order.specs.Reordered.{IsTableFor, IsReordered}
 use Rattle.problem_order.specs.Costs.{CostTheSame}
+use Rattle.shared_costs.specs.Shared.{AreSharedCosts}
 use Rattle.search_top.specs.Outcomes.{IsOutcome, TellsOutcome}
 use Rattle.search_top.specs.Outside.{AreToldOutside}
 use Rattle.search_top.specs.Report.{IsBetterSum, IsFoundIn, IsBoundOf, EndsBy, IsSearchReport, most_visited}
@@ -153,9 +154,12 @@ module _ (old new : TextFile) (order : List ℕ) (reordered : IsReordered old or
         order = order;
         inside = new.problem;
         ordered = record { is_order = reordered.is_order; sizes = reordered.sizes; tables = reordered.tables };
-        count = is.stages.0;
+        shared = is.stages.0;
+        costs = same_told (λ goal sum. AreSharedCosts (solved goal new.problem) is.stages.0) new.goal old.goal (top_of new.problem) (top_of old.problem) reordered.goal top is.stages.3;
+        count = is.stages.1;
+        limit = is.stages.2;
         outcome = o;
-        stages = same_told (λ goal sum. AreStages (solved goal new.problem) asked (option_map (told_sum goal sum) asked.better) is.stages.0 o) new.goal old.goal (top_of new.problem) (top_of old.problem) reordered.goal top is.stages.1;
+        stages = same_told (λ goal sum. AreStages (solved goal new.problem) is.stages.0 asked (option_map (told_sum goal sum) asked.better) is.stages.1 is.stages.2 o) new.goal old.goal (top_of new.problem) (top_of old.problem) reordered.goal top is.stages.4;
         nodes = refl;
         bound = same_told (λ goal sum. told_sum new.goal (top_of new.problem) o.ended.lower ≡ told_sum goal sum o.ended.lower) new.goal old.goal (top_of new.problem) (top_of old.problem) reordered.goal top refl;
         found = same_told (λ goal sum. AreToldOutside order (found_told goal sum o.known) found) new.goal old.goal (top_of new.problem) (top_of old.problem) reordered.goal top told;

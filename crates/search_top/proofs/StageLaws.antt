@@ -1,5 +1,5 @@
 -- What stages of a search come to, one behind the other.
-use Rattle.std.proofs.Common.{◌≡◌, ℕ, zero, suc, ◌+◌, ◌≤◌, ◌⊎◌, max, min, Bool, true, false, List, length, Option, Some, None, Result, Ok, Err, IfOk, refl, sym, subst, ◌∙◌, inl, inr, arith}
+use Rattle.std.proofs.Common.{◌≡◌, ℕ, zero, suc, ◌+◌, ◌<◌, ◌≤◌, ◌⊎◌, max, min, Bool, true, false, List, length, Option, Some, None, Result, Ok, Err, IfOk, refl, sym, subst, ◌∙◌, inl, inr, arith}
 use Rattle.std.proofs.lemmas.Bool.{cases_Bool}
 use Rattle.dcop_base.specs.Limits.{joined_limit}
 use Rattle.dcop_base.specs.Problem.{Dcop, cost}
@@ -88,24 +88,24 @@ ended_above error known low lower above done = record {
   within = (let within = done.within in omega (arith, above, within));
 }
 
+min_is : (a b : ℕ) → a ≤ b → min a b ≡ a
+min_is a b few = omega (arith, few)
+
 -- a stage, by what was made in it
-pub stage_made : (p : Dcop) (asked : Asked) (budget : ℕ) (before : Outcome) (shared : SharedCosts) (limit : ℕ) (buckets : List Bucket) (known : Known) (own : Ended) (lower : ℕ) (spent : Bool)
-    → before.ended.spent ≡ true → budget ≤ asked.budget → AreSharedCosts p shared → AreBounds p.sizes shared.depths buckets
+pub stage_made : (p : Dcop) (shared : SharedCosts) (asked : Asked) (budget limit : ℕ) (before : Outcome) (buckets : List Bucket) (known : Known) (own : Ended) (lower : ℕ) (spent : Bool)
+    → before.ended.spent ≡ true → budget ≤ asked.budget → limit ≤ joined_limit → AreBounds p.sizes shared.depths buckets
     → AreMiniBuckets p.sizes (min limit joined_limit) asked.cells 0 buckets → kept_cells buckets ≤ asked.cells
     → IsSearched p shared.scale buckets asked.error budget before.known known own → lower ≡ max own.lower before.ended.lower
     → (spent ≡ true → (own.spent ≡ true) × IsApart asked.error known.best lower)
     → (spent ≡ false → (own.spent ≡ false) ⊎ ((sum : ℕ) × (known.best ≡ Some sum) × (sum ≤ lower + asked.error)))
-    → IsStage p asked budget before (record { known = known; ended = record { lower = lower; spent = spent } })
-stage_made p asked budget before shared limit buckets known own lower spent needed within costs bounds mini kept searched greatest apart ended = record {
+    → IsStage p shared asked budget limit before (record { known = known; ended = record { lower = lower; spent = spent } })
+stage_made p shared asked budget limit before buckets known own lower spent needed within joined bounds mini kept searched greatest apart ended = record {
   needed = needed;
   within = within;
-  shared = shared;
-  costs = costs;
   buckets = buckets;
   bounds = bounds;
-  limit = min limit joined_limit;
-  joined = omega arith;
-  mini = mini;
+  joined = joined;
+  mini = subst (λ (n : ℕ). AreMiniBuckets p.sizes n asked.cells 0 buckets) (min_is limit joined_limit joined) mini;
   kept = kept;
   own = own;
   searched = searched;
@@ -118,16 +118,16 @@ stage_made p asked budget before shared limit buckets known own lower spent need
 }
 
 -- how the stages ended, by the budget of the last one
-stage_ends : (p : Dcop) (asked : Asked) (budget : ℕ) (before after : Outcome) → IsStage p asked budget before after → EndsSo asked.error budget after.known after.ended
-stage_ends p asked budget before after stage = elim (cases_Bool after.ended.spent) [
+stage_ends : (p : Dcop) (shared : SharedCosts) (asked : Asked) (budget limit : ℕ) (before after : Outcome) → IsStage p shared asked budget limit before after → EndsSo asked.error budget after.known after.ended
+stage_ends p shared asked budget limit before after stage = elim (cases_Bool after.ended.spent) [
   | inl spent ↦ inr (spent, has_spent asked.error budget after.known stage.own stage.searched.ends (stage.spent spent).0)
   | inr none ↦ inl (none, stage.ended none)
 ]
 
-module _ (p : Dcop) (asked : Asked) (best : Option ℕ) where
+module _ (p : Dcop) (shared : SharedCosts) (asked : Asked) (best : Option ℕ) where
   -- before the first stage
-  pub so_far_first : (o : Outcome) → IsKnown p o.known → IsNothingYet best o → IsSoFar p asked best o
-  so_far_first o known yet =
+  pub so_far_first : (limit : ℕ) (o : Outcome) → IsKnown p o.known → IsNothingYet best o → IsSoFar p shared asked best limit o
+  so_far_first limit o known yet =
       let zero_nodes = yet.nodes in
       let zero_lower = yet.lower in
       record {
@@ -143,7 +143,7 @@ module _ (p : Dcop) (asked : Asked) (best : Option ℕ) where
         nodes = omega (arith, zero_nodes);
       }
 
-  module _ (budget : ℕ) (before after : Outcome) (so_far : IsSoFar p asked best before) (stage : IsStage p asked budget before after) where
+  module _ (budget earlier limit : ℕ) (before after : Outcome) (so_far : IsSoFar p shared asked best earlier before) (wider : earlier < limit) (stage : IsStage p shared asked budget limit before after) where
     was_none : after.known.found ≡ false → before.known.found ≡ false
     was_none none = elim (cases_Bool before.known.found) [
       | inl had ↦ absurd (not_both after.known.found none (stage.searched.more.still had))
@@ -191,12 +191,12 @@ module _ (p : Dcop) (asked : Asked) (best : Option ℕ) where
     nodes_still = most_still budget asked.budget (length p.sizes) best before.known.best before.known.nodes after.known.nodes stage.within so_far.nodes nothing_before stage.searched.nodes
 
     ends_so : EndsSo asked.error budget after.known after.ended
-    ends_so = stage_ends p asked budget before after stage
+    ends_so = stage_ends p shared asked budget limit before after stage
 
     -- after one more stage that is spent
-    pub so_far_more : after.ended.spent ≡ true → IsSoFar p asked best after
+    pub so_far_more : after.ended.spent ≡ true → IsSoFar p shared asked best limit after
     so_far_more spent = record {
-      stages = (suc so_far.stages.0, (budget, before, so_far.stages.1, stage));
+      stages = (suc so_far.stages.0, (budget, earlier, before, wider, so_far.stages.1, stage));
       spent = spent;
       known = stage.searched.known;
       same = same_still;
@@ -209,9 +209,9 @@ module _ (p : Dcop) (asked : Asked) (best : Option ℕ) where
     }
 
     -- after the last one
-    pub outcome_is : (after.ended.spent ≡ false) ⊎ (asked.budget ≤ after.known.nodes) ⊎ (budget ≡ asked.budget) → IsOutcome p asked best after
-    outcome_is how = record {
-      stages = (suc so_far.stages.0, (budget, before, so_far.stages.1, stage));
+    pub outcome_is : AreSharedCosts p shared → (after.ended.spent ≡ false) ⊎ (asked.budget ≤ after.known.nodes) ⊎ (budget ≡ asked.budget) → IsOutcome p asked best after
+    outcome_is costs how = record {
+      stages = (shared, suc so_far.stages.0, limit, costs, (budget, earlier, before, wider, so_far.stages.1, stage));
       known = stage.searched.known;
       some = found_some;
       same = same_still;
@@ -230,7 +230,7 @@ module _ (p : Dcop) (asked : Asked) (best : Option ℕ) where
     }
 
 -- the same of a last stage that had the whole budget, unless memory was wanted
-pub last_outcome : (p : Dcop) (asked : Asked) (best : Option ℕ) (before : Outcome) (result : Result Outcome NoMemory) → IsSoFar p asked best before → IfOk result (IsStage p asked asked.budget before)
-    → IfOk result (IsOutcome p asked best)
-last_outcome p asked best before (Ok after) so_far stage = outcome_is p asked best asked.budget before after so_far stage (inr (inr refl))
-last_outcome p asked best before (Err none) so_far stage = tt
+pub last_outcome : (p : Dcop) (shared : SharedCosts) (asked : Asked) (best : Option ℕ) (earlier limit : ℕ) (before : Outcome) (result : Result Outcome NoMemory) → AreSharedCosts p shared
+    → IsSoFar p shared asked best earlier before → earlier < limit → IfOk result (IsStage p shared asked asked.budget limit before) → IfOk result (IsOutcome p asked best)
+last_outcome p shared asked best earlier limit before (Ok after) costs so_far wider stage = outcome_is p shared asked best asked.budget earlier limit before after so_far wider stage costs (inr (inr refl))
+last_outcome p shared asked best earlier limit before (Err none) costs so_far wider stage = tt

@@ -4,6 +4,8 @@ use Rattle.dcop_base.specs.Problem.{Dcop, IsAssignment, cost}
 use Rattle.dcop_optimum.specs.Goal.{top_of}
 use Rattle.problem_text.specs.declared.file.Goal.{Goal}
 use Rattle.problem_solved.specs.Goal.{solved}
+use Rattle.shared_costs.specs.Shared.{AreSharedCosts}
+use Rattle.shared_costs.specs.declared.shared.SharedCosts.{SharedCosts}
 use Rattle.bound_search.specs.Known.{IsKnown, IsBelow}
 use Rattle.bound_search.specs.Searched.{EndsSo}
 use Rattle.search_top.specs.Report.{most_visited}
@@ -17,9 +19,9 @@ use Rattle.search_top.specs.declared.words.Asked.{Asked}
 abbrev pub IsLowerBound : Dcop → ℕ → Type 0
 IsLowerBound p lower = (values : List ℕ) → IsAssignment p values → lower ≤ cost p values
 
--- what stages came to that have not ended, in a search for an assignment that costs less than this; before the first one no nodes are visited
-pub record IsSoFar (p : Dcop) (asked : Asked) (best : Option ℕ) (o : Outcome) : Type 0 where
-  pub stages : (count : ℕ) × AreStages p asked best count o
+-- what stages of these shared costs came to that have not ended, the last one with this limit, in a search for an assignment that costs less than this; before the first one no nodes are visited
+pub record IsSoFar (p : Dcop) (shared : SharedCosts) (asked : Asked) (best : Option ℕ) (limit : ℕ) (o : Outcome) : Type 0 where
+  pub stages : (count : ℕ) × AreStages p shared asked best count limit o
   pub spent : o.ended.spent ≡ true
   pub known : IsKnown p o.known
   pub same : o.known.found ≡ false → o.known.best ≡ best
@@ -32,7 +34,7 @@ pub record IsSoFar (p : Dcop) (asked : Asked) (best : Option ℕ) (o : Outcome) 
 
 -- what came of a search for an assignment that costs less than this, where something is to be bettered
 pub record IsOutcome (p : Dcop) (asked : Asked) (best : Option ℕ) (o : Outcome) : Type 0 where
-  pub stages : (count : ℕ) × AreStages p asked best count o
+  pub stages : (shared : SharedCosts) × (count limit : ℕ) × AreSharedCosts p shared × AreStages p shared asked best count limit o
   pub known : IsKnown p o.known
   pub some : best ≡ None → o.known.found ≡ true
   pub same : o.known.found ≡ false → o.known.best ≡ best

@@ -2,7 +2,6 @@
 use Rattle.std.specs.Prelude.{◌≡◌, ℕ, zero, suc, ◌+◌, ◌<◌, ◌≤◌, max, true, false, List, Option, IfSome}
 use Rattle.dcop_base.specs.Limits.{joined_limit}
 use Rattle.dcop_base.specs.Problem.{Dcop}
-use Rattle.shared_costs.specs.Shared.{AreSharedCosts}
 use Rattle.shared_costs.specs.declared.shared.SharedCosts.{SharedCosts}
 use Rattle.bucket_bounds.specs.Bounds.{AreBounds, kept_cells}
 use Rattle.bucket_bounds.specs.MiniBuckets.{AreMiniBuckets}
@@ -24,15 +23,12 @@ pub record IsNothingYet (best : Option ℕ) (o : Outcome) : Type 0 where
   pub lower : o.ended.lower ≡ 0
   pub spent : o.ended.spent ≡ true
 
--- a stage with this budget, where those before it had not ended: a search by mini-bucket bounds of the problem's shared costs, which keep at most as many cells as are allowed, from what is known so far; of the stages' lower bounds the greatest stays, and they are spent where this search is, and the best is more than the error above that bound
-pub record IsStage (p : Dcop) (asked : Asked) (budget : ℕ) (before after : Outcome) : Type 0 where
+-- a stage with this budget and limit of cells a joined table, where those before it had not ended: a search by mini-bucket bounds of the shared costs, which keep at most as many cells as are allowed, from what is known so far; of the stages' lower bounds the greatest stays, and they are spent where this search is, and the best is more than the error above that bound
+pub record IsStage (p : Dcop) (shared : SharedCosts) (asked : Asked) (budget limit : ℕ) (before after : Outcome) : Type 0 where
   pub needed : before.ended.spent ≡ true
   pub within : budget ≤ asked.budget
-  pub shared : SharedCosts
-  pub costs : AreSharedCosts p shared
   pub buckets : List Bucket
   pub bounds : AreBounds p.sizes shared.depths buckets
-  pub limit : ℕ
   pub joined : limit ≤ joined_limit
   pub mini : AreMiniBuckets p.sizes limit asked.cells 0 buckets
   pub kept : kept_cells buckets ≤ asked.cells
@@ -42,7 +38,7 @@ pub record IsStage (p : Dcop) (asked : Asked) (budget : ℕ) (before after : Out
   pub spent : after.ended.spent ≡ true → (own.spent ≡ true) × IsApart asked.error after.known.best after.ended.lower
   pub ended : after.ended.spent ≡ false → HasEnded asked.error after.known after.ended.lower
 
--- what so many stages came to, one behind the other: the first from nothing, each next one from what those before it came to
-abbrev pub AreStages : Dcop → Asked → Option ℕ → ℕ → Outcome → Type 0
-AreStages p asked best zero o = IsNothingYet best o
-AreStages p asked best (suc count) o = (budget : ℕ) × (before : Outcome) × AreStages p asked best count before × IsStage p asked budget before o
+-- what so many stages came to, one behind the other, all of the same shared costs: the first from nothing, each next one from what those before it came to, with a greater limit than theirs; the last one has this limit
+abbrev pub AreStages : Dcop → SharedCosts → Asked → Option ℕ → ℕ → ℕ → Outcome → Type 0
+AreStages p shared asked best zero limit o = IsNothingYet best o
+AreStages p shared asked best (suc count) limit o = (budget earlier : ℕ) × (before : Outcome) × (earlier < limit) × AreStages p shared asked best count earlier before × IsStage p shared asked budget limit before o

@@ -1,6 +1,7 @@
 //! A search in stages, whose tables grow.
 
-ghost use Rattle.std.specs.Prelude.{◌≡◌, ℕ, ◌+◌, ◌≤◌, ◌⊎◌, false, true, Some, IfOk};
+ghost use Rattle.std.specs.Prelude.{◌≡◌, ℕ, ◌+◌, ◌≤◌, ◌⊎◌, max, false, true, Some, IfOk};
+ghost use Rattle.dcop_base.specs.Limits.{joined_limit};
 ghost use Rattle.shared_costs.specs.Shared.{AreSharedCosts};
 ghost use Rattle.bound_search.specs.Known.{IsKnown};
 ghost use Rattle.search_top.specs.Outcomes.{IsOutcome};
@@ -50,7 +51,8 @@ pub struct Outcome {
 
 /// Searches a problem for an assignment that costs less than `best`, where there is such a sum, in
 /// stages: once a stage has visited its nodes, the next one begins anew with larger tables, and with
-/// what is known. A stage whose tables would be no larger is left out.
+/// what is known. A stage whose tables would be no larger than those of the one before, or no smaller
+/// than those of the last one, is left out: so the limit of each is greater than that before it.
 ///
 /// # Errors
 ///
@@ -66,22 +68,30 @@ pub(crate) fn outcome_of(
 {
     problem_is_whole(problem);
     let shared = shared_costs(alloc, problem)?;
+    let widest = limit_of(alloc, problem, &shared, LAST_LIMIT, asked.cells)?;
     let mut outcome = nothing_known(alloc, problem, best)?;
     let mut earlier = 0;
     for stage in STAGES {
         let limit = limit_of(alloc, problem, &shared, stage.limit, asked.cells)?;
-        if limit == earlier {
+        if limit <= earlier || widest <= limit {
             continue;
         }
-        earlier = limit;
         let budget = stage_budget(asked.budget, outcome.known.nodes, stage.nodes);
         outcome = searched(alloc, problem, &shared, asked, limit, budget, outcome)?;
+        earlier = limit;
         if !outcome.ended.spent || outcome.known.nodes >= asked.budget {
             return Ok(outcome);
         }
     }
-    let limit = limit_of(alloc, problem, &shared, LAST_LIMIT, asked.cells)?;
-    searched(alloc, problem, &shared, asked, limit, asked.budget, outcome)
+    searched(
+        alloc,
+        problem,
+        &shared,
+        asked,
+        widest,
+        asked.budget,
+        outcome,
+    )
 }
 
 /// The limit of a stage: as many cells as this, but at least 2, or fewer, so that no bounds are lost
@@ -94,6 +104,7 @@ fn limit_of(
     cells: u64,
 ) -> Result<u64, NoMemory>
     requires { AreSharedCosts problem.now shared.now }
+    ensures { IfOk result (λ limit. (2 ≤ limit) × (limit ≤ max most 2)) }
 {
     problem_is_whole(problem);
     let sizes = problem.sizes.as_slice();
@@ -142,10 +153,11 @@ fn searched(
     requires asked { IsServed asked }
     requires shared { AreSharedCosts problem.now shared.now }
     requires within { budget ≤ asked.budget }
+    requires joined { limit ≤ joined_limit }
     requires needed { before.ended.spent ≡ true }
     requires known { IsKnown problem.now before.known }
     requires few { before.known.nodes ≤ 1000000000000 }
-    ensures { IfOk result (IsStage problem.now asked budget before) }
+    ensures { IfOk result (IsStage problem.now shared.now asked budget limit before) }
 {
     problem_is_whole(problem);
     let sizes = problem.sizes.as_slice();

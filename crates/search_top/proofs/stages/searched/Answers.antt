@@ -11,6 +11,6 @@ returns c =
     let bounds = rw (sizes, c.as_slice.ensures) at c.in_ok-buckets.ensures.bounds in
     let mini = subst (λ (ss : List ℕ). AreMiniBuckets ss (min c.args.limit joined_limit) c.args.asked.cells 0 c.in_ok-buckets.buckets) sizes c.in_ok-buckets.ensures.buckets in
     let searched = rw c.as_slice-2.ensures at c.in_ok-ended.ensures in
-    stage_made c.args.problem.now c.args.asked c.args.budget c.args.before c.args.shared.now c.args.limit c.in_ok-buckets.buckets c.search.new.known c.in_ok-ended.ended c.max-lower.result c.is_spent-spent.result
-    c.requires.needed c.requires.within c.requires.shared bounds mini c.in_ok-buckets.ensures.kept
+    stage_made c.args.problem.now c.args.shared.now c.args.asked c.args.budget c.args.limit c.args.before c.in_ok-buckets.buckets c.search.new.known c.in_ok-ended.ended c.max-lower.result c.is_spent-spent.result
+    c.requires.needed c.requires.within c.requires.joined bounds mini c.in_ok-buckets.ensures.kept
     searched c.max-lower.ensures c.is_spent-spent.ensures.spent c.is_spent-spent.ensures.ended
