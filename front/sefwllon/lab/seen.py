@@ -70,5 +70,5 @@ def part(cost: float, bound: float) -> float:
 
 
 def methods_of(rows: Sequence[Seen]) -> list[str]:
-    """The methods, in the order in which they first stand."""
-    return list(dict.fromkeys(row.method for row in rows))
+    """The methods, by name: in which order rows stand follows from which run ended first."""
+    return sorted({row.method for row in rows})
