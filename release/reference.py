@@ -21,7 +21,7 @@ from pathlib import Path
 from .programs import TOP, below
 
 PAGES = TOP / "docs" / "reference"
-LINKING = [TOP / "README.md", TOP / "CONTRIBUTING.md", *sorted((TOP / "docs").glob("*.md"))]
+LINKING = [TOP / "README.md", TOP / "CONTRIBUTING.md", *sorted([*(TOP / "docs").glob("*.md"), *(TOP / "docs" / "guide").glob("*.md")])]
 """The pages that link to lines of the sources."""
 DEFINITIONS, CALLS = PAGES / "definitions.md", PAGES / "calls.md"
 DECLARED = re.compile(r"^ *(?:pub (?:record|data)|abbrev pub) ([^ :]+)")
