@@ -6,10 +6,18 @@ import re
 import subprocess
 import sys
 import unittest
+from pathlib import Path
 
 from .case import FRONT
 
 TOP = FRONT.parent
+PAGES = [TOP / "README.md", TOP / "CONTRIBUTING.md", FRONT / "README.md", *(TOP / "docs").glob("*.md"), *(TOP / "docs" / "guide").glob("*.md")]
+
+
+def anchors(page: Path) -> set[str]:
+    """What a link may name behind `#` in a page: its headings in small letters, with `-` for blanks and without other signs."""
+    headings = re.findall(r"^#+ (.*)$", re.sub(r"^```.*?^```", "", page.read_text(), flags=re.MULTILINE | re.DOTALL), re.MULTILINE)
+    return {re.sub(r"[^\w -]", "", heading.lower()).strip().replace(" ", "-") for heading in headings}
 
 
 class Reference(unittest.TestCase):
@@ -20,16 +28,21 @@ class Reference(unittest.TestCase):
         self.assertEqual((told.returncode, told.stderr), (0, ""))
 
     def test_a_link_to_a_line_leads_to_what_it_names(self):
-        pages = [TOP / "README.md", TOP / "CONTRIBUTING.md", *(TOP / "docs").glob("*.md")]
-        links = [(page, *it) for page in pages for it in re.findall(r"\[`(\w+)`\]\(([^)#]+)#L(\d+)\)", page.read_text())]
+        links = [(page, *it) for page in PAGES for it in re.findall(r"\[`(\w+)`\]\(([^)#]+)#L(\d+)\)", page.read_text())]
         self.assertTrue(links)
         for page, name, path, line in links:
             self.assertIn(name, (page.parent / path).read_text().splitlines()[int(line) - 1], f"{page.name}: {name}")
 
     def test_a_link_leads_somewhere(self):
-        for page in [TOP / "README.md", TOP / "CONTRIBUTING.md", TOP / "front" / "README.md", *(TOP / "docs").glob("*.md")]:
+        for page in PAGES:
             for path in re.findall(r"\]\((?!https?:)([^)#]+)", page.read_text()):
                 self.assertTrue((page.parent / path).exists(), f"{page.name}: {path}")
+
+    def test_a_link_to_a_heading_finds_it(self):
+        for page in PAGES:
+            for path, anchor in re.findall(r"\]\((?!https?:)([^)#]*)#(?!L\d)([^)]+)\)", page.read_text()):
+                with self.subTest(f"{page.name}: {path}#{anchor}"):
+                    self.assertIn(anchor, anchors(page.parent / path if path else page))
 
 
 if __name__ == "__main__":
