@@ -9,6 +9,8 @@ from .programs import TOP
 
 PAGES = TOP / "docs" / "reference"
 """Where the made pages are."""
+DOC_LINK = re.compile(r"\[(`[^`]+`)\](?:\([\w:]+\))?")
+"""A link of a doc comment to another item, which leads nowhere on a page."""
 MADE = "<!-- Made by release/reference.py: change the sources and run it again. -->\n"
 
 
@@ -37,12 +39,12 @@ class Layers:
 
 
 def first_sentence(comment: list[str]) -> str:
-    """The first sentence of a doc comment, up to its first empty line at most."""
+    """The first sentence of a doc comment, up to its first empty line at most, without its links."""
     told = " ".join(comment).split("  ")[0] if comment else ""
     if "" in comment:
         told = " ".join(comment[: comment.index("")])
     ended = re.match(r".*?[.:!?](?=\s+[A-Z`\[]|$)", told)
-    return (ended[0] if ended else told).rstrip(":")
+    return DOC_LINK.sub(r"\1", ended[0] if ended else told).rstrip(":")
 
 
 def cell(text: str) -> str:
