@@ -82,8 +82,8 @@ class Crates(unittest.TestCase):
             self.assertEqual(users, [], name)
 
     def test_the_page_has_the_crates_in_their_order(self):
-        page = (TOP / "docs" / "ARCHITECTURE.md").read_text()
-        rows = re.findall(r"^\| (\w+) \| ", page[page.index("## The crates") : page.index("## How a run's end flows")], re.MULTILINE)
+        page = (TOP / "docs" / "reference" / "crates.md").read_text()
+        rows = re.findall(r"^\| (\w+) \| ", page, re.MULTILINE)
         self.assertEqual([name for name in rows if name != "Crate"], list(stands_on()))
 
     def test_only_what_the_programs_stand_on_is_proved(self):
