@@ -25,7 +25,7 @@ share_sum row = sum_by (λ e. e.share) row
 abbrev pub raised : ℕ → Entry → ℕ
 raised lack e = lower_to (e.share + lack) e.upper
 
--- raises the shares of a row, in the order of the children, until nothing is lacking
+-- raises the shares of a row by what is lacking, in the order of the children, each to no more than its upper bound
 abbrev pub raise : ℕ → List Entry → List Entry
 raise lack [] = []
 raise lack (e ∷ es) = record e { share = raised lack e } ∷ raise (lack + e.share - raised lack e) es
@@ -34,7 +34,7 @@ raise lack (e ∷ es) = record e { share = raised lack e } ∷ raise (lack + e.s
 abbrev pub lowered : ℕ → Entry → ℕ
 lowered excess e = max (e.share - excess) e.lower
 
--- lowers the shares of a row, in the order of the children, until there is no excess
+-- lowers the shares of a row by the excess, in the order of the children, each to no less than its lower bound
 abbrev pub cut : ℕ → List Entry → List Entry
 cut excess [] = []
 cut excess (e ∷ es) = record e { share = lowered excess e } ∷ cut (excess + lowered excess e - e.share) es

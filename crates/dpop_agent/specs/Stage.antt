@@ -1,4 +1,4 @@
--- What the stage of a DPOP agent says of its phase.
+-- What the stage of a DPOP agent says about its phase.
 use Rattle.std.specs.Prelude.{ℕ, true, false, List, Option}
 use Rattle.dcop_base.specs.Table.{CostTable}
 use Rattle.dcop_base.specs.declared.knowledge.Private.{Private}
