@@ -13,6 +13,7 @@ use Rattle.adopt_agent.specs.declared.stage.Stage.TheVariants.{Waiting, Working,
 abbrev pub working : Phase
 working = record { started = true; ended = false; failed = false }
 
+-- the phase of an agent at a stage
 abbrev pub phase_at : Stage → Phase
 phase_at Waiting = not_started
 phase_at Working = working

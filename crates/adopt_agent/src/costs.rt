@@ -144,7 +144,8 @@ pub(crate) fn add_known(
 }
 
 /// Computes the costs anew for what is known, and returns whether all higher neighbours are known.
-/// If the values of these are the same in `before`, nothing changes.
+/// If `before` names the same variables, and has the same values of the higher neighbours, nothing
+/// changes.
 pub(crate) fn renew(
     costs: &mut [u64],
     knows_higher: bool,

@@ -29,6 +29,7 @@ pub record IsOptimal (p : Dcop) (least : ℕ) (values : List ℕ) : Type 0 where
   pub assignment : IsAssignment p values
   pub costs : cost p values ≡ least
 
+-- every answer of a cut is optimal
 abbrev pub CutAnswersAreOptimal : Type 0
 CutAnswersAreOptimal = (p : Dcop) (paths : List (List ℕ)) (cut : List ℕ) (least : ℕ) (values : List ℕ) → IsProblem p → AreCut p cut
     → IsCutAnswer p paths cut least values → IsOptimal p least values
@@ -38,5 +39,6 @@ pub record HasOneCutAnswer (p : Dcop) (paths : List (List ℕ)) (cut : List ℕ)
   pub some : (least : ℕ) × (values : List ℕ) × IsCutAnswer p paths cut least values
   pub one : (c d : ℕ) (a b : List ℕ) → IsCutAnswer p paths cut c a → IsCutAnswer p paths cut d b → (c ≡ d) × (a ≡ b)
 
+-- on every pseudotree of a problem, a cut has exactly one answer
 abbrev pub CutAnswersAreOne : Type 0
 CutAnswersAreOne = (p : Dcop) (paths : List (List ℕ)) (cut : List ℕ) → IsProblem p → IsPseudotree p paths → AreCut p cut → HasOneCutAnswer p paths cut

@@ -11,6 +11,7 @@ use Rattle.dfs_agent.specs.declared.stage.Stage.TheVariants.{Waiting, Closed, Op
 abbrev pub searching : Phase
 searching = record { started = true; ended = false; failed = false }
 
+-- the phase of an agent at a stage
 abbrev pub phase_at : Stage → Phase
 phase_at Waiting = not_started
 phase_at Closed = searching

@@ -31,6 +31,7 @@ pub record IsAsInOneNode (budget : ℕ) (cells after last : List CellState) (rou
   pub quiet : EachAre IsQuiet after last
   pub settled : AreSettled last
 
+-- rounds in nodes are rounds as in one node, if in each exchange exactly what was sent on each link arrived
 abbrev pub NodesAreOne : Type 0
 NodesAreOne = (node : ℕ → ℕ) (budget : ℕ) (cells after last : List CellState) (rounds : List (List CellState)) (begun wires more : List Wire)
     → AreNodeRounds node budget begun cells rounds wires after → IsNodeEnd node wires more after last → HaveHeld more → IsAsInOneNode budget cells after last rounds

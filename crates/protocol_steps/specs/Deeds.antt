@@ -39,6 +39,7 @@ AreDeeds n x (d ∷ ds) = IsDeed n x d × AreDeeds n (do_one x d) ds
 abbrev pub own_deed : ℕ → Deed → List Deed
 own_deed i d = if d.agent == i then d ∷ [] else []
 
+-- the activations of agent i, in order
 abbrev pub deeds_of : ℕ → List Deed → List Deed
 deeds_of i ds = flat_map (λ d. own_deed i d) ds
 
@@ -50,12 +51,14 @@ after_all now ds i = fold do_one (now i) (deeds_of i ds)
 abbrev pub envelope_to : ℕ → Posted → List (ℕ × Message)
 envelope_to i p = if p.to == i then p.envelope ∷ [] else []
 
+-- the messages that were sent to agent i, with their stamps
 abbrev pub posted_to : ℕ → List Posted → List (ℕ × Message)
 posted_to i posted = flat_map (λ p. envelope_to i p) posted
 
--- the messages that were taken from agent j
+-- the messages that one activation took from agent j, or none if it took from another
 abbrev pub gain_from : ℕ → Gain → List (ℕ × Message)
 gain_from j g = if g.from == j then g.envelopes else []
 
+-- all messages that were taken from agent j, with their stamps
 abbrev pub gained_from : ℕ → List Gain → List (ℕ × Message)
 gained_from j gains = flat_map (λ g. gain_from j g) gains

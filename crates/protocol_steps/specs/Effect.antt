@@ -29,6 +29,7 @@ effect_at net e (Some v) None = net
 abbrev pub effect : Network → Event → Network
 effect net e = effect_at net e (slice_get net.views e.agent) (slice_get net.desks e.agent)
 
+-- what an agent with this view sends in an event; nothing if there is no such agent
 abbrev pub sends_by : Network → Event → Option View → List (ℕ × Message)
 sends_by net e None = []
 sends_by net e (Some v) = (step_of v (batch net.desks e.agent e.takes)).sends

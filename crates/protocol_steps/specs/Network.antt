@@ -35,10 +35,12 @@ messages_to i ps = flat_map (λ p. message_to i p) ps
 abbrev pub taken_from : ℕ → List Take → ℕ
 taken_from j ts = sum_by (λ t. if t.from == j then t.count else 0) ts
 
+-- all parcels of an optional desk; none if there is no desk
 abbrev pub sent_at : Option Desk → List (ℕ × Message)
 sent_at None = []
 sent_at (Some x) = x.sent
 
+-- all takes of an optional desk; none if there is no desk
 abbrev pub takes_at : Option Desk → List Take
 takes_at None = []
 takes_at (Some x) = x.takes

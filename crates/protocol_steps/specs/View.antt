@@ -11,6 +11,7 @@ use Rattle.protocol_steps.specs.Dpop.{DpopView}
 use Rattle.protocol_steps.specs.Adopt.{AdoptView}
 use Rattle.protocol_steps.specs.AdoptBounds.{lower_bound, upper_bound}
 
+-- the view of a token agent, of a DPOP agent or of an ADOPT agent
 pub data View : Type 0 where
   TokenKind : TokenView → View
   DpopKind : DpopView → View
@@ -40,12 +41,15 @@ phase_of (TokenKind v) = v.phase
 phase_of (DpopKind v) = v.phase
 phase_of (AdoptKind v) = v.phase
 
+-- whether an agent has started
 abbrev pub started_of : View → Bool
 started_of v = (phase_of v).started
 
+-- whether an agent has ended
 abbrev pub ended_of : View → Bool
 ended_of v = (phase_of v).ended
 
+-- whether an agent has failed because memory ran out
 abbrev pub failed_of : View → Bool
 failed_of v = (phase_of v).failed
 
