@@ -22,6 +22,6 @@ pub record AreInOrder (sizes : List ℕ) (turns : List (List ℕ)) : Type 0 wher
   pub every : (values : List ℕ) → AreWithin sizes values → Contains turns values
   pub ascending : (j k : ℕ) → j < k → k < length turns → IsBefore (slice_index_or turns j []) (slice_index_or turns k [])
 
--- the turns of every cut are in this order
+-- the turns of every cut are all lists of values of its variables, each once, in lexicographic order
 abbrev pub TurnsAreInOrder : Type 0
 TurnsAreInOrder = (p : Dcop) (cut : List ℕ) → AreInOrder (sizes_of p cut) (turns_of p cut)

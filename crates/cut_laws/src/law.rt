@@ -64,7 +64,7 @@ pub fn cut_answers_are_optimal()
     ensures { CutAnswersAreOptimal }
 {}
 
-/// A cut has exactly one answer on a tree.
+/// A cut has exactly one answer on a pseudotree of the problem.
 pub fn cut_answers_are_one()
     ensures { CutAnswersAreOne }
 {}

@@ -1,10 +1,11 @@
 //! The outside world as values: where bytes come from and where they go.
 //!
 //! A [`Source`] gives bytes and a [`Sink`] takes them. For proofs alone, each states what it holds,
-//! if that is known, and counts its faults: a call returns [`Failed`] only if the count rose. Code
-//! that reads and writes is therefore proved over any source and sink. There are sources and sinks
-//! in memory that fail at chosen calls, and others that never fail. [`StdSource`] and [`StdSink`]
-//! are the real ones; contracts say nothing of their bytes, only their counts of faults.
+//! if that is known, and counts its faults: a call returns [`Failed`] only if the count rose or is
+//! at its last value. Code that reads and writes is therefore proved over any source and sink.
+//! There are sources and sinks in memory that fail at chosen calls, and others that never fail.
+//! [`StdSource`] and [`StdSink`] are the real ones; contracts say nothing of their bytes, only of
+//! their counts of faults.
 #![tactic(auto)]
 
 mod fault;

@@ -31,6 +31,6 @@ pub record AreWithinCap (p : Dcop) (paths : List (List ℕ)) : Type 0 where
   pub best : (i : ℕ) (value : ℕ → ℕ) (optima : ℕ → ℕ → ℕ) (d : ℕ) → i < length p.sizes → AreValuesAbove p paths i value
       → AreChildOptima p paths i value optima → d < slice_index p.sizes i → best_cost_at p paths i value optima d ≤ amount_limit
 
--- these costs are within the cap in every pseudotree of every problem
+-- in every pseudotree of every problem, the cost of a subtree's tables is at most amount_limit, and so is that of the own tables plus the children's subtree optima
 abbrev pub CostsAreWithinCap : Type 0
 CostsAreWithinCap = (p : Dcop) (paths : List (List ℕ)) → IsProblem p → IsPseudotree p paths → AreWithinCap p paths

@@ -42,8 +42,8 @@ pub fn first_optima_of_trees_are_one()
     ensures { FirstOptimaOfTreesAreOne }
 {}
 
-/// If each variable has the lowest of its best values given those of its ancestors, the values are
-/// the first optimum of the tree.
+/// If each variable of a pseudotree has the lowest of its best values given those of its ancestors,
+/// the values are the first optimum of the tree.
 pub fn best_choices_are_first()
     ensures { BestChoicesAreFirst }
 {}

@@ -45,6 +45,6 @@ pub record LeavesOthers (p : Dcop) (k : ℕ) (cells : List ℕ) : Type 0 where
   pub held : (paths : List (List ℕ)) (kept : List (Option Made)) (i : ℕ) → IsPseudotree p paths
       → is_on_way paths (table_at p k).scope i ≡ false → IsHeld p paths kept i → IsHeld (with_cells p k cells) paths kept i
 
--- this holds in every problem and for every table of it
+-- in every problem, other cells in a table leave the trees as they are, and what is held for each variable that is not on the way from the table's deepest variable to the root
 abbrev pub EditsLeaveOthers : Type 0
 EditsLeaveOthers = (p : Dcop) (k : ℕ) (cells : List ℕ) → IsProblem p → k < length p.tables → LeavesOthers p k cells

@@ -39,7 +39,7 @@ pub record MayBeJoined (p : Dcop) (paths : List (List ℕ)) (kept : List (Option
   pub may : MayRemake (private_of p i) (place_at p paths i) kept
   pub cells : joined_count (agent_with p paths kept i) ≡ joined_cells p paths i
 
--- this holds on a narrow and linked pseudotree, if the tables of the children and their descendants are held
+-- on a narrow and linked pseudotree the tables of an agent may be made, if those of its children and their descendants are held
 abbrev pub ChildrenMayBeJoined : Type 0
 ChildrenMayBeJoined = (p : Dcop) (paths : List (List ℕ)) (kept : List (Option Made)) (i : ℕ) → IsProblem p → IsPseudotree p paths → IsLinked p paths → IsNarrow p paths
     → length kept ≡ length p.sizes → i < length p.sizes → AreChildrenHeld p paths kept i → MayBeJoined p paths kept i
@@ -49,7 +49,7 @@ pub record KeepsHeld (p : Dcop) (paths : List (List ℕ)) (kept : List (Option M
   pub here : AreHeldFrom p paths (slice_set kept i (Some made)) i
   pub others : (j : ℕ) → AreHeldFrom p paths kept j → AreHeldFrom p paths (slice_set kept i (Some made)) j
 
--- this holds if the tables of the children and their descendants are held
+-- the tables that are made for a variable are held once they are in the list, and what was held stays held, if the tables of its children and their descendants are held
 abbrev pub OneMoreIsHeld : Type 0
 OneMoreIsHeld = (p : Dcop) (paths : List (List ℕ)) (kept : List (Option Made)) (i : ℕ) (made : Made) → IsPseudotree p paths → length kept ≡ length p.sizes → i < length p.sizes
     → AreChildrenHeld p paths kept i → IsRemade (agent_with p paths kept i) made → KeepsHeld p paths kept i made
@@ -60,6 +60,6 @@ pub record ReadsSeparator (p : Dcop) (paths : List (List ℕ)) (kept : List (Opt
   pub sizes_are : map (size_of (agent_with p paths kept i)) (separator_of p paths i) ≡ sizes_of p (separator_of p paths i)
   pub same : (f g : ℕ → ℕ) → ((u : ℕ) → has (separator_of p paths i) u ≡ true → f u ≡ g u) → best_value (agent_with p paths kept i) f ≡ best_value (agent_with p paths kept i) g
 
--- this holds if the tables of the children and their descendants are held
+-- the value that an agent picks depends on the values of its separator alone, if the tables of its children and their descendants are held
 abbrev pub PicksReadSeparators : Type 0
 PicksReadSeparators = (p : Dcop) (paths : List (List ℕ)) (kept : List (Option Made)) (i : ℕ) → IsProblem p → IsPseudotree p paths → AreChildrenHeld p paths kept i → ReadsSeparator p paths kept i

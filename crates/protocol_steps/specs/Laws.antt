@@ -35,6 +35,6 @@ pub record ParcelsGoToNeighbours : Type 0 where
   pub started : (v : View) → IsBeside v → ReachesNeighbours v (start_of v)
   pub stepped : (v : View) (ls : List (ℕ × Message)) → IsBeside v → All (IsToNeighbour v) ls → ReachesNeighbours v (step_of v ls)
 
--- the journal law: two runs that agree with the same journals end in the same network state
+-- the journal law: two runs from one network state with the same journals end in the same network state
 abbrev pub JournalsDecide : Type 0
 JournalsDecide = (net one other : Network) (es fs : List Event) → run net es ≡ Some one → run net fs ≡ Some other → SameJournals es fs → one ≡ other

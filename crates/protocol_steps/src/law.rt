@@ -39,14 +39,15 @@ pub fn parcels_go_to_neighbours()
     ensures { ParcelsGoToNeighbours }
 {}
 
-/// The messages on the links of a network. In the start state they are what the starts sent. A
-/// lawful event appends each parcel of its step, and the number taken from each link rises by the
+/// In the start state the links of a network hold what the starts sent, and nothing is taken; a
+/// lawful event appends each parcel of its step to its link, and the numbers taken rise by its
 /// takes.
 pub fn links_grow()
     ensures { LinksGrow }
 {}
 
-/// The journal law: two runs that agree with the same journals end in the same network state.
+/// The journal law: two runs from one network state with the same journals end in the same network
+/// state.
 pub fn journals_decide()
     ensures { JournalsDecide }
 {}

@@ -16,13 +16,13 @@ pub fn workers_make_a_run()
     ensures { WorkersMakeARun }
 {}
 
-/// Such a run ended in the way that its cells show: all agents have ended, or the budget is spent,
-/// or nothing is pending.
+/// A run that cells have made ended in the way that the cells show: all agents have ended, or the
+/// budget is spent, or nothing is pending.
 pub fn cells_tell_ends()
     ensures { CellsTellEnds }
 {}
 
-/// The outcome of such a run is that of its cells.
+/// The outcome of a run that cells have made is that of the cells.
 pub fn cells_tell_outcomes()
     ensures { CellsTellOutcomes }
 {}
@@ -64,8 +64,8 @@ pub fn stamps_are_few()
     ensures { StampsAreFew }
 {}
 
-/// Cells that have started and were played in rounds have no stamp above the number of messages
-/// taken. This also holds in the middle of a round, if what was taken on each link is the first
+/// Cells that have started and were played in rounds, the last of which may have been broken off,
+/// have no stamp above the number of messages taken, if what was taken on each link is the first
 /// part of what was sent.
 pub fn cell_stamps_are_few()
     ensures { CellStampsAreFew }
