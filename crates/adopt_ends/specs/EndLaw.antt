@@ -38,7 +38,7 @@ pub record HoldsAtEnd (p : Dcop) (paths : List (List ℕ)) (error : ℕ) (end : 
   pub threshold : (root : ℕ) → IsRoot paths root → (v : AdoptView) × (slice_get end.views root ≡ Some (AdoptKind v)) × IsRootThreshold p error (values_of end) v
   pub near : (m : ℕ) → IsOptimum p m → cost p (values_of end) ≤ m + error
 
--- every run of ADOPT on a linked pseudotree in which all agents have ended, for every requested error, ends with an assignment that costs at most the optimum plus the error, and with the rest of what holds at such an end
+-- when all agents of a run of ADOPT on a linked pseudotree have ended, for every requested error, this holds of their values, of what they know and of the root's threshold
 abbrev pub AdoptEnds : Type 0
 AdoptEnds = (p : Dcop) (paths : List (List ℕ)) (error : ℕ) → IsProblem p → IsPseudotree p paths → IsLinked p paths
     → (es : List Event) (end : Network) → IsAdoptRun p paths error es end → has_ended end ≡ true → HoldsAtEnd p paths error end
