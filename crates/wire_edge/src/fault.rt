@@ -1,4 +1,4 @@
-//! Calls that fail on purpose.
+//! Calls that a test asks to fail.
 
 ghost use Rattle.std.specs.Prelude.{◌≡◌, ◌≤◌, is_err};
 ghost use Rattle.dcop_edge.specs.Faults.{HasCause, Rose, one_more};
@@ -7,8 +7,8 @@ ghost use Rattle.dcop_edge.specs.Memory.{Calls, no_calls, fails_next, after_call
 use dcop_edge::Failed;
 use std::marker::Model;
 
-/// Which calls of an object in memory fail, with counts of the calls and of the faults. Both
-/// counts stay at 2^64 - 1 once they are there.
+/// Which calls of an object in memory fail, and how many calls and faults there were. Neither count
+/// goes above 2^64 - 1.
 #[derive(Drop)]
 pub(crate) struct FailingCalls {
     fails: Vec<u64>,
@@ -23,7 +23,7 @@ impl Model for FailingCalls {
 }
 
 impl FailingCalls {
-    /// The calls with these numbers, counted from 0, will fail.
+    /// Those calls will fail whose numbers, from 0, are in `fails`.
     pub(crate) fn new(fails: Vec<u64>) -> Self
         ensures { result ≡ no_calls fails.items }
     {
@@ -34,7 +34,7 @@ impl FailingCalls {
         }
     }
 
-    /// Counts one more call; `Failed` exactly where its number is among those that fail.
+    /// Counts one more call; `Failed` exactly when its number is among those that fail.
     pub(crate) fn come(&mut self) -> Result<(), Failed>
         ensures exact { is_err result ≡ fails_next self.old }
         ensures counted { self.new ≡ after_call self.old }
