@@ -23,6 +23,7 @@ start_stamps net = record { last = λ i. 0; sent = λ i j. replicate (length (li
 abbrev pub next_stamps : Network → LinkStamps → ℕ → Take → List ℕ
 next_stamps net s i t = take t.count (drop (taken_at net.desks i t.from) (s.sent i t.from))
 
+-- the stamps of the messages that these takes of agent i take
 abbrev pub taken_stamps : Network → LinkStamps → ℕ → List Take → List ℕ
 taken_stamps net s i ts = flat_map (λ t. next_stamps net s i t) ts
 
@@ -58,6 +59,7 @@ order_difference k (Some before) e = if follows before e then None else Some (re
 abbrev pub event_difference : ℕ → ℕ → Option LogEvent → LogEvent → Option StampDifference
 event_difference k right before e = if e.stamp == right then order_difference k before e else Some (record { event = k; left = e.stamp; right = right })
 
+-- the first of two differences
 abbrev pub or_later : Option StampDifference → Option StampDifference → Option StampDifference
 or_later (Some d) later = Some d
 or_later None later = later
