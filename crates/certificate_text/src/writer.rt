@@ -94,6 +94,10 @@ fn write_bounds(text: &mut String, report: &Report) -> Result<(), NoMemory>
 }
 
 /// Writes a line of a word and a number.
+///
+/// # Errors
+///
+/// [`NoMemory`] if memory runs out. No clause then says what the text holds.
 pub fn write_number(text: &mut String, word: &str, number: u64) -> Result<(), NoMemory>
     ensures { OnOk result (string_bytes text.new
         ≡ string_bytes text.old ++ line (word.now ∷ decimal number ∷ [])) }
@@ -103,6 +107,10 @@ pub fn write_number(text: &mut String, word: &str, number: u64) -> Result<(), No
 
 /// Writes a line `value NAME V` for each variable in order. V is the value's name if the variable
 /// has value names, and the value as a number otherwise.
+///
+/// # Errors
+///
+/// [`NoMemory`] if memory runs out. No clause then says what the text holds.
 pub fn write_values(
     text: &mut String,
     names: &Names,

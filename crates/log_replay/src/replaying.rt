@@ -19,7 +19,7 @@ use protocol_steps::Event;
 use run_log::LogEvent;
 use std::alloc::Global;
 
-/// An event of a log as an event of a run.
+/// An event of a log as one of a run.
 fn event_of(alloc: Global, event: &LogEvent) -> Result<Event, NoMemory>
     ensures { IfOk result (λ plain. plain ≡ event_of event.now) }
 {

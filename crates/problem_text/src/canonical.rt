@@ -20,6 +20,10 @@ use std::alloc::Global;
 /// is max; one line `var NAME SIZE` or `var NAME : VALUES` for each variable, in order; one line
 /// `table NAMES : CELLS` for each table, in order; and `end`. [`read_problem`](crate::read_problem)
 /// reads this text as the same file.
+///
+/// # Errors
+///
+/// [`NoMemory`] if memory runs out.
 pub fn write_problem(alloc: Global, file: &ProblemFile) -> Result<Bytes, NoMemory>
     ensures text { IfOk result (λ text. text ≡ canonical file.now) }
     ensures again { IfOk result (λ text. IsReadAs text file.now) }
@@ -43,6 +47,10 @@ fn write_head(text: &mut String, version: u8, goal: Goal) -> Result<(), NoMemory
 }
 
 /// Adds the line `goal max` to a text, if the goal is max.
+///
+/// # Errors
+///
+/// [`NoMemory`] if memory runs out. No clause then says what the text holds.
 pub fn write_goal(text: &mut String, goal: Goal) -> Result<(), NoMemory>
     ensures { OnOk result (string_bytes text.new
         ≡ string_bytes text.old ++ flat_map line (goal_lines goal)) }
@@ -119,6 +127,10 @@ fn write_table(text: &mut String, names: &Names, table: &Table) -> Result<(), No
 }
 
 /// Adds the names of these variables to a text, each after a space.
+///
+/// # Errors
+///
+/// [`NoMemory`] if memory runs out. No clause then says what the text holds.
 pub fn write_scope(text: &mut String, names: &Names, scope: &[VarId]) -> Result<(), NoMemory>
     requires { All (λ v. v < length names.now) scope.now }
     ensures { OnOk result (string_bytes text.new
@@ -132,6 +144,10 @@ pub fn write_scope(text: &mut String, names: &Names, scope: &[VarId]) -> Result<
 }
 
 /// Adds these numbers to a text, each after a space.
+///
+/// # Errors
+///
+/// [`NoMemory`] if memory runs out. No clause then says what the text holds.
 pub fn write_cells(text: &mut String, cells: &[u64]) -> Result<(), NoMemory>
     ensures { OnOk result (string_bytes text.new
         ≡ string_bytes text.old ++ flat_map (λ cell. 32 ∷ decimal cell) cells.now) }

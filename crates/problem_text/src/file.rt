@@ -27,10 +27,15 @@ pub type LabelList = Sequence<Labels>;
 /// of the variables are distinct, and so are the value names of each variable.
 #[derive(Debug, Drop)]
 pub struct ProblemFile {
+    /// The version of the format, 1 or 2.
     pub version: u8,
+    /// Whether the least or the greatest cost is sought.
     pub goal: Goal,
+    /// The names of the variables, in order.
     pub names: Names,
+    /// The value names of each variable, in order.
     pub labels: LabelList,
+    /// The variables and their cost tables.
     pub problem: Problem,
 }
 
@@ -56,10 +61,11 @@ impl Model for ProblemFile {
     }) };
 }
 
-/// A file that was read, and `used`: how many bytes the text has up to and including the line
-/// `end`.
+/// A file that was read, and how much of the text it takes.
 #[derive(Debug, Drop)]
 pub struct ReadFile {
+    /// The file.
     pub file: ProblemFile,
+    /// How many bytes the text has up to and including the line `end`.
     pub used: usize,
 }

@@ -72,6 +72,10 @@ impl NameSet {
 
     /// Adds a name at the end. Returns false, and leaves the names unchanged, exactly when the name
     /// is already among them.
+    ///
+    /// # Errors
+    ///
+    /// [`NoMemory`] if memory runs out. The names are then unchanged.
     pub fn push(&mut self, name: &str) -> Result<bool, NoMemory>
         ensures added { IfOk result (λ added. added ≡ not (list_any (bytes_eq name.now) self.old)) }
         ensures names { OnOk result (self.new ≡ with_name self.old name.now) }
@@ -138,6 +142,10 @@ impl Names {
 
     /// Names the next variable. Returns false, and leaves the names unchanged, exactly when the
     /// name is already among them.
+    ///
+    /// # Errors
+    ///
+    /// [`NoMemory`] if memory runs out. The names are then unchanged.
     pub fn push(&mut self, name: &str) -> Result<bool, NoMemory>
         requires { length self.old < variable_limit }
         ensures added { IfOk result (λ added. added ≡ not (list_any (bytes_eq name.now) self.old)) }

@@ -38,6 +38,10 @@ pub fn write_log(alloc: Global, log: &Log, names: &Names) -> Result<Bytes, NoMem
 
 /// Writes a line `event AGENT STAMP` for each event, followed by a pair `SENDER COUNT` for each of
 /// its takes. Each agent and sender must have a name.
+///
+/// # Errors
+///
+/// [`NoMemory`] if memory runs out. No clause then says what the text holds.
 pub fn write_events(text: &mut String, names: &Names, log: &[LogEvent]) -> Result<(), NoMemory>
     requires { All (IsNamedEvent (length names.now)) log.now }
     ensures text { OnOk result (string_bytes text.new ≡ string_bytes text.old ++ log_text names.now log.now) }

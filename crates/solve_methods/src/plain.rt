@@ -15,6 +15,10 @@ use std::alloc::Global;
 
 /// The answer of plain search on a file: a report, or that the file has too many assignments to
 /// try.
+///
+/// # Errors
+///
+/// [`NoMemory`] if memory runs out.
 pub fn plain_answer(alloc: Global, file: ProblemFile) -> Result<Answer, NoMemory>
     ensures { IfOk result (λ answer. IsPlainAnswer file answer) }
 {

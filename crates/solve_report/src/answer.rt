@@ -155,6 +155,10 @@ pub enum Answer {
 ///
 /// It is the text of the report, the tree, the verdict, the replay, the summary, the file or the
 /// optima of the edits, or the one line of a refusal.
+///
+/// # Errors
+///
+/// [`NoMemory`] if memory runs out.
 pub fn text_of(alloc: Global, answer: &Answer) -> Result<Bytes, NoMemory>
     requires { HasText answer.now }
     ensures { IfOk result (λ text. text ≡ answer_text answer.now) }

@@ -19,11 +19,15 @@ use std::alloc::Global;
 /// Reads words as a command, with the default of each option that is not given.
 ///
 /// The words are the command, then pairs of an option and its value; the program's own name is not
-/// among them. `Bad` has the position, counted from 1, and the kind of the first fault. Pairs are
-/// tested from left to right. For each pair the tests are, in this order: the option exists, the
-/// command takes it, it is given for the first time, a value follows it, and the value has the
-/// option's form and is in its range. After all pairs, again from left to right, each option is
-/// tested for whether it may be given with the method.
+/// among them. Pairs are tested from left to right. For each pair the tests are, in this order: the
+/// option exists, the command takes it, it is given for the first time, a value follows it, and the
+/// value has the option's form and is in its range. After all pairs, again from left to right, each
+/// option is tested for whether it may be given with the method.
+///
+/// # Errors
+///
+/// [`WordFault::Bad`] with the position, counted from 1, and the kind of the first fault;
+/// [`WordFault::NoMemory`] if memory runs out.
 pub fn read_words(alloc: Global, words: &[String]) -> Result<Command, WordFault>
     ensures answer { Answers (map string_bytes words.now) result }
     ensures range { IfOk result IsInRange }
