@@ -1,6 +1,6 @@
-//! What a command answers, and the exact text of each answer.
+//! The answers of the commands, and the exact text of each answer.
 //!
-//! An [`Answer`] holds plain values, so this crate stands on none of those that found them.
+//! An [`Answer`] holds plain values, so this crate does not depend on the crates that compute them.
 //! [`text_of`] is the only writer of answers.
 #![tactic(auto)]
 
