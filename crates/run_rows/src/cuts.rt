@@ -19,7 +19,7 @@ struct CountingGate {
 }
 
 impl CountingGate {
-    // No agent below `count` was visited.
+    // A gate at which none of this many agents was visited.
     fn new(alloc: Global, count: usize) -> Result<Self, Fail> {
         let mut visits = Vec::new(alloc);
         for _ in 0..count {

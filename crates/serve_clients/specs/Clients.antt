@@ -9,8 +9,8 @@ use Rattle.serve_edge.specs.declared.fault.ListenFault.TheVariants as listens
 use Rattle.serve_clients.specs.declared.fault.ServeFault.{ServeFault}
 use Rattle.serve_clients.specs.declared.fault.ServeFault.TheVariants as faults
 
--- serving clients failed only if its listener's count of faults rose, and the count is unchanged if
--- the listener did not fail
+-- serving clients fails by the listener only if the listener's count of faults rose; otherwise that
+-- count is unchanged
 abbrev pub HasServeCause : {T : Type 0} → ℕ → ℕ → Result T ServeFault → Type 0
 HasServeCause old new (Ok value) = new ≡ old
 HasServeCause old new (Err faults.Link) = (old ≤ new) × Rose old new
@@ -21,7 +21,7 @@ abbrev pub serve_fault : ListenFault → ServeFault
 serve_fault listens.Failed = faults.Link
 serve_fault listens.NoMemory = faults.NoMemory
 
--- the end of a session, which is given
+-- the end that is given; Memory 0 if none is
 abbrev pub end_in : Option SessionEnd → SessionEnd
 end_in (Some end) = end
 end_in None = Memory 0

@@ -18,7 +18,7 @@ all_before cs known = option_map (λ xs. cs ++ xs) known
 abbrev pub all_behind : {C : Type 0} → Option (List C) → List C → Option (List C)
 all_behind known cs = option_map (λ xs. xs ++ cs) known
 
--- the connections that were accepted, or none, were given back unchanged and in order
+-- the connections that were accepted, if any, were given back unchanged and in order
 pub record AreReturned {C : Type 0} (waiting waiting' closed closed' : Option (List C)) : Type 0 where
   pub connections : List C
   pub taken : waiting ≡ all_before connections waiting'

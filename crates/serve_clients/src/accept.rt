@@ -13,7 +13,7 @@ use solve_serve::{Peer, PeerList};
 use std::alloc::Global;
 use std::sync::ledger::Ledger;
 
-/// Accepts `count` connections, and gives each a fresh maker and one part of each ledger. If one
+/// Accepts `clients` connections, and gives each a fresh maker and one part of each ledger. If one
 /// cannot be had, those accepted before it are given back.
 pub(crate) fn accept_all<L: Listener, M: FreshMaker, A: Ledger, B: Ledger>(
     alloc: Global,

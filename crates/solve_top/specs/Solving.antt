@@ -84,8 +84,8 @@ pub record IsProblemFor (format : Format) (task : FileTask) (text : List ℕ) : 
   pub read : input_read format text ≡ Ok told
   pub within : IsWithinLimits task told.declared
 
--- a text is a problem in this format whose text ends with line_feed and has no words, not even in
--- comments, after its last line; and after it a report that some method prints for it with a
+-- a text begins with a problem in this format, which ends with line_feed and has no words, not even
+-- in comments, after its last line; a report follows that some method prints for it with a
 -- certificate
 pub record IsPrintedFor (format : Format) (text : List ℕ) : Type 0 where
   pub problem : List ℕ
@@ -102,13 +102,14 @@ pub record IsPrintedFor (format : Format) (text : List ℕ) : Type 0 where
   pub certified : IsTrue (is_some report.certificate)
   pub behind : text ≡ problem ++ report_text report file
 
--- a text is a problem and a report as above, whose certificate is a log
+-- such a text, whose report has a log as its certificate
 pub record IsLoggedFor (format : Format) (text : List ℕ) : Type 0 where
   pub printed : IsPrintedFor format text
   pub log : List LogEvent
   pub is : printed.report.certificate ≡ Some (Log log)
 
--- a text is a problem whose tree is not too wide, and after it edit lines of which none is refused
+-- a text begins with a problem whose tree is not too wide; edit lines follow of which none is
+-- refused
 pub record IsEditedFor (text : List ℕ) : Type 0 where
   pub parts : Parts
   pub read : front_read Own text ≡ Ok parts
