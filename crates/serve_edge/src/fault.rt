@@ -10,9 +10,9 @@ use std::marker::Model;
 /// Why a listener gives no connection.
 #[derive(Clone, Copy, Debug, PartialEq, Eq)]
 pub enum ListenFault {
-    /// The listener failed: its count of faults rose in the call that answers this.
+    /// The listener failed: its count of faults rose in the call that gives this error.
     Failed,
-    /// Memory was wanted and not had.
+    /// Memory ran out.
     NoMemory,
 }
 
@@ -26,8 +26,8 @@ impl From<Failed> for ListenFault {
     }
 }
 
-/// Which calls of an object in memory fail, with counts of the calls and of the faults. Both
-/// counts stay at 2^64 - 1 once they are there.
+/// Which calls of an object in memory fail, with counts of its calls and faults. Both counts stay
+/// at 2^64 - 1 once they reach it.
 #[derive(Drop)]
 pub(crate) struct FailingCalls {
     fails: Vec<u64>,
@@ -42,7 +42,7 @@ impl Model for FailingCalls {
 }
 
 impl FailingCalls {
-    /// The calls with these numbers, counted from 0, will fail.
+    /// Makes the calls with these numbers, counted from 0, fail.
     pub(crate) fn new(fails: Vec<u64>) -> Self
         ensures { result ≡ no_calls fails.items }
     {
@@ -53,7 +53,7 @@ impl FailingCalls {
         }
     }
 
-    /// Counts one more call; `Failed` exactly where its number is among those that fail.
+    /// Counts one more call; `Failed` exactly if its number is among those that fail.
     pub(crate) fn come(&mut self) -> Result<(), Failed>
         ensures exact { is_err result ≡ fails_next self.old }
         ensures counted { self.new ≡ after_call self.old }
