@@ -1,4 +1,4 @@
-//! Checking of reports with a log.
+//! Checking reports with a log.
 //!
 //! [`check_log`] plays the log of a report as a run of the ADOPT agents of the problem solved, on
 //! its depth-first tree. It says whether the report describes the end of that run, or gives the
