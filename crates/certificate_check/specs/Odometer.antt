@@ -24,7 +24,8 @@ pub record IsAtCell (sizes : List ℕ) (u : Util) (k : ℕ) (values : List ℕ) 
   pub place : k < length u.cells → place_of sizes u.scope values ≡ k
   pub rest : (v : ℕ) → has u.scope v ≡ false → v ≢ u.var → slice_index values v ≡ 0
 
--- own tables, children's tables and a table that all fit variables of these sizes; the last does not name its own variable
+-- own tables, children's tables and a table that all fit variables of these sizes; the last does
+-- not name its own variable
 pub record FitTogether (sizes : List ℕ) (own : List CostTable) (children : List Util) (u : Util) : Type 0 where
   pub own_fit : All (IsTableOf sizes) own
   pub children_fit : All (FitsUtil sizes) children

@@ -23,7 +23,7 @@ method_word Dpop = codes "dpop"
 method_word Adopt = codes "adopt"
 method_word Cut = codes "cut"
 
--- the lines above the cost
+-- the lines before the cost
 abbrev pub head_lines : Report → List (List (List ℕ))
 head_lines r =
     ((codes "status" ∷ ending_word r.status ∷ []) ∷ (codes "method" ∷ method_word r.method ∷ []) ∷ goal_lines r.goal)

@@ -3,6 +3,8 @@
 //! [`write_report`] writes exactly the text of a report; `read_report` of `report_reader` reads it.
 //! With a certificate a reader can check, without trust in the solver, how far the report's cost
 //! can be from the best cost.
+//!
+//! It builds on `problem_text` for problem files and names, and on `run_log` for logs.
 #![tactic(auto)]
 
 mod certificate;

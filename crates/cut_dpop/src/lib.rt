@@ -5,6 +5,9 @@
 //! the remaining slice, on the same tree. The first turn of least cost gives the answer. The tables
 //! of all turns are kept on request. The law [`kept_tables_certify`] says that they form a
 //! certificate.
+//!
+//! It builds on `problem_cut` and `cut_laws` for cuts, on `agent_seats` and `agent_workers` or
+//! `delivery_turns` to run the agents, and on `util_tables` for the tables.
 #![tactic(auto)]
 
 mod agents;

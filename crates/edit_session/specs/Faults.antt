@@ -51,7 +51,7 @@ cells_fault tables k cells =
 abbrev pub fill_fault : Dcop → ℕ → List ℕ → Option SetFault
 fill_fault p k cells = or_else (cells_fault p.tables k cells) (sum_fault p k cells)
 
--- a refusal has this fault; running out of memory promises nothing
+-- a refusal has this fault; if memory runs out, nothing is promised
 abbrev pub IsFaultOf : Option SetFault → SetFault → Type 0
 IsFaultOf fault NoMemory = Unit {0}
 IsFaultOf fault e = fault ≡ Some e

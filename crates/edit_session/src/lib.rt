@@ -5,6 +5,9 @@
 //! deepest variable to the root; the tables of all other agents stay valid. An answer therefore
 //! recomputes the tables of touched agents only, from the leaves up, and picks the values from the
 //! root down. It is what DPOP gives on the current problem.
+//!
+//! It builds on `dpop_agent` for the tables of an agent, on `dpop_made` for the laws about them,
+//! and on `problem_solved` for the problem that is solved.
 #![tactic(auto)]
 
 mod answering;

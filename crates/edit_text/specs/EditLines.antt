@@ -45,13 +45,13 @@ line_said (word ∷ more) =
     else (if bytes_eq word (codes "end") then alone End more
     else Err BadLine)))
 
--- the result of reading a line agrees with what it means; running out of memory promises nothing
+-- the result of reading a line agrees with what it means; if memory runs out, nothing is promised
 abbrev pub IsRead : Result EditLine EditKind → Result EditLine (LineEnd EditKind) → Type 0
 IsRead said (Ok line) = said ≡ Ok line
 IsRead said (Err (ends.Fault kind)) = said ≡ Err kind
 IsRead said (Err ends.NoMemory) = Unit {0}
 
--- a word among these is not a number; running out of memory promises nothing
+-- a word among these is not a number; if memory runs out, nothing is promised
 abbrev pub IsNumberFault : Option (List ℕ) → LineEnd EditKind → Type 0
 IsNumberFault numbers (ends.Fault kind) = (numbers ≡ None) × (kind ≡ BadNumber)
 IsNumberFault numbers ends.NoMemory = Unit {0}

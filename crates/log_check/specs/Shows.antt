@@ -16,7 +16,7 @@ abbrev pub ShowsReport : TextFile → Report → Verdict → Type 0
 ShowsReport f r (Yes cost error) = IsShown f r
 ShowsReport f r (No differs) = Unit {0}
 
--- the difference for this fault; there is none for running out of memory
+-- the difference for this fault; there is none if memory runs out
 abbrev pub IsToldBy : LogFault → Option Differs → Type 0
 IsToldBy (BadEvent at fault) differs = differs ≡ Some (Event at fault)
 IsToldBy (BadStamp wrong) differs = differs ≡ Some (Stamp wrong.at wrong.left wrong.right)

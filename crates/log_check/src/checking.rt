@@ -119,8 +119,8 @@ fn stamp_difference(wrong: WrongStamp) -> Differs
     Differs::Stamp { at, left, right }
 }
 
-/// The start of the ADOPT agents of a problem on its depth-first tree, for an error of at most 2^62.
-/// Its token agents find the tree.
+/// The start of the ADOPT agents of a problem on its depth-first tree, for an error of at most
+/// 2^62. Its token agents find the tree.
 ///
 /// # Errors
 ///

@@ -5,6 +5,9 @@
 //! (`specs/Holds.antt`). `specs/Differences.antt` says what can differ, in the order in which it is
 //! reported. The laws are about definitions alone. Each is the contract of a call that does
 //! nothing; code that needs the law calls it.
+//!
+//! It builds on `adopt_runs` and `adopt_ends` for what holds of every run of ADOPT, on `run_log`
+//! for logs, and on `problem_solved` for the best sum.
 #![tactic(auto)]
 
 mod law;

@@ -1,4 +1,4 @@
-//! Why a log is no run with right stamps.
+//! Why a log is not a run with right stamps.
 
 use dcop_base::NoMemory;
 use protocol_steps::EventFault;
@@ -15,7 +15,7 @@ pub struct WrongStamp {
     pub right: u64,
 }
 
-/// Why a log is no run with right stamps.
+/// Why a log is not a run with right stamps.
 #[derive(Clone, Copy, Debug, PartialEq, Eq)]
 pub enum LogFault {
     /// An event is not lawful; the events before it are.

@@ -4,6 +4,8 @@
 //! limit. A turn is a list of values, one for each cut variable. [`turn_at`] gives the turn with a
 //! number, in lexicographic order, and [`slice_at`] gives the problem that is left in a turn.
 //! [`sent_in_turn`] counts the cells that all agents send in one turn.
+//!
+//! It builds on `cut_laws` for the rule of the cut set, and on `cost_table` for slices of tables.
 #![tactic(auto)]
 
 mod rule;

@@ -23,7 +23,7 @@ parents_told p utils = map (λ v. (told utils v).parent) (variables p)
 abbrev pub scopes_told : Dcop → List Util → List (List ℕ)
 scopes_told p utils = map (λ v. (told utils v).scope) (variables p)
 
--- the cells, a list for each variable
+-- the cells, one list for each variable
 abbrev pub cells_told : Dcop → List Util → List (List ℕ)
 cells_told p utils = map (λ v. (told utils v).cells) (variables p)
 

@@ -5,6 +5,9 @@
 //! is the only place that makes this problem, for solvers and for checkers. The definitions of this
 //! crate say what the best sum is, and when a report with a certificate of tables or of a cut
 //! holds. [`verdict_of`] gives the verdict on a report from its first difference.
+//!
+//! It builds on `dcop_optimum` for the turned problem and the best sum, on `cut_laws` for
+//! certificates of cuts, and on `certificate_text` for reports and verdicts.
 #![tactic(auto)]
 
 mod solved;

@@ -17,7 +17,7 @@ pub record Declared : Type 0 where
   pub sizes : List ℕ
   pub tables : List CostTable
 
--- nothing but the version
+-- what is declared by the version alone
 abbrev pub version_alone : ℕ → Declared
 version_alone version =
     record { version = version; goal = Min; names = []; labels = []; sizes = []; tables = [] }

@@ -1,5 +1,5 @@
--- How the result of reading a line agrees with the line's outcome. Running out of memory promises
--- nothing.
+-- How the result of reading a line agrees with the line's outcome. If memory runs out, nothing is
+-- promised.
 use Rattle.std.specs.Prelude.{◌≡◌, Result, Ok, Err}
 use Rattle.problem_text.specs.declared.fault.TextKind.{TextKind}
 use Rattle.problem_text.specs.declared.line_end.LineEnd.{LineEnd}

@@ -38,7 +38,7 @@ content line = before_comment (without_last carriage_return (without_last line_f
 abbrev pub is_blank : ℕ → Bool
 is_blank b = b == space || b == tab
 
--- bytes cut at each blank
+-- the pieces of bytes that are divided at each blank
 abbrev pub between_blanks : List ℕ → List (List ℕ)
 between_blanks [] = [] ∷ []
 between_blanks (b ∷ bs) = if is_blank b then [] ∷ between_blanks bs else onto_first b (between_blanks bs)

@@ -1,5 +1,5 @@
--- How the results of the reader, for a line and for a whole text, agree with what the text says.
--- Running out of memory promises nothing.
+-- How the results of the reader, for a line and for a whole text, agree with what the text says. If
+-- memory runs out, nothing is promised.
 use Rattle.std.specs.Prelude.{◌≡◌, ◌<◌, ℕ, List, length, Result, Ok, Err}
 use Rattle.problem_text.specs.declared.fault.TextKind.{TextKind}
 use Rattle.problem_text.specs.declared.line_end.LineEnd.{LineEnd}

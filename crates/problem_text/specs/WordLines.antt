@@ -1,4 +1,4 @@
--- The first of lines with words, as the reader gives it.
+-- The first of the lines with words, in the form of the reader's result.
 use Rattle.std.specs.Prelude.{◌≡◌, ◌+◌, List, [], ◌∷◌, Option, Some, None}
 use Rattle.problem_text.specs.declared.word_line.WordLine.{WordLine}
 use Rattle.problem_text.specs.Lines.{Line, lines, words, numbered, with_words}

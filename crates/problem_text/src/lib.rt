@@ -4,6 +4,9 @@
 //! All names obey one rule ([`is_name`]). A file has one canonical text, and [`write_problem`]
 //! writes exactly that text. [`read_problem`] accepts exactly the problem texts, line by line. It
 //! returns the file that a text declares, or the line and the kind of the text's first fault.
+//!
+//! It builds on `dcop_base` for problems, tables, numbers and limits, and on `indexmap` and
+//! `memchr`.
 #![tactic(auto)]
 
 mod canonical;

@@ -1,5 +1,5 @@
--- How the result of reading a report agrees with what the text says. Running out of memory promises
--- nothing.
+-- How the result of reading a report agrees with what the text says. If memory runs out, nothing is
+-- promised.
 use Rattle.std.specs.Prelude.{◌≡◌, ℕ, List, Result, Ok, Err, IsTrue, is_some}
 use Rattle.problem_text.specs.File.{TextFile}
 use Rattle.problem_text.specs.declared.fault.ReportFault.{ReportFault}

@@ -1,5 +1,5 @@
--- How the results of reading lines agree with what the lines are read as. Running out of memory
--- promises nothing.
+-- How the results of reading lines agree with what the lines are read as. If memory runs out,
+-- nothing is promised.
 use Rattle.std.specs.Prelude.{◌≡◌, ℕ, [], ◌∷◌, Option, Some, None, Result, Ok, Err}
 use Rattle.problem_text.specs.Lines.{words}
 use Rattle.problem_text.specs.PlainLines.{Plain}

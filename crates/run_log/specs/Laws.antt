@@ -1,4 +1,4 @@
--- The law on the stamps of merged journals.
+-- The law about the stamps of merged journals.
 use Rattle.std.specs.Prelude.{◌≡◌, ℕ, List, Some}
 use Rattle.protocol_steps.specs.View.{View}
 use Rattle.protocol_steps.specs.Network.{Network, start_state}

@@ -30,15 +30,15 @@ events_read names (line ∷ later) = event_before line.number (event_line names 
 abbrev pub log_read : List (List ℕ) → List ℕ → Result (List LogEvent) ReportFault
 log_read names bytes = events_read names (plain_lines 1 bytes)
 
--- the result of reading a line agrees with what the line gives. Running out of memory promises
--- nothing
+-- the result of reading a line agrees with what the line gives. If memory runs out, nothing is
+-- promised
 abbrev pub Reads : {A : Type 0} → Result A (LineEnd ReportKind) → Result A ReportKind → Type 0
 Reads (Ok x) told = told ≡ Ok x
 Reads (Err ends.NoMemory) told = Unit {0}
 Reads (Err (ends.Fault kind)) told = told ≡ Err kind
 
--- the result of reading a text agrees with what the text gives. Running out of memory promises
--- nothing
+-- the result of reading a text agrees with what the text gives. If memory runs out, nothing is
+-- promised
 abbrev pub ReadsLog : Result (List LogEvent) ReportFault → Result (List LogEvent) ReportFault → Type 0
 ReadsLog (Ok log) told = told ≡ Ok log
 ReadsLog (Err NoMemory) told = Unit {0}

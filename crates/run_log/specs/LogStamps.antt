@@ -10,7 +10,8 @@ use Rattle.protocol_steps.specs.Run.{happen}
 use Rattle.run_log.specs.declared.log.LogEvent.{LogEvent}
 use Rattle.run_log.specs.Logs.{event_of}
 
--- the stamps in a network: each agent's last one, and those of all messages on each link, by receiver and then sender
+-- the stamps in a network: each agent's last one, and those of all messages on each link, by
+-- receiver and then sender
 pub record LinkStamps : Type 0 where
   pub last : ℕ → ℕ
   pub sent : ℕ → ℕ → List ℕ
@@ -27,7 +28,8 @@ next_stamps net s i t = take t.count (drop (taken_at net.desks i t.from) (s.sent
 abbrev pub taken_stamps : Network → LinkStamps → ℕ → List Take → List ℕ
 taken_stamps net s i ts = flat_map (λ t. next_stamps net s i t) ts
 
--- the right stamp of an event: 1 plus the greatest of its agent's last stamp and the stamps of the messages taken
+-- the right stamp of an event: 1 plus the greatest of its agent's last stamp and the stamps of the
+-- messages taken
 abbrev pub right_stamp : Network → LinkStamps → LogEvent → ℕ
 right_stamp net s e = max (s.last e.agent) (fold max 0 (taken_stamps net s e.agent e.takes)) + 1
 

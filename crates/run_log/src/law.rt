@@ -1,4 +1,4 @@
-//! The law on the stamps of merged journals.
+//! The law about the stamps of merged journals.
 
 ghost use Rattle.run_log.specs.Laws.{MergedStampsAreRight};
 

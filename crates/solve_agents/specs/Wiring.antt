@@ -13,7 +13,7 @@ use Rattle.solve_agents.specs.declared.nodes.Wiring.TheVariants.{Rings, Nodes}
 use Rattle.solve_agents.specs.Differing.{HaveDiffered}
 
 module _ {W : Type 0} where
-  -- in how many nodes the agents are
+  -- the number of nodes of a wiring
   abbrev pub nodes_in : Wiring W → ℕ
   nodes_in Rings = 1
   nodes_in (Nodes plan) = plan.nodes

@@ -4,6 +4,9 @@
 //! the search for the depth-first tree. [`find_tree`] and [`tree_for`] make that search alone. If
 //! one worker runs the agents in one node and no log is requested, they are played on the calling
 //! thread, without cells and links.
+//!
+//! It builds on `agent_seats` and `agent_workers` for one node, on `node_seats` and `tcp_links` for
+//! several, on `delivery_turns` for one thread, and on `solve_methods` for the results.
 #![tactic(auto)]
 
 mod agents;

@@ -1,4 +1,4 @@
-//! Agents over one node or more.
+//! Agents in one node or several.
 
 ghost use Rattle.std.specs.Prelude.{◌≡◌, ◌<◌, ◌≤◌, length, IfOk, OnOk};
 ghost use Rattle.dcop_base.specs.Limits.{budget_limit};

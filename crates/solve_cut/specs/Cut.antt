@@ -23,7 +23,8 @@ use Rattle.solve_report.specs.declared.answer.Answer.{Answer}
 use Rattle.solve_report.specs.declared.answer.Answer.TheVariants as answers
 use Rattle.solve_cut.specs.Certified.{IsCutCertified, HasTurnsIf}
 
--- the variables that are cut so that no joined table on the depth-first tree of a problem has more cells than a limit
+-- the variables that are cut so that no joined table on the depth-first tree of a problem has more
+-- cells than a limit
 abbrev pub IsCutOf : Dcop → ℕ → List ℕ → Type 0
 IsCutOf p limit cut = IsCutSet p (dfs p) limit cut
 
@@ -59,7 +60,7 @@ pub record IsCutSolved (file : TextFile) (cut : List ℕ) (keeps : Bool) (answer
   pub is : answer ≡ answers.Report report file
   pub form : IsCutReport file cut keeps report
 
--- the answer if a cut is refused for this fault; there is none for running out of memory
+-- the answer if a cut is refused for this fault; there is none if memory runs out
 abbrev pub IsRefusalAnswer : CutFault → Answer → Type 0
 IsRefusalAnswer (faults.TooMany turns) answer = answer ≡ answers.ManyTurns turns
 IsRefusalAnswer (faults.Total cells) answer = answer ≡ answers.WideTotal cells

@@ -5,6 +5,9 @@
 //! turn. The answer is a report of the first turn of least cost, with a certificate if one is
 //! requested, or what refuses the cut. The law [`allowed_cuts_are_solved`] says that the answer to
 //! a cut that nothing refuses is a solved report.
+//!
+//! It builds on `cut_dpop` to run the cut, on `cut_laws` for the laws about cuts, and on
+//! `solve_report` for answers.
 #![tactic(auto)]
 
 mod answering;

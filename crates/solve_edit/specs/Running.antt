@@ -32,7 +32,7 @@ abbrev pub behind : List Edited → Result Told Refused → Result Told Refused
 behind answers (Ok told) = Ok (record { answers = answers ++ told.answers; file = told.file })
 behind answers (Err fault) = Err fault
 
--- the result if an edit is refused for this fault; there is none for running out of memory
+-- the result if an edit is refused for this fault; there is none if memory runs out
 abbrev pub IsRefusedBy : ℕ → SetFault → Result Told Refused → Type 0
 IsRefusedBy line faults.NoTable told = told ≡ refused line kinds.NoTable
 IsRefusedBy line faults.NoCell told = told ≡ refused line kinds.NoCell

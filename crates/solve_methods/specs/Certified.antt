@@ -23,7 +23,8 @@ HasUtilsOf p (Tables utils) = AreUtilsOf p (dfs p) utils
 HasUtilsOf p (Log log) = ⊥
 HasUtilsOf p (Cut cut turns) = ⊥
 
--- these tables are those of the problem solved for a file, they fit it, and they show that the report holds
+-- these tables are those of the problem solved for a file, they fit the file, and the report holds
+-- with them
 pub record AreTablesOf (file : TextFile) (report : Report) (utils : List Util) : Type 0 where
   pub tables : AreUtilsOf (problem_solved file) (dfs (problem_solved file)) utils
   pub fits : FitsTables file.problem.sizes utils

@@ -43,7 +43,8 @@ GivesFirst p (Ok values) = (assignment_count p ≤ assignment_limit) × IsFirstO
 GivesFirst p (Err (faults.TooMany assignments)) = IsTooMany (assignment_count p) assignments
 GivesFirst p (Err faults.NoMemory) = Unit {0}
 
--- values of a file: the first optimum of the problem solved, whose cost in the file's problem is the best sum
+-- values of a file: the first optimum of the problem solved, whose cost in the file's problem is
+-- the best sum
 pub record AreBestValues (file : TextFile) (values : List ℕ) : Type 0 where
   pub few : assignment_count file.problem ≤ assignment_limit
   pub first : IsFirstOptimum (solved file.goal file.problem) values

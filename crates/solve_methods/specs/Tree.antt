@@ -22,7 +22,8 @@ row_with separator paths v = record { var = v; parent = parent_of paths v; separ
 abbrev pub rows_with : (ℕ → List ℕ) → List (List ℕ) → List NodeRow
 rows_with separator paths = map (row_with separator paths) (preorder_of paths)
 
--- the nodes of a tree of a problem in preorder, each with its parent and its separator from the root down
+-- the nodes of a tree of a problem in preorder, each with its parent and its separator from the
+-- root down
 abbrev pub rows_of : Dcop → List (List ℕ) → List NodeRow
 rows_of p paths = rows_with (separator_of p paths) paths
 

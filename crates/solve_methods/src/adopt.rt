@@ -167,7 +167,7 @@ fn certificate_of_log(log: Option<Log>) -> Option<Certificate>
     }
 }
 
-/// How a report ends, by whether all agents have ended.
+/// How a report ends: solved if all agents have ended, and spent otherwise.
 fn ending_by(ended: bool) -> Ending
     ensures { result ≡ (if ended then solved_end else spent_end) }
 {

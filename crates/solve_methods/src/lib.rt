@@ -7,6 +7,9 @@
 //! and that what a report says about the file is right. The law [`adopt_reports_hold`] says that a
 //! report of ADOPT holds with the log of its run. The law [`adopt_reports_are_small`] says that its
 //! numbers are small enough to be read again.
+//!
+//! It builds on `dcop_optimum` for plain search, on `dpop_runs`, `adopt_runs` and `adopt_ends` for
+//! what holds of the runs, on `log_holds` for logs, and on `solve_report` for answers.
 #![tactic(auto)]
 
 mod adopt;

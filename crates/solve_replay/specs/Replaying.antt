@@ -47,8 +47,7 @@ pub record TellsState (net : Network) (es : List Event) (events : ℕ) (agents :
 abbrev pub TellsFault : Network → List Event → ℕ → EventFault → Type 0
 TellsFault net es at fault = (place : ℕ) × (at ≡ place + 1) × FirstFault net es place fault
 
--- the answer that says why events are not a run, with these names; there is none for running out of
--- memory
+-- the answer that says why events are not a run, with these names; there is none if memory runs out
 abbrev pub IsFaultAnswer : List (List ℕ) → ReplayFault → Answer → Type 0
 IsFaultAnswer names (BadEvent at fault) answer = answer ≡ answers.Verdict (No (Unlawful at fault)) names
 IsFaultAnswer names NoMemory answer = ⊥

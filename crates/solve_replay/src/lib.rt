@@ -4,6 +4,9 @@
 //! the ADOPT agents of the problem solved on its depth-first tree. The answer is the state of each
 //! agent after them, or the first event that is not lawful. Stamps are not checked. [`read_log`]
 //! only reads the log.
+//!
+//! It builds on `report_reader` to read reports, on `delivery_core` to play events, on `log_check`
+//! for the start of the run, and on `solve_report` for answers.
 #![tactic(auto)]
 
 mod certificate_line;

@@ -1,4 +1,4 @@
--- Which answers refuse.
+-- Which answers are refusals.
 use Rattle.std.specs.Prelude.{⊤}
 use Rattle.solve_report.specs.declared.answer.Answer.{Answer}
 use Rattle.solve_report.specs.declared.answer.Answer.TheVariants.{Report, Tree, Verdict, Replay, Drill, Upgraded, UpgradedWcsp, Edits}

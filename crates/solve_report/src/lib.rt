@@ -2,6 +2,8 @@
 //!
 //! An [`Answer`] holds plain values, so this crate does not depend on the crates that compute them.
 //! [`text_of`] is the only writer of answers.
+//!
+//! It builds on `problem_text` and `certificate_text` for the texts of problem files and reports.
 #![tactic(auto)]
 
 mod answer;

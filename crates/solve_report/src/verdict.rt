@@ -175,7 +175,8 @@ fn name_of(names: &Names, var: VarId) -> &str
     names.name(var)
 }
 
-/// The name of a table's variable, a cell and a value, and the number on the left and the one on the right.
+/// The name of a table's variable, a cell and a value, and the number on the left and the one on
+/// the right.
 fn write_cell(
     text: &mut String,
     name: &str,

@@ -27,7 +27,7 @@ pairs_of (name ∷ value ∷ words) = pair_of name (Some value) ∷ pairs_of wor
 abbrev pub names_of : List Pair → List (List ℕ)
 names_of pairs = map (λ pair. pair.name) pairs
 
--- the option that a setting is of
+-- the option of a setting
 abbrev pub option_of : Setting → WordOption
 option_of (Method choice) = options.Method
 option_of (Certificate wanted) = options.Certificate

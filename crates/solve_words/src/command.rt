@@ -47,7 +47,7 @@ pub enum Format {
 }
 
 impl Format {
-    /// The form with this name; `None` exactly when no form has it.
+    /// The format with this name; `None` exactly when no format has it.
     pub(crate) fn named(word: &str) -> Option<Format>
         ensures { result ≡ format_named word.now }
     {
@@ -85,9 +85,9 @@ pub enum Command {
         budget: u64,
         /// Over how many nodes the agents are distributed, 1 to 8. Nodes are connected by sockets.
         nodes: u32,
-        /// Whether the report holds a certificate.
+        /// Whether the report has a certificate.
         certificate: bool,
-        /// The form of the problem.
+        /// The text format of the problem.
         format: Format,
         /// The most cells of a joined table by method cut, 1,024 to 1,048,576.
         cells: u64,
@@ -96,19 +96,19 @@ pub enum Command {
     Tree {
         /// How many threads the agents share, 1 to 64.
         workers: u32,
-        /// The form of the problem.
+        /// The text format of the problem.
         format: Format,
     },
     /// Check the certificate of a report against its problem.
     Check {
-        /// The form of the problem.
+        /// The text format of the problem.
         format: Format,
     },
     /// Play the log of a report again.
     Replay {
         /// How many events are played, 0 to 1,000,000,000; `None` means all.
         after: Option<u64>,
-        /// The form of the problem.
+        /// The text format of the problem.
         format: Format,
     },
     /// Make a problem from a seed, solve it and summarise.
@@ -138,7 +138,7 @@ pub enum Command {
     },
     /// Write a problem again in the newest version of its text.
     Upgrade {
-        /// The form of the problem.
+        /// The text format of the problem.
         format: Format,
     },
     /// Change a problem line by line, and solve it again after each batch of changes.

@@ -5,6 +5,8 @@
 //! and `specs/Options.antt` with `specs/Standing.antt` for the proofs. The words of choices are in
 //! `specs/Names.antt`, and their defaults in `specs/Values.antt`. `specs/Faults.antt` says which
 //! fault is the first, and `specs/Command.antt` says what the answer to a list of words is.
+//!
+//! It builds on `dcop_base` for numbers and limits.
 #![tactic(auto)]
 
 mod command;

@@ -13,7 +13,7 @@ use dcop_base::{CAP, MAX_BUDGET, MAX_JOINED_CELLS, MAX_VARIABLES};
 pub enum WordOption {
     /// How a problem is solved.
     Method,
-    /// Whether the report holds a certificate, `yes` or `no`.
+    /// Whether the report has a certificate, `yes` or `no`.
     Certificate,
     /// The text format of the problem.
     Format,

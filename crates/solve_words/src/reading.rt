@@ -144,7 +144,7 @@ fn method(settings: &[Setting]) -> Choice
     }
 }
 
-/// Whether a certificate was asked for.
+/// Whether a certificate is requested.
 fn certificate(settings: &[Setting]) -> bool
     ensures { result ≡ certificate_in settings.now }
 {

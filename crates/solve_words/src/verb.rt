@@ -1,4 +1,4 @@
-//! The first word: what is to be done.
+//! The first word: the command.
 
 ghost use Rattle.std.specs.Prelude.{◌≡◌};
 ghost use Rattle.solve_words.specs.Names.{verb_named};

@@ -17,7 +17,8 @@ pub record Function : Type 0 where
 abbrev pub own_sizes : List ℕ → List ℕ → List ℕ
 own_sizes sizes scope = map (λ v. slice_index sizes v) scope
 
--- the table over a scope with these cells; a function of no variables is a table on variable 0 with its cost in every cell
+-- the table over a scope with these cells; a function of no variables is a table on variable 0 with
+-- its cost in every cell
 abbrev pub table_over : List ℕ → List ℕ → List ℕ → CostTable
 table_over sizes [] cells = record {
   scope = 0 ∷ [];

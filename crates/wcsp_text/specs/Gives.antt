@@ -1,4 +1,5 @@
--- How the results of reading agree with what the words say. Running out of memory promises nothing.
+-- How the results of reading agree with what the words say. If memory runs out, nothing is
+-- promised.
 use Rattle.std.specs.Prelude.{◌≡◌, ℕ, ◌*◌, ◌+◌, List, map, length, Result, Ok, Err, slice_index}
 use Rattle.std.specs.List.{range_with_len}
 use Rattle.dcop_base.specs.Table.{product, cell_place}
@@ -23,7 +24,7 @@ abbrev pub cells_with : List ℕ → List ℕ → List Tuple → List ℕ
 cells_with sizes cells tuples =
     map (λ k. last_cost sizes k (slice_index cells k) tuples) (range_with_len 0 (length cells))
 
--- these cells with the tuples that are read
+-- these cells changed by the tuples that are read; a fault stays
 abbrev pub filled : List ℕ → List ℕ → Result (List Tuple × Place) Fault → Result (List ℕ × Place) Fault
 filled sizes cells (Ok r) = Ok (cells_with sizes cells r.0, r.1)
 filled sizes cells (Err fault) = Err fault

@@ -24,7 +24,7 @@ abbrev pub IsValued : Network → Dcop → ℕ → Type 0
 IsValued w p bar = (values : List ℕ) → IsAssignment p values
     → wcsp_value w values ≡ (if nat_lt (cost p values) bar then cost p values else w.top)
 
--- no assignment costs less
+-- an assignment is cheapest: no assignment costs less
 abbrev pub IsCheapest : Dcop → List ℕ → Type 0
 IsCheapest p best = (values : List ℕ) → IsAssignment p values → cost p best ≤ cost p values
 

@@ -6,6 +6,8 @@
 //! the line and the kind of the text's first fault. Cells of at least `top` become a cost above
 //! every sum of the cells below `top`; [`ReadWcsp::bar`] separates the costs that are WCSP values
 //! from those that mean `top`.
+//!
+//! It builds on `problem_text` for problem files and lines, and on `dcop_base` for problems.
 #![tactic(auto)]
 
 mod ending;

@@ -1,4 +1,4 @@
-//! The problem that is made of a network.
+//! The problem that is made from a network.
 
 ghost use Rattle.std.specs.Prelude.{◌≡◌, map, min, IfOk, slice_index};
 ghost use Rattle.problem_text.specs.declared.line_end.LineEnd.TheVariants as ends;
@@ -101,7 +101,7 @@ fn told(fault: ProblemFault, afters: &[usize]) -> LineEnd<Fault>
     }
 }
 
-/// The fault of this number at a table.
+/// The fault with this number at a table.
 fn fault_at(afters: &[usize], table: u64, number: u8) -> LineEnd<Fault>
     ensures { result ≡ ends.Fault (record { after = slice_index afters.now table; kind = problem_kind number }) }
 {
