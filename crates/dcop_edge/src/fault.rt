@@ -1,7 +1,7 @@
 //! Faults of sources and sinks, and calls that fail on purpose.
 
-ghost use Rattle.std.specs.Prelude.{◌≡◌, is_err};
-ghost use Rattle.dcop_edge.specs.Faults.{HasCause};
+ghost use Rattle.std.specs.Prelude.{◌≡◌, ◌≤◌, is_err};
+ghost use Rattle.dcop_edge.specs.Faults.{HasCause, Rose, one_more};
 ghost use Rattle.dcop_edge.specs.Memory.{Calls, no_calls, fails_next, after_call};
 
 use std::alloc::AllocError;
@@ -43,7 +43,7 @@ impl From<AllocError> for ReadFault {
 /// Which calls of an object in memory fail, with counts of its calls and of its faults. Both counts
 /// stop at 2^64 - 1.
 #[derive(Drop)]
-pub(crate) struct FailingCalls {
+pub struct FailingCalls {
     fails: Vec<u64>,
     came: u64,
     faults: u64,
@@ -57,7 +57,7 @@ impl Model for FailingCalls {
 
 impl FailingCalls {
     /// The calls with these numbers, counted from 0, fail.
-    pub(crate) fn new(fails: Vec<u64>) -> Self
+    pub fn new(fails: Vec<u64>) -> Self
         ensures { result ≡ no_calls fails.items }
     {
         FailingCalls {
@@ -68,7 +68,7 @@ impl FailingCalls {
     }
 
     /// Counts one more call; `Failed` exactly if its number is among those that fail.
-    pub(crate) fn come(&mut self) -> Result<(), Failed>
+    pub fn come(&mut self) -> Result<(), Failed>
         ensures exact { is_err result ≡ fails_next self.old }
         ensures counted { self.new ≡ after_call self.old }
         ensures cause { HasCause self.old.faults self.new.faults result }
@@ -80,5 +80,20 @@ impl FailingCalls {
             return Err(Failed);
         }
         Ok(())
+    }
+
+    /// How many faults there were.
+    pub fn faults(&self) -> u64
+        ensures { result ≡ self.now.faults }
+    {
+        self.faults
+    }
+
+    /// Counts one more fault.
+    pub fn charge(&mut self)
+        ensures counted { self.new ≡ record self.old { faults = one_more self.old.faults } }
+        ensures rose { (self.old.faults ≤ self.new.faults) × Rose self.old.faults self.new.faults }
+    {
+        self.faults = self.faults.saturating_add(1);
     }
 }

@@ -17,7 +17,7 @@ mod source;
 mod standard;
 mod steady;
 
-pub use fault::{Failed, ReadFault};
+pub use fault::{Failed, FailingCalls, ReadFault};
 pub use gate::{Gate, OpenGate};
 pub use memory::{MemorySink, MemorySource};
 pub use sink::Sink;

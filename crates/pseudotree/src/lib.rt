@@ -29,4 +29,4 @@ pub use dcop_base::{MAX_COUNT, MAX_JOINED_CELLS, MAX_SENT_CELLS};
 pub use fault::TreeFault;
 pub use law::{depth_first_trees_are_linked, separators_nest, tables_have_owners};
 pub use tree::Tree;
-pub use width::{Wide, widths};
+pub use width::{Wide, joined_cells, sent_total, widths};

@@ -5,10 +5,10 @@ ghost use Rattle.dcop_edge.specs.Faults.{HasCause};
 ghost use Rattle.dcop_edge.specs.Memory.{no_calls, fails_next, after_call};
 ghost use Rattle.serve_edge.specs.Listener.{HasListenCause, first_of, last_of};
 
-use crate::fault::{FailingCalls, ListenFault};
+use crate::fault::ListenFault;
 use crate::listener::Listener;
 use dcop_base::NoMemory;
-use dcop_edge::{Failed, MemorySink, MemorySource};
+use dcop_edge::{Failed, FailingCalls, MemorySink, MemorySource};
 use std::alloc::Global;
 use std::collections::VecDeque;
 

@@ -15,7 +15,6 @@
 
 mod alter;
 mod dialer;
-mod fault;
 mod memory;
 mod ring;
 mod steady;

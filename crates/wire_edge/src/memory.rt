@@ -11,11 +11,10 @@ ghost use Rattle.wire_edge.specs.declared.dialer.DialFault.TheVariants.{NoMemory
 
 use crate::alter::{Alter, PollFail, altered, alters_of, polls_of};
 use crate::dialer::{DialFault, Dialer};
-use crate::fault::FailingCalls;
 use crate::steady::{SteadyWire, drive_here};
 use crate::wire::Wire;
 use dcop_base::NoMemory;
-use dcop_edge::Failed;
+use dcop_edge::{Failed, FailingCalls};
 use futures::Future;
 use futures::task::{Context, Poll};
 use std::alloc::{AllocGlobal, Global};
