@@ -1,4 +1,4 @@
-"""The page of crates: what each is for, what it stands on, how many stand on it, and what its proof takes.
+"""The page of crates: what each is for, what it uses, how many use it, and what its proof takes.
 
 The layers and the libraries come from `crates.txt`, what a crate is for is the first sentence of its comment, and the seconds are those of
 `docs/data/times.toml`, which `bench/gate.py` prints.
@@ -14,7 +14,7 @@ from .programs import TOP, below
 
 PAGE = PAGES / "crates.md"
 TIMES = TOP / "docs" / "data" / "times.toml"
-HEAD = "| Crate | What it is for | Stands on | Crates above | Proof, s | Tests, s | All again, min |\n|---|---|---|---|---|---|---|"
+HEAD = "| Crate | What it is for | Uses | Crates above | Proof, s | Tests, s | All again, min |\n|---|---|---|---|---|---|---|"
 
 
 def page() -> str:
@@ -23,7 +23,7 @@ def page() -> str:
     above = {crate: {it for it in uses if crate in reached(it, uses)} for crate in uses}
     measured = tomllib.loads(TIMES.read_text())
     seconds, layers = measured["seconds"], Layers()
-    told = ["# Crates\n", MADE, opening(measured["run"], len(uses))]
+    told = ["# Crates\n", MADE, opening(measured["run"], len(uses)).rstrip("\n")]
     for crate in uses:
         if heading := layers.heading(crate, aim=True):
             told += ["", *heading, HEAD]
@@ -36,8 +36,8 @@ def page() -> str:
 def opening(run: dict[str, Any], count: int) -> str:
     """What the page begins with."""
     return (
-        f"The {count} crates, layer by layer from below. A crate stands only on crates above it on this page. \"Stands on\" leaves out the crates that "
-        "another one there stands on.\n\n"
+        f"The {count} crates, layer by layer from below. A crate uses only crates above it on this page. \"Uses\" leaves out the crates that "
+        "another one there uses.\n\n"
         "\"Proof\" is the seconds of a processor for a crate's proof and library, \"Tests\" those for its tests. \"All again\" is the minutes of a processor "
         "for the crate and all crates above it, if it changes. A dash means that there are none, or that the crate was not measured.\n\n"
         f"{run['says']}\n"
@@ -51,7 +51,7 @@ def own_libraries() -> dict[str, list[str]]:
 
 
 def reached(crate: str, uses: dict[str, list[str]]) -> set[str]:
-    """All crates that a crate stands on."""
+    """All crates that a crate uses, also through others."""
     found, left = set[str](), list(uses[crate])
     while left:
         it = left.pop()
@@ -62,7 +62,7 @@ def reached(crate: str, uses: dict[str, list[str]]) -> set[str]:
 
 
 def direct(crate: str, uses: dict[str, list[str]]) -> list[str]:
-    """What a crate stands on, without what others of these stand on."""
+    """What a crate uses, without what others of these use."""
     own = uses[crate]
     lower = {it for other in own for it in reached(other, uses)}
     return [it for it in own if it not in lower]

@@ -228,8 +228,8 @@ def definitions_page(sources: Sources) -> str:
     told = [
         "# Definitions\n",
         MADE,
-        "What the clauses of public calls cite, and what that rests on: each with its sentence, its file and line. The sentence tells in short what the "
-        "file says exactly; where they differ, the file decides. Numbers are plain numbers without an upper end, and a list type is a list.\n",
+        "All definitions that clauses of public calls cite or rest on, each with its sentence, file and line. The sentence is short; if it differs from the "
+        "file, the file decides. Numbers are plain numbers without an upper end, and a list type is a list.\n",
     ]
     for crate in sources.crates:
         own = [it for it in sources.definitions.values() if it.crate == crate]
@@ -256,7 +256,7 @@ def calls_page(sources: Sources) -> str:
         "# Public calls\n",
         MADE,
         "Each public call with the first sentence of its comment, and the clauses that the check has proved of it, by name, each with the definitions that it cites. "
-        "A clause without a name stands as `ensures`.\n",
+        "A clause without a name is shown as `ensures`.\n",
     ]
     for crate in sources.crates:
         own = [call for call in sources.calls if call.crate == crate and any(kind == "ensures" for kind, _, _ in call.clauses)]

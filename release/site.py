@@ -20,8 +20,11 @@ from urllib.parse import quote
 from .programs import TOP, Trouble
 
 CONFIGURATION = TOP / "mkdocs.yml"
+THEME = Path("/usr/share/mkdocs/themes/material")
 LINK = re.compile(r"(\]\()([^()\s]+)(\))")
-PICTURES = (".png", ".svg")
+STYLE = TOP / "docs" / "site.css"
+AS_THEY_ARE = (".png", ".svg", ".css")
+"""The files that are copied and not shown by lines."""
 LINES = """<!doctype html>
 <html lang="en"><head><meta charset="utf-8"><title>{name}</title><style>
 body {{ margin: 1rem; font-family: sans-serif; }} pre {{ line-height: 1.4; }}
@@ -33,7 +36,7 @@ span:target {{ background: #ffec99; }}
 
 
 def main(words: list[str] | None = None) -> int:
-    told = argparse.ArgumentParser(prog="docs/site", description="Builds a site of all documents, without a network.")
+    told = argparse.ArgumentParser(prog="docs/site", description="Builds a site of all documents, without a network. Its search works if it is served: python3 -m http.server -d site/html")
     told.add_argument("--to", type=Path, default=TOP / "site" / "html", help="the folder of the site, else site/html of the repository")
     to = told.parse_args(words).to
     try:
@@ -48,7 +51,7 @@ def main(words: list[str] | None = None) -> int:
 def build(to: Path) -> None:
     """Builds the site in a folder; each link has to lead somewhere."""
     program = shutil.which("mkdocs")
-    if program is None:
+    if program is None or not THEME.is_dir():
         raise Trouble("it needs mkdocs with its theme: install Debian's mkdocs and mkdocs-material")
     with tempfile.TemporaryDirectory() as folder:
         copied(Path(folder))
@@ -69,7 +72,7 @@ def pages() -> list[Path]:
 def copied(to: Path) -> None:
     """Copies the pages to a folder, with all that they link to."""
     own = set(pages())
-    others: set[Path] = set()
+    others = {STYLE}
     for page in own:
         place = to / page.relative_to(TOP)
         place.parent.mkdir(parents=True, exist_ok=True)
@@ -79,7 +82,7 @@ def copied(to: Path) -> None:
     for other in others:
         place = to / placed(other)
         place.parent.mkdir(parents=True, exist_ok=True)
-        if other.suffix in PICTURES:
+        if other.suffix in AS_THEY_ARE:
             shutil.copy(other, place)
         else:
             place.write_text(numbered(other))
@@ -107,7 +110,7 @@ def relinked(page: Path, own: set[Path]) -> tuple[str, set[Path]]:
 def placed(file: Path) -> Path:
     """Where a file that is no page is in the site."""
     inside = file.relative_to(TOP)
-    return inside if file.suffix in PICTURES else inside.with_name(f"{inside.name}.html")
+    return inside if file.suffix in AS_THEY_ARE else inside.with_name(f"{inside.name}.html")
 
 
 def numbered(file: Path) -> str:

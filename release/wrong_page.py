@@ -46,7 +46,7 @@ def linked(crate: str, refused: str) -> str:
     places = {}
     for path in sorted((TOP / "crates" / crate / "src").glob("**/*.rt")):
         for number, line in enumerate(path.read_text().splitlines(), 1):
-            if found := re.match(r"\s*(?:pub )?(?:unsafe )?fn (\w+)", line):
+            if found := re.match(r"\s*(?:pub(?:\(\w+\))? )?(?:const |unsafe )?fn (\w+)", line):
                 places.setdefault(found[1], f"../../{path.relative_to(TOP).as_posix()}#L{number}")
     return re.sub(r"`(\w+)`", lambda it: f"[`{it[1]}`]({places[it[1]]})" if it[1] in places else it[0], refused)
 

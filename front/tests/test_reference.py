@@ -5,6 +5,7 @@ from __future__ import annotations
 import re
 import subprocess
 import sys
+import tomllib
 import unittest
 from pathlib import Path
 
@@ -26,6 +27,15 @@ class Reference(unittest.TestCase):
         command = [sys.executable, "-P", "-m", "release.reference", "--check"]
         told = subprocess.run(command, cwd=TOP, env=environment, capture_output=True, text=True)
         self.assertEqual((told.returncode, told.stderr), (0, ""))
+
+    def test_each_measurement_says_whether_its_goal_is_met_and_what_bounds_what_is_missed(self):
+        parts = tomllib.loads((TOP / "docs" / "data" / "benchmarks.toml").read_text())["part"]
+        for row in (row for part in parts for row in part["row"]):
+            with self.subTest(f"{row['script']}: {row['what']}"):
+                self.assertEqual("goal" in row, "met" in row)
+                self.assertTrue(row.get("met", True) or row.get("bound"))
+                self.assertTrue(not row["script"].endswith(".sh") or (TOP / "bench" / row["script"]).is_file())
+                self.assertLessEqual(max(len(cell.split()) for cell in row.values() if isinstance(cell, str)), 25)
 
     def test_a_link_to_a_line_leads_to_what_it_names(self):
         links = [(page, *it) for page in PAGES for it in re.findall(r"\[`(\w+)`\]\(([^)#]+)#L(\d+)\)", page.read_text())]
