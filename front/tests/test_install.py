@@ -104,8 +104,8 @@ class Crates(unittest.TestCase):
             self.assertEqual(users, [], name)
 
     def test_the_page_has_the_crates_in_their_order(self):
-        page = (TOP / "docs" / "ARCHITECTURE.md").read_text()
-        rows = re.findall(r"^\| (\w+) \| ", page[page.index("## The crates") : page.index("## How a run's end flows")], re.MULTILINE)
+        page = (TOP / "docs" / "reference" / "crates.md").read_text()
+        rows = re.findall(r"^\| (\w+) \| ", page, re.MULTILINE)
         self.assertEqual([name for name in rows if name != "Crate"], list(stands_on()))
 
     def test_only_what_the_programs_stand_on_is_proved(self):
@@ -196,7 +196,7 @@ class Installed(unittest.TestCase):
         told = ran("man", "dcop", home=self.home)
         self.assertEqual((told.returncode, told.stderr), (0, ""))
         self.assertIn("dcop - solve a problem of distributed constraint optimisation", " ".join(told.stdout.split()))
-        self.assertRegex(told.stdout, r"\n +2\. +Then the pairs are looked at")
+        self.assertRegex(told.stdout, r"\n +2\. +Then the pairs are tested")
 
     def test_python_finds_the_package(self):
         told = ran(FRONT / "python.sh", "-c", "import sefwllon; print(sefwllon.__version__)", home=self.home)
