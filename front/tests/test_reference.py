@@ -16,7 +16,7 @@ PAGES = [TOP / "README.md", TOP / "CONTRIBUTING.md", FRONT / "README.md", *(TOP 
 
 
 def anchors(page: Path) -> set[str]:
-    """What a link may name behind `#` in a page: its headings in small letters, with `-` for blanks and without other signs."""
+    """What a link may name after `#` in a page: its headings in small letters, with `-` for blanks and without other signs."""
     headings = re.findall(r"^#+ (.*)$", re.sub(r"^```.*?^```", "", page.read_text(), flags=re.MULTILINE | re.DOTALL), re.MULTILINE)
     return {re.sub(r"[^\w -]", "", heading.lower()).strip().replace(" ", "-") for heading in headings}
 
