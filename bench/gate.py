@@ -8,9 +8,10 @@ that prove, build or run something for it, adding up what each has used. What `r
 do again: from nothing are `rt ci --anew` and a machine that has kept nothing. Processes that `rt ci` did not start do not
 count.
 
-Prints a line for each crate, in the order of crates.txt, with three numbers: its proof with the building of its library
-or program, its tests, and its wrong bodies, with how many these are. A process that ends between two looks is counted
-up to the first of them.
+Prints docs/data/times.toml anew: for each crate, in the order of crates.txt, the seconds of its proof with the building of
+its library or program, of its tests, and of its wrong bodies. `bench/gate.py --anew > docs/data/times.toml` keeps them, and
+`front/python.sh -m release.reference` then makes docs/reference/crates.md. Sums go to standard error. A process that ends
+between two looks is counted up to the first of them.
 """
 import collections
 import os
@@ -22,8 +23,12 @@ import time
 TOP = pathlib.Path(__file__).resolve().parent.parent
 TICKS = os.sysconf("SC_CLK_TCK")
 PAUSE = 1.5
+HEAD = """# The seconds of a processor that the merge gate takes for each crate, as `bench/gate.py` prints them: proof, tests and wrong bodies.
+# `front/python.sh -m release.reference` makes docs/reference/crates.md from them.
+"""
 # What stands in the name of a folder in which `rt` tries a wrong body.
 EDITED = "rt-edit-"
+PARTS = {"proof": "proof", "tests": "tests", "wrong": "wrong bodies"}
 
 
 def parents():
@@ -83,21 +88,37 @@ def crates():
     return [line.partition(":")[0].split()[0] for line in lines if line.strip() and not line.startswith("#")]
 
 
+def machine():
+    """How many processors there are, and what they are."""
+    told = pathlib.Path("/proc/cpuinfo").read_text()
+    name = next((line.partition(":")[2].strip() for line in told.splitlines() if line.startswith("model name")), "unknown")
+    return f"{os.cpu_count()} processors ({name})"
+
+
+def told(sums, minutes):
+    """The text of docs/data/times.toml."""
+    spent = sum(sums.values()) / 60
+    edits = len(list((TOP / "crates").glob("*/must-fail/*.edit")))
+    lines = [HEAD, "[run]", 'says = """', f"The seconds are from one run of `{' '.join(['rt', 'ci', *sys.argv[1:]])}` on {time.strftime('%Y-%m-%d')}, on {machine()}."]
+    lines += [f"It took {minutes:.0f} minutes, {spent:.0f} of a processor, with {edits} wrong bodies.", '"""', "", "[seconds]"]
+    for crate in crates():
+        parts = [(part, round(sums[crate, name])) for part, name in PARTS.items()]
+        if any(seconds for _, seconds in parts):
+            lines.append(f"{crate} = {{ {', '.join(f'{part} = {seconds}' for part, seconds in parts if seconds)} }}")
+    return "\n".join(lines)
+
+
 def main():
     begin = time.time()
     gate = subprocess.Popen(["rt", "ci", *sys.argv[1:]], cwd=TOP, stdout=sys.stderr)
     sums = collections.Counter()
     for what, seconds in sampled(gate):
         sums[what] += seconds
-    print("| Crate | Proof | Tests | Wrong bodies |\n|---|---|---|---|")
-    for crate in crates():
-        edits = len(list((TOP / "crates" / crate / "must-fail").glob("*.edit")))
-        proof, tests, wrong = (sums[crate, part] for part in ("proof", "tests", "wrong bodies"))
-        told = f"{wrong:.0f} ({edits})" if edits else "–"
-        print(f"| {crate} | {proof:.0f} | {f'{tests:.0f}' if tests else '–'} | {told} |")
-    for part in ("proof", "tests", "wrong bodies"):
-        print(f"{part}: {sum(seconds for what, seconds in sums.items() if what[1] == part) / 60:.0f} minutes of a processor")
-    print(f"in all: {sum(sums.values()) / 60:.0f} minutes of a processor, {(time.time() - begin) / 60:.0f} of the clock")
+    minutes = (time.time() - begin) / 60
+    print(told(sums, minutes))
+    for part in PARTS.values():
+        print(f"{part}: {sum(seconds for what, seconds in sums.items() if what[1] == part) / 60:.0f} minutes of a processor", file=sys.stderr)
+    print(f"in all: {sum(sums.values()) / 60:.0f} minutes of a processor, {minutes:.0f} of the clock", file=sys.stderr)
     return gate.returncode
 
 

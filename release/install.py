@@ -132,7 +132,8 @@ def hints(prefix: Path, found: dict[str, Piece]) -> list[str]:
     if str(prefix / "bin") not in os.environ.get("PATH", "").split(os.pathsep):
         told.append(f"{prefix / 'bin'} is not on the path: put `export PATH=\"{prefix / 'bin'}:$PATH\"` into ~/.profile.")
     share = prefix / "share"
-    told.append(f"zsh: `fpath+=({share}/zsh/site-functions)` before `compinit` in ~/.zshrc; fish looks by itself below ~/.local and /usr.")
+    # zsh has a `_dcop` of its own, for a desktop program of that name: whose folder is first is used.
+    told.append(f"zsh: `fpath=({share}/zsh/site-functions $fpath)` before `compinit` in ~/.zshrc; fish looks by itself below ~/.local and /usr.")
     if BASH_COMPLETION.is_file():
         told.append("bash: a new shell looks by itself below ~/.local and /usr.")
     else:

@@ -1,11 +1,12 @@
-"""Makes two pages of docs/reference from the sources, the definitions and the public calls with their clauses, and sets the lines to which
-links of other pages lead.
+"""Makes the pages of docs/reference and the table of docs/BENCHMARKS.md, and sets the lines to which links of other pages lead.
 
     front/python.sh -m release.reference            writes them
     front/python.sh -m release.reference --check    says whether they are fresh
 
-A definition's sentence is the comment above it in `specs/`, a call's sentence the first one of its doc comment. A definition stands on
-the page where a clause of a public call cites it, or where one that does rests on it; others only help proofs.
+Definitions and public calls come from the sources, here; crates and their times from `release/crates_page.py`, wrong bodies from
+`release/wrong_page.py`, measurements from `release/benchmarks.py`. A definition's sentence is the comment above it in `specs/`, a call's
+sentence the first one of its doc comment. The page has a definition if a clause of a public call cites it, or if one that such a clause
+cites rests on it; others only help proofs.
 """
 
 from __future__ import annotations
@@ -18,10 +19,11 @@ from dataclasses import dataclass, field
 from functools import cached_property
 from pathlib import Path
 
+from . import benchmarks, crates_page, wrong_page
+from .markdown import MADE, PAGES, Layers, cell, first_sentence, link
 from .programs import TOP, below
 
-PAGES = TOP / "docs" / "reference"
-LINKING = [TOP / "README.md", TOP / "CONTRIBUTING.md", *sorted((TOP / "docs").glob("*.md"))]
+LINKING = [TOP / "README.md", TOP / "CONTRIBUTING.md", *sorted([*(TOP / "docs").glob("*.md"), *(TOP / "docs" / "guide").glob("*.md")])]
 """The pages that link to lines of the sources."""
 DEFINITIONS, CALLS = PAGES / "definitions.md", PAGES / "calls.md"
 DECLARED = re.compile(r"^ *(?:pub (?:record|data)|abbrev pub) ([^ :]+)")
@@ -30,7 +32,6 @@ NAME = re.compile(r"[^\W\d]\w*")
 CLAUSE = re.compile(r"^\s*(requires|ensures)\s*(\w+)?\s*\{")
 LINK = re.compile(r"\[`(\w+)`\]\(([^)#]+)#L\d+\)")
 NUMBER = re.compile(r"^\s*(\w+) = (\d+)$", re.MULTILINE)
-MADE = "<!-- Made by release/reference.py from the sources: change them and run it again. -->\n"
 
 
 @dataclass(frozen=True)
@@ -83,7 +84,9 @@ def main(words: list[str] | None = None) -> int:
 def pages() -> dict[Path, str]:
     """The text of each page."""
     sources = Sources()
-    return {DEFINITIONS: definitions_page(sources), CALLS: calls_page(sources)} | {page: relinked(page) for page in LINKING}
+    made = {DEFINITIONS: definitions_page(sources), CALLS: calls_page(sources), crates_page.PAGE: crates_page.page(), wrong_page.PAGE: wrong_page.page()}
+    linking = {page: relinked(page) for page in LINKING}
+    return made | linking | {benchmarks.PAGE: benchmarks.page(linking[benchmarks.PAGE])}
 
 
 def relinked(page: Path) -> str:
@@ -104,17 +107,8 @@ class Sources:
 
     def __init__(self) -> None:
         self.crates = list(below())
-        self.layers = layers()
-        self.told_layer = ""
         self.definitions = {it.key: it for crate in self.crates for it in definitions_of(crate)}
         self.calls = [call for crate in self.crates for call in calls_of(crate)]
-
-    def heading(self, crate: str) -> list[str]:
-        """The heading of a layer, before the first crate of it that a page has."""
-        layer = self.layers[crate]
-        first = layer != self.told_layer
-        self.told_layer = layer
-        return [f"## {layer}\n"] if first else []
 
     @cached_property
     def cited(self) -> set[Key]:
@@ -127,18 +121,6 @@ class Sources:
                 found.add(key)
                 left += self.definitions[key].cites
         return found
-
-
-def layers() -> dict[str, str]:
-    """Each crate's layer, as the comments of crates.txt name it."""
-    found: dict[str, str] = {}
-    layer = ""
-    for line in (TOP / "crates.txt").read_text().splitlines():
-        if line.startswith("# "):
-            layer = re.split("[:;,]", line.removeprefix("# "))[0]
-        elif ":" in line:
-            found[line.split(":")[0].split()[0]] = layer
-    return found
 
 
 def definitions_of(crate: str) -> Iterator[Definition]:
@@ -241,28 +223,20 @@ def clause(lines: list[str], number: int) -> tuple[str, int]:
     return "\n".join(told), number
 
 
-def first_sentence(comment: list[str]) -> str:
-    """The first sentence of a doc comment, up to its first empty line at most."""
-    told = " ".join(comment).split("  ")[0] if comment else ""
-    if "" in comment:
-        told = " ".join(comment[: comment.index("")])
-    ended = re.match(r".*?[.:!?](?=\s+[A-Z`\[]|$)", told)
-    return (ended[0] if ended else told).rstrip(":")
-
-
 def definitions_page(sources: Sources) -> str:
+    layers = Layers()
     told = [
         "# Definitions\n",
         MADE,
-        "What the clauses of public calls cite, and what that rests on: each with its sentence, its file and line. The sentence tells in short what the "
-        "file says exactly; where they differ, the file decides. Numbers are plain numbers without an upper end, and a list type is a list.\n",
+        "All definitions that clauses of public calls cite or rest on, each with its sentence, file and line. The sentence is short; if it differs from the "
+        "file, the file decides. Numbers are plain numbers without an upper end, and a list type is a list.\n",
     ]
     for crate in sources.crates:
         own = [it for it in sources.definitions.values() if it.crate == crate]
         shown = [it for it in own if it.key in sources.cited]
         if not shown:
             continue
-        told += [*sources.heading(crate), f"### {crate}\n", "| Definition | In words | File |", "|---|---|---|"]
+        told += [*layers.heading(crate), f"### {crate}\n", "| Definition | In words | File |", "|---|---|---|"]
         for it in shown:
             if it.sentence:
                 told.append(f"| `{it.key.name}` | {cell(it.sentence)} | {link(it.path, it.line)} |")
@@ -277,17 +251,18 @@ def definitions_page(sources: Sources) -> str:
 
 
 def calls_page(sources: Sources) -> str:
+    layers = Layers()
     told = [
         "# Public calls\n",
         MADE,
         "Each public call with the first sentence of its comment, and the clauses that the check has proved of it, by name, each with the definitions that it cites. "
-        "A clause without a name stands as `ensures`.\n",
+        "A clause without a name is shown as `ensures`.\n",
     ]
     for crate in sources.crates:
         own = [call for call in sources.calls if call.crate == crate and any(kind == "ensures" for kind, _, _ in call.clauses)]
         if not own:
             continue
-        told += [*sources.heading(crate), f"### {crate}\n", "| Call | What it does | Clauses | File |", "|---|---|---|---|"]
+        told += [*layers.heading(crate), f"### {crate}\n", "| Call | What it does | Clauses | File |", "|---|---|---|---|"]
         for call in own:
             told.append(f"| `{call.name}` | {cell(call.sentence)} | {clauses_cell(call, sources)} | {link(call.path, call.line)} |")
         told.append("")
@@ -301,15 +276,6 @@ def clauses_cell(call: Call, sources: Sources) -> str:
             cited = sorted(key.name for key in keys if key in sources.definitions)
             told.append(f"`{name or 'ensures'}`" + (f" ({', '.join(f'`{it}`' for it in cited)})" if cited else ""))
     return ", ".join(told)
-
-
-def cell(text: str) -> str:
-    return text.replace("|", "\\|")
-
-
-def link(path: Path, line: int) -> str:
-    inside = path.relative_to(TOP).as_posix()
-    return f"[{path.name}:{line}](../../{inside}#L{line})"
 
 
 if __name__ == "__main__":

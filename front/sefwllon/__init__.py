@@ -1,7 +1,7 @@
 """sefwllon: one command around the proved program `dcop`.
 
 What is told as verified was given to `dcop check` first; nothing else in this package is proved. From Python it is a library
-(docs/PYTHON.md): `Problem`, `solve`, `check`, `order`, `tree`, `replay`, and `Client` for the service.
+(docs/guide/python.md): `Problem`, `solve`, `check`, `order`, `tree`, `replay`, and `Client` for the service.
 """
 
 import time

@@ -58,7 +58,7 @@ PAGES = (
     Page(
         "dcop_serve", 1, "answer problems over sockets of 127.0.0.1",
         ("dcop_serve PORT CLIENTS ENTRIES WORKERS",),
-        "without words it prints `refused words at 1 kind 4`, and for `--help` `refused words at 2 kind 4`, since it wants four words",
+        "without words it prints `refused words at 1 kind 4`, and for `--help` `refused words at 2 kind 4`, since it takes four words",
         ("A server's words, sessions and summary", "Frames"), ("dcop(1)", "dcop(5)", "sefwllon(1)"),
     ),
     Page(
@@ -86,7 +86,7 @@ def content(page: Page, text: str) -> list[Block]:
     if page.refused:
         told.append(Paragraph(first(page, text)))
     told += list(parts(page, text))
-    told += [Heading(1, "SEE ALSO"), Paragraph(f"{', '.join(page.others)}. Titles in quotes that do not stand on this page stand on one of those.")]
+    told += [Heading(1, "SEE ALSO"), Paragraph(f"{', '.join(page.others)}. Titles in quotes that are not on this page are on one of those.")]
     return told
 
 

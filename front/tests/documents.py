@@ -1,14 +1,14 @@
-"""Runs the commands of README.md and docs/USE.md, and compares what they print with what stands below them.
+"""Runs the commands of README.md, the tutorial and the guide, and compares what they print with what is below them.
 
 usage: front/python.sh front/tests/documents.py DCOP DCOP_ORDER [DCOP_SERVE [DCOP_SEARCH [DCOP_TRACE]]]
 
-DCOP, DCOP_ORDER, DCOP_SERVE, DCOP_SEARCH and DCOP_TRACE are the built programs of these names in small letters. A command is a line behind `$ ` in a block of a document; what
-it has to print stands below it, up to the next command or the end of the block, and `..` alone stands for any lines, `in 0.1 s` for
-any seconds; a text
-that is given by `<<'EOF'` goes up to that word. The
-commands of a document run one after the other in one folder, in which `examples` and `front` are those of the repository.
-Those that need what the machine has not (Graphviz, toulbar2, PyYAML, python3-icalendar) are passed over, which is said. Ends with 1 where an
-answer differs, and prints both.
+DCOP, DCOP_ORDER, DCOP_SERVE, DCOP_SEARCH and DCOP_TRACE are the built programs of these names in small letters. A command is a line after `$ ` in a
+block of a document. What it has to print is below it, up to the next command or the end of the block. `..` alone means any lines, and `in 0.1 s`
+any seconds. A text that is given by `<<'EOF'` goes up to that word.
+
+The commands of a document run one after the other in one folder, in which `examples` and `front` are those of the repository and `sefwllon` is
+that of the front. A page of the guide also has the files that the tutorial writes. Commands that need what the machine does not have (Graphviz,
+toulbar2, PyYAML, python3-icalendar, or a program) are passed over, which is said. Ends with 1 if an answer differs, and prints both.
 """
 
 from __future__ import annotations
@@ -24,7 +24,9 @@ from dataclasses import dataclass
 from pathlib import Path
 
 TOP = Path(__file__).resolve().parents[2]
-DOCUMENTS = ("README.md", "docs/USE.md")
+TUTORIAL = "docs/tutorial.md"
+GUIDE = sorted(f"docs/guide/{path.name}" for path in (TOP / "docs" / "guide").glob("*.md"))
+DOCUMENTS = ("README.md", TUTORIAL, *GUIDE)
 ANY = ".."
 
 
@@ -58,6 +60,12 @@ def steps(document: str) -> list[Step]:
     return found
 
 
+def written(document: str) -> dict[str, str]:
+    """The files that a document writes by `cat > FILE <<'EOF'`."""
+    found = (re.fullmatch(r"cat > (\S+) <<'(\w+)'\n(.*\n)\2", step.command, re.DOTALL) for step in steps(document))
+    return {mark[1]: mark[3] for mark in found if mark}
+
+
 def is_as_expected(printed: list[str], expected: list[str]) -> bool:
     """Whether lines are those that are expected, where `..` stands for any lines."""
     if not expected:
@@ -75,6 +83,8 @@ def untimed(line: str) -> str:
 def missing(command: str, path: str) -> str | None:
     """What a command needs and these folders have not."""
     words = command.replace("|", " ").split()
+    if words[:3] == ["sefwllon", "draw", "bounds"] or words[:2] == ["sefwllon", "trace"]:
+        words.append("dcop_trace")
     for tool in ("dot", "toulbar2", "dcop_serve", "dcop_search", "dcop_trace"):
         if tool in words and shutil.which(tool, path=path) is None:
             return tool
@@ -85,8 +95,8 @@ def missing(command: str, path: str) -> str | None:
     return None
 
 
-def run(document: str, programs: dict[str, str], files: dict[str, str] | None = None) -> tuple[list[str], list[str]]:
-    """Runs a document, in a folder with these files. Gives what differs, and what was passed over."""
+def run(document: str, programs: dict[str, str]) -> tuple[list[str], list[str]]:
+    """Runs a document in a folder of its own. Gives what differs, and what was passed over."""
     differ: list[str] = []
     passed_over: list[str] = []
     with tempfile.TemporaryDirectory() as name:
@@ -94,9 +104,10 @@ def run(document: str, programs: dict[str, str], files: dict[str, str] | None = 
         (folder / "bin").mkdir()
         for program, path in programs.items():
             (folder / "bin" / program).symlink_to(Path(path).resolve())
+        (folder / "bin" / "sefwllon").symlink_to(TOP / "front" / "sefwllon.sh")
         for part in ("examples", "front"):
             (folder / part).symlink_to(TOP / part)
-        for file, text in (files or {}).items():
+        for file, text in (written(TUTORIAL) if document in GUIDE else {}).items():
             (folder / file).write_text(text)
         kept = {name: value for name, value in os.environ.items() if not name.startswith("SEFWLLON_")}
         environment = kept | {"PATH": f"{folder / 'bin'}:{os.environ['PATH']}", "PYTHONDONTWRITEBYTECODE": "1"}

@@ -213,7 +213,7 @@ class Solving(Case):
 
     def test_how_dcop_is_built_is_told_as_on_the_first_page(self):
         why = programs.unbuilt(FRONT.parent)
-        for page in (FRONT.parent / "README.md", FRONT / "README.md"):
+        for page in (FRONT.parent / "README.md", FRONT.parent / documents.TUTORIAL):
             self.assertIn("./build --quick", page.read_text())
         self.assertIn(f"in {FRONT.parent} run `./build --quick`", why)
         self.assertIn("in the clone of Sefwllon run", programs.unbuilt(HERE))
@@ -357,15 +357,12 @@ class Documents(unittest.TestCase):
     @unittest.skipUnless(REAL and ORDER, "no built programs")
     def test_the_answers_of_the_documents(self):
         for document in documents.DOCUMENTS:
-            differ, _ = documents.run(document, self.programs())
-            self.assertEqual(differ, [])
+            with self.subTest(document):
+                differ, _ = documents.run(document, self.programs())
+                self.assertEqual(differ, [])
 
-    @unittest.skipUnless(REAL and ORDER, "no built programs")
-    def test_the_answers_of_the_front_s_page(self):
-        page = (FRONT / "README.md").read_text()
-        week = page[page.index("slot,Mon 9,") : page.index("```", page.index("slot,Mon 9,"))]
-        differ, _ = documents.run("front/README.md", self.programs(), {"week.csv": week})
-        self.assertEqual(differ, [])
+    def test_the_tutorial_writes_the_file_that_the_guide_reads(self):
+        self.assertIn("slot,Mon 9,", documents.written(documents.TUTORIAL)["week.csv"])
 
 
 class Translating(Case):

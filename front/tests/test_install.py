@@ -4,11 +4,14 @@ from __future__ import annotations
 
 import json
 import os
+import pty
 import re
+import select
 import shutil
 import subprocess
 import tarfile
 import tempfile
+import time
 import unittest
 from collections.abc import Iterator
 from pathlib import Path
@@ -44,6 +47,25 @@ def ran(*words: object, home: Path, text: str = "") -> subprocess.CompletedProce
     kept = {name: value for name, value in os.environ.items() if name not in [*VARIABLES, "PYTHONPATH"]}
     environment = {**kept, "HOME": str(home), "PATH": f"{home}/.local/bin:{os.environ['PATH']}", "SOURCE_DATE_EPOCH": "1700000000"}
     return subprocess.run([str(it) for it in words], cwd=home, env=environment, input=text, capture_output=True, text=True)
+
+
+def typed(shell: str, keys: str, wanted: str, home: Path) -> str:
+    """What a shell on a terminal shows after these keys and a tab, once it shows what is wanted; or after a minute."""
+    child, terminal = pty.fork()
+    if child == 0:
+        os.chdir(home)
+        os.execvpe(shell, [shell, "-i"], {**os.environ, "HOME": str(home), "TERM": "dumb", "PATH": f"{home}/.local/bin:{os.environ['PATH']}"})
+    shown, sent, end = "", False, time.monotonic() + 60
+    while wanted not in shown and time.monotonic() < end:
+        if select.select([terminal], [], [], 0.1)[0]:
+            shown += re.sub(r"\x1b\[[0-9;?]*[a-zA-Z]|\x07", "", os.read(terminal, 65536).decode(errors="replace"))
+        if not sent and "ready" in shown:
+            os.write(terminal, f"{keys}\t".encode())
+            shown, sent = "", True
+    os.write(terminal, b"\x03exit\n")
+    os.close(terminal)
+    os.waitpid(child, 0)
+    return shown
 
 
 def options_of(formats: str) -> Iterator[tuple[str, str]]:
@@ -82,8 +104,8 @@ class Crates(unittest.TestCase):
             self.assertEqual(users, [], name)
 
     def test_the_page_has_the_crates_in_their_order(self):
-        page = (TOP / "docs" / "ARCHITECTURE.md").read_text()
-        rows = re.findall(r"^\| (\w+) \| ", page[page.index("## The crates") : page.index("## How a run's end flows")], re.MULTILINE)
+        page = (TOP / "docs" / "reference" / "crates.md").read_text()
+        rows = re.findall(r"^\| (\w+) \| ", page, re.MULTILINE)
         self.assertEqual([name for name in rows if name != "Crate"], list(stands_on()))
 
     def test_only_what_the_programs_stand_on_is_proved(self):
@@ -174,7 +196,7 @@ class Installed(unittest.TestCase):
         told = ran("man", "dcop", home=self.home)
         self.assertEqual((told.returncode, told.stderr), (0, ""))
         self.assertIn("dcop - solve a problem of distributed constraint optimisation", " ".join(told.stdout.split()))
-        self.assertRegex(told.stdout, r"\n +2\. +Then the pairs are looked at")
+        self.assertRegex(told.stdout, r"\n +2\. +Then the pairs are tested")
 
     def test_python_finds_the_package(self):
         told = ran(FRONT / "python.sh", "-c", "import sefwllon; print(sefwllon.__version__)", home=self.home)
@@ -234,6 +256,20 @@ class Installed(unittest.TestCase):
         for name in ({*BUILT} - {"dcop_serve"}) | {"sefwllon"}:
             told = ran("bash", "-c", f". {BASH_COMPLETION}; _completion_loader {name}; complete -p {name}", home=self.home)
             self.assertEqual(told.stdout, f"complete -F _sefwllon_{name} {name}\n", told.stderr)
+
+    @unittest.skipUnless(shutil.which("fish"), "passed over: no fish")
+    def test_fish_completes_words(self):
+        for line, wanted in (("dcop so", "solve"), ("dcop solve --me", "--method"), ("dcop solve --method ad", "adopt"), ("sefwllon meet", "meetings")):
+            told = ran("fish", "-c", f'complete -C "{line}"', home=self.home)
+            self.assertEqual(told.stdout.split()[:1], [wanted], told.stderr)
+
+    @unittest.skipUnless(shutil.which("zsh"), "passed over: no zsh")
+    def test_zsh_completes_words(self):
+        hint = re.search(r"zsh: `(.*?)`", self.told.stdout)
+        self.assertIsNotNone(hint)
+        (self.home / ".zshrc").write_text(f"{hint[1]}\nautoload -Uz compinit; compinit -u -d {self.home}/.zcompdump\nPS1=ready\n")
+        for line, wanted in (("dcop so", "dcop solve "), ("dcop solve --meth", "--method "), ("sefwllon meet", "sefwllon meetings ")):
+            self.assertIn(wanted, typed("zsh", line, wanted, home=self.home))
 
     def test_the_files_of_other_shells_and_of_editors_are_sound(self):
         for shell, found in (("zsh", "share/zsh/site-functions/_*"), ("fish", "share/fish/vendor_completions.d/*.fish")):

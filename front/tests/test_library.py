@@ -1,4 +1,4 @@
-"""Tests of the library: what `import sefwllon` gives, and docs/PYTHON.md, whose scripts are run."""
+"""Tests of the library: what `import sefwllon` gives, and docs/guide/python.md, whose scripts are run."""
 
 from __future__ import annotations
 
@@ -24,7 +24,7 @@ from sefwllon import FORBIDDEN, Answer, Problem, Programs, Trouble, check, libra
 
 from .case import EXAMPLES, FAKE, FAKE_SEARCH, FRONT, ORDER, PAIR, PROBLEMS, REAL, SEARCH, Case
 
-DOCUMENT = FRONT.parent / "docs" / "PYTHON.md"
+DOCUMENT = FRONT.parent / "docs" / "guide" / "python.md"
 MYPY = shutil.which("mypy") or shutil.which("/usr/bin/mypy")
 
 

@@ -6,6 +6,7 @@ import os
 import re
 import subprocess
 import tempfile
+import tomllib
 import unittest
 from pathlib import Path
 
@@ -70,10 +71,17 @@ class WrongBodies(unittest.TestCase):
         names = [(crate_of(edit).name, edit.name) for edit in [*tried_by_the_gate(), *set_apart()]]
         self.assertEqual(len(set(names)), len(names))
 
-    def test_the_gate_tries_those_that_the_promises_name(self):
-        section = (TOP / "docs" / "PROMISES.md").read_text().partition("\n## Wrong bodies\n")[2].partition("\n## ")[0]
-        named = [row[1] for row in re.findall(r"^\| (.*?) \| (\w+/\w+) \| .*\S \|$", section, re.MULTILINE)]
+    def test_the_gate_tries_those_whose_promise_is_named(self):
+        named = tomllib.loads((TOP / "docs" / "data" / "wrong-bodies.toml").read_text())
         self.assertEqual(sorted(named), sorted(f"{crate_of(edit).name}/{edit.stem}" for edit in tried_by_the_gate()))
+        for edit, said in named.items():
+            self.assertRegex(said["body"], r"\A[A-Z`].*\.\Z", edit)
+            self.assertTrue(said["refused"], edit)
+
+    def test_the_page_has_each_by_its_name(self):
+        page = (TOP / "docs" / "reference" / "wrong-bodies.md").read_text()
+        for edit in [*tried_by_the_gate(), *set_apart()]:
+            self.assertIn(f"{crate_of(edit).name}/{edit.stem}", page)
 
     def test_the_gate_tries_those_of_few_crates(self):
         self.assertLessEqual(len({crate_of(edit) for edit in tried_by_the_gate()}), MOST)
