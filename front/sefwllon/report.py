@@ -110,7 +110,7 @@ def read_report(text: str, problem: Problem) -> Report:
         raise Trouble("that is no report of `dcop solve`") from None
     if len(values) != len(problem.variables):
         raise Trouble(f"the report has {len(values)} values for {len(problem.variables)} variables")
-    return Report(status, method, values=values, certificate=certificate, rests=rests, **count)
+    return Report(status, method, values=values, certificate=certificate, rests=rests, besides=made_with(told), **count)
 
 
 def fitted(problem: Problem, report: str) -> Problem:

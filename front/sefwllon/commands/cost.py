@@ -78,7 +78,8 @@ def of_kept(plan: Plan, verdict: Verdict | None) -> str:
     """How many meetings of a timetable move and what it costs; if it breaks no rule, also how that is to the best one, by a report."""
     if verdict is None or verdict.answer == NOT or plan.breaches:
         return f"{telling.moving(plan)}; cost {telling.money(plan.cost)}"
-    return telling.kept(plan, lambda holds: resting_on(verdict) if holds(verdict.bound) else None)
+    bound, rests = verdict.bound, resting_on(verdict)
+    return telling.kept(plan, lambda holds: rests if holds(bound) else None)
 
 
 def as_json(

@@ -84,7 +84,7 @@ def named_by(options: argparse.Namespace) -> list[str]:
 def is_problem(options: argparse.Namespace) -> bool:
     """Whether a file is of another kind than timetables, by its name or its first words."""
     lines = (line.split() for line in options.text.splitlines())
-    first = next((line for line in lines if line and not line[0].startswith("#")), [])
+    first = next((line for line in lines if line and not line[0].startswith("#")), list[str]())
     return Path(options.file).suffix.lower() in KINDS or first[:1] == ["dcop"]
 
 
