@@ -9,14 +9,14 @@ use Rattle.shared_costs.specs.Tables.{IsTableOver}
 use Rattle.shared_costs.specs.Values.{AreValues}
 use Rattle.bucket_bounds.specs.Parting.{IsScopeOf}
 
--- the joined table of a group of tables: over the variables that these name, and at each values it costs what they cost
+-- the joined table of a group of tables: it is over the variables that these name, and at any values it costs what they cost
 pub record IsJoinOf (sizes : List ℕ) (group : List CostTable) (joined : CostTable) : Type 0 where
   pub some : 1 ≤ length group
   pub table : IsTableOver sizes joined
   pub scope : IsScopeOf group joined.scope
   pub cells : (value : ℕ → ℕ) → AreValues sizes value → cell_with joined value ≡ cost_with group value
 
--- a group of one table, or one whose joined table has no more cells than the limit
+-- a group of one table, or one whose joined table has at most `limit` cells
 abbrev pub IsNarrow : ℕ → List CostTable → CostTable → Type 0
 IsNarrow limit group joined = (length group ≡ 1) ⊎ (length joined.cells ≤ limit)
 

@@ -1,4 +1,4 @@
-//! Costs that are shared among the joined tables of a bucket.
+//! Sharing of costs among the joined tables of a bucket.
 
 ghost use Rattle.std.specs.Prelude.{◌≡◌, ◌<◌, length, IfOk, OnOk};
 ghost use Rattle.std.specs.List.{All};
@@ -9,7 +9,7 @@ use dcop_base::{NoMemory, Table, VarId};
 use shared_costs::{SharedTable, share};
 use std::alloc::Global;
 
-/// These tables with a variable shared among all of them, where they are two or more.
+/// These tables with a variable shared among all of them, if they are two or more.
 pub(crate) fn shared_tables(
     alloc: Global,
     sizes: &[u16],
@@ -43,7 +43,7 @@ fn share_all(
     share(alloc, sizes, tables, places.as_slice(), var, 0)
 }
 
-/// Copies of these tables, whose cells may change.
+/// Copies of these tables. Their cells may change.
 fn copies_of(alloc: Global, tables: &[Table]) -> Result<Vec<SharedTable>, NoMemory>
     ensures { IfOk result (λ copies. copies.items ≡ tables.now) }
 {
@@ -54,7 +54,7 @@ fn copies_of(alloc: Global, tables: &[Table]) -> Result<Vec<SharedTable>, NoMemo
     Ok(copies)
 }
 
-/// All places in a list of so many items, as far as a `u32` can tell them.
+/// All places in a list of `count` items that a `u32` can hold.
 fn places_below(alloc: Global, count: usize) -> Result<Vec<u32>, NoMemory>
     ensures { IfOk result (λ places. All (λ k. k < count) places.items) }
 {
