@@ -17,33 +17,33 @@ use Rattle.protocol_steps.specs.AdoptRange.{fits}
 use Rattle.protocol_steps.specs.Values.{valued}
 use Rattle.adopt_agent.specs.Stage.{knowing}
 
--- what an agent is made from, and a context over its path
+-- what an agent is made from, with a context over its path
 pub record IsGround (own : Private) (place : Place) (known : Context) : Type 0 where
   pub own_fits : IsKnowledge own
   pub placed : IsPlaceFor own place
   pub known_fits : fits (knowing own place known) known ≡ true
 
--- the cost of each own value by the tables that count
+-- the costs are those of each own value by the tables that count
 pub record AreCosts (own : Private) (place : Place) (known : Context) (costs : List ℕ) : Type 0 where
   pub counted : length costs ≡ own.size
   pub each : (d : ℕ) → d < own.size → slice_index costs d ≡ delta (knowing own place known) d
 
--- costs, with those of the tables added that count and name a variable
+-- costs to which the tables were added that count and name a variable
 pub record AreAdded (own : Private) (place : Place) (known : Context) (var : ℕ) (before after : List ℕ) : Type 0 where
   pub counted : length after ≡ own.size
   pub each : (d : ℕ) → d < own.size → slice_index after d ≡ cap (slice_index before d + cost_with (filter (λ t. has t.scope var && counts (knowing own place known) t) own.tables) (with_own own.me d (valued known)))
 
--- each entry rests on a part of what is known
+-- the context of each entry is part of what is known
 abbrev pub RestOn : Context → List (List Entry) → Type 0
 RestOn known rows = (d k : ℕ) → part_of (entry_at rows d k).context known ≡ true
 
--- bounds with a row for each own value and an entry for each child
+-- the bounds have a row for each own value, they are for the agent's children, and the context of each entry is part of what is known
 pub record AreBacked (own : Private) (place : Place) (known : Context) (bounds : BoundsView) : Type 0 where
   pub children : bounds.children ≡ place.children
   pub counted : length bounds.rows ≡ own.size
   pub rest : RestOn known bounds.rows
 
--- an agent's knowledge, costs and bounds fit together, and its value and amounts are within their ranges
+-- an agent's knowledge, costs and bounds are consistent, and its value and amounts are within their ranges
 pub record IsSound (own : Private) (place : Place) (higher_ones : List ℕ) (error : ℕ) (known : Context) (costs : List ℕ) (knows_higher : Bool) (bounds : BoundsView) (value threshold last_received : ℕ) : Type 0 where
   pub ground : IsGround own place known
   pub costed : AreCosts own place known costs

@@ -1,4 +1,4 @@
--- What the stage of an ADOPT agent says of its phase.
+-- What the stage of an ADOPT agent says about its phase.
 use Rattle.std.specs.Prelude.{ℕ, Bool, true, false, List}
 use Rattle.dcop_base.specs.declared.knowledge.Private.{Private}
 use Rattle.pseudotree.specs.declared.agent.Place.{Place}
@@ -13,6 +13,7 @@ use Rattle.adopt_agent.specs.declared.stage.Stage.TheVariants.{Waiting, Working,
 abbrev pub working : Phase
 working = record { started = true; ended = false; failed = false }
 
+-- the phase of an agent at a stage
 abbrev pub phase_at : Stage → Phase
 phase_at Waiting = not_started
 phase_at Working = working
@@ -34,6 +35,6 @@ view_at own place error stage known value threshold last told rows = record {
   rows = rows;
 }
 
--- an agent of which it only matters what it was made from and what it knows
+-- an agent for which only what it was made from and what it knows matter
 abbrev pub knowing : Private → Place → Context → AdoptView
 knowing own place known = record (new_adopt own place 0) { known = known }

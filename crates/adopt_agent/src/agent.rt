@@ -30,17 +30,17 @@ use std::marker::Model;
 
 /// An ADOPT agent: its part in the search with bounds. Contracts see its view.
 ///
-/// Beside what the view holds it keeps what follows from it: the higher neighbours, whether all of
-/// them are known, and the costs of the own values.
+/// Besides what the view holds, it keeps what follows from that: the higher neighbours, whether all
+/// of them are known, and the costs of the own values.
 #[derive(Debug, Drop)]
 pub struct AdoptAgent {
     pub(crate) alloc: Global,
     /// What it knows of the problem.
     pub(crate) own: Private,
     pub(crate) place: Place,
-    /// The higher neighbours: those that stand in its path.
+    /// The higher neighbours: those that are in its path.
     pub(crate) higher: VarList,
-    /// How much worse than the optimum the root may end.
+    /// How much more than the optimum the root's solution may cost.
     pub(crate) error: u64,
     pub(crate) stage: Stage,
     /// What it knows of the values of its path.
@@ -52,7 +52,7 @@ pub struct AdoptAgent {
     pub(crate) bounds: Bounds,
     pub(crate) value: Val,
     pub(crate) threshold: u64,
-    /// The threshold that came last, which TERMINATE applies.
+    /// The last threshold received, which TERMINATE applies.
     pub(crate) last_received: u64,
     /// Whether TERMINATE was taken.
     pub(crate) told_to_end: bool,
@@ -78,7 +78,7 @@ impl AdoptAgent {
     ///
     /// # Errors
     ///
-    /// [`NoMemory`] where memory was wanted and not had. The arguments are gone then too.
+    /// [`NoMemory`] if memory runs out. The arguments are dropped in that case.
     pub fn new(
         alloc: Global,
         own: Private,
@@ -121,7 +121,7 @@ impl AdoptAgent {
         &self.known
     }
 
-    /// The lowest value of least LB(d).
+    /// The lowest value with the least LB(d).
     pub(crate) fn best_lower(&self) -> Val
         ensures best { result ≡ best_lower self.now }
         ensures within { result < self.now.own.size }
@@ -129,7 +129,7 @@ impl AdoptAgent {
         choose::best_lower(self.costs.as_slice(), &self.bounds)
     }
 
-    /// The lowest value of least UB(d).
+    /// The lowest value with the least UB(d).
     pub(crate) fn best_upper(&self) -> Val
         ensures best { result ≡ best_upper self.now }
         ensures within { result < self.now.own.size }
@@ -146,7 +146,7 @@ impl AdoptAgent {
         choose::lower_of(self.costs.as_slice(), &self.bounds, best)
     }
 
-    /// UB: the least UB(d), where one is there.
+    /// UB: the least UB(d), if there is one.
     pub(crate) fn upper_bound(&self) -> Option<u64>
         ensures bound { result ≡ upper_bound self.now }
         ensures within { IsBound result }
@@ -162,7 +162,7 @@ impl AdoptAgent {
         choose::lower_of(self.costs.as_slice(), &self.bounds, self.value)
     }
 
-    /// Brings the threshold between the bounds.
+    /// Moves the threshold between the bounds.
     pub(crate) fn restore(&mut self)
         ensures { self.new ≡ restore self.old }
     {
@@ -173,7 +173,7 @@ impl AdoptAgent {
         self.threshold = choose::lower_to(least, upper);
     }
 
-    /// Knows these values from now on: forgets the entries that do not rest on them.
+    /// Replaces what is known, and resets the entries whose context is not part of it.
     fn rest_on(&mut self, known: AgentContext)
         requires { fits self.old known ≡ true }
         ensures { self.new ≡ at_context self.old known }
@@ -191,8 +191,8 @@ impl AdoptAgent {
         self.known = known;
     }
 
-    /// Knows from now on the value of a variable that was not known, and restores. What an entry
-    /// rests on stays known, so none is forgotten.
+    /// Adds the value of a variable that was not known, and restores. What entries depend on is
+    /// still known, so none is reset.
     pub(crate) fn know_more(&mut self, var: VarId, value: Val) -> Result<(), NoMemory>
         requires unnamed { value_in self.old.known var ≡ None }
         requires range { in_range self.old var value ≡ true }
@@ -213,7 +213,7 @@ impl AdoptAgent {
         Ok(())
     }
 
-    /// Knows from now on another value of a variable that was known, and restores.
+    /// Replaces the value of a variable that was known, and restores.
     pub(crate) fn know_other(&mut self, var: VarId, value: Val) -> Result<(), NoMemory>
         requires named { is_some (value_in self.old.known var) ≡ true }
         requires range { in_range self.old var value ≡ true }
@@ -239,8 +239,7 @@ impl AdoptAgent {
         Ok(())
     }
 
-    /// Knows these values from now on, and restores. Where they were known before, nothing is
-    /// forgotten.
+    /// Replaces what is known, and restores. If it is the same as before, no entry is reset.
     pub(crate) fn move_to(&mut self, known: AgentContext)
         requires { fits self.old known ≡ true }
         ensures { self.new ≡ restore (at_context self.old known) }
@@ -253,7 +252,7 @@ impl AdoptAgent {
         self.restore();
     }
 
-    /// Takes another value where it has to.
+    /// Changes the value if it must.
     fn choose(&mut self)
         ensures { self.new ≡ choose self.old }
     {
@@ -264,8 +263,8 @@ impl AdoptAgent {
         }
     }
 
-    /// What is to be allotted: the threshold less the cost of the value, and no more than the upper
-    /// bounds of the children together.
+    /// What is to be allotted: the threshold minus the cost of the value, and no more than the sum
+    /// of the children's upper bounds.
     fn to_allot(&self) -> u64
         ensures goal { result ≡ to_allot self.now }
         ensures within { result ≤ amount_limit }
@@ -294,7 +293,7 @@ impl AdoptAgent {
         choose::is_value(self.upper_bound(), self.threshold)
     }
 
-    /// Ends where it may.
+    /// Ends if it may.
     fn settle(&mut self)
         requires { self.old.phase ≡ working }
         ensures { self.new ≡ settle self.old }
@@ -315,7 +314,7 @@ impl AdoptAgent {
         self.settle();
     }
 
-    /// backTrack: the end of an activation, and what the neighbours are told.
+    /// backTrack: the end of an activation, with the messages to the neighbours.
     fn back_track(&mut self) -> Result<Vec<Parcel>, NoMemory>
         requires { self.old.phase ≡ working }
         ensures made { made_of (AdoptKind self.new) ≡ made_of (AdoptKind self.old) }
@@ -337,7 +336,7 @@ impl AdoptAgent {
         self.back_track()
     }
 
-    /// Starts: the agent takes the lowest value of least LB(d).
+    /// The start: the agent takes the lowest value with the least LB(d).
     fn begin(&mut self) -> Result<Vec<Parcel>, NoMemory>
         requires { self.old.phase ≡ not_started }
         ensures made { made_of (AdoptKind self.new) ≡ made_of (AdoptKind self.old) }
@@ -348,7 +347,7 @@ impl AdoptAgent {
         self.back_track()
     }
 
-    /// Fails for good.
+    /// The agent fails for good.
     fn fail(&mut self) -> NoMemory
         ensures made { made_of (AdoptKind self.new) ≡ made_of (AdoptKind self.old) }
         ensures failed { self.new.phase.failed ≡ true }

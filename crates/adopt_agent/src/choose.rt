@@ -1,4 +1,4 @@
-//! The bounds of the own values, and the lowest value of the least.
+//! The bounds of the own values, and the lowest values with the least bounds.
 
 ghost use Rattle.std.specs.Prelude.{◌≡◌, ℕ, ◌+◌, ◌-◌, ◌<◌, ◌≤◌, length, max, nat_lt, slice_index, if◌then◌else◌};
 ghost use Rattle.dcop_base.specs.Limits.{amount_limit, size_limit};
@@ -11,7 +11,7 @@ ghost use Rattle.adopt_agent.specs.Costs.{cost_where};
 use adopt_bounds::Bounds;
 use dcop_base::{CAP, Val};
 
-/// LB(d): the cost of an own value and the lower bounds of the children.
+/// LB(d): the cost of an own value plus the lower bounds of the children.
 pub(crate) fn lower_of(costs: &[u64], bounds: &Bounds, d: Val) -> u64
     requires cost { d < length costs.now }
     requires row { d < length bounds.now.rows }
@@ -21,8 +21,8 @@ pub(crate) fn lower_of(costs: &[u64], bounds: &Bounds, d: Val) -> u64
     bounds.lb_of(costs[usize::from(d.0)], d)
 }
 
-/// UB(d): the cost of an own value and the upper bounds of the children; `None` where not all
-/// higher neighbours are known or an upper bound is not there.
+/// UB(d): the cost of an own value plus the upper bounds of the children; `None` if not all higher
+/// neighbours are known or an upper bound is not there.
 pub(crate) fn upper_of(costs: &[u64], knows_higher: bool, bounds: &Bounds, d: Val) -> Option<u64>
     requires cost { d < length costs.now }
     requires row { d < length bounds.now.rows }
@@ -37,7 +37,7 @@ pub(crate) fn upper_of(costs: &[u64], knows_higher: bool, bounds: &Bounds, d: Va
     bounds.ub_of(own, d)
 }
 
-/// Whether one upper bound is below another; `None` is the largest.
+/// Whether one upper bound is below another; `None` counts as the largest.
 fn is_below(one: Option<u64>, other: Option<u64>) -> bool
     ensures { result ≡ is_below one other }
 {
@@ -48,7 +48,7 @@ fn is_below(one: Option<u64>, other: Option<u64>) -> bool
     }
 }
 
-/// The lowest own value of least LB(d).
+/// The lowest own value with the least LB(d).
 #[tactic(auto, using(crate::proofs::LowestLaws::lowest_next))]
 pub(crate) fn best_lower(costs: &[u64], bounds: &Bounds) -> Val
     requires some { 1 ≤ length costs.now }
@@ -71,7 +71,7 @@ pub(crate) fn best_lower(costs: &[u64], bounds: &Bounds) -> Val
     best
 }
 
-/// The lowest own value of least UB(d).
+/// The lowest own value with the least UB(d).
 #[tactic(auto, using(crate::proofs::LowestLaws::lowest_next))]
 pub(crate) fn best_upper(costs: &[u64], knows_higher: bool, bounds: &Bounds) -> Val
     requires some { 1 ≤ length costs.now }
@@ -94,7 +94,7 @@ pub(crate) fn best_upper(costs: &[u64], knows_higher: bool, bounds: &Bounds) -> 
     best
 }
 
-/// The amount, or the bound where the amount is above it.
+/// The amount, or the bound if the amount is above it.
 pub(crate) fn lower_to(amount: u64, bound: Option<u64>) -> u64
     requires { amount ≤ amount_limit }
     ensures bound { result ≡ lower_to amount bound }
@@ -106,7 +106,7 @@ pub(crate) fn lower_to(amount: u64, bound: Option<u64>) -> u64
     }
 }
 
-/// Whether the bound that is found is this amount.
+/// Whether the bound is there and equals this amount.
 pub(crate) fn is_value(found: Option<u64>, amount: u64) -> bool
     ensures { result ≡ is_value found amount }
 {
@@ -116,8 +116,8 @@ pub(crate) fn is_value(found: Option<u64>, amount: u64) -> bool
     }
 }
 
-/// What the threshold is raised to, before it is lowered to the upper bound: at the root the lower
-/// bound and the error, elsewhere the lower bound at least.
+/// What the threshold is raised to, before it is lowered to the upper bound: the lower bound plus
+/// the error at the root, and at least the lower bound elsewhere.
 pub(crate) fn raised(is_root: bool, threshold: u64, lower: u64, error: u64) -> u64
     requires threshold { threshold ≤ amount_limit }
     requires lower { lower ≤ amount_limit }

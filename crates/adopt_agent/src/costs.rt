@@ -1,4 +1,4 @@
-//! What each own value costs by the agent's own tables.
+//! The cost of each own value by the agent's own tables.
 
 ghost use Rattle.std.specs.Prelude.{◌≡◌, ◌≤◌, true, not, ◌&&◌, ◌||◌, ◌==◌, false, length, is_some, IfOk};
 ghost use Rattle.std.specs.List.{All, filter, list_all};
@@ -28,22 +28,22 @@ pub(crate) fn copy_of(alloc: Global, vars: &[VarId]) -> Result<VarList, NoMemory
     Ok(VarList::from_slice(alloc, vars)?)
 }
 
-/// Whether a variable is the agent's own, or one that is known.
+/// Whether a variable is the agent's own or its value is known.
 fn is_settled(var: VarId, me: VarId, known: &AgentContext) -> bool
     ensures { result ≡ (var == me || is_some (value_in known.now var)) }
 {
     var == me || known.get(var).is_some()
 }
 
-/// Whether a table counts: besides the agent it names only variables that are known. Only
-/// variables of the path are.
+/// Whether a table counts: besides the agent it names only variables whose values are known. Only
+/// variables of the path have known values.
 fn counts(scope: &[VarId], me: VarId, known: &AgentContext) -> bool
     ensures { result ≡ list_all (λ u. u == me || is_some (value_in known.now u)) scope.now }
 {
     scope.iter().all(|var| is_settled(*var, me, known))
 }
 
-/// The higher neighbours: those that stand in the path, in their order.
+/// The higher neighbours: those that are in the path, in their order.
 pub(crate) fn higher_of(
     alloc: Global,
     neighbours: &[VarId],
@@ -60,15 +60,16 @@ pub(crate) fn higher_of(
     Ok(higher)
 }
 
-/// Whether two pairs name the same variable, with the same value or none of these variables.
+/// Whether two pairs name the same variable, and have the same value or a variable that is not in
+/// `vars`.
 fn are_alike(pair: (VarId, Val), other: (VarId, Val), vars: &[VarId]) -> bool
     ensures { result ≡ (pair.0 == other.0 && (pair.1 == other.1 || not (has vars.now pair.0))) }
 {
     pair.0 == other.0 && (pair.1 == other.1 || !stands_in(vars, pair.0))
 }
 
-/// Whether two contexts name the same variables and differ at most in values of variables that are
-/// not among these.
+/// Whether two contexts name the same variables and differ at most in the values of variables that
+/// are not in `vars`.
 #[tactic(auto, using(crate::proofs::KeptLaws::alike_next))]
 fn is_alike(vars: &[VarId], pairs: &[(VarId, Val)], others: &[(VarId, Val)]) -> bool
     ensures { result ≡ true → is_alike vars.now pairs.now others.now ≡ true }
@@ -92,8 +93,8 @@ fn counts_with(scope: &[VarId], var: VarId, me: VarId, known: &AgentContext) -> 
     stands_in(scope, var) && counts(scope, me, known)
 }
 
-/// Adds to the costs of the own values, capped, the cells of the tables that count and name this
-/// variable.
+/// Adds the cells of the tables that count and name this variable to the costs of the own values.
+/// Sums are cut off at the cap.
 pub(crate) fn add_tables(
     costs: &mut [u64],
     own: &Private,
@@ -113,7 +114,7 @@ pub(crate) fn add_tables(
     }
 }
 
-/// The cost of each own value by the tables that count. All name the agent.
+/// The cost of each own value by the tables that count. All of these name the agent.
 pub(crate) fn set_costs(costs: &mut [u64], own: &Private, place: &Place, known: &AgentContext)
     requires ground { IsGround own.now place.now known.now }
     requires counted { length costs.old ≡ own.now.size }
@@ -123,8 +124,8 @@ pub(crate) fn set_costs(costs: &mut [u64], own: &Private, place: &Place, known: 
     add_tables(costs, own, place, known, own.me);
 }
 
-/// Adds to the costs those of the tables that count only since this variable is known: they name
-/// it. The others count as before, with the same cells.
+/// Adds to the costs those of the tables that count only because this variable has become known:
+/// they name it. The other tables count as before, with the same cells.
 pub(crate) fn add_known(
     costs: &mut [u64],
     own: &Private,
@@ -142,8 +143,9 @@ pub(crate) fn add_known(
     add_tables(costs, own, place, known, var);
 }
 
-/// Sets the costs anew for what is known now, and tells whether all higher neighbours are known.
-/// Where the values of these are as before, so is all.
+/// Computes the costs anew for what is known, and returns whether all higher neighbours are known.
+/// If `before` names the same variables, and has the same values of the higher neighbours, nothing
+/// changes.
 pub(crate) fn renew(
     costs: &mut [u64],
     knows_higher: bool,

@@ -1,4 +1,4 @@
-//! What the own values cost where a variable that was known has another value.
+//! The costs of the own values after a known variable changed its value.
 
 ghost use Rattle.std.specs.Prelude.{◌≡◌, ℕ, ◌<◌, ◌≤◌, ◌-◌, ◌==◌, false, length, nat_lt, slice_index};
 ghost use Rattle.std.specs.List.{list_all};
@@ -11,14 +11,14 @@ use adopt_context::AgentContext;
 use dcop_base::{CAP, Private, VarId};
 use pseudotree::Place;
 
-/// Whether all costs are below the cap: such a sum was not cut off.
+/// Whether all costs are below the cap, so that none of these sums was cut off.
 fn are_whole(costs: &[u64]) -> bool
     ensures { result ≡ list_all (λ c. nat_lt c amount_limit) costs.now }
 {
     costs.iter().all(|cost| *cost < CAP)
 }
 
-/// Takes from each cost its share.
+/// Subtracts its share from each cost.
 fn take_off(costs: &mut [u64], shares: &[u64])
     requires same { length shares.now ≡ length costs.old }
     requires enough { (d : ℕ) → d < length costs.old → slice_index shares.now d ≤ slice_index costs.old d }
@@ -30,8 +30,8 @@ fn take_off(costs: &mut [u64], shares: &[u64])
     }
 }
 
-/// The costs where one variable has another value than before: in place of what the tables that name
-/// it cost before, what they cost now. Where a sum was cut off all tables are added anew.
+/// The costs when one variable has another value than in `before`: the costs of the tables that
+/// name it are replaced. If a sum was cut off at the cap, all tables are added anew.
 pub(crate) fn exchange(
     costs: &mut [u64],
     shares: &mut [u64],

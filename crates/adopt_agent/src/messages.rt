@@ -20,7 +20,8 @@ use adopt_context::AgentContext;
 use dcop_base::{NoMemory, Val, VarId, position_of, stands_in};
 use protocol_steps::{Letter, Message};
 
-/// What is known, with what a COST tells of variables that are no neighbours or not known yet.
+/// What is known, extended by the pairs of a COST's context whose variables are not neighbours or
+/// not known yet.
 fn learned(
     known: &AgentContext,
     neighbours: &[VarId],
@@ -39,7 +40,7 @@ fn learned(
     Ok(all)
 }
 
-/// Whether a context gives a variable this value already.
+/// Whether a context already gives a variable this value.
 fn gives(known: &AgentContext, var: VarId, value: Val) -> bool
     ensures { result ≡ true → put known.now var value ≡ known.now }
 {
@@ -52,7 +53,7 @@ fn gives(known: &AgentContext, var: VarId, value: Val) -> bool
     }
 }
 
-/// Whether a context tells nothing new: all that it gives is known.
+/// Whether a context contains nothing new: all its pairs are known.
 fn is_known(known: &AgentContext, context: &AgentContext) -> bool
     ensures part { result ≡ true → part_of context.now known.now ≡ true }
     ensures ascend { AscendsFrom 0 known.now }
@@ -73,7 +74,7 @@ impl AdoptAgent {
             && is_in_range(&self.place, from, value)
     }
 
-    /// Knows the value of a higher neighbour, where VALUE is taken.
+    /// Learns the value of a higher neighbour, if VALUE is taken.
     fn take_value(&mut self, from: VarId, value: Val) -> Result<(), NoMemory>
         ensures same { IsSameAgent self.old self.new }
         ensures taken { OnOk result (self.new ≡ adopt_message self.old from (Value value)) }
@@ -91,7 +92,7 @@ impl AdoptAgent {
         self.know_other(from, value)
     }
 
-    /// Whether a context fits the path. What is known does.
+    /// Whether a context fits the path. What is known always does.
     fn fits(&self, context: &AgentContext) -> bool
         ensures { result ≡ fits self.now context.now }
     {
@@ -108,8 +109,8 @@ impl AdoptAgent {
         !self.told_to_end && is_parent(self.place.path.as_slice(), from) && self.fits(context)
     }
 
-    /// Remembers a threshold, where THRESHOLD is taken; it counts where its context is compatible
-    /// with what is known.
+    /// Stores a threshold as the last one received, if THRESHOLD is taken. It becomes the threshold
+    /// if its context is compatible with what is known.
     fn take_threshold(&mut self, from: VarId, amount: u64, context: &AgentContext)
         requires { amount ≤ amount_limit }
         ensures same { IsSameAgent self.old self.new }
@@ -125,8 +126,8 @@ impl AdoptAgent {
         }
     }
 
-    /// Knows the last values of the path, where TERMINATE is taken; the threshold becomes the last
-    /// one received.
+    /// Learns the final values of the path, if TERMINATE is taken. The last threshold received
+    /// becomes the threshold.
     fn take_end(&mut self, from: VarId, context: &AgentContext) -> Result<(), NoMemory>
         ensures same { IsSameAgent self.old self.new }
         ensures taken { OnOk result (self.new ≡ adopt_message self.old from (Terminate context.now)) }
@@ -166,8 +167,8 @@ impl AdoptAgent {
         values.part_of(&self.known)
     }
 
-    /// Stores the bounds of a child, where they rest on what is known and do not cross those that
-    /// are there.
+    /// Stores the bounds of a child, if their context is part of what is known and they do not
+    /// cross the stored ones.
     fn store(
         &mut self,
         d: Val,
@@ -193,15 +194,15 @@ impl AdoptAgent {
         Ok(())
     }
 
-    /// Whether bounds for this value that rest on these values are taken.
+    /// Whether bounds for this value and this context are taken.
     fn takes_bounds(&self, d: Val, rest: &AgentContext) -> bool
         ensures { result ≡ (nat_lt d self.now.own.size && fits self.now rest.now) }
     {
         d.0 < self.own.size && self.fits(rest)
     }
 
-    /// Learns from a COST and stores its bounds, where it comes from a child and its context gives
-    /// the agent a value and fits.
+    /// Learns from a COST and stores its bounds, if it comes from a child and its context fits and
+    /// gives the agent a value.
     fn take_cost(
         &mut self,
         from: VarId,
@@ -229,7 +230,7 @@ impl AdoptAgent {
         self.store(d, from, &rest, lower, upper)
     }
 
-    /// Handles one message: what is not taken is passed over.
+    /// Handles one message. A message that is not taken is ignored.
     pub(crate) fn handle(&mut self, letter: &Letter) -> Result<(), NoMemory>
         ensures same { IsSameAgent self.old self.new }
         ensures taken { OnOk result

@@ -1,4 +1,4 @@
-//! What an agent takes: messages from its parent, and contexts over its path.
+//! What an agent accepts: messages from its parent, and contexts over its path.
 
 ghost use Rattle.std.specs.Prelude.{◌≡◌, false, length};
 ghost use Rattle.std.specs.List.{list_all, zip};
@@ -10,8 +10,8 @@ ghost use Rattle.protocol_steps.specs.AdoptRange.{is_within};
 use dcop_base::{Val, VarId};
 use pseudotree::Place;
 
-/// The size that stands beside a variable of a path; `None` exactly where it is none of these. It
-/// looks from the end, where the nearest ancestors stand: messages tell most of them.
+/// The size of a variable of a path; `None` exactly if it is not in the path. The search starts at
+/// the end, where the nearest ancestors are, because most messages name these.
 fn size_above(path: &[VarId], sizes: &[u16], var: VarId) -> Option<u16>
     requires sized { length sizes.now ≡ length path.now }
     requires apart { has_repeat path.now ≡ false }
@@ -25,7 +25,7 @@ fn size_above(path: &[VarId], sizes: &[u16], var: VarId) -> Option<u16>
     None
 }
 
-/// Whether a variable stands in the path and the value is below its size.
+/// Whether a variable is in the path and the value is below its size.
 pub(crate) fn is_in_range(place: &Place, var: VarId, value: Val) -> bool
     requires sized { length place.now.path_sizes ≡ length place.now.path }
     requires apart { has_repeat place.now.path ≡ false }

@@ -1,4 +1,4 @@
-//! What an agent tells its neighbours at the end of an activation.
+//! The messages of an agent to its neighbours at the end of an activation.
 
 ghost use Rattle.std.specs.Prelude.{◌≡◌, ◌++◌, true, IfOk, OnOk};
 ghost use Rattle.std.specs.List.{flat_map};
@@ -29,7 +29,7 @@ impl AdoptAgent {
         Ok(())
     }
 
-    /// The share of the threshold that is allotted to a child.
+    /// THRESHOLD for a child, with its share of the threshold.
     fn threshold_for(&self, to: VarId) -> Result<Parcel, NoMemory>
         requires { has self.now.place.children to ≡ true }
         ensures { IfOk result (λ parcel. parcel ≡ (to, Threshold (share_of self.now to) self.now.known)) }
@@ -41,7 +41,7 @@ impl AdoptAgent {
         Ok(Parcel { to, message })
     }
 
-    /// TERMINATE, with the last values of a child's path.
+    /// TERMINATE, with the final values of a child's path.
     fn end_for(&self, to: VarId) -> Result<Parcel, NoMemory>
         ensures { IfOk result (λ parcel. parcel
             ≡ (to, Terminate (put self.now.known self.now.own.me self.now.value))) }
@@ -52,7 +52,7 @@ impl AdoptAgent {
         Ok(Parcel { to, message })
     }
 
-    /// The bounds of the agent's subtree.
+    /// COST, with the bounds of the agent's subtree.
     fn cost_for(&self, to: VarId) -> Result<Parcel, NoMemory>
         ensures { IfOk result (λ parcel. parcel
             ≡ (to, Cost self.now.known (lower_bound self.now) (upper_bound self.now))) }
@@ -72,7 +72,7 @@ impl AdoptAgent {
         matches!(self.stage, Stage::Ended)
     }
 
-    /// THRESHOLD for a child, and TERMINATE where the agent has ended.
+    /// THRESHOLD for a child, and TERMINATE if the agent has ended.
     fn tell_child(&self, to: VarId, parcels: &mut Vec<Parcel>) -> Result<(), NoMemory>
         ensures { OnOk result
             (parcels.new.items ≡ parcels.old.items ++ all_to to (to_child self.now to)) }
@@ -87,7 +87,7 @@ impl AdoptAgent {
         Ok(())
     }
 
-    /// COST for the parent, where the agent has not ended.
+    /// COST for the parent, if the agent has not ended.
     fn tell_parent(&self, to: VarId, parcels: &mut Vec<Parcel>) -> Result<(), NoMemory>
         ensures { OnOk result
             (parcels.new.items ≡ parcels.old.items ++ all_to to (to_parent self.now to)) }
@@ -98,7 +98,7 @@ impl AdoptAgent {
         Ok(())
     }
 
-    /// What a neighbour is told.
+    /// The messages to a neighbour.
     fn tell(&self, to: VarId, parcels: &mut Vec<Parcel>) -> Result<(), NoMemory>
         ensures { OnOk result
             (parcels.new.items ≡ parcels.old.items ++ all_to to (messages_for self.now to)) }
@@ -108,7 +108,7 @@ impl AdoptAgent {
         self.tell_parent(to, parcels)
     }
 
-    /// What these neighbours are told, in their order.
+    /// The messages to these neighbours, in their order.
     fn tell_each(&self, alloc: Global, neighbours: &[VarId]) -> Result<Vec<Parcel>, NoMemory>
         ensures { IfOk result (λ parcels. parcels.items
             ≡ flat_map (λ j. all_to j (messages_for self.now j)) neighbours.now) }
@@ -120,7 +120,7 @@ impl AdoptAgent {
         Ok(parcels)
     }
 
-    /// What all neighbours are told, by ascending receivers.
+    /// The messages to all neighbours, in ascending order of the receivers.
     pub(crate) fn tell_all(&self) -> Result<Vec<Parcel>, NoMemory>
         ensures { IfOk result (λ parcels. parcels.items ≡ adopt_sends self.now) }
     {

@@ -1,6 +1,6 @@
-//! Where an agent stands.
+//! The stages of an agent.
 
-/// Where an agent stands.
+/// The stage of an agent.
 #[derive(Clone, Copy, Debug)]
 pub(crate) enum Stage {
     /// The agent has not started.
@@ -9,6 +9,6 @@ pub(crate) enum Stage {
     Working,
     /// It has ended.
     Ended,
-    /// Memory was wanted and not had.
+    /// Memory ran out.
     Failed,
 }

@@ -14,16 +14,16 @@ pub record BoundsView : Type 0 where
 abbrev pub place_of : List ℕ → ℕ → ℕ
 place_of children j = or_zero (position (λ child. child == j) children)
 
--- the entry of own value d and a child
+-- the entry for own value d and a child
 abbrev pub entry_of : BoundsView → ℕ → ℕ → Entry
 entry_of b d j = entry_at b.rows d (place_of b.children j)
 
--- the bounds with what a child sends merged into its entry of own value d
+-- the bounds after what a child sent was merged into its entry for own value d
 abbrev pub with_merged : BoundsView → ℕ → ℕ → Context → ℕ → Option ℕ → BoundsView
 with_merged b d j r l u =
     record b { rows = put_entry b.rows d (place_of b.children j) (merged (entry_of b d j) r l u) }
 
--- the entries whose parts stand in four lists
+-- the entries whose parts are at the same places of four lists
 abbrev pub entries_of : List ℕ → List (Option ℕ) → List ℕ → List Context → List Entry
 entries_of [] us ss cs = []
 entries_of (l ∷ ls) [] ss cs = []
@@ -32,7 +32,7 @@ entries_of (l ∷ ls) (u ∷ us) (s ∷ ss) [] = []
 entries_of (l ∷ ls) (u ∷ us) (s ∷ ss) (c ∷ cs) =
     record { lower = l; upper = u; share = s; context = c } ∷ entries_of ls us ss cs
 
--- entries, cut into so many rows of so many
+-- entries, cut into `size` rows of `width` entries each
 abbrev pub rows_of : ℕ → ℕ → List Entry → List (List Entry)
 rows_of zero width es = []
 rows_of (suc size) width es = take width es ∷ rows_of size width (drop width es)

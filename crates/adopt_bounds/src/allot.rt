@@ -1,4 +1,4 @@
-//! Allotting a goal to the children of an own value.
+//! Allotting a goal to the children for one own value.
 
 ghost use Rattle.std.specs.Prelude.{◌≡◌, ℕ, ◌+◌, ◌*◌, ◌≤◌, List, Option, length, take, drop};
 ghost use Rattle.std.specs.List.{All, sum_by};
@@ -9,7 +9,7 @@ ghost use Rattle.adopt_bounds.specs.Rows.{entries_of};
 
 use crate::interval::lower_to;
 
-/// Allots the goal to the row of so many entries that starts at `start` in these lists.
+/// Allots the goal to the row of `width` entries that starts at `start` in these lists.
 pub(crate) fn allot_at(
     share: &mut [u64],
     lower: &[u64],
@@ -42,8 +42,8 @@ pub(crate) fn allot_at(
     allot_row(row, row_lower, row_upper, goal);
 }
 
-/// Raises or lowers the shares of a row, between its bounds and in order, until they are the goal
-/// together.
+/// Raises or lowers the shares of a row in order, each between its bounds, until they add up to the
+/// goal or no share can move further.
 fn allot_row(share: &mut [u64], lower: &[u64], upper: &[Option<u64>], goal: u64)
     requires lower { length lower.now ≡ length share.old }
     requires upper { length upper.now ≡ length share.old }
@@ -76,7 +76,7 @@ fn sum_of(share: &[u64]) -> u128
     sum
 }
 
-/// Raises the shares of a row, each to its upper bound at most and in order, by what is lacking.
+/// Raises the shares of a row in order by what is lacking, each to no more than its upper bound.
 fn raise(share: &mut [u64], upper: &[Option<u64>], mut lack: u64)
     requires upper { length upper.now ≡ length share.old }
     requires fits { sum_by (λ s. s) share.old + lack ≤ amount_limit }
@@ -93,7 +93,7 @@ fn raise(share: &mut [u64], upper: &[Option<u64>], mut lack: u64)
     }
 }
 
-/// Lowers the shares of a row, each to its lower bound at least and in order, by what is too much.
+/// Lowers the shares of a row in order by the excess, each to no less than its lower bound.
 fn cut(share: &mut [u64], lower: &[u64], mut excess: u128)
     requires lower { length lower.now ≡ length share.old }
     requires fits { excess ≤ amount_limit * length share.old }

@@ -18,12 +18,12 @@ use dcop_base::{CAP, NoMemory, Val, VarId, VarList, position_of};
 use std::alloc::Global;
 use std::marker::Model;
 
-/// What an ADOPT agent holds of each own value and child: a lower bound, an upper bound, which is
-/// `None` where there is none yet, the share of its threshold that is allotted to the child, and the
-/// context that the bounds rest on. All amounts are at most [`CAP`].
+/// What an ADOPT agent holds for each own value and child: a lower bound; an upper bound, which is
+/// `None` as long as there is none; the share of its threshold that is allotted to the child; and
+/// the context on which the bounds depend. All amounts are at most [`CAP`].
 ///
-/// Contracts see the children and the rows of entries, one row for each own value and in it one
-/// entry for each child, in the order of the children.
+/// Contracts see the children and the rows of entries. There is one row for each own value, with
+/// one entry for each child, in the order of the children.
 #[derive(Debug, Drop)]
 pub struct Bounds {
     children: VarList,
@@ -52,13 +52,13 @@ impl Model for Bounds {
 }
 
 impl Bounds {
-    /// Bounds of which nothing is known: all lower bounds and shares are 0, no upper bound is there,
-    /// and all contexts are empty. There are at most [`MAX_VARIABLES`](dcop_base::MAX_VARIABLES)
-    /// children.
+    /// Bounds in which nothing is known: all lower bounds and shares are 0, there are no upper
+    /// bounds, and all contexts are empty. There are at most
+    /// [`MAX_VARIABLES`](dcop_base::MAX_VARIABLES) children.
     ///
     /// # Errors
     ///
-    /// [`NoMemory`] where memory was wanted and not had. The list is gone then too.
+    /// [`NoMemory`] if memory runs out. The list is dropped in that case.
     pub fn new(alloc: Global, size: u16, children: VarList) -> Result<Bounds, NoMemory>
         requires { length children ≤ variable_limit }
         ensures children { IfOk result (λ bounds. bounds.children ≡ children) }
@@ -85,8 +85,7 @@ impl Bounds {
         &self.children
     }
 
-    /// LB(d): the cost of an own value by the agent's own tables and its lower bounds, at most
-    /// [`CAP`].
+    /// LB(d): the cost `own` of an own value plus its lower bounds, at most [`CAP`].
     pub fn lb_of(&self, own: u64, d: Val) -> u64
         requires value { d < length self.now.rows }
         ensures { result ≡ lower_at (λ e. own) self.now.rows d }
@@ -94,8 +93,8 @@ impl Bounds {
         self.totals[usize::from(d.0)].lower_with(own)
     }
 
-    /// UB(d): the same with upper bounds, at most [`CAP`]; `None` where the cost is not there or an
-    /// upper bound is not.
+    /// UB(d): the cost `own` of an own value plus its upper bounds, at most [`CAP`]; `None` if the
+    /// cost or one of the upper bounds is not there.
     pub fn ub_of(&self, own: Option<u64>, d: Val) -> Option<u64>
         requires value { d < length self.now.rows }
         ensures { result ≡ upper_at (λ e. own) self.now.rows d }
@@ -103,7 +102,8 @@ impl Bounds {
         self.totals[usize::from(d.0)].upper_with(own)
     }
 
-    /// The sum of the upper bounds of an own value, at most [`CAP`]; `None` where one is not there.
+    /// The sum of the upper bounds for an own value, at most [`CAP`]; `None` if one of them is not
+    /// there.
     pub fn upper_sum_of(&self, d: Val) -> Option<u64>
         requires value { d < length self.now.rows }
         ensures { result ≡ capped (upper_sum (row_at self.now.rows d)) }
@@ -121,8 +121,8 @@ impl Bounds {
         self.share[index_of(self.children.as_slice(), d, child)]
     }
 
-    /// Forgets the entries whose context is not part of what is known: each becomes 0, none, 0 and
-    /// empty.
+    /// Resets the entries whose context is not part of what is known: their bounds become 0 and
+    /// none, their share 0 and their context empty.
     pub fn reset(&mut self, known: &AgentContext)
         ensures { self.new ≡ record self.old { rows = reset known.now self.old.rows } }
     {
@@ -138,9 +138,9 @@ impl Bounds {
         );
     }
 
-    /// Allots the goal to the children, for an own value: their shares are raised, each to its upper
-    /// bound at most, or lowered, each to its lower bound at least, in order of the children, until
-    /// they are the goal together.
+    /// Allots the goal to the children for an own value. Their shares are raised, each to no more
+    /// than its upper bound, or lowered, each to no less than its lower bound, in the order of the
+    /// children, until they add up to the goal or no share can move further.
     pub fn allot(&mut self, d: Val, goal: u64)
         requires value { d < length self.old.rows }
         requires goal { goal ≤ amount_limit }
@@ -159,14 +159,15 @@ impl Bounds {
         );
     }
 
-    /// Merges the bounds that a child sends into the entry of an own value: the larger lower bound
-    /// and the smaller upper one, of which `None` is the largest, the pairs of both contexts, and the
-    /// share raised to the lower bound and lowered to the upper one. Answers `false` exactly where
-    /// that lower bound would exceed the upper one; nothing changes then.
+    /// Merges the bounds that a child sends into the entry for an own value. The entry gets the
+    /// larger lower bound and the smaller upper bound (`None` counts as the largest), and the pairs
+    /// of both contexts. Its share is raised to the lower bound and lowered to the upper one.
+    /// Returns `false` exactly if that lower bound would exceed the upper one; nothing changes in
+    /// that case.
     ///
     /// # Errors
     ///
-    /// [`NoMemory`] where memory was wanted and not had. Nothing has changed then.
+    /// [`NoMemory`] if memory runs out; nothing changes in that case.
     pub fn store(
         &mut self,
         d: Val,
@@ -202,7 +203,7 @@ impl Bounds {
     }
 }
 
-/// So many upper bounds that are not there yet.
+/// `count` upper bounds that are not there yet.
 fn none_yet(alloc: Global, count: usize) -> Result<Vec<Option<u64>>, NoMemory>
     ensures { IfOk result (λ upper. upper.items ≡ replicate count None) }
 {
@@ -213,7 +214,7 @@ fn none_yet(alloc: Global, count: usize) -> Result<Vec<Option<u64>>, NoMemory>
     Ok(upper)
 }
 
-/// The index of the entry of an own value and a child in the flat lists.
+/// The index in the flat lists of the entry for an own value and a child.
 fn index_of(children: &[VarId], d: Val, child: VarId) -> usize
     requires child { has children.now child ≡ true }
     requires within { (d + 1) * length children.now ≤ usize.MAX }

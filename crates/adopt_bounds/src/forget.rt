@@ -1,4 +1,4 @@
-//! Forgetting entries that do not rest on what is known.
+//! Resetting entries whose context is not part of what is known.
 
 ghost use Rattle.std.specs.Prelude.{◌≡◌, ◌*◌, ◌<◌, ◌≤◌, length, map};
 ghost use Rattle.adopt_context.specs.Allot.{kept, reset};
@@ -9,7 +9,7 @@ use crate::interval::Interval;
 use crate::totals::Totals;
 use adopt_context::AgentContext;
 
-/// Forgets the entries of these rows, of so many each, whose context is not part of what is known.
+/// Resets the entries whose context is not part of what is known. Each row has `width` entries.
 pub(crate) fn forget_rows(
     totals: &mut [Totals],
     lower: &mut [u64],
@@ -36,7 +36,7 @@ pub(crate) fn forget_rows(
     forget_rows(totals, lower, upper, share, contexts, width, known);
 }
 
-/// Forgets the entries of a row whose context is not part of what is known.
+/// Resets the entries of a row whose context is not part of what is known.
 fn forget_row(
     totals: &mut Totals,
     lower: &mut [u64],

@@ -4,7 +4,7 @@ ghost use Rattle.std.specs.Prelude.{◌≡◌, max, true, false, MatchOption};
 ghost use Rattle.adopt_context.specs.Allot.{lower_to};
 ghost use Rattle.adopt_context.specs.Merge.{is_at_most, lesser};
 
-/// A lower bound and an upper bound, which is `None` where there is none yet.
+/// A lower bound and an upper bound, which is `None` as long as there is none.
 #[derive(Clone, Copy, Debug)]
 pub(crate) struct Interval {
     pub lower: u64,
@@ -12,7 +12,7 @@ pub(crate) struct Interval {
 }
 
 impl Interval {
-    /// The larger of the lower bounds and the smaller of the upper ones; `None` exactly where they
+    /// The larger of the lower bounds and the smaller of the upper ones; `None` exactly if these
     /// cross.
     pub(crate) fn merged(self, other: Interval) -> Option<Interval>
         ensures { MatchOption result
@@ -40,7 +40,7 @@ impl Interval {
     }
 }
 
-/// The lesser of two bounds; `None` is the largest.
+/// The lesser of two upper bounds; `None` counts as the largest.
 fn lesser(one: Option<u64>, other: Option<u64>) -> Option<u64>
     ensures { result ≡ lesser one other }
 {
@@ -60,7 +60,7 @@ fn is_at_most(lower: u64, upper: Option<u64>) -> bool
     }
 }
 
-/// The amount, or the bound where the amount is above it.
+/// The amount, or the bound if the amount is above it.
 pub(crate) fn lower_to(amount: u64, bound: Option<u64>) -> u64
     ensures { result ≡ lower_to amount bound }
 {

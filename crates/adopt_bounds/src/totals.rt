@@ -7,21 +7,21 @@ ghost use Rattle.adopt_context.specs.Context.{or_zero};
 use crate::interval::Interval;
 use dcop_base::CAP;
 
-/// What the bounds of a row are together.
+/// The sums of the bounds of a row.
 #[derive(Clone, Copy, Debug)]
 pub(crate) struct Totals {
     /// The sum of the lower bounds.
     pub lower: u128,
     /// The sum of the upper bounds that are there.
     pub upper: u128,
-    /// How many upper bounds are none.
+    /// The number of upper bounds that are none.
     pub missing: usize,
 }
 
 impl Totals {
     ghost use Rattle.adopt_bounds.specs.Totals.{missing_of, totals_of, upper_of};
 
-    /// The totals of a row of so many entries of which nothing is known.
+    /// The totals of a row of `width` entries in which nothing is known.
     pub(crate) fn of_blank(width: usize) -> Totals
         ensures { result ≡ totals_of (replicate width blank) }
     {
@@ -40,8 +40,8 @@ impl Totals {
         capped_sum(self.lower, own)
     }
 
-    /// The sum of the upper bounds and a cost, at most [`CAP`]; `None` where the cost is not there or
-    /// an upper bound is not.
+    /// The sum of the upper bounds and a cost, at most [`CAP`]; `None` if the cost or one of the
+    /// upper bounds is not there.
     pub(crate) fn upper_with(self, own: Option<u64>) -> Option<u64>
         requires { self.upper < 2 ^ 127 }
         ensures { result ≡ capped (plus_bound own (upper_of self)) }
@@ -55,7 +55,7 @@ impl Totals {
         }
     }
 
-    /// An entry of the row gets other bounds in place of those that it had.
+    /// Replaces the bounds of an entry of the row by others.
     pub(crate) fn exchange(&mut self, old: Interval, new: Interval)
         requires lower { old.lower ≤ self.old.lower }
         requires upper { or_zero old.upper ≤ self.old.upper }

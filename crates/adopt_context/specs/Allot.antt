@@ -1,45 +1,45 @@
--- What an ADOPT agent does to its entries: forgetting, and allotting its threshold to its children.
+-- What an ADOPT agent does with its entries: it resets them, and allots its threshold to its children.
 use Rattle.std.specs.Prelude.{ℕ, ◌+◌, ◌-◌, List, [], ◌∷◌, map, Option, Some, None, nat_lt, if◌then◌else◌, min, max}
 use Rattle.std.specs.List.{sum_by}
 use Rattle.adopt_context.specs.Context.{Context, part_of}
 use Rattle.adopt_context.specs.Bounds.{Entry, blank}
 
--- an entry, forgotten where it does not rest on a part of the context x
+-- an entry, or the blank entry if the entry's context is not part of the context x
 abbrev pub kept : Context → Entry → Entry
 kept x e = if part_of e.context x then e else blank
 
--- reset: all entries that do not rest on a part of the context x are forgotten
+-- reset: every entry whose context is not part of the context x becomes blank
 abbrev pub reset : Context → List (List Entry) → List (List Entry)
 reset x rows = map (λ row. map (kept x) row) rows
 
--- a number, or the bound where the number is above it
+-- a number, or the upper bound if there is one and the number is above it
 abbrev pub lower_to : ℕ → Option ℕ → ℕ
 lower_to x None = x
 lower_to x (Some u) = min x u
 
--- what is allotted to the children together, without the cap
+-- the sum of the shares allotted to the children, without the cap
 abbrev pub share_sum : List Entry → ℕ
 share_sum row = sum_by (λ e. e.share) row
 
--- the share that an entry gets where so much is still lacking: no more than its upper bound
+-- the share of an entry raised by what is lacking, but to no more than its upper bound
 abbrev pub raised : ℕ → Entry → ℕ
 raised lack e = lower_to (e.share + lack) e.upper
 
--- raises the shares of a row, in order of the children, until nothing is lacking
+-- raises the shares of a row by what is lacking, in the order of the children, each to no more than its upper bound
 abbrev pub raise : ℕ → List Entry → List Entry
 raise lack [] = []
 raise lack (e ∷ es) = record e { share = raised lack e } ∷ raise (lack + e.share - raised lack e) es
 
--- the share that an entry gets where so much is still too much: no less than its lower bound
+-- the share of an entry lowered by the excess, but to no less than its lower bound
 abbrev pub lowered : ℕ → Entry → ℕ
 lowered excess e = max (e.share - excess) e.lower
 
--- lowers the shares of a row, in order of the children, until nothing is too much
+-- lowers the shares of a row by the excess, in the order of the children, each to no less than its lower bound
 abbrev pub cut : ℕ → List Entry → List Entry
 cut excess [] = []
 cut excess (e ∷ es) = record e { share = lowered excess e } ∷ cut (excess + lowered excess e - e.share) es
 
--- allots the goal to the children of a row; where their shares are the goal together, they stay
+-- allots the goal to the children of a row; if their shares already add up to the goal, they stay
 abbrev pub allot : ℕ → List Entry → List Entry
 allot goal row =
     if nat_lt (share_sum row) goal then raise (goal - share_sum row) row

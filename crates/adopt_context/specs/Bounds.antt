@@ -1,17 +1,17 @@
--- Bounds of an ADOPT agent: an entry for each own value and child, and the bounds that they give.
+-- Bounds of an ADOPT agent: one entry for each own value and child, and the bounds that the entries give.
 use Rattle.std.specs.Prelude.{ℕ, suc, zero, ◌+◌, Bool, true, false, List, [], ◌∷◌, Option, Some, None, nat_lt, if◌then◌else◌, slice_index_or, min}
 use Rattle.std.specs.List.{sum_by}
 use Rattle.adopt_context.specs.Context.{Context}
 use Rattle.dcop_base.specs.Limits.{amount_limit}
 
--- what an agent holds of one own value and one child: bounds, of which one that is none is not there yet, the share that is allotted to the child, and the context that they rest on
+-- what an agent holds for one own value and one child: the lower and the upper bound, which is none as long as it is not known; the share allotted to the child; and the context on which the bounds depend
 pub record Entry : Type 0 where
   pub lower : ℕ
   pub upper : Option ℕ
   pub share : ℕ
   pub context : Context
 
--- the entry of which nothing is known
+-- the entry in which nothing is known
 abbrev pub blank : Entry
 blank = record { lower = 0; upper = None; share = 0; context = [] }
 
@@ -27,7 +27,7 @@ entry_at rows d k = slice_index_or (row_at rows d) k blank
 abbrev pub cap : ℕ → ℕ
 cap x = min x amount_limit
 
--- the sum of two bounds, which is none where one of them is
+-- the sum of two upper bounds; none if one of them is none
 abbrev pub plus_bound : Option ℕ → Option ℕ → Option ℕ
 plus_bound None y = None
 plus_bound (Some x) None = None
@@ -42,20 +42,20 @@ abbrev pub upper_sum : List Entry → Option ℕ
 upper_sum [] = Some 0
 upper_sum (e ∷ es) = plus_bound e.upper (upper_sum es)
 
--- a bound, cut off at the cap
+-- an upper bound, cut off at the cap
 abbrev pub capped : Option ℕ → Option ℕ
 capped None = None
 capped (Some x) = Some (cap x)
 
--- LB(d): the cost of d by the agent's own tables, and the lower bounds of its row
+-- LB(d): the cost of d by the agent's own tables plus the lower bounds of its row
 abbrev pub lower_at : (ℕ → ℕ) → List (List Entry) → ℕ → ℕ
 lower_at own rows d = cap (own d + lower_sum (row_at rows d))
 
--- UB(d): the same with upper bounds; none where the own cost is not yet known, or a bound is none
+-- UB(d): the cost of d plus the upper bounds of its row; none if the own cost is not yet known or a bound is none
 abbrev pub upper_at : (ℕ → Option ℕ) → List (List Entry) → ℕ → Option ℕ
 upper_at own rows d = capped (plus_bound (own d) (upper_sum (row_at rows d)))
 
--- whether one bound is below another; none is the largest
+-- whether one upper bound is below another; none counts as the largest
 abbrev pub is_below : Option ℕ → Option ℕ → Bool
 is_below None y = false
 is_below (Some x) None = true

@@ -1,4 +1,4 @@
-//! Contexts: what is known of the values of some variables.
+//! Contexts: what is known of the values of variables.
 
 ghost use Rattle.std.specs.Prelude.{◌≡◌, ℕ, List, [], true, not, ◌==◌, IfOk, OnOk, OnErr};
 ghost use Rattle.std.specs.List.{filter};
@@ -10,7 +10,7 @@ use std::alloc::{AllocError, Global};
 use std::marker::Model;
 
 /// A finite map from variables to values, which contracts see as the list of its pairs. The
-/// variables of the pairs ascend strictly, so each stands in one pair at most.
+/// variables of the pairs are strictly ascending, so each is in at most one pair.
 #[derive(Debug, Drop)]
 pub struct AgentContext {
     pairs: Vec<(VarId, Val)>,
@@ -37,7 +37,7 @@ impl AgentContext {
         }
     }
 
-    /// The value of a variable; `None` exactly where the variable is not named.
+    /// The value of a variable; `None` exactly if the context does not name it.
     pub fn get(&self, var: VarId) -> Option<Val>
         ensures { result ≡ value_in self.now var }
     {
@@ -73,11 +73,11 @@ impl AgentContext {
         name_each(self.pairs.as_slice(), vars.as_slice())
     }
 
-    /// Gives the variable this value, in place of the one that it had.
+    /// Gives the variable this value. A value that it had is replaced.
     ///
     /// # Errors
     ///
-    /// [`NoMemory`] where memory was wanted and not had. The context is then as before.
+    /// [`NoMemory`] if memory runs out. The context is then unchanged.
     pub fn set(&mut self, var: VarId, value: Val) -> Result<(), NoMemory>
         ensures given { OnOk result (self.new ≡ put self.old var value) }
         ensures kept { OnErr result (self.new ≡ self.old) }
@@ -85,7 +85,7 @@ impl AgentContext {
         put(&mut self.pairs, var, value)
     }
 
-    /// Forgets all pairs. The memory stays with the context.
+    /// Removes all pairs. The context keeps its memory.
     pub fn clear(&mut self)
         ensures { self.new ≡ [] }
     {
@@ -96,7 +96,7 @@ impl AgentContext {
     ///
     /// # Errors
     ///
-    /// [`NoMemory`] where memory was wanted and not had. The context is then as before.
+    /// [`NoMemory`] if memory runs out. The context is then unchanged.
     pub fn union(&mut self, other: &AgentContext) -> Result<(), NoMemory>
         requires { compatible self.old other.now ≡ true }
         ensures joined { OnOk result (self.new ≡ union self.old other.now) }
@@ -114,7 +114,7 @@ impl AgentContext {
     ///
     /// # Errors
     ///
-    /// [`NoMemory`] where memory was wanted and not had.
+    /// [`NoMemory`] if memory runs out.
     pub fn without(&self, var: VarId) -> Result<AgentContext, NoMemory>
         ensures { IfOk result (λ context. context ≡ filter (λ p. not (p.0 == var)) self.now) }
     {
@@ -126,7 +126,7 @@ impl AgentContext {
     ///
     /// # Errors
     ///
-    /// [`NoMemory`] where memory was wanted and not had.
+    /// [`NoMemory`] if memory runs out.
     pub fn copy(&self) -> Result<AgentContext, NoMemory>
         ensures { IfOk result (λ context. context ≡ self.now) }
     {

@@ -1,4 +1,4 @@
-//! Sizes that stand beside variables.
+//! Sizes listed beside variables.
 
 ghost use Rattle.std.specs.Prelude.{◌≡◌, length};
 ghost use Rattle.std.specs.List.{zip};
@@ -6,8 +6,8 @@ ghost use Rattle.adopt_context.specs.Context.{value_in};
 
 use dcop_base::VarId;
 
-/// The size that stands beside a variable, at the same place of the second list; `None` exactly
-/// where the variable is none of these.
+/// The size of a variable, at the variable's place in the second list; `None` exactly if the
+/// variable is not in the first list.
 #[tactic(auto, using(crate::proofs::SizeLaws::size_next))]
 pub fn size_beside(vars: &[VarId], sizes: &[u16], var: VarId) -> Option<u16>
     requires { length sizes.now ≡ length vars.now }

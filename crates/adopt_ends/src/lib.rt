@@ -1,7 +1,7 @@
-//! The end of a run of ADOPT agents: what all of them hold once they have ended.
+//! The end of a run of ADOPT agents: what holds once all of them have ended.
 //!
-//! The law is about definitions alone. It is the contract of a call that does nothing: who needs
-//! the law calls it.
+//! The law is about definitions alone. It is the contract of a call that does nothing: code that
+//! needs the law calls it.
 #![tactic(auto)]
 
 mod law;

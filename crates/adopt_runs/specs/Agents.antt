@@ -22,11 +22,11 @@ use Rattle.adopt_runs.specs.Uncut.{AreUncut}
 abbrev pub IsValueAbove : Dcop → List (List ℕ) → ℕ → ℕ × ℕ → Type 0
 IsValueAbove p paths i q = (is_above paths q.0 i ≡ true) × (q.1 < slice_index p.sizes q.0)
 
--- the bounds of an entry enclose its child, under the entry's context with variable i at the entry's value
+-- the bounds of an entry enclose the child, under the entry's context together with the entry's value for variable i
 abbrev pub EntryEncloses : Dcop → List (List ℕ) → ℕ → ℕ → ℕ → Entry → Type 0
 EntryEncloses p paths i d k e = Encloses p paths (slice_index (children_of paths i) k) (value_in (put e.context i d)) e.lower e.upper
 
--- what holds of the agent of variable i: it was made from what variable i knows, its place and the error; what it knows are values of its proper ancestors, each below its variable's size; it has for each own value a row of one entry for each child; its bounds enclose it under what it knows, and each entry its child; the cap cuts none of its bounds; and where it knows all higher neighbours, its threshold is what its value costs and the shares of its children
+-- what holds of the agent of variable i: it was made from what variable i knows, its place and the error; it knows only values of its proper ancestors, each below its variable's size; it has for each own value a row with one entry for each child; its bounds enclose its subtree optimum under what it knows, and each entry's bounds enclose that of its child; none of its bounds is cut off at the cap; and if it knows all higher neighbours, its threshold is the cost of its value plus the shares of its children
 pub record IsAgentOf (p : Dcop) (paths : List (List ℕ)) (error i : ℕ) (v : AdoptView) : Type 0 where
   pub made : made_of (AdoptKind v) ≡ OfAdopt (private_of p i) (place_at p paths i) error
   pub value_below : v.value < slice_index p.sizes i
@@ -43,7 +43,7 @@ pub record IsAgentOf (p : Dcop) (paths : List (List ℕ)) (error i : ℕ) (v : A
 abbrev pub AreAgents : Dcop → List (List ℕ) → ℕ → List View → Type 0
 AreAgents p paths error views = (i : ℕ) → i < length p.sizes → (v : AdoptView) × (slice_get views i ≡ Some (AdoptKind v)) × IsAgentOf p paths error i v
 
--- what variable i may send: the context of a COST gives proper ancestors values of theirs, and its bounds enclose the variable under it
+-- what variable i may send: the context of a COST gives proper ancestors values below their sizes, and its bounds enclose the variable's subtree optimum under the context
 abbrev pub IsSent : Dcop → List (List ℕ) → ℕ → Message → Type 0
 IsSent p paths i (Cost context lower upper) = All (IsValueAbove p paths i) context × Encloses p paths i (value_in context) lower upper
 IsSent p paths i message = Unit {0}

@@ -13,13 +13,13 @@ use Rattle.protocol_steps.specs.AdoptBounds.{delta, lower_bound, upper_bound}
 use Rattle.protocol_steps.specs.AdoptStep.{adopt_start, adopt_step}
 use Rattle.dcop_optimum.specs.Enclosing.{IsAtMost}
 
--- an entry rests on a part of what is known, and its share lies between its bounds
+-- the context of an entry is part of what is known, and its share is between its bounds
 pub record EntryHolds (known : Context) (e : Entry) : Type 0 where
   pub part : part_of e.context known ≡ true
   pub low : e.lower ≤ e.share
   pub high : IsAtMost e.share e.upper
 
--- the entries of an agent: each one holds, the threshold lies between the bounds, and it is the cost of the value and what is allotted to the children, where all higher neighbours are known and the lower bounds' sum is not cut
+-- the entries of an agent: each one holds; the threshold is between the agent's bounds; and it is the cost of the value plus the shares of the children if all higher neighbours are known and the sum for the lower bound is not cut off at the cap
 pub record EntriesHold (v : AdoptView) : Type 0 where
   pub entries : (d k : ℕ) → EntryHolds v.known (entry_at v.rows d k)
   pub low : lower_bound v ≤ v.threshold
@@ -31,6 +31,6 @@ pub record EntriesHold (v : AdoptView) : Type 0 where
 abbrev pub after_batches : AdoptView → List (List (ℕ × Message)) → AdoptView
 after_batches made batches = fold (λ v ls. (adopt_step v ls).view) (adopt_start made).view batches
 
--- the entries of every agent hold after its start and every activation, whatever it receives
+-- the entries of every agent hold after its start and after every activation, whatever it receives
 abbrev pub AdoptEntries : Type 0
 AdoptEntries = (own : Private) (place : Place) (error : ℕ) (batches : List (List (ℕ × Message))) → EntriesHold (after_batches (new_adopt own place error) batches)

@@ -1,4 +1,4 @@
--- The law that runs of ADOPT go on.
+-- The law that runs of ADOPT can continue until they end.
 use Rattle.std.specs.Prelude.{◌≡◌, ℕ, false, List}
 use Rattle.dcop_base.specs.Problem.{Dcop}
 use Rattle.dcop_base.specs.Whole.{IsProblem}

@@ -19,24 +19,24 @@ use Rattle.protocol_steps.specs.View.{AdoptKind}
 use Rattle.adopt_runs.specs.AdoptRun.{IsAdoptRun}
 use Rattle.adopt_runs.specs.Agents.{IsSent, AreAgents}
 
--- what holds at the end of a run of ADOPT, be all agents ended or not
+-- what holds at the end of a run of ADOPT, whether or not all agents have ended
 pub record HoldsOfAdopt (p : Dcop) (paths : List (List ℕ)) (error : ℕ) (end : Network) : Type 0 where
   pub sized : length end.views ≡ length p.sizes
   pub agents : AreAgents p paths error end.views
   pub sent : (i j : ℕ) → All (IsSent p paths i) (link end.desks i j)
 
--- in every run of ADOPT on a pseudotree, for every requested error, the bounds of all agents, of their entries and of what they send enclose
+-- in every run of ADOPT on a pseudotree, for every requested error, the bounds of all agents, of their entries and of what they send enclose the subtree optima
 abbrev pub AdoptBoundsEnclose : Type 0
 AdoptBoundsEnclose = (p : Dcop) (paths : List (List ℕ)) (error : ℕ) → IsProblem p → IsPseudotree p paths
     → (es : List Event) (end : Network) → IsAdoptRun p paths error es end → HoldsOfAdopt p paths error end
 
--- the bounds of a COST from agent j do not cross those that are stored: where they rest on what the agent knows once it has learned from the COST, they may be stored
+-- the bounds of a COST from agent j do not cross the stored ones: they may be stored if their context is part of what the agent knows after it has learned from the COST
 abbrev pub DoesNotCross : AdoptView → ℕ → Context → ℕ → Option ℕ → Type 0
 DoesNotCross v j c l u = (k d : ℕ) → position (λ child. child == j) v.place.children ≡ Some k → value_in c v.own.me ≡ Some d → d < v.own.size
     → fits v (without v.own.me c) ≡ true → part_of (without v.own.me c) (learn v (without v.own.me c)).known ≡ true
     → may_store (learn v (without v.own.me c)) d k (without v.own.me c) l u ≡ true
 
--- in every run of ADOPT on a pseudotree no COST is passed over for crossed bounds, by no event and after no part of its batch
+-- in every run of ADOPT on a pseudotree no COST is ignored because its bounds cross the stored ones, in no event and at no message of its batch
 abbrev pub NoBoundsCross : Type 0
 NoBoundsCross = (p : Dcop) (paths : List (List ℕ)) (error : ℕ) → IsProblem p → IsPseudotree p paths
     → (es : List Event) (net after : Network) (e : Event) → IsAdoptRun p paths error es net → happen (Some net) e ≡ Some after

@@ -1,4 +1,4 @@
--- Bounds that the cap does not cut: each is the plain sum.
+-- Bounds that are not cut off at the cap: each is the plain sum.
 use Rattle.std.specs.Prelude.{◌≡◌, ℕ, ◌+◌, ◌<◌, slice_index}
 use Rattle.std.specs.List.{filter}
 use Rattle.dcop_base.specs.Problem.{Dcop}
@@ -19,7 +19,7 @@ pub record IsUncutAt (v : AdoptView) (d : ℕ) : Type 0 where
   pub children : capped (upper_sum (row_at v.rows d)) ≡ upper_sum (row_at v.rows d)
   pub upper : upper_of v d ≡ plus_bound (whole_delta v d) (upper_sum (row_at v.rows d))
 
--- they are so for each own value of the agent of variable i, and so are LB, which is the least LB(d), and UB, the least UB(d)
+-- these sums are plain for each own value of the agent of variable i, and so for LB, which is the least LB(d), and for UB, the least UB(d)
 pub record AreUncut (p : Dcop) (i : ℕ) (v : AdoptView) : Type 0 where
   pub each : (d : ℕ) → d < slice_index p.sizes i → IsUncutAt v d
   pub lower : IsUncutAt v (best_lower v)

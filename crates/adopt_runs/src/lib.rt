@@ -1,7 +1,7 @@
 //! Runs of ADOPT agents: what holds of every agent and of every run.
 //!
-//! The laws are about definitions alone. Each is the contract of a call that does nothing: who
-//! needs the law calls it.
+//! The laws are about definitions alone. Each is the contract of a call that does nothing: code
+//! that needs the law calls it.
 #![tactic(auto)]
 
 mod law;

@@ -208,7 +208,7 @@ fresh_cell s started me sent taken up stamp journal unsent untaken = record {
   running = λ (e : false ≡ true). absurd (true≢false (sym e));
 }
 
--- to who is not among the receivers nothing is sent
+-- nothing is sent to an agent that is not among the receivers
 unposted : (among : List ℕ) (j : ℕ) (ps : List (ℕ × Message)) → All (λ p. Contains among p.0) ps → has among j ≡ false → posted_to j (post 0 ps) ≡ []
 unposted among j [] h none = refl
 unposted among j (p ∷ ps) h none =
@@ -246,7 +246,7 @@ written n xs ys zs len size same =
 pub failed : {P : Type 0} (f : VisitFault) → Some f ≡ None → P
 failed f e = absurd (cc)
 
--- settling a link changes nothing that the invariant speaks of
+-- settling a link changes nothing on which the invariant depends
 pub sound_quiet : (begun : Bool) (fault : Option VisitFault) (s t : CellState) → IsSound begun fault s → IsQuiet s t → IsSound begun fault t
 sound_quiet begun fault s t i q = record {
   me = ap (λ (v : View). (private_of v).me) q.viewed ∙ i.me ∙ sym q.me;

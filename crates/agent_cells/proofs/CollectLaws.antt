@@ -50,7 +50,7 @@ has_found before after room found count letters more_letters takes more_takes gr
       greatest_is = g;
     }
 
--- the first k heads were looked at, the others stand as they stood
+-- the first k heads were looked at, and the others have not changed
 pub record IsCollecting (k : ℕ) (initial now : List Head) (letters : List (ℕ × Message)) (takes : List Take) (greatest : ℕ) : Type 0 where
   pub findings : List Finding
   pub before_is : take k initial ≡ map (λ f. f.before) findings

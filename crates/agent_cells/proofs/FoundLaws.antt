@@ -201,7 +201,7 @@ served j (f ∷ fs) =
     let same : length (gained_from j (some_of f.gain)) ≡ length (if f.before.0 == j then f.gain.envelopes else gained-nothing) = ap length here in
     omega (arith, own, rest, both, same, sum_by-cons (λ (k : ℕ × ℕ). if k.0 == j then k.1 else 0) (f.before.0, length (known_to f.before.1)) (known_of (befores fs)))
 
--- where nothing is found there are no gains
+-- if nothing is found there are no gains
 some-gain : (gs : List Gain) → 0 < length (letters_of gs) → (length (takes_of gs) == 0) ≡ false
 some-gain [] h = let no : 0 < 0 = h in absurd (omega arith)
 some-gain (g ∷ gs) h = eqb-suc-zero (length (takes_of gs))

@@ -67,7 +67,7 @@ none_all ys k end none j = sym (ap (λ hs. known_from j (known_of hs)) (ap (λ n
 pub found_nothing : (xs ys : List Head) → HaveLooked xs ys → ((j : ℕ) → known_from j (known_of ys) ≡ 0) → HasFoundNothing xs ys
 found_nothing xs ys l none = record { look = l; none = λ j. let a = l.known j in let b = none j in omega (arith, a, b) }
 
--- what stands on a cell's links after a look at its heads
+-- the messages on a cell's links after a look at its heads
 pub looked_taken : (xs ys zs : List Head) → HaveLooked ys zs → ys ≡ xs → lanes_taken xs ≡ lanes_taken zs
 looked_taken xs ys zs l e = sym (l.taken ∙ ap lanes_taken e)
 

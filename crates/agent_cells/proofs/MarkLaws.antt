@@ -56,7 +56,7 @@ marked_more k a sends p xs ys h inside to is size here others = record {
 pub marked_all : (k : ℕ) (sends : List (ℕ × Message)) (xs : List Bool) → length sends ≤ k → HaveMarked k sends xs → AreMarked sends xs
 marked_all k sends xs most h = record { each = λ j e i d lt. h.each j i d e (omega (arith, lt, most)) }
 
--- to whom no parcel goes, to him nothing is sent
+-- nothing is sent to an agent to which no parcel goes
 unposted : (s j : ℕ) (sends : List (ℕ × Message)) → All (λ p. p.0 ≢ j) sends → posted_to j (post s sends) ≡ []
 unposted s j [] none = refl
 unposted s j (p ∷ sends) none =

@@ -1,4 +1,4 @@
--- Halving ends that ascend.
+-- Binary search among ends in ascending order.
 use Rattle.std.proofs.Common.{◌≡◌, ℕ, ◌+◌, ◌<◌, ◌≤◌, ◌==◌, Bool, false, cond, Some, None, Option, List, [], ◌∷◌, map, length, get_or, refl, sym, ap, subst, ◌∙◌, inl, inr, arith}
 use Rattle.std.specs.Prelude.{nat_lt}
 use Rattle.std.specs.List.{position, position_or_len}
@@ -12,7 +12,7 @@ module _ {A : Type 0} where
   abbrev Ascends : List (ℕ × A) → Type 0
   Ascends xs = IsStrictlyIncreasing (map (λ (e : ℕ × A). e.0) xs)
 
-  -- those before the first place are below a peer, and those from the second place on are not
+  -- the ends before the first place are below a peer, and those from the second place on are not
   pub record IsHalving (xs : List (ℕ × A)) (peer low high : ℕ) : Type 0 where
     pub order : low ≤ high
     pub most : high ≤ length xs
@@ -75,7 +75,7 @@ module _ {A : Type 0} where
       (λ i lt. let low = below i e lt in ne_eqb (get_or xs i e).0 peer (λ same. omega (arith, low, same))) (λ _. eq-eqb (get_or xs k e).0 peer is) in
       sym (ap (λ n. cond (nat_lt n (length xs)) (Some n) None) first ∙ ap (λ (b : Bool). cond b (Some k) None) (lt-ltb k (length xs) inside))
 
-  -- the same, at a place that was looked at by itself
+  -- the same, at a place that was looked at first
   pub place_right : (xs : List (ℕ × A)) (peer k : ℕ) (e : ℕ × A) → Ascends xs → k < length xs → (get_or xs k e).0 ≡ peer → Some k ≡ position (λ x. x.0 == peer) xs
   place_right xs peer k e up inside is =
       let at : (d : ℕ × A) → (get_or xs k d).0 ≡ peer = λ d. subst (λ (x : ℕ × A). x.0 ≡ peer) (get_or_default xs k e d inside) is in

@@ -20,7 +20,7 @@ module _ {A : Type 0} (key : A → ℕ) (messages : A → List (ℕ × Message))
   lanes_by [] = []
   lanes_by (x ∷ xs) = record { peer = key x; messages = messages x } ∷ lanes_by xs
 
-  -- the end of a peer, and what stands on its lane
+  -- the end of a peer, and the messages of its lane
   record IsEnd (xs : List A) (j : ℕ) : Type 0 where
     pub place : ℕ
     pub end : A

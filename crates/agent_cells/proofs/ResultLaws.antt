@@ -1,4 +1,4 @@
--- What holds where a call succeeded.
+-- What holds if a call succeeded.
 use Rattle.std.proofs.Common.{◌≡◌, sym, ap, ◌∙◌, subst, true, false, Result, Ok, Err, Option, Some, None}
 use Rattle.std.specs.Prelude.{OnOk, IsErrAnd, MatchOption, is_ok, is_err}
 
@@ -10,7 +10,7 @@ pub on_ok : {T E : Type 0} (r : Result T E) {A B : Type 0} → OnOk r A → (A �
 on_ok (Ok x) a f = f a
 on_ok (Err e) a f = a
 
--- a result that is one exactly where another one is
+-- a result that succeeded exactly if another one did
 pub on_ok_as : {T U E F : Type 0} (q : Result U F) (r : Result T E) {A B : Type 0} → is_ok q ≡ is_ok r → OnOk r A → (A → B) → OnOk q B
 on_ok_as (Err f) r e a g = tt
 on_ok_as (Ok y) (Ok x) e a g = g a

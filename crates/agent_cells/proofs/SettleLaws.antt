@@ -18,7 +18,7 @@ use Rattle.agent_cells.specs.Settled.{StandsAt, TailJoins, HeadJoins, EndsJoin, 
 use Rattle.agent_cells.proofs.SameLaws.{same_tails, same_heads, tails_set, heads_set}
 
 module _ {A : Type 0} (key : A → ℕ) where
-  -- keys that ascend stand once
+  -- a key is there once if keys are in strictly ascending order
   unique : (xs : List A) (i k : ℕ) (d : A) → IsStrictlyIncreasing (map key xs) → i < length xs → k < length xs → key (get_or xs i d) ≡ key (get_or xs k d) → i ≡ k
   unique [] i k d up lt _ e = let no : i < 0 = lt in absurd (omega arith)
   unique (x ∷ xs) zero zero d up _ _ e = refl
@@ -30,18 +30,18 @@ module _ {A : Type 0} (key : A → ℕ) where
       let low : key x < key x = head_below (key x) (map key xs) (key x) up (i, omega (arith, short, length-map xs key), get_or-map key xs i d (key x) short ∙ e) in absurd (omega (arith, low))
   unique (x ∷ xs) (suc i) (suc k) d up lt lt' e = ap suc (unique xs i k d (IsStrictlyIncreasing-tail (key x) (map key xs) up) (omega (arith, lt)) (omega (arith, lt')) e)
 
-  -- where a key was found
+  -- a key was found at this place
   found : (xs : List A) (j k : ℕ) (d : A) → Some k ≡ position (λ a. key a == j) xs → StandsAt xs k (get_or xs k d) × (key (get_or xs k d) ≡ j)
   found xs j k d is =
       let facts = position-Some (λ a. key a == j) xs k d (sym is) in
       (record { inside = facts.0; is = get_or_default xs k (get_or xs k d) d facts.0 }, eqb-true (key (get_or xs k d)) j facts.1)
 
-  -- where it was not
+  -- the key was not found
   nowhere : (xs : List A) (j k : ℕ) (x : A) → None ≡ position (λ a. key a == j) xs → StandsAt xs k x → key x ≡ j → ⊥
   nowhere xs j k x none at is =
       true≢false (sym (eq-eqb (key x) j is) ∙ sym (ap (λ a. key a == j) at.is) ∙ position-none (λ a. key a == j) xs (sym none) k x at.inside)
 
-  -- what has the key after it was written there
+  -- the element with the key after an element was written at its place
   written_one : (xs : List A) (j k i : ℕ) (d y x : A) → IsStrictlyIncreasing (map key xs) → Some k ≡ position (λ a. key a == j) xs → StandsAt (set xs k y) i x → key x ≡ j → x ≡ y
   written_one xs j k i d y x up is at same =
       let f = found xs j k x is in
@@ -53,7 +53,7 @@ module _ {A : Type 0} (key : A → ℕ) where
             absurd (ne (unique xs i k x up inside f.0.inside (ap key here ∙ same ∙ sym f.1)))
       ]
 
-  -- what has another key stands where it stood
+  -- an element with another key has not changed
   others_stand : (xs : List A) (j k i : ℕ) (y x : A) → Some k ≡ position (λ a. key a == j) xs → StandsAt xs i x → (key x ≡ j → ⊥) → StandsAt (set xs k y) i x
   others_stand xs j k i y x is at other =
       let f = found xs j k x is in

@@ -10,7 +10,8 @@ use Rattle.fifo_links.specs.Link.{taken_from, known_to}
 use Rattle.worker_runs.specs.Cells.{known_from}
 use Rattle.agent_cells.specs.Links.{Head, IsSameHead, AreSameHeads, lanes_taken, known_of}
 
--- one head before and after all was taken that it found, with what this was: at least what it knew, and at most what a ring holds
+-- one head before and after it took all that it found, and what it took: at least what it knew of,
+-- and at most what a ring holds
 pub record Finding : Type 0 where
   pub before : Head
   pub gain : Gain
@@ -21,7 +22,7 @@ pub record Finding : Type 0 where
   pub most : length gain.envelopes ≤ ring_slots
   pub known : length (known_to before.1) ≤ length gain.envelopes
 
--- what was taken of peer j, where it is some message
+-- what was taken from peer j, if it is at least one message
 abbrev pub some_from : ℕ → List (ℕ × Message) → List Gain
 some_from j [] = []
 some_from j (e ∷ es) = record { from = j; envelopes = e ∷ es } ∷ []
@@ -29,11 +30,12 @@ some_from j (e ∷ es) = record { from = j; envelopes = e ∷ es } ∷ []
 abbrev pub some_of : Gain → List Gain
 some_of g = some_from g.from g.envelopes
 
--- what was found, head by head, without the heads on which nothing was
+-- what was found, head by head, without the heads on which nothing was found
 abbrev pub gains_in : List Finding → List Gain
 gains_in fs = flat_map (λ f. some_of f.gain) fs
 
--- one head was looked at: what was found on it is behind what was collected before
+-- one head took all that it found: its letters and takes are appended to those collected before,
+-- and the greatest stamp is that of both
 pub record HasFound (before after : Head) (letters more_letters : List (ℕ × Message)) (takes more_takes : List Take) (greatest more_greatest : ℕ) : Type 0 where
   pub finding : Finding
   pub before_is : before ≡ finding.before
@@ -51,18 +53,19 @@ pub record HasCollected (before after : List Head) (letters : List (ℕ × Messa
   pub takes_are : takes ≡ takes_of (gains_in findings)
   pub greatest_is : greatest ≡ greatest_of (gains_in findings)
 
--- heads before and after a look: nothing was taken, and of each peer no fewer messages are known to wait
+-- heads before and after a look: nothing was taken, and from each peer no fewer messages are known
+-- to wait than before
 pub record HaveLooked (before after : List Head) : Type 0 where
   pub same : AreSameHeads before after
   pub taken : lanes_taken after ≡ lanes_taken before
   pub known : (j : ℕ) → known_from j (known_of before) ≤ known_from j (known_of after)
 
--- a look found nothing on any head
+-- a look found nothing on any head; no message was known to wait before it
 pub record HasFoundNothing (before after : List Head) : Type 0 where
   pub look : HaveLooked before after
   pub none : (j : ℕ) → known_from j (known_of before) ≡ 0
 
--- heads before a look and after what it found was taken, and what this was
+-- heads before a look and after a visit took what it found, and what the visit took
 pub record HasLookedAndCollected (before after : List Head) (letters : List (ℕ × Message)) (takes : List Take) (greatest : ℕ) : Type 0 where
   pub looked : List Head
   pub look : HaveLooked before looked

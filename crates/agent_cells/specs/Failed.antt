@@ -7,7 +7,8 @@ use Rattle.protocol_steps.specs.Deeds.{greatest_of, gained_from}
 use Rattle.worker_runs.specs.Cells.{CellState, peers, grown}
 use Rattle.worker_runs.specs.Visits.{IsFew, IsFrom}
 
--- something was taken of the cell's peers, and the greatest of the cell's stamp and the taken ones is the last value of a stamp: the agent has made no step, and nothing was sent
+-- something was taken from the cell's peers, and the greatest of the cell's stamp and the taken
+-- stamps is the last value of a stamp: the agent has made no step, and nothing was sent
 pub record HasReachedEnd (before after : CellState) : Type 0 where
   pub gains : List Gain
   pub senders : All (IsFrom (peers before.taken)) gains

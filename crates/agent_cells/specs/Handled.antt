@@ -1,4 +1,4 @@
--- What a cell makes of what it took.
+-- What a cell does with what it took.
 use Rattle.std.specs.Prelude.{◌≡◌, ℕ, ◌+◌, List, [], ◌∷◌, ◌++◌, max}
 use Rattle.dcop_base.specs.Limits.{amount_limit}
 use Rattle.protocol_steps.specs.declared.message.Message.{Message}
@@ -9,7 +9,8 @@ use Rattle.protocol_steps.specs.Deeds.{posted_to}
 use Rattle.worker_runs.specs.Cells.{CellState, grown}
 use Rattle.agent_cells.specs.Receivers.{GoToNeighbours}
 
--- the agent has made one step on what was taken: the stamp is 1 plus the greatest, what it sends stands on the links with this stamp, and the entry is in the journal
+-- the agent has made one step on what was taken: the new stamp is 1 plus the greatest, what the
+-- agent sends is on the links with this stamp, and the entry is in the journal
 pub record IsHandled (before : CellState) (letters : List (ℕ × Message)) (takes : List Take) (greatest : ℕ) (after : CellState) : Type 0 where
   pub sends : List (ℕ × Message)
   pub step : IsStep before.view letters after.view sends
@@ -18,7 +19,8 @@ pub record IsHandled (before : CellState) (letters : List (ℕ × Message)) (tak
   pub sent : after.sent ≡ grown (λ j. posted_to j (post after.stamp sends)) before.sent
   pub noted : after.journal ≡ before.journal ++ record { stamp = after.stamp; takes = takes } ∷ []
 
--- the greatest stamp is the last one: the agent makes no step, and nothing is sent
+-- the greatest of the cell's stamp and the taken stamps is the last value of a stamp: the agent has
+-- made no step, and nothing was sent
 pub record IsAtEnd (before : CellState) (greatest : ℕ) (after : CellState) : Type 0 where
   pub last : max before.stamp greatest ≡ amount_limit
   pub viewed : after.view ≡ before.view

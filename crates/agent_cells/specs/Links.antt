@@ -16,15 +16,15 @@ Head = ℕ × LinkHead (ℕ × Message)
 abbrev pub lanes_sent : List Tail → List Lane
 lanes_sent ts = map (λ t. record { peer = t.0; messages = sent_on t.1 }) ts
 
--- all that was taken of each peer
+-- all that was taken from each peer
 abbrev pub lanes_taken : List Head → List Lane
 lanes_taken hs = map (λ h. record { peer = h.0; messages = taken_from h.1 }) hs
 
--- how many messages of each peer are known to wait
+-- how many messages from each peer are known to wait
 abbrev pub known_of : List Head → List (ℕ × ℕ)
 known_of hs = map (λ h. (h.0, length (known_to h.1))) hs
 
--- the same end, of the same peer's link
+-- the same end of the link with the same peer
 pub record IsSameTail (before after : Tail) : Type 0 where
   pub peer : after.0 ≡ before.0
   pub end : SameTail before.1 after.1

@@ -1,10 +1,10 @@
--- Marks of agents: the one at place j stands for agent j.
+-- Marks of agents: the mark at place j belongs to agent j.
 use Rattle.std.specs.Prelude.{◌≡◌, ◌≢◌, ℕ, Bool, true, false, List, length, slice_get, Some}
 use Rattle.std.specs.List.{All}
 use Rattle.protocol_steps.specs.declared.message.Message.{Message}
 use Rattle.worker_runs.specs.Cells.{Lane, lane}
 
--- what was marked stays marked
+-- there are as many marks as before, and each mark that was set is still set
 pub record StayMarked (before after : List Bool) : Type 0 where
   pub size : length after ≡ length before
   pub each : (j : ℕ) → slice_get before j ≡ Some true → slice_get after j ≡ Some true
@@ -13,6 +13,6 @@ pub record StayMarked (before after : List Bool) : Type 0 where
 pub record AreMarked (sends : List (ℕ × Message)) (marks : List Bool) : Type 0 where
   pub each : (j : ℕ) → slice_get marks j ≡ Some false → All (λ p. p.0 ≢ j) sends
 
--- to an agent whose mark is not set nothing more was sent
+-- nothing more was sent to an agent whose mark is not set
 pub record LeavesUnmarked (marks : List Bool) (before after : List Lane) : Type 0 where
   pub unsent : (j : ℕ) → slice_get marks j ≡ Some false → lane j after ≡ lane j before

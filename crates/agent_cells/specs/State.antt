@@ -1,4 +1,4 @@
--- What contracts see of a cell. The meaning of its machine is given.
+-- What contracts see of a cell. The view of its machine is given by `meaning`.
 use Rattle.std.specs.Prelude.{◌≡◌, ℕ, Bool, true, false, List, [], Option, None}
 use Rattle.std.specs.List.Sorted.{IsStrictlyIncreasing}
 use Rattle.std.specs.declared.dyn_box.DynBox.{DynBox}
@@ -12,7 +12,7 @@ use Rattle.agent_cells.specs.declared.fault.VisitFault.{VisitFault}
 use Rattle.agent_cells.specs.declared.cell.Cell.{Cell}
 use Rattle.agent_cells.specs.Links.{Tail, Head, lanes_sent, lanes_taken, known_of, AreSameTails, AreSameHeads}
 
--- an agent that has not started, and no message on its links
+-- an agent that has not started, with stamp 0, an empty journal and no message on its links
 pub record IsFresh (s : CellState) : Type 0 where
   pub started : started_of s.view ≡ false
   pub stamp : s.stamp ≡ 0
@@ -20,7 +20,8 @@ pub record IsFresh (s : CellState) : Type 0 where
   pub sent : (j : ℕ) → lane j s.sent ≡ []
   pub taken : (j : ℕ) → lane j s.taken ≡ []
 
--- a cell has come from the start of its agent, which had not started before, by the activations of its journal
+-- the agent of the cell was started, which it had not been before, and made the activations of the
+-- journal
 pub record HasHistory (s : CellState) : Type 0 where
   pub made : View
   pub unstarted : started_of made ≡ false
@@ -29,7 +30,9 @@ pub record HasHistory (s : CellState) : Type 0 where
   pub started : IsStarted made first
   pub later : IsLater first deeds s
 
--- the invariant of a cell: its links are those of its agent's neighbours; before its start it is fresh and has no fault; and from its start on, while it has not failed, it has come from there by its journal
+-- the invariant of a cell: its links are those of its agent's neighbours; before its start it is
+-- fresh and has no fault; after its start, unless it has failed, it has come from the start by the
+-- activations of its journal
 pub record IsSound (begun : Bool) (fault : Option VisitFault) (s : CellState) : Type 0 where
   pub me : (private_of s.view).me ≡ s.me
   pub sent : peers s.sent ≡ (private_of s.view).neighbours
@@ -52,14 +55,14 @@ module _ {X : Type 0} {F : X → Type 0} where
     known = known_of c.heads.items;
   }
 
-  -- whether it has begun, and the fault that it answers from now on
+  -- whether the cell has begun, and the fault that it returns from now on
   abbrev pub begun_in : Cell X F → Bool
   begun_in c = c.begun
 
   abbrev pub fault_in : Cell X F → Option VisitFault
   fault_in c = c.fault
 
-  -- its links
+  -- its tails, and its heads
   abbrev pub tails_in : Cell X F → List Tail
   tails_in c = c.tails.items
 
@@ -69,7 +72,7 @@ module _ {X : Type 0} {F : X → Type 0} where
   abbrev pub IsCell : (DynBox X Global F → View) → Cell X F → Type 0
   IsCell meaning c = IsSound c.begun c.fault (state_of meaning c)
 
-  -- the same links, at the same places
+  -- the same ends of links at the same places
   pub record KeepsLinks (before after : Cell X F) : Type 0 where
     pub tails : AreSameTails before.tails.items after.tails.items
     pub heads : AreSameHeads before.heads.items after.heads.items

@@ -18,10 +18,10 @@ use fifo_links::{LinkHead, LinkTail};
 use protocol_steps::{Journal, Machine};
 use std::alloc::Global;
 
-/// The ends on which a cell sends, each with the neighbour at the other end, ascending.
+/// The ends on which a cell sends, each with the neighbour at the other end, in ascending order.
 pub type TailList = Vec<(VarId, LinkTail<Sealed>)>;
 
-/// The ends from which a cell takes, each with the neighbour at the other end, ascending.
+/// The ends from which a cell takes, each with the neighbour at the other end, in ascending order.
 pub type HeadList = Vec<(VarId, LinkHead<Sealed>)>;
 
 /// An agent with its links, its stamp and its journal.

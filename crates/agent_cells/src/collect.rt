@@ -15,7 +15,7 @@ use fifo_links::{LinkHead, SLOTS};
 use protocol_steps::{Envelope, Letter, Take};
 use std::alloc::Global;
 
-/// What a visit takes: its letters, how many there are of each sender, and the greatest stamp.
+/// What a visit takes: its letters, how many of them each sender sent, and the greatest stamp.
 #[derive(Drop)]
 pub(crate) struct Taken {
     pub(crate) letters: Vec<Letter>,
@@ -24,7 +24,7 @@ pub(crate) struct Taken {
 }
 
 impl Taken {
-    /// Nothing yet.
+    /// Nothing is taken so far.
     fn new(alloc: Global) -> Taken
         ensures letters { result.letters.items ≡ [] }
         ensures takes { result.takes.items ≡ [] }
@@ -37,7 +37,7 @@ impl Taken {
         }
     }
 
-    /// Adds the envelopes of one sender, which are so many, and leaves their room empty.
+    /// Adds the `count` envelopes of one sender, and empties `found`, which keeps its memory.
     fn add(&mut self, from: VarId, count: u32, found: &mut Vec<Sealed>) -> Result<(), NoMemory>
         requires count { count ≡ length found.old.items }
         ensures letters { OnOk result (self.new.letters.items ≡ self.old.letters.items ++ map (λ e. (from, e.1)) found.old.items) }
@@ -81,8 +81,8 @@ fn take_one(
     taken.add(end.0, count, found)
 }
 
-/// Takes all that is found on each link; `None` where a look finds nothing on any, which takes no
-/// memory.
+/// Takes all that is found on each link. Returns `None` if a look finds nothing on any of them;
+/// this allocates no memory.
 pub(crate) fn collect_waiting(
     alloc: Global,
     heads: &mut [(VarId, LinkHead<Sealed>)],
@@ -99,8 +99,8 @@ pub(crate) fn collect_waiting(
     Ok(Some(taken))
 }
 
-/// Whether nothing is found on any link. It takes nothing, and looks no further than the first link
-/// on which something is found.
+/// Whether nothing is found on any link. It takes nothing, and stops at the first link on which it
+/// finds something.
 fn finds_nothing(heads: &mut [(VarId, LinkHead<Sealed>)]) -> bool
     ensures looked { HaveLooked heads.old heads.new }
     ensures none { result ≡ true → (j : ℕ) → known_from j (known_of heads.new) ≡ 0 }
@@ -113,7 +113,7 @@ fn finds_nothing(heads: &mut [(VarId, LinkHead<Sealed>)]) -> bool
     true
 }
 
-/// Takes all that is found on each link, link by link. It takes memory.
+/// Takes all that is found on each link, link by link. It allocates memory.
 #[tactic(auto, using(crate::proofs::CollectLaws::collecting_none, crate::proofs::CollectLaws::collecting_more, crate::proofs::CollectLaws::collecting_all, crate::proofs::SameLaws::same_heads, crate::proofs::SameLaws::heads_set))]
 fn collect(alloc: Global, heads: &mut [(VarId, LinkHead<Sealed>)]) -> Result<Taken, NoMemory>
     ensures same { AreSameHeads heads.old heads.new }

@@ -15,7 +15,7 @@ use fifo_links::LinkTail;
 use protocol_steps::{Envelope, Outbox, Parcel};
 use std::alloc::Global;
 
-/// Where the link to this peer is, found by halving.
+/// The place of the tail to this peer, found by binary search.
 fn tail_to(tails: &[(VarId, LinkTail<Sealed>)], to: VarId) -> Option<usize>
     requires ascend { IsStrictlyIncreasing (peers (lanes_sent tails.now)) }
     ensures { result ≡ position (λ t. t.0 == to) tails.now }
@@ -23,7 +23,8 @@ fn tail_to(tails: &[(VarId, LinkTail<Sealed>)], to: VarId) -> Option<usize>
     place_of(tails, to)
 }
 
-/// Sends one parcel with this stamp to its receiver.
+/// Sends one parcel with this stamp to its receiver. If there is no link to the receiver, nothing
+/// is sent.
 fn send_one(
     alloc: Global,
     tails: &mut [(VarId, LinkTail<Sealed>)],
@@ -43,8 +44,8 @@ fn send_one(
     tails[place].1.push(sealed).map_err(|_refused| NoMemory)
 }
 
-/// Sends each parcel with this stamp to its receiver, in order. Where there is no link to a
-/// receiver, nothing is sent.
+/// Sends each parcel with this stamp to its receiver, in order. If there is no link to a receiver,
+/// its parcel is not sent.
 #[tactic(auto, using(crate::proofs::SameLaws::same_tails, crate::proofs::SameLaws::tails_then, crate::proofs::DeliverLaws::delivered_none, crate::proofs::DeliverLaws::delivered_more, crate::proofs::DeliverLaws::delivered_peers))]
 pub(crate) fn deliver(
     alloc: Global,

@@ -8,9 +8,9 @@ use std::alloc::{AllocError, AllocFailed};
 /// Why a cell has failed.
 #[derive(Clone, Copy, Debug, PartialEq, Eq)]
 pub enum VisitFault {
-    /// Memory was wanted and not had.
+    /// Memory ran out.
     NoMemory,
-    /// The greatest of the cell's stamp and the taken ones was the last value of a stamp.
+    /// The greatest of the cell's stamp and the taken stamps was `CAP`, the last value of a stamp.
     StampEnd,
 }
 

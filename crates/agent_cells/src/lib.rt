@@ -1,13 +1,13 @@
-//! Cells: an agent with the ends of its links, its stamp and its journal.
+//! Cells: each is an agent with the ends of its links, its stamp and its journal.
 //!
-//! A [`Cell`] holds a boxed [`Machine`](protocol_steps::Machine), a tail and a head for each
-//! neighbour, the stamp of its last step and the journal of all of them. A visit takes what it finds
-//! on the links, lets the agent react once to all of it, and sends what the agent sends with the next
-//! stamp: 1 plus the greatest of the cell's own and the taken ones (Lamport, "Time, clocks, and the
-//! ordering of events in a distributed system", 1978). Contracts see a cell as a plain value, in
-//! which no ring and no box stands; a visit is one step of it or none. Cells know nothing of each
-//! other, so that many may be visited at once; [`Cell::settle_to`] brings two of them together, in
-//! one thread.
+//! A [`Cell`] has a boxed [`Machine`](protocol_steps::Machine), a tail and a head for each
+//! neighbour, the stamp of the agent's last step, and a journal of all its steps. A visit takes
+//! what it finds on the links and lets the agent react once to all of it. What the agent sends
+//! carries the next stamp: 1 plus the greatest of the cell's stamp and the stamps taken (Lamport,
+//! "Time, clocks, and the ordering of events in a distributed system", 1978). Contracts see a cell
+//! as a plain value without rings and boxes. A visit is one step of this value, or none. Cells know
+//! nothing of each other, so many may be visited concurrently. [`Cell::settle_to`] settles a link
+//! between two cells, in one thread.
 #![tactic(auto)]
 
 mod cell;

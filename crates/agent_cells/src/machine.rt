@@ -9,7 +9,7 @@ use dcop_base::NoMemory;
 use protocol_steps::{Batch, Machine, Outbox};
 use std::alloc::Global;
 
-/// Starts a machine, and gives what it sends.
+/// Starts a machine, and returns what it sends.
 pub(crate) fn start_once(
     alloc: Global,
     machine: &mut Box<dyn Machine + Send>,
@@ -24,7 +24,7 @@ pub(crate) fn start_once(
     Ok(out)
 }
 
-/// One activation of a machine on a batch, and what it sends.
+/// Activates a machine once on a batch, and returns what it sends.
 pub(crate) fn react_once(
     alloc: Global,
     machine: &mut Box<dyn Machine + Send>,

@@ -1,4 +1,4 @@
-//! Marks of agents to whom something was sent.
+//! Marks of agents to which something was sent.
 
 ghost use Rattle.std.specs.Prelude.{◌≡◌, ◌≢◌, ◌<◌, ℕ, length, slice_get, Some, true};
 ghost use Rattle.agent_cells.specs.Marked.{StayMarked, AreMarked};
@@ -6,7 +6,7 @@ ghost use Rattle.agent_cells.specs.Marked.{StayMarked, AreMarked};
 use dcop_base::VarId;
 use protocol_steps::Outbox;
 
-/// Marks the receivers of what is sent, of the agents for which there is a mark.
+/// Marks the receivers of what is sent. Receivers without a mark are passed over.
 pub(crate) fn mark_receivers(marks: &mut [bool], out: &Outbox)
     ensures stay { StayMarked marks.old marks.new }
     ensures marked { AreMarked out.now marks.new }
@@ -16,7 +16,7 @@ pub(crate) fn mark_receivers(marks: &mut [bool], out: &Outbox)
     }
 }
 
-/// Marks an agent, if there is a mark for it.
+/// Marks an agent, if it has a mark.
 fn mark(marks: &mut [bool], agent: VarId)
     ensures size { length marks.new ≡ length marks.old }
     ensures here { agent < length marks.old → slice_get marks.new agent ≡ Some true }

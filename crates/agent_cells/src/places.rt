@@ -1,4 +1,4 @@
-//! Where an end of a link stands among those of a cell.
+//! The place of an end of a link among those of a cell.
 
 ghost use Rattle.std.specs.Prelude.{◌≡◌, ◌<◌, ◌≤◌, ◌==◌, ℕ, map, length, slice_index_or};
 ghost use Rattle.std.specs.List.{position};
@@ -6,8 +6,8 @@ ghost use Rattle.std.specs.List.Sorted.{IsStrictlyIncreasing};
 
 use dcop_base::VarId;
 
-/// The place of the end with this peer at its other end, among ends that ascend by their peers; found
-/// by halving.
+/// The place of the end whose peer is `peer`, among ends in ascending order of their peers; found
+/// by binary search.
 #[tactic(auto, using(crate::proofs::PlaceLaws::place_found, crate::proofs::PlaceLaws::place_behind, crate::proofs::PlaceLaws::place_other))]
 pub(crate) fn place_of<T>(ends: &[(VarId, T)], peer: VarId) -> Option<usize>
     requires ascend { IsStrictlyIncreasing (map (λ e. e.0) ends.now) }
@@ -23,7 +23,7 @@ pub(crate) fn place_of<T>(ends: &[(VarId, T)], peer: VarId) -> Option<usize>
     Some(place)
 }
 
-/// [`place_of`], which looks at this place first.
+/// [`place_of`], which looks at place `near` first.
 pub(crate) fn place_near<T>(ends: &[(VarId, T)], peer: VarId, near: usize) -> Option<usize>
     requires ascend { IsStrictlyIncreasing (map (λ e. e.0) ends.now) }
     ensures { result ≡ position (λ e. e.0 == peer) ends.now }
@@ -34,7 +34,7 @@ pub(crate) fn place_near<T>(ends: &[(VarId, T)], peer: VarId, near: usize) -> Op
     place_of(ends, peer)
 }
 
-/// How many ends stand before the first one whose peer is not below this one.
+/// How many ends come before the first one whose peer is not below `peer`.
 #[tactic(auto, using(crate::proofs::PlaceLaws::halving_starts, crate::proofs::PlaceLaws::halving_up, crate::proofs::PlaceLaws::halving_down))]
 fn first_from<T>(ends: &[(VarId, T)], peer: VarId) -> usize
     requires ascend { IsStrictlyIncreasing (map (λ e. e.0) ends.now) }

@@ -1,4 +1,4 @@
-//! What stands on a link between two cells.
+//! What is sent on a link between two cells.
 
 ghost use Rattle.std.specs.Prelude.{◌≡◌, IfOk};
 
@@ -7,8 +7,8 @@ use protocol_steps::Envelope;
 use std::alloc::Global;
 use std::marker::Model;
 
-/// A handle to an envelope, which is as large as a pointer: rings are made of many slots. Contracts
-/// see the envelope.
+/// A handle to an envelope. It is as large as a pointer, since a ring has many slots. Contracts see
+/// the envelope.
 #[derive(Drop)]
 pub struct Sealed {
     envelope: Box<Envelope>,
@@ -24,7 +24,7 @@ impl Model for Sealed {
 }
 
 impl Sealed {
-    /// A handle to this envelope. It takes memory.
+    /// Makes a handle to this envelope. It allocates memory.
     pub fn new(alloc: Global, envelope: Envelope) -> Result<Sealed, NoMemory>
         ensures { IfOk result (λ sealed. sealed ≡ envelope) }
     {

@@ -13,7 +13,8 @@ use crate::sealed::Sealed;
 use dcop_base::VarId;
 use fifo_links::{LinkHead, LinkTail, settle};
 
-/// Where the link from this peer is; it is looked for at a place first, and then by halving.
+/// The place of the head from this peer. It is looked for at place `near` first, and then by binary
+/// search.
 fn head_from(heads: &[(VarId, LinkHead<Sealed>)], from: VarId, near: usize) -> Option<usize>
     requires ascend { IsStrictlyIncreasing (peers (lanes_taken heads.now)) }
     ensures { result ≡ position (λ h. h.0 == from) heads.now }
@@ -21,7 +22,7 @@ fn head_from(heads: &[(VarId, LinkHead<Sealed>)], from: VarId, near: usize) -> O
     place_near(heads, from, near)
 }
 
-/// Where the link to this peer is, looked for in the same way.
+/// The place of the tail to this peer, which is looked for in the same way.
 fn tail_to(tails: &[(VarId, LinkTail<Sealed>)], to: VarId, near: usize) -> Option<usize>
     requires ascend { IsStrictlyIncreasing (peers (lanes_sent tails.now)) }
     ensures { result ≡ position (λ t. t.0 == to) tails.now }
@@ -29,8 +30,8 @@ fn tail_to(tails: &[(VarId, LinkTail<Sealed>)], to: VarId, near: usize) -> Optio
     place_near(tails, to, near)
 }
 
-/// Settles the link to this peer, whose head is at hand. The tail is looked for at a place first.
-/// Answers how many messages are in its ring; 0 where there is no such link.
+/// Settles the link to this peer, whose head is given. The tail is looked for at place `near`
+/// first. Returns how many messages are in its ring; 0 if there is no such link.
 pub(crate) fn settle_tail_to(
     tails: &mut [(VarId, LinkTail<Sealed>)],
     to: VarId,
@@ -50,8 +51,8 @@ pub(crate) fn settle_tail_to(
     }
 }
 
-/// Settles the link from this peer, whose tail is at hand. Answers how many messages are in its
-/// ring; 0 where there is no such link.
+/// Settles the link from this peer, whose tail is given. Returns how many messages are in its ring;
+/// 0 if there is no such link.
 pub(crate) fn settle_head_from(
     heads: &mut [(VarId, LinkHead<Sealed>)],
     from: VarId,
@@ -70,8 +71,9 @@ pub(crate) fn settle_head_from(
     }
 }
 
-/// Settles the link to one cell from another. Its tail and its head are each looked for at a place
-/// first. Answers how many messages are in its ring; 0 where there is no such link.
+/// Settles the link to one cell from another. Its tail is looked for at place `near_tail` first,
+/// and its head at place `near_head`. Returns how many messages are in its ring; 0 if there is no
+/// such link.
 pub(crate) fn settle_between(
     tails: &mut [(VarId, LinkTail<Sealed>)],
     to: VarId,

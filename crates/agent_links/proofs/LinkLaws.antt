@@ -183,7 +183,7 @@ module _ (node : ℕ → ℕ) (lists : List (List ℕ)) (b : AreBeside lists) (t
     };
   }
 
-  -- all links between agents that are beside each other
+  -- all links between agents that are neighbours
   pub links_all : AreLinksIn node lists ts hs
   links_all = record {
     tails_size = n.tails_size;

@@ -125,7 +125,7 @@ one_of_few {A} xs x y few c d =
     let same : c.0 ≡ d.0 = omega (arith, few, lt, lt') in
     sym c.2 ∙ ap (λ (k : ℕ). get_or xs k x) same ∙ get_or_default xs d.0 x y d.1 ∙ d.2
 
--- what a filter keeps passes, and is of the list
+-- an element that a filter keeps passes its test and is in the list
 pub from_filter : {A : Type 0} (f : A → Bool) (xs : List A) (x : A) → Contains (filter f xs) x → (f x ≡ true) × Contains xs x
 from_filter {A} f xs x h =
     let r = from_parts (λ y. cond (f y) (y ∷ []) []) xs x (subst (λ (ys : List A). Contains ys x) (sym (flat_map_single f xs)) h) in

@@ -1,4 +1,4 @@
--- What the agents of cells have come to, cell by cell.
+-- The outcome of the agents of cells, cell by cell.
 use Rattle.std.proofs.Common.{◌≡◌, ℕ, zero, suc, ◌<◌, ◌≤◌, ◌&&◌, Bool, true, false, List, [], ◌∷◌, map, take, length, get_or, slice_get, Option, Some, refl, sym, ap, ◌∙◌, arith}
 use Rattle.std.specs.List.{list_all}
 use Rattle.std.specs.Option.{option_map}
@@ -25,7 +25,7 @@ and_false : (b : Bool) → (b && false) ≡ false
 and_false true = refl
 and_false false = refl
 
--- a list where some element does not pass
+-- a list in which some element does not pass
 some_not : {A : Type 0} (test : A → Bool) (xs : List A) (k : ℕ) (d : A) → k < length xs → test (get_or xs k d) ≡ false → list_all test xs ≡ false
 some_not test [] k d lt e = absurd (omega (arith, lt))
 some_not test (x ∷ xs) zero d lt e = ap (λ (b : Bool). b && list_all test xs) e

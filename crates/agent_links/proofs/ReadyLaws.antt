@@ -24,7 +24,7 @@ use Rattle.agent_links.specs.Ready.{IsNewCell, AreReadyIn, AreReady}
 use Rattle.agent_links.proofs.ListLaws.{from_filter}
 use Rattle.agent_links.proofs.PairLaws.{list_at}
 
--- an element stands at each place of a list
+-- there is an element at each place of a list
 stands : {A : Type 0} (xs : List A) (i : ℕ) → i < length xs → (x : A) × (slice_get xs i ≡ Some x)
 stands [] i lt = absurd (omega (arith, lt))
 stands (x ∷ xs) zero lt = (x, refl)

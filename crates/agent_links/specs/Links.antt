@@ -12,15 +12,17 @@ use Rattle.agent_cells.specs.Links.{Tail, Head, lanes_sent, lanes_taken}
 use Rattle.agent_cells.specs.Settled.{EndsJoin}
 
 module _ {T : Type 0} where
-  -- lists of lists
+  -- vectors of vectors as lists of lists
   abbrev pub rows_in : List (Vec T Global) → List (List T)
   rows_in rows = map (λ row. row.items) rows
 
-  -- one of some lists with one more item
+  -- lists in which the one at this place has one more item at its end
   abbrev pub pushed : ℕ → T → List (List T) → List (List T)
   pushed at item rows = slice_set rows at (slice_index_or rows at [] ++ item ∷ [])
 
--- agents in nodes are linked that have these neighbours: the tails and the heads of each are its neighbours'; nothing was sent on them; and inside a node the tail of one agent to another and the head of the other from the one are the ends of one link
+-- the ends of links of agents with these neighbours: each agent has a tail to and a head from each
+-- of its neighbours, and nothing was sent on them; inside a node, the tail of one agent to another
+-- and the head of the other from the first are the ends of one link
 pub record AreLinksIn (node : ℕ → ℕ) (lists : List (List ℕ)) (tails : List (List Tail)) (heads : List (List Head)) : Type 0 where
   pub tails_size : length tails ≡ length lists
   pub heads_size : length heads ≡ length lists
@@ -37,7 +39,8 @@ one_node agent = 0
 abbrev pub AreLinks : List (List ℕ) → List (List Tail) → List (List Head) → Type 0
 AreLinks lists tails heads = AreLinksIn one_node lists tails heads
 
--- the two outer ends of new links from one agent to another: inside a node they are those of one link
+-- a tail from one agent to another and a head of the other from the first, on which nothing was
+-- sent: inside a node they are the ends of one link
 pub record NewLink (node : ℕ → ℕ) : Type 0 where
   pub from : ℕ
   pub to : ℕ
@@ -48,7 +51,7 @@ pub record NewLink (node : ℕ → ℕ) : Type 0 where
   pub taken : taken_from head ≡ []
 
 module _ {node : ℕ → ℕ} where
-  -- from whom to whom a link leads
+  -- the sender and the receiver of a link
   abbrev pub pair_of : NewLink node → ℕ × ℕ
   pair_of l = (l.from, l.to)
 
@@ -59,7 +62,8 @@ module _ {node : ℕ → ℕ} where
   abbrev pub heads_of : ℕ → List (NewLink node) → List Head
   heads_of i ls = flat_map (λ l. if l.to == i then (l.from, l.head) ∷ [] else []) ls
 
--- these are the outer ends of new links that lead from whom to whom these pairs tell, of so many agents
+-- the tails and heads of `count` agents are those of new links, whose senders and receivers are
+-- these pairs
 pub record AreNewLinks (node : ℕ → ℕ) (pairs : List (ℕ × ℕ)) (count : ℕ) (tails : List (List Tail)) (heads : List (List Head)) : Type 0 where
   pub links : List (NewLink node)
   pub pairs_are : map pair_of links ≡ pairs
@@ -68,20 +72,20 @@ pub record AreNewLinks (node : ℕ → ℕ) (pairs : List (ℕ × ℕ)) (count :
   pub tails_are : (i : ℕ) → i < count → slice_index_or tails i [] ≡ tails_of i links
   pub heads_are : (i : ℕ) → i < count → slice_index_or heads i [] ≡ heads_of i links
 
--- from one agent to each of these
+-- the pairs of one sender with each of these receivers
 abbrev pub row : ℕ → List ℕ → List (ℕ × ℕ)
 row from tos = map (λ to. (from, to)) tos
 
--- from each of the first agents to its neighbours, so many agents
+-- the pairs of each of the first `count` agents with each of its neighbours
 abbrev pub pairs_to : List (List ℕ) → ℕ → List (ℕ × ℕ)
 pairs_to lists count = flat_map (λ i. row i (slice_index_or lists i [])) (range_with_len 0 count)
 
--- links from one agent to these were added to new links
+-- new links from one agent to each of these were added to new links
 abbrev pub AddLinks : (ℕ → ℕ) → ℕ → List ℕ → List (List Tail) → List (List Head) → List (List Tail) → List (List Head) → Type 0
 AddLinks node from tos tails heads more_tails more_heads =
     (pairs : List (ℕ × ℕ)) (count : ℕ) → AreNewLinks node pairs count tails heads → AreNewLinks node (pairs ++ row from tos) count more_tails more_heads
 
--- links from each agent to its neighbours were added, where there was none
+-- new links from each agent to each of its neighbours were added to lists without links
 abbrev pub AddAllLinks : (ℕ → ℕ) → List (List ℕ) → List (List Tail) → List (List Head) → List (List Tail) → List (List Head) → Type 0
 AddAllLinks node lists tails heads more_tails more_heads =
     AreNewLinks node (pairs_to lists 0) (length lists) tails heads → AreNewLinks node (pairs_to lists (length lists)) (length lists) more_tails more_heads

@@ -1,15 +1,15 @@
-//! One of each.
+//! One result for each item.
 
 ghost use Rattle.std.specs.Prelude.{◌≡◌, ◌<◌, ℕ, Ok, length, slice_index_or, IfOk};
 
 use dcop_base::NoMemory;
 use std::alloc::Global;
 
-/// What a call makes of each of some items, in their order.
+/// Calls `make` with each item, in order, and returns what it makes of each.
 ///
 /// # Errors
 ///
-/// [`NoMemory`] where memory was wanted and not had.
+/// [`NoMemory`] if memory runs out, here or in `make`.
 pub fn make_each<S: Drop, T: Drop, F: Fn(S) -> Result<T, NoMemory>>(
     alloc: Global,
     items: Vec<S>,

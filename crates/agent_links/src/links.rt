@@ -21,12 +21,12 @@ pub struct Links {
     pub heads: Vec<HeadList>,
 }
 
-/// A link from each agent to each of its neighbours, on which nothing was sent. The agents know
-/// this, each one's at the place of its number.
+/// Makes a link from each agent to each of its neighbours, on which nothing was sent. Item i of
+/// `known` is what agent i knows.
 ///
 /// # Errors
 ///
-/// [`NoMemory`] where memory was wanted and not had.
+/// [`NoMemory`] if memory runs out.
 pub fn link_all(alloc: Global, known: &[Private]) -> Result<Links, NoMemory>
     requires few { length known.now ≤ variable_limit }
     requires beside { AreBeside (neighbours_in known.now) }
@@ -38,7 +38,7 @@ pub fn link_all(alloc: Global, known: &[Private]) -> Result<Links, NoMemory>
     Ok(Links { tails, heads })
 }
 
-/// An empty list for each agent, with room for one item of each neighbour.
+/// An empty list for each agent, with room for one item for each neighbour.
 fn empty_rows<T: Drop>(alloc: Global, known: &[Private]) -> Result<Vec<Vec<T>>, NoMemory>
     ensures { IfOk result (λ rows. rows_in rows.items ≡ replicate (length known.now) []) }
 {
@@ -116,7 +116,7 @@ fn link_one(
     Ok(())
 }
 
-/// Adds an item to one of some lists.
+/// Appends an item to the list at this place.
 fn push_at<T: Drop>(rows: &mut [Vec<T>], at: usize, item: T) -> Result<(), NoMemory>
     requires inside { at < length rows.old }
     ensures added { OnOk result (rows_in rows.new ≡ pushed at item (rows_in rows.old)) }

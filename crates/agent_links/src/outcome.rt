@@ -1,4 +1,4 @@
-//! What the agents of cells have come to.
+//! The outcome of the agents of cells.
 
 ghost use Rattle.std.specs.Prelude.{◌≡◌, ◌<◌, ◌≤◌, length, map, IfOk, MatchOption, Some, None};
 ghost use Rattle.protocol_steps.specs.View.{value_of, table_of, place_of};
@@ -14,12 +14,13 @@ use protocol_steps::{OptionList, Outcome, RunEnd};
 use pseudotree::Place;
 use std::alloc::Global;
 
-/// What the agents of some cells have come to, whose run ended so. Their tables and places are
-/// copied.
+/// The outcome of the agents of cells whose run has ended in this way: their values, UTIL tables
+/// and places, the bounds and the threshold of agent 0, the number of deliveries, and whether all
+/// agents have ended. Tables and places are copied.
 ///
 /// # Errors
 ///
-/// [`NoMemory`] where memory was wanted and not had.
+/// [`NoMemory`] if memory runs out.
 pub fn outcome_of(alloc: Global, cells: &[Cell], end: RunEnd) -> Result<Outcome, NoMemory>
     requires some { 0 < length cells.now }
     requires told { deliveries_in end ≡ total (states_of (λ b. meaning (b.vtable, b.value)) cells.now) }
@@ -35,7 +36,7 @@ pub fn outcome_of(alloc: Global, cells: &[Cell], end: RunEnd) -> Result<Outcome,
     })
 }
 
-/// How many messages were taken in a run that ended so.
+/// How many messages were taken in a run that ended in this way.
 fn deliveries_in(end: RunEnd) -> u64
     ensures { result ≡ deliveries_in end }
 {
@@ -111,7 +112,7 @@ fn place_in(cell: &Cell) -> Result<Option<Place>, NoMemory>
     }
 }
 
-/// The same place.
+/// A copy of a place.
 fn copy_of(place: &Place) -> Result<Place, NoMemory>
     ensures { IfOk result (λ copy. copy ≡ place.now) }
 {

@@ -40,7 +40,7 @@ made_at p start i v lt e =
     sym (get_or-map-range_with_len (agent_of p start) 0 (length p.sizes) i i v lt (omega arith))
     ∙ or_at (map (agent_of p start) (range_with_len 0 (length p.sizes))) i v v (ap (λ (vs : List View). slice_get vs i) (sym (agents_made p start)) ∙ e)
 
--- the neighbours in a problem are beside each other
+-- neighbours in a problem are neighbours of each other
 pub all_beside : (p : Dcop) → AreBeside (all_neighbours p)
 all_beside p =
     let known : List Private = map (known_by p) (range_with_len 0 (length p.sizes)) in
@@ -51,7 +51,7 @@ pub agents_size : (p : Dcop) (start : Start) → length (agents_of p start) ≡ 
 agents_size p start = ap (λ (vs : List View). length vs) (agents_made p start) ∙ length-map-range_with_len (agent_of p start) 0 (length p.sizes) ∙ sym (lists_size p)
 
 module _ {X : Type 0} {F : X → Type 0} (M : DynBox X Global F → View) where
-  -- a cell is made so of a seat
+  -- how a cell is made from a seat
   abbrev pub IsCellOf : Seat → Cell X F → Type 0
   IsCellOf s c = IsNewCell M (view_of s.agent) s.me s.tails.items s.heads.items c
 

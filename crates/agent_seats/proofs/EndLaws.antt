@@ -32,7 +32,7 @@ seats_linked p start tails heads seats linked s = record {
   each = s.each;
 }
 
--- so it is where seating them wants no memory
+-- so it is if seating them does not run out of memory
 pub all_linked : (p : Dcop) (start : Start) (tails : List (List Tail)) (heads : List (List Head)) (r : Result (Vec Seat Global) NoMemory) → AreLinks (all_neighbours p) tails heads
     → IfOk r (λ seats. AreSeated p start tails heads seats.items) → IfOk r (λ seats. AreSeats p start seats.items)
 all_linked p start tails heads (Ok seats) linked s = seats_linked p start tails heads seats.items linked s

@@ -39,7 +39,7 @@ agents_made p Token = refl
 agents_made p (Dpop tree) = refl
 agents_made p (Adopt tree error) = refl
 
--- what agents are made from fits together, with tables or without
+-- what agents know when they are made fits together, with tables or without
 pub knowledge_fits : PrivatesAreKnowledge → AcquaintancesAreKnowledge → (p : Dcop) (start : Start) (i : ℕ) → IsProblem p → i < length p.sizes → IsKnowledge (knowledge_for p start i)
 knowledge_fits privates acquaintances p Token i whole inside = acquaintances p i whole inside
 knowledge_fits privates acquaintances p (Dpop tree) i whole inside = privates p i whole inside
@@ -84,7 +84,7 @@ known_lists p known e = ap (λ (xs : List Private). neighbours_in xs) e ∙ read
 not_itself : (p : Dcop) (i : ℕ) → are_neighbours p i i ≡ false
 not_itself p i = ap (λ (b : Bool). not b && (share_table p.tables i i || are_joined p.joints i i)) (eq-eqb i i refl)
 
--- the neighbours in a problem are beside each other
+-- neighbours in a problem are neighbours of each other
 pub known_beside : (p : Dcop) (known : List Private) → known ≡ map (known_by p) (range_with_len 0 (length p.sizes)) → AreBeside (neighbours_in known)
 known_beside p known e =
     let n : ℕ = length p.sizes in
@@ -137,7 +137,7 @@ seats_more p start all rows seats new x own me ts hs pushed size known t h q eac
           }
     ]
 
--- so it is by what they know that looks at no cost
+-- so it is by what they know without costs
 pub met_lists : (p : Dcop) (known : List Private) → known ≡ map (acquaintance_of p) (range_with_len 0 (length p.sizes)) → neighbours_in known ≡ all_neighbours p
 met_lists p known e = ap (λ (xs : List Private). neighbours_in xs) e ∙ read (range_with_len 0 (length p.sizes))
   where

@@ -23,7 +23,8 @@ pub record IsSeat (view : View) (me : ℕ) (tails : List Tail) (heads : List Hea
 abbrev pub all_neighbours : Dcop → List (List ℕ)
 all_neighbours p = map (neighbours p) (range_with_len 0 (length p.sizes))
 
--- agents that have these neighbours have these ends of links: the tails and the heads of each are its neighbours', and nothing was sent on them
+-- ends of links for agents with these neighbours: each agent has a tail to and a head from each of
+-- its neighbours, and nothing was sent on them
 pub record HaveEnds (lists : List (List ℕ)) (tails : List (List Tail)) (heads : List (List Head)) : Type 0 where
   pub tails_size : length tails ≡ length lists
   pub heads_size : length heads ≡ length lists
@@ -32,12 +33,12 @@ pub record HaveEnds (lists : List (List ℕ)) (tails : List (List Tail)) (heads 
   pub unsent : (i : ℕ) → i < length lists → All (λ l. l.messages ≡ []) (lanes_sent (slice_index_or tails i []))
   pub untaken : (i : ℕ) → i < length lists → All (λ l. l.messages ≡ []) (lanes_taken (slice_index_or heads i []))
 
--- the agents of a start, each with its own of these ends of links
+-- the agents of a start, in order; agent i has the ends of links at place i
 pub record AreSeated (p : Dcop) (start : Start) (tails : List (List Tail)) (heads : List (List Head)) (seats : List Seat) : Type 0 where
   pub size : length seats ≡ length p.sizes
   pub each : (i : ℕ) (s : Seat) → slice_get seats i ≡ Some s → IsSeat (agent_of p start i) i (slice_index_or tails i []) (slice_index_or heads i []) s
 
--- the agents of a start, each with the ends of links to and from its neighbours
+-- the agents of a start, in order, each with the ends of new links to and from its neighbours
 pub record AreSeats (p : Dcop) (start : Start) (seats : List Seat) : Type 0 where
   pub size : length seats ≡ length p.sizes
   pub tails : List (List Tail)

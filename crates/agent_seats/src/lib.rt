@@ -1,8 +1,8 @@
 //! The agents of a problem, each with the ends of its links.
 //!
-//! [`seats_of`] makes them for a [`Start`](delivery_core::Start), which says of which kind they are
-//! and over which tree. An agent is here a plain value: who runs agents boxes each one, and puts it
-//! into a cell with its ends.
+//! [`seats_of`] makes them for a [`Start`](delivery_core::Start), which gives their kind and the
+//! tree on which they run. An agent is a plain value here: whoever runs the agents boxes each one
+//! and puts it into a cell with its ends.
 #![tactic(auto)]
 
 mod agent;

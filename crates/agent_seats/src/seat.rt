@@ -19,9 +19,9 @@ pub struct Seat {
     pub agent: Agent,
     /// Its number.
     pub me: VarId,
-    /// The ends on which it sends, each with the neighbour at the other end, ascending.
+    /// The ends on which it sends, each with the neighbour at the other end, in ascending order.
     pub tails: TailList,
-    /// The ends from which it takes, each with the neighbour at the other end, ascending.
+    /// The ends from which it takes, each with the neighbour at the other end, in ascending order.
     pub heads: HeadList,
     ghost fresh: { started_of (view_of agent) ≡ false },
     ghost own: { (private_of (view_of agent)).me ≡ me },

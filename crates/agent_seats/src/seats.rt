@@ -28,7 +28,13 @@ use protocol_steps::{acquaintance_is_knowledge, places_fit, private_is_knowledge
 use pseudotree::{Place, Tree, place};
 use std::alloc::Global;
 
-/// The agents of a start, with links to their neighbours.
+/// Makes the agents of a start, each with the ends of new links to and from its neighbours. The
+/// tree of a start must be a pseudotree of the problem, and linked: each variable except the root
+/// is a neighbour of its parent. The requested error must be at most 2^62.
+///
+/// # Errors
+///
+/// [`NoMemory`] if memory runs out.
 pub fn seats_of(alloc: Global, problem: &Problem, start: &Start) -> Result<Vec<Seat>, NoMemory>
     requires start { IsStartFor problem.now start.now }
     ensures { IfOk result (λ seats. AreSeats problem.now start.now seats.items) }
@@ -39,14 +45,23 @@ pub fn seats_of(alloc: Global, problem: &Problem, start: &Start) -> Result<Vec<S
     seat_known(alloc, problem, start, known, links)
 }
 
-/// What each agent knows of a problem.
+/// What each agent knows of a problem, in order.
+///
+/// # Errors
+///
+/// [`NoMemory`] if memory runs out.
 pub fn known_in(alloc: Global, problem: &Problem) -> Result<Vec<Private>, NoMemory>
     ensures { IfOk result (λ known. known.items ≡ map (known_by problem.now) (range_with_len 0 (length problem.now.sizes))) }
 {
     privates(alloc, problem)
 }
 
-/// The agents of a start, each with the ends of its links, whatever links these are.
+/// Makes the agents of a start over these links: agent i gets the ends at place i, which must be
+/// those to and from its neighbours, with nothing sent on them.
+///
+/// # Errors
+///
+/// [`NoMemory`] if memory runs out.
 pub fn seat_all(
     alloc: Global,
     problem: &Problem,
@@ -61,8 +76,7 @@ pub fn seat_all(
     seat_known(alloc, problem, start, known, links)
 }
 
-/// The agents of a start, made from what they know that looks at no cost, each with the ends of its
-/// links, whatever links these are.
+/// Makes the agents of a start over these links, from what they know without costs.
 fn seat_known(
     alloc: Global,
     problem: &Problem,
@@ -79,7 +93,7 @@ fn seat_known(
     seat_each(alloc, problem, start, known, links)
 }
 
-/// What the agents of a start are made from. Token agents look at no cost, so they get no tables.
+/// What each agent of a start knows, in order. Token agents read no cost, so they get no tables.
 fn known_for(
     alloc: Global,
     problem: &Problem,
@@ -95,7 +109,7 @@ fn known_for(
     }
 }
 
-/// The same agents with the tables that name their variables.
+/// Adds to what each agent knows the cost tables that have its variable in their scope.
 fn with_tables(
     alloc: Global,
     problem: &Problem,
@@ -109,7 +123,7 @@ fn with_tables(
     Ok(known)
 }
 
-/// The agents of a start, which know this, each with the ends of its links.
+/// Makes the agents of a start over these links, from what they know.
 fn seat_each(
     alloc: Global,
     problem: &Problem,
@@ -131,7 +145,7 @@ fn seat_each(
     Ok(seats)
 }
 
-/// The agent of a variable, with the ends of its links.
+/// Makes the agent of a variable from what it knows, with the ends of its links.
 fn seat_for(
     alloc: Global,
     problem: &Problem,
@@ -162,7 +176,7 @@ fn seat_for(
     })
 }
 
-/// The agent of a variable, which knows this.
+/// Makes the agent of a variable from what it knows.
 fn make_agent(
     alloc: Global,
     problem: &Problem,

@@ -1,4 +1,4 @@
--- How playing cells breaks off where stamps end.
+-- How playing cells breaks off if stamps end.
 use Rattle.std.proofs.Common.{◌≡◌, ◌≢◌, ℕ, zero, suc, ◌+◌, ◌*◌, ◌<◌, ◌≤◌, Bool, Result, Ok, Err, Some, None, List, [], ◌∷◌, ◌++◌, map, length, set, get_or, slice_get, refl, sym, ap, subst, ◌∙◌, inl, inr, arith, length-set, length-append}
 use Rattle.std.specs.Prelude.{IfOk, IfErr, IsErrAnd}
 use Rattle.std.proofs.Math.Nat.{mul-le-mul_right}
@@ -36,7 +36,7 @@ pub err_on : {T : Type 0} (r : Result T VisitFault) (e : VisitFault) (P : VisitF
 err_on (Ok x) e P h p = tt
 err_on (Err x) e P h p = subst P (sym h) p
 
--- each element of a list, by what stood at its place in a mapped one
+-- each element of a list, by the element at its place in a mapped list
 each_left : {A B C : Type 0} (R : B → C → Type 0) (f : A → B) (xs : List A) (ys : List C) → length ys ≡ length xs
     → ((i : ℕ) (a : A) (c : C) → slice_get xs i ≡ Some a → slice_get ys i ≡ Some c → R (f a) c) → EachAre R (map f xs) ys
 each_left R f [] [] long each = tt
@@ -44,7 +44,7 @@ each_left R f [] (y ∷ ys) long each = absurd (omega (arith, long))
 each_left R f (x ∷ xs) [] long each = absurd (omega (arith, long))
 each_left R f (x ∷ xs) (y ∷ ys) long each = (each 0 x y refl refl, each_left R f xs ys (omega (arith, long)) (λ i a c e h. each (suc i) a c e h))
 
--- of two parts neither wanted memory, where both together did not
+-- if two parts together did not run out of memory, neither of them did
 first_fine : (q r : Result ℕ VisitFault) → both_of q r ≢ Err NoMemory → q ≢ Err NoMemory
 first_fine (Ok m) r h = λ (no : Ok m ≡ Err NoMemory). absurd (cc)
 first_fine (Err NoMemory) (Ok n) h = λ _. h refl
@@ -101,7 +101,7 @@ module _ {X : Type 0} {F : X → Type 0} (M : DynBox X Global F → View) where
         (subst (λ (c : Cell X F). HasGoneOn (state_of M x) (state_of M c)) (sym same) (gone_none (state_of M x)), λ fine. subst IsFine (sym same) fine)
   ]
 
-  -- a turn in which the visit of cell k found that stamps end
+  -- a turn in which the visit of cell k reached the end of the stamps
   pub turn_broken : (all : Bool) (k n : ℕ) (before now : List (Cell X F)) (d y : Cell X F) → AreTurning M all k n before now → k < length now
       → (fault_in (get_or now k d) ≡ None → HasReachedEnd (state_of M (get_or now k d)) (state_of M y)) → EachIs IsFine before → AreBrokenOff M HasGoneOn visit_limit (states_of M before) (set now k y)
   turn_broken all k n before now d y t lt end fine =
@@ -136,7 +136,7 @@ module _ {X : Type 0} {F : X → Type 0} (M : DynBox X Global F → View) where
     | inr some ↦ let h = (s.some (omega (arith, some))).each i x y e f in (record { deeds = h.sprint.deeds; later = h.sprint.later }, h.fault)
   ]
 
-  -- some turns, and one that broke off
+  -- turns, and one more that broke off
   pub sprint_broken : (k n : ℕ) (a b c : List (Cell X F)) → k < 32 → AreSprinting M k n a b → (EachIs IsFine b → AreBrokenOff M HasGoneOn visit_limit (states_of M b) c)
       → EachIs IsFine a → AreBrokenOff M HasGoneOn sprint_limit (states_of M a) c
   sprint_broken k n a b c lt s broken fine =
@@ -228,7 +228,7 @@ module _ {X : Type 0} {F : X → Type 0} (M : DynBox X Global F → View) where
       (subst (λ (xs : List (Cell X F)). PartPlayed (low ++ high) r xs) (sym p.7)
       (subst (λ (q : Result ℕ VisitFault). PartPlayed (low ++ high) q (p.2 ++ p.3)) (sym p.8) (both_played low high p.2 p.3 p.4 p.5 first rest)))
 
-  -- what a call with a part came to
+  -- the result of a call with a part
   pub part_call : (a x given left : List (Cell X F)) (r : Result ℕ VisitFault) → given ≡ a → left ≡ x
       → EachBecomes (StaysReady M) given left × (IfOk r (λ n. HavePlayed M n given left) × (IfErr r (λ f. SomeFailed f left)
       × IfErr r (λ f. f ≡ StampEnd → EachIs IsFine given → AreBrokenOff M HasGoneOn sprint_limit (states_of M given) left))) → PartPlayed a r x

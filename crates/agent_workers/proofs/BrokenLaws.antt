@@ -1,4 +1,4 @@
--- No round is broken off where stamps end.
+-- No round is broken off because stamps end.
 use Rattle.std.proofs.Common.{◌≡◌, ℕ, zero, suc, ◌<◌, ◌≤◌, ◌==◌, if◌then◌else◌, Bool, false, Some, List, [], ◌∷◌, ◌++◌, map, max, length, slice_get, refl, sym, ap, ap₂, subst, ◌∙◌, inl, inr, arith}
 use Rattle.std.specs.List.{All, Contains, fold}
 use Rattle.std.specs.List.Sorted.{IsStrictlyIncreasing}
@@ -52,7 +52,7 @@ gone_then a b c g h = record { deeds = g.deeds ++ h.deeds; later = later_then a 
 pub moved_by : (a b c : CellState) → IsQuiet a b → HasGoneOn b c → IsMoved a c
 moved_by a b c q g = record { middle = b; quiet = q; deeds = g.deeds; later = g.later }
 
--- what stands at a place of a mapped list
+-- the element at a place of a mapped list
 map_at : {A B : Type 0} (f : A → B) (xs : List A) (i : ℕ) (x : A) → slice_get xs i ≡ Some x → slice_get (map f xs) i ≡ Some (f x)
 map_at f [] i x e = absurd (none-some x e)
 map_at f (y ∷ xs) zero x e = ap (λ (z : _). Some (f z)) (same_Some y x e)
@@ -68,7 +68,7 @@ gained_none j among (g ∷ gs) h none =
 abbrev Within : ℕ → (ℕ × Message) → Type 0
 Within k e = e.0 ≤ k
 
--- both halves of a list are within, where it is
+-- both halves of a list are within a limit if the list is
 all_both : (k : ℕ) (e : ℕ × Message) (es : List (ℕ × Message)) → Within k e → All (Within k) es → All (Within k) (e ∷ es)
 all_both k e es h rest zero d lt = h
 all_both k e es h rest (suc i) d lt = rest i d (omega (arith, lt))
@@ -81,7 +81,7 @@ all_right : (k : ℕ) (es fs : List (ℕ × Message)) → All (Within k) (es ++ 
 all_right k [] fs h = h
 all_right k (e ∷ es) fs h = all_right k es fs (λ i d lt. h (suc i) d (omega (arith, lt)))
 
--- the greatest of stamps that are none above k
+-- the greatest of stamps that are at most k
 low_from : (m k : ℕ) (es : List (ℕ × Message)) → m ≤ k → All (Within k) es → greatest_from m es ≤ k
 low_from m k [] le h = le
 low_from m k (e ∷ es) le h = let low : e.0 ≤ k = h 0 e (omega arith) in low_from (max m e.0) k es (omega (arith, le, low)) (λ i d lt. h (suc i) d (omega (arith, lt)))

@@ -1,4 +1,4 @@
--- Cells that stay the same but for what they know.
+-- Cells that stay the same except for what they know.
 use Rattle.std.proofs.Common.{◌≡◌, ◌≢◌, ℕ, suc, ◌==◌, if◌then◌else◌, Bool, List, [], ◌∷◌, ◌++◌, length, refl, sym, ap, subst, ◌∙◌, inl, inr, arith}
 use Rattle.std.proofs.lemmas.Bool.{cases_Bool, eqb-true}
 use Rattle.std.proofs.lemmas.List.Sums.{sum_by-cons}
@@ -25,7 +25,7 @@ quiet_none s = record { me = refl; viewed = refl; stamped = refl; noted = refl; 
 pub quiet_then : (a b c : CellState) → IsQuiet a b → IsQuiet b c → IsQuiet a c
 quiet_then a b c q r = record { me = r.me ∙ q.me; viewed = r.viewed ∙ q.viewed; stamped = r.stamped ∙ q.stamped; noted = r.noted ∙ q.noted; sent = r.sent ∙ q.sent; taken = r.taken ∙ q.taken }
 
--- a settled link stays so where both cells stay quiet and no less is known of it
+-- a settled link stays settled if both cells stay quiet and no less is known of it
 pub settled_still : (i j : ℕ) (to from to_after from_after : CellState) → IsSettled i j to from → IsQuiet to to_after → IsQuiet from from_after → known_from j to_after.known ≡ known_from j to.known → IsSettled i j to_after from_after
 settled_still i j to from to_after from_after s q r known = record {
   waiting = s.waiting;
@@ -36,7 +36,7 @@ settled_still i j to from to_after from_after s q r known = record {
 counted : ℕ → Head → ℕ
 counted k h = if h.0 == k then length (known_to h.1) else 0
 
--- what is known of another link than that to one peer
+-- what is known of the links to all peers but one
 pub known_others : (from k : ℕ) (xs ys : List Head) → k ≢ from → AreSameHeads xs ys → ((p : ℕ) (h : Head) → StandsAt xs p h → h.0 ≢ from → StandsAt ys p h) → known_from k (known_of ys) ≡ known_from k (known_of xs)
 known_others from k [] [] ne same others = refl
 known_others from k [] (y ∷ ys) ne same others = let no : suc (length ys) ≡ 0 = same.size in absurd (omega (arith, no))

@@ -21,7 +21,7 @@ use Rattle.agent_workers.specs.Joined.{EachIs, EachBecomes, IsSameCell, IsJoined
 use Rattle.agent_workers.specs.Settled.{StaysQuiet}
 use Rattle.agent_workers.proofs.CellLaws.{stays_none, stays_then}
 
--- the ends of one link stay so
+-- the ends of one link stay the ends of one link
 ends_join_still : (ts us : List Tail) (hs gs : List Head) (to from : ℕ) → EndsJoin ts to hs from → AreSameTails ts us → AreSameHeads hs gs → EndsJoin us to gs from
 ends_join_still ts us hs gs to from j s r = record {
   each = λ k g at is. record {
@@ -60,7 +60,7 @@ module _ {X : Type 0} {F : X → Type 0} (M : DynBox X Global F → View) where
   pub sent_peers : (a b : Cell X F) → IsSameCell a b → peers (state_of M b).sent ≡ peers (state_of M a).sent
   sent_peers a b s = tails_peers a.tails.items b.tails.items s.links.tails
 
-  -- what stood at a place before
+  -- the element that was at a place before
   pub stood : (R : Cell X F → Cell X F → Type 0) (before after : List (Cell X F)) → EachBecomes R before after → (i : ℕ) (b : Cell X F) → slice_get after i ≡ Some b → (a : Cell X F) × (slice_get before i ≡ Some a) × R a b
   stood R before after e i b is =
       let in_after = slice_get_within after i b is in

@@ -33,7 +33,7 @@ module _ {A : Type 0} (R : A → A → A → A → Type 0) where
       let new_k : get_or (set low k b ++ set high 0 a) k d ≡ b = get_or_append_left (set low k b) (set high 0 a) d k (omega (arith, long, lt)) ∙ get_or-set_same low k b d (omega (arith, first, lt)) in
       four (get_or low k l) (get_or high 0 h) b a (get_or xs k d) (get_or xs n d) (get_or (set low k b ++ set high 0 a) k d) (get_or (set low k b ++ set high 0 a) n d) at_k at_n new_k new_n r
 
--- all others stand where they stood
+-- no other element has changed
 pub cut_rest : {A : Type 0} (xs low high : List A) (n k i : ℕ) (a b d : A) → xs ≡ low ++ high → length low ≡ n → i ≢ n → i ≢ k → get_or (set low k b ++ set high 0 a) i d ≡ get_or xs i d
 cut_rest xs low high n k i a b d whole first ne other =
     let long : length (set low k b) ≡ n = length-set low k b ∙ first in
@@ -45,7 +45,7 @@ cut_rest xs low high n k i a b d whole first ne other =
           ∙ sym (ap (λ ys. get_or ys i d) whole ∙ get_or-append_right low high n i d first (omega (arith, le)))
     ]
 
--- what stands at a place of a mapped list
+-- the element at a place of a mapped list
 pub map_back : {A B : Type 0} (f : A → B) (xs : List A) (i : ℕ) (y : B) → slice_get (map f xs) i ≡ Some y → (x : A) × (slice_get xs i ≡ Some x) × (f x ≡ y)
 map_back f [] i y e = absurd (none-some y e)
 map_back f (x ∷ xs) zero y e = (x, refl, same_Some (f x) y e)
@@ -59,7 +59,7 @@ each_are R f g [] (y ∷ ys) long each = absurd (omega (arith, long))
 each_are R f g (x ∷ xs) [] long each = absurd (omega (arith, long))
 each_are R f g (x ∷ xs) (y ∷ ys) long each = (each 0 x y refl refl, each_are R f g xs ys (omega (arith, long)) (λ i a b e h. each (suc i) a b e h))
 
--- an element read in two ways is one
+-- an element that is read in two ways is the same
 pub one_at : {A : Type 0} (xs : List A) (i : ℕ) (x y : A) → slice_get xs i ≡ Some x → slice_get xs i ≡ Some y → x ≡ y
 one_at xs i x y e f = same_Some x y (sym e ∙ f)
 

@@ -10,7 +10,7 @@ use Rattle.agent_cells.specs.declared.fault.VisitFault.TheVariants.{NoMemory, St
 use Rattle.agent_workers.specs.Turns.{sprint_limit}
 use Rattle.agent_workers.specs.Parts.{both_of, AcceptsParts, IsCall, IsPlayedByParts}
 
--- what two parts took fits
+-- the sum of what two parts took fits
 pub fit_together : (q r : Result ℕ VisitFault) (k l : ℕ) → (k + l) * sprint_limit ≤ count_limit → IfOk q (λ n. n ≤ k * sprint_limit) → IfOk r (λ n. n ≤ l * sprint_limit) → IfOk q (λ m. IfOk r (λ n. m + n ≤ count_limit))
 fit_together (Ok m) (Ok n) k l within p s = omega (arith, within, p, s)
 fit_together (Ok m) (Err f) k l within p s = tt

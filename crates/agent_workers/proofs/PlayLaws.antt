@@ -26,7 +26,7 @@ use Rattle.agent_workers.proofs.ListLaws.{one_at}
 use Rattle.agent_workers.proofs.CellLaws.{keeps_none, keeps_then}
 use Rattle.agent_workers.proofs.JoinLaws.{stood}
 
--- what stands at a place after one element was written
+-- the element at a place after one element was written
 pub set_back : {A : Type 0} (xs : List A) (k : ℕ) (y : A) (i : ℕ) (b : A) → k < length xs → slice_get (set xs k y) i ≡ Some b → ((i ≡ k) × (b ≡ y)) ⊎ ((i ≢ k) × (slice_get xs i ≡ Some b))
 set_back [] k y i b lt e = absurd (omega (arith, lt))
 set_back (x ∷ xs) zero y zero b lt e = inl (refl, sym (same_Some y b e))
@@ -42,7 +42,7 @@ set_here [] k y lt = absurd (omega (arith, lt))
 set_here (x ∷ xs) zero y lt = refl
 set_here (x ∷ xs) (suc k) y lt = set_here xs k y (omega (arith, lt))
 
--- what stands at a place of two lists behind each other
+-- the element at a place of two joined lists
 append_back : {A : Type 0} (xs ys : List A) (i : ℕ) (x : A) → slice_get (xs ++ ys) i ≡ Some x → ((i < length xs) × (slice_get xs i ≡ Some x)) ⊎ ((j : ℕ) × (i ≡ length xs + j) × (slice_get ys j ≡ Some x))
 append_back [] ys i x e = inr (i, omega arith, e)
 append_back (z ∷ xs) ys zero x e = inl (omega arith, e)
@@ -93,7 +93,7 @@ module _ {X : Type 0} {F : X → Type 0} (M : DynBox X Global F → View) where
       sum_by-cons (λ (s : CellState). taken_by s.journal) (state_of M c) (states_of M cells) ∙ ap (λ n. taken_by (state_of M c).journal + n) (total_is cells)
       ∙ sym (sum_by-cons (λ (x : Cell X F). taken_by (state_of M x).journal) c cells)
 
-  -- a turn takes what it tells
+  -- a turn takes as many messages as it returns
   visit_takes : (n : ℕ) (a b : Cell X F) → HasTurned M n a b → taken_by (state_of M b).journal ≡ taken_by (state_of M a).journal + n
   visit_takes n a b t = elim (cases_Bool (ended_of (state_of M a).view)) [
     | inl ended ↦
@@ -266,7 +266,7 @@ module _ {X : Type 0} {F : X → Type 0} (M : DynBox X Global F → View) where
     most = let low = most_within n k (length a * visit_limit) s.most le in omega (arith, low);
   }
 
-  -- two parts behind each other
+  -- two joined parts
   pub each_both : (R : Cell X F → Cell X F → Type 0) (a b c d : List (Cell X F)) → EachBecomes R a c → EachBecomes R b d → EachBecomes R (a ++ b) (c ++ d)
   each_both R a b c d s t =
       let long_a : length c ≡ length a = s.size in
@@ -311,7 +311,7 @@ module _ {X : Type 0} {F : X → Type 0} (M : DynBox X Global F → View) where
   pub high_each : (P : Cell X F → Type 0) (a b : List (Cell X F)) → EachIs P (a ++ b) → EachIs P b
   high_each P a b r = record { each = λ i c is. r.each (length a + i) c (append_right a b i c is) }
 
-  -- what two parts came to
+  -- the joint result of two parts
   pub both_ok : (q r : Result ℕ VisitFault) (a b c d : List (Cell X F)) → IfOk q (λ n. HavePlayed M n a c) → IfOk r (λ n. HavePlayed M n b d) → IfOk (both_of q r) (λ n. HavePlayed M n (a ++ b) (c ++ d))
   both_ok (Ok m) (Ok n) a b c d p s = played_both m n a b c d p s
   both_ok (Ok m) (Err f) a b c d p s = tt

@@ -73,7 +73,7 @@ module _ {X : Type 0} {F : X → Type 0} (M : DynBox X Global F → View) where
   pub joined_after : (nodes : ℕ) (before mid after : List (Cell X F)) → IsJoined M nodes before → EachBecomes (StaysQuiet M) before mid → EachBecomes (StaysReady M) mid after → IsJoined M nodes after
   joined_after nodes before mid after j q r = joined_still M nodes mid after (joined_still M nodes before mid j (quiet_same M before mid q)) (same_from mid after r)
 
-  -- what a round has made, where it was whole
+  -- what a round has done, if it did not fail
   pub record RoundMade (nodes n : ℕ) (before after : List (Cell X F)) : Type 0 where
     pub round : IsPartRound (home nodes (length before)) (states_of M before) (states_of M after)
     pub counted : total (states_of M after) ≡ total (states_of M before) + n

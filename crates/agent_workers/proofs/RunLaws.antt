@@ -34,7 +34,7 @@ use Rattle.agent_workers.proofs.JoinLaws.{stood, joined_still}
 use Rattle.agent_workers.proofs.SettleLaws.{settling}
 use Rattle.agent_workers.proofs.PlayLaws.{set_back}
 
--- cells that stay quiet end as they ended
+-- cells that stay quiet have ended exactly if they had
 still_ended : (now last : List CellState) → EachAre IsQuiet now last → all_ended last ≡ all_ended now
 still_ended [] [] q = refl
 still_ended [] (y ∷ ys) q = absurd q
@@ -115,7 +115,7 @@ module _ {X : Type 0} {F : X → Type 0} (M : DynBox X Global F → View) where
   pub start_none : (cells : List (Cell X F)) → AreStarting M 0 cells cells
   start_none cells = record { same = same_all cells; started = λ i a b e f lt. absurd (omega (arith, lt)); rest = λ i a b e f le. one_at cells i b a f e }
 
-  -- a cell that has not had its turn stands where it stood
+  -- a cell that has not had its turn has not changed
   stands : (k : ℕ) (before now : List (Cell X F)) (d : Cell X F) → AreStarting M k before now → (lt : k < length now) → (a : Cell X F) → slice_get before k ≡ Some a → get_or now k d ≡ a
   stands k before now d s lt a e = s.rest k a (get_or now k d) e (slice_get-get_or now k d lt) (omega arith)
 
@@ -188,7 +188,7 @@ module _ {X : Type 0} {F : X → Type 0} (M : DynBox X Global F → View) where
       let one = one_node_is_all.settling (states_of M now) (states_of M last) (subst (λ (n : ℕ). IsSettling (home 1 n) (states_of M now) (states_of M last)) (sym (length-map now (state_of M))) made) in
       played_run budget (views_of M before) (states_of M begun) (states_of M now) (states_of M last) answer (starts before begun j s) p one.0 one.1
 
-  -- one round more, which took something where it is not the last
+  -- one round more, which took something if it is not the last
   pub played_on : (budget n : ℕ) (started now next : List (Cell X F)) → ArePlayedIn budget AreBusy (states_of M started) (states_of M now) → n ≡ total (states_of M now) → n < budget → all_ended (states_of M now) ≡ false
       → IsPartRound (home 1 (length now)) (states_of M now) (states_of M next) → ArePlayedIn budget AreDue (states_of M started) (states_of M next)
   played_on budget n started now next p is less awake round = record {
@@ -242,7 +242,7 @@ module _ {X : Type 0} {F : X → Type 0} (M : DynBox X Global F → View) where
   pub fine_still : (before after : List (Cell X F)) → EachBecomes (λ a b. fault_in a ≡ None → fault_in b ≡ None) before after → EachIs (λ c. fault_in c ≡ None) before → EachIs (λ c. fault_in c ≡ None) after
   fine_still before after e fine = record { each = λ i b is. let a = stood M _ before after e i b is in a.2 (fine.each i a.0 a.1) }
 
-  -- no run breaks off where stamps end
+  -- no run breaks off because stamps end
   pub never_ends : (budget : ℕ) (before begun now last : List (Cell X F)) → budget ≤ budget_limit → IsJoined M 1 before → EachBecomes (HasStarted M) before begun → HaveBrokenOff M budget (states_of M begun) now
       → IsJoined M 1 now → HaveSettled M (home 1 (length now)) (length now) now last → SomeFailed StampEnd now → ⊥
   never_ends budget before begun now last within j s broken joined settled failed =

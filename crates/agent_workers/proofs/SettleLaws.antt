@@ -39,7 +39,7 @@ settled_apart i j to from no_head no_tail = record {
   known = omega arith;
 }
 
--- where a number stands
+-- the place of a number
 place_of : (xs : List ℕ) (j : ℕ) → has xs j ≡ true → (p : ℕ) × (slice_get xs p ≡ Some j)
 place_of xs j h = let c = contains_from_has xs j h in (c.0, slice_get-get_or xs c.0 j c.1 ∙ ap (λ (n : ℕ). Some n) c.2)
 
@@ -233,7 +233,7 @@ module _ {X : Type 0} {F : X → Type 0} (M : DynBox X Global F → View) where
             ]) ∙ h.kept k j x y.0 e y.1 far;
       }
 
-  -- what settling all links makes of the cells, as plain values
+  -- what settling all links does to the cells, as plain values
   pub settling : (node : ℕ → ℕ) (before after : List (Cell X F)) → HaveSettled M node (length before) before after → IsSettling node (states_of M before) (states_of M after)
   settling node before after h = record {
     quiet = each_are IsQuiet (state_of M) (state_of M) before after h.quiet.size (λ i a b e f. (h.quiet.each i a b e f).quiet);

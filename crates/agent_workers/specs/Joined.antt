@@ -16,11 +16,12 @@ module _ {X : Type 0} {F : X → Type 0} where
   abbrev pub states_of : (DynBox X Global F → View) → List (Cell X F) → List CellState
   states_of meaning cells = map (λ c. state_of meaning c) cells
 
-  -- each cell of a list is so
+  -- P holds of each cell of a list
   pub record EachIs (P : Cell X F → Type 0) (cells : List (Cell X F)) : Type 0 where
     pub each : (i : ℕ) (c : Cell X F) → slice_get cells i ≡ Some c → P c
 
-  -- each cell has become the one that stands at its place afterwards
+  -- R holds of each cell and the cell that is at its place afterwards; there are as many cells as
+  -- before
   pub record EachBecomes (R : Cell X F → Cell X F → Type 0) (before after : List (Cell X F)) : Type 0 where
     pub size : length after ≡ length before
     pub each : (i : ℕ) (a b : Cell X F) → slice_get before i ≡ Some a → slice_get after i ≡ Some b → R a b
@@ -35,11 +36,13 @@ module _ {X : Type 0} {F : X → Type 0} where
     pub me : after.me ≡ before.me
     pub links : KeepsLinks before after
 
-  -- the link from one cell to another has its ends in the two, where there is one
+  -- if there is a link from one cell to another, its ends are in the two
   abbrev pub AreJoined : Cell X F → Cell X F → Type 0
   AreJoined from to = EndsJoin (tails_in from) to.me (heads_in to) from.me
 
-  -- cells joined by so many nodes: they are at most 1,000; cell i is that of agent i, and its peers are other agents, each of which has it as a peer; and the link of each two peers in one node has its ends in their cells
+  -- cells joined in `nodes` nodes: they are at most 1,000; cell i is that of agent i, and its peers
+  -- are other agents, each with it as a peer; each link between two peers in one node has its ends
+  -- in their cells
   pub record IsJoined (meaning : DynBox X Global F → View) (nodes : ℕ) (cells : List (Cell X F)) : Type 0 where
     pub few : length cells ≤ variable_limit
     pub wired : (i : ℕ) (c : Cell X F) → slice_get cells i ≡ Some c → IsWired (length cells) i (state_of meaning c)

@@ -1,4 +1,4 @@
--- Parts of a list, each given to a call of a closure, beside each other.
+-- Parts of a list, each given to a call of a closure.
 use Rattle.std.specs.Prelude.{◌≡◌, ℕ, zero, suc, ◌+◌, ◌*◌, ◌≤◌, List, ◌++◌, length, Result, Ok, Err, IfOk}
 use denote.Ref.{MutBor}
 use denote.Param.Members.{Shared}
@@ -6,7 +6,8 @@ use Rattle.agent_cells.specs.declared.fault.VisitFault.{VisitFault}
 use Rattle.agent_cells.specs.declared.fault.VisitFault.TheVariants.{NoMemory, StampEnd}
 use Rattle.agent_workers.specs.Turns.{sprint_limit}
 
--- what two parts came to: the messages that they took together, or a fault, and want of memory before the end of the stamps
+-- the joint result of two parts: how many messages they took together, or a fault; out of memory
+-- comes before the end of the stamps
 abbrev pub both_of : Result ℕ VisitFault → Result ℕ VisitFault → Result ℕ VisitFault
 both_of (Ok m) (Ok n) = Ok (m + n)
 both_of (Ok m) (Err f) = Err f
@@ -15,7 +16,8 @@ both_of (Err NoMemory) (Err f) = Err NoMemory
 both_of (Err StampEnd) (Err f) = Err f
 
 module _ {T : Type 0} where
-  -- parts of a list, one more than the count, which came to this together, where each came to what the relation says
+  -- the list is split into parts, one more than `count`; P holds of each part with its result, and
+  -- the joint result is `outcome`
   abbrev pub ByParts : (List T → Result ℕ VisitFault → List T → Type 0) → ℕ → List T → Result ℕ VisitFault → List T → Type 0
   ByParts P zero before outcome after = P before outcome after
   ByParts P (suc count) before outcome after =
@@ -27,7 +29,7 @@ module _ {F T : Type 0} (g : Shared F (MutBor (List T) × Unit {0}) (Result ℕ 
   pub record AcceptsParts (all : List T) : Type 0 where
     pub each : (before part after : List T) (p : MutBor (List T)) → all ≡ before ++ (part ++ after) → p.now ≡ part → g.pre f (p, tt)
 
-  -- a call of f with a `&mut` to a list may come to this and leave that there
+  -- a call of f with a `&mut` to this list may return `outcome` and leave the second list there
   pub record IsCall (before : List T) (outcome : Result ℕ VisitFault) (after : List T) : Type 0 where
     pub argument : MutBor (List T)
     pub argument_is : argument.now ≡ before
@@ -35,11 +37,11 @@ module _ {F T : Type 0} (g : Shared F (MutBor (List T) × Unit {0}) (Result ℕ 
     pub call : g.post f (argument, tt) (outcome, (after_call, tt))
     pub left : after_call.now ≡ after
 
-  -- a call takes no more than a round may for each element
+  -- a call takes at most as many messages as a round may take for each element
   pub record TakesFew : Type 0 where
     pub each : (before : List T) (outcome : Result ℕ VisitFault) (after : List T) → IsCall before outcome after → IfOk outcome (λ n. n ≤ length before * sprint_limit)
 
-  -- calls of f with the parts of a list
+  -- the joint result of calls of f, one with each part of the list
   pub record IsPlayedByParts (before : List T) (outcome : Result ℕ VisitFault) (after : List T) : Type 0 where
     pub count : ℕ
     pub parts : ByParts IsCall count before outcome after

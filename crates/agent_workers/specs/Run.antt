@@ -1,4 +1,4 @@
--- A run of cells: their start, and how playing them ended.
+-- A run of cells: their start, and how playing them has ended.
 use Rattle.std.specs.Prelude.{◌≡◌, ◌≢◌, ℕ, ◌<◌, ◌≤◌, true, false, List, [], ◌∷◌, map, Some, None, slice_get}
 use Rattle.std.specs.declared.dyn_box.DynBox.{DynBox}
 use Rattle.std.specs.declared.alloc.Global.{Global}
@@ -26,29 +26,32 @@ module _ {X : Type 0} {F : X → Type 0} where
     pub fine : fault_in after ≡ None
     pub started : IsStarted (state_of meaning before).view (state_of meaning after)
 
-  -- each of the first cells has started, so many of them, and any other cell stands where it stood
+  -- each of the first `done` cells has started, and no other cell has changed
   pub record AreStarting (meaning : DynBox X Global F → View) (done : ℕ) (before after : List (Cell X F)) : Type 0 where
     pub same : EachBecomes IsSameCell before after
     pub started : (i : ℕ) (a b : Cell X F) → slice_get before i ≡ Some a → slice_get after i ≡ Some b → i < done → HasStarted meaning a b
     pub rest : (i : ℕ) (a b : Cell X F) → slice_get before i ≡ Some a → slice_get after i ≡ Some b → done ≤ i → b ≡ a
 
--- each of these rounds began with an agent that had not ended, and took something; the list has the cells after each round
+-- each of these rounds began with an agent that had not ended, and took something; the list has the
+-- cells after each round
 abbrev pub AreBusy : List CellState → List (List CellState) → Type 0
 AreBusy before [] = Unit {0}
 AreBusy before (next ∷ rounds) = (all_ended before ≡ false) × (total before < total next) × AreBusy next rounds
 
--- the same, but the last one may have taken nothing
+-- the same, but the last round may have taken nothing
 abbrev pub AreDue : List CellState → List (List CellState) → Type 0
 AreDue before [] = Unit {0}
 AreDue before (next ∷ rounds) = (all_ended before ≡ false) × (rounds ≢ [] → total before < total next) × AreDue next rounds
 
--- cells that had started were played in such rounds under a budget
+-- cells that had started were played in rounds under a budget, and `Such` holds of these rounds
 pub record ArePlayedIn (budget : ℕ) (Such : List CellState → List (List CellState) → Type 0) (started now : List CellState) : Type 0 where
   pub rounds : List (List CellState)
   pub are : AreCellRounds budget started rounds now
   pub such : Such started rounds
 
--- cells of agents that were made so have started, were played in rounds under a budget, each of which began with an agent that had not ended and each of which but the last took something, and have every link settled at the end
+-- cells whose agents were made with these views have started and were played in rounds under a
+-- budget; each round began with an agent that had not ended, and each but the last took something;
+-- at the end every link is settled
 pub record AreDulyPlayed (budget : ℕ) (made : List View) (last : List CellState) : Type 0 where
   pub started : List CellState
   pub played : List CellState
@@ -57,7 +60,7 @@ pub record AreDulyPlayed (budget : ℕ) (made : List View) (last : List CellStat
   pub quiet : EachAre IsQuiet played last
   pub settled : AreSettled last
 
--- a round that took nothing came last
+-- the last round took nothing, and the deliveries before it were below the budget
 pub record IsIdle (budget : ℕ) (started now : List CellState) : Type 0 where
   pub before : List CellState
   pub played : ArePlayed budget started before
@@ -71,34 +74,35 @@ HasStopped budget started now (AllEnded n) = (n ≡ total now) × (all_ended now
 HasStopped budget started now (Spent n) = (n ≡ total now) × (all_ended now ≡ false) × (budget ≤ total now)
 HasStopped budget started now (Still n) = (n ≡ total now) × (all_ended now ≡ false) × IsIdle budget started now
 
--- cells were played in rounds under a budget until they ended so
+-- cells were played in due rounds under a budget, and playing has ended with this answer
 pub record ArePlayedOut (budget : ℕ) (started now : List CellState) (answer : RunEnd) : Type 0 where
   pub played : ArePlayedIn budget AreDue started now
   pub stopped : HasStopped budget started now answer
 
--- the last one of these rounds took nothing
+-- the last of these rounds took nothing
 abbrev pub EndIdle : List CellState → List (List CellState) → Type 0
 EndIdle before [] = ⊥
 EndIdle before (last ∷ []) = total last ≡ total before
 EndIdle before (next ∷ (later ∷ rounds)) = EndIdle next (later ∷ rounds)
 
--- this holds where the answer is Still
+-- P holds if the answer is Still
 abbrev pub AtStill : RunEnd → Type 0 → Type 0
 AtStill (AllEnded n) P = Unit {0}
 AtStill (Spent n) P = Unit {0}
 AtStill (Still n) P = P
 
--- cells that had started were played in due rounds, the last one of which took nothing
+-- cells that had started were played in due rounds, and the last round took nothing
 pub record AreIdle (budget : ℕ) (started now : List CellState) : Type 0 where
   pub played : ArePlayedIn budget AreDue started now
   pub idle : EndIdle started played.rounds
 
--- cells of agents that were made so were duly played, and the last round took nothing while an agent had not ended
+-- cells whose agents were made with these views were duly played, and the last round took nothing
+-- while an agent had not ended
 pub record HaveComeToRest (budget : ℕ) (made : List View) (last : List CellState) : Type 0 where
   pub duly : AreDulyPlayed budget made last
   pub idle : EndIdle duly.started duly.rounds.rounds
   pub awake : all_ended last ≡ false
 
--- where the answer is Still, cells have come to rest so
+-- if the answer is Still, the cells have come to rest
 pub record RestsAtStill (budget : ℕ) (made : List View) (last : List CellState) (answer : RunEnd) : Type 0 where
   pub rest : AtStill answer (HaveComeToRest budget made last)

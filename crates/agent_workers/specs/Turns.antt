@@ -13,7 +13,7 @@ use Rattle.agent_cells.specs.declared.fault.VisitFault.{VisitFault}
 use Rattle.agent_cells.specs.State.{state_of, fault_in}
 use Rattle.agent_workers.specs.Joined.{states_of, EachBecomes, HasBegun, IsSameCell}
 
--- the most messages that one visit of a cell takes, and that a round takes for one cell
+-- the most messages that one visit of a cell takes, and the most that a round takes for one cell
 abbrev pub visit_limit : ℕ
 visit_limit = link_share * variable_limit
 
@@ -26,33 +26,35 @@ module _ {X : Type 0} {F : X → Type 0} where
     pub begun : HasBegun meaning c
     pub few : length (state_of meaning c).taken ≤ variable_limit
 
-  -- it is the same agent's cell, with the same links, and may be visited again
+  -- the cell of the same agent, with the same links, which may be visited again
   pub record StaysReady (meaning : DynBox X Global F → View) (before after : Cell X F) : Type 0 where
     pub same : IsSameCell before after
     pub ready : IsReady meaning after
 
-  -- the turn of one cell, which took so many messages: it was visited, if it had not ended
+  -- the turn of one cell, which took `count` messages: it was visited if it had not ended, and has
+  -- not changed if it had
   pub record HasTurned (meaning : DynBox X Global F → View) (count : ℕ) (before after : Cell X F) : Type 0 where
     pub rests : ended_of (state_of meaning before).view ≡ true → (after ≡ before) × (count ≡ 0)
     pub visit : ended_of (state_of meaning before).view ≡ false → IsVisit (state_of meaning before) count (state_of meaning after) × (fault_in after ≡ None)
 
-  -- the same, or, where not all cells have to be visited, the cell stands where it stood and took nothing
+  -- the same; or, if not all cells have to be visited, the cell has not changed and took nothing
   abbrev pub MayHaveTurned : (DynBox X Global F → View) → Bool → ℕ → Cell X F → Cell X F → Type 0
   MayHaveTurned meaning all count before after = HasTurned meaning count before after ⊎ ((all ≡ false) × (after ≡ before) × (count ≡ 0))
 
-  -- a cell was visited some times, at most so many
+  -- a cell was visited at most `visits` times
   pub record HasSprinted (meaning : DynBox X Global F → View) (visits : ℕ) (before after : Cell X F) : Type 0 where
     pub sprint : IsSprint visits (state_of meaning before) (state_of meaning after)
     pub fault : fault_in before ≡ None → fault_in after ≡ None
 
-  -- a cell stands failed by this fault
+  -- a cell has failed with this fault
   pub record SomeFailed (fault : VisitFault) (cells : List (Cell X F)) : Type 0 where
     pub place : ℕ
     pub cell : Cell X F
     pub at : slice_get cells place ≡ Some cell
     pub is : fault_in cell ≡ Some fault
 
-  -- each of the first cells had its turn, so many of them, or was passed over where not all have to be visited, and they took so many messages; any other cell stands where it stood
+  -- each of the first `done` cells had its turn, or was passed over if not all have to be visited,
+  -- and together they took `count` messages; no other cell has changed
   pub record AreTurning (meaning : DynBox X Global F → View) (all : Bool) (done count : ℕ) (before after : List (Cell X F)) : Type 0 where
     pub ready : EachBecomes (StaysReady meaning) before after
     pub turned : (i : ℕ) (a b : Cell X F) → slice_get before i ≡ Some a → slice_get after i ≡ Some b → i < done → (n : ℕ) × MayHaveTurned meaning all n a b
@@ -60,7 +62,7 @@ module _ {X : Type 0} {F : X → Type 0} where
     pub counted : total (states_of meaning after) ≡ total (states_of meaning before) + count
     pub most : count ≤ done * visit_limit
 
-  -- each cell had so many turns, and they took so many messages
+  -- each cell had `turns` turns, which took `count` messages together
   pub record AreSprinting (meaning : DynBox X Global F → View) (turns count : ℕ) (before after : List (Cell X F)) : Type 0 where
     pub ready : EachBecomes (StaysReady meaning) before after
     pub none : turns ≡ 0 → after ≡ before
@@ -68,7 +70,7 @@ module _ {X : Type 0} {F : X → Type 0} where
     pub counted : total (states_of meaning after) ≡ total (states_of meaning before) + count
     pub most : count ≤ turns * (length before * visit_limit)
 
-  -- each cell had at most 32 turns, and they took so many messages
+  -- each cell had at most 32 turns, which took `count` messages together
   pub record HavePlayed (meaning : DynBox X Global F → View) (count : ℕ) (before after : List (Cell X F)) : Type 0 where
     pub sprints : EachBecomes (HasSprinted meaning most_events) before after
     pub counted : total (states_of meaning after) ≡ total (states_of meaning before) + count

@@ -1,4 +1,4 @@
-//! Parts of a list, beside each other.
+//! Parts of a list that are played concurrently.
 
 ghost use Rattle.std.specs.Prelude.{◌≡◌, ◌≤◌, ◌<◌, ◌+◌, ◌*◌, ◌++◌, length, IfOk};
 ghost use Rattle.std.specs.Thread.{IsSync, IsSend};
@@ -10,8 +10,9 @@ use agent_cells::VisitFault;
 use std::marker::{Send, Sync};
 use std::thread::{Threads, join_mut};
 
-/// Plays the parts of a list, of this size but the last, beside each other. Of these parts the first
-/// `busy` may have something to do; those after them are played in one thread.
+/// Plays the parts of a list concurrently. Each part has `size` elements, but the last may have
+/// fewer. The first `busy` parts may have something to do; those after them are played one after
+/// another, in one thread.
 #[cycle(parts)]
 pub(crate) fn play_parts<
     R: Threads + Sync,
@@ -37,7 +38,7 @@ pub(crate) fn play_parts<
     both(first, rest)
 }
 
-/// Plays a part, and beside it the parts after it, of which the first `busy` may have something to do.
+/// Plays a part, and concurrently the parts after it, whose first `busy` may have something to do.
 #[cycle(parts)]
 fn play_beside<R: Threads + Sync, T: Send, F: Fn(&mut [T]) -> Result<u64, VisitFault> + Sync>(
     rt: &R,
@@ -79,8 +80,8 @@ fn play_one<T: Send, F: Fn(&mut [T]) -> Result<u64, VisitFault> + Sync>(
     play(part)
 }
 
-/// What two parts came to: the messages that they took together, or a fault of one of them, and
-/// want of memory before the end of the stamps.
+/// The joint result of two parts: how many messages they took together, or a fault of one of them.
+/// If both have failed, out of memory comes before the end of the stamps.
 fn both(first: Result<u64, VisitFault>, rest: Result<u64, VisitFault>) -> Result<u64, VisitFault>
     requires fits { IfOk first (λ m. IfOk rest (λ n. m + n ≤ count_limit)) }
     ensures { result ≡ both_of first rest }

@@ -1,4 +1,4 @@
-//! Playing cells: turns, sprints of turns, and parts beside each other.
+//! Playing cells: turns, sprints of turns, and concurrent parts.
 
 ghost use Rattle.std.specs.Prelude.{◌≡◌, ◌≤◌, ◌<◌, length, true, false, IfOk, IfErr, None, Some};
 ghost use Rattle.dcop_base.specs.Limits.{variable_limit};
@@ -16,16 +16,17 @@ use agent_cells::{Cell, VisitFault};
 use dcop_edge::Gate;
 use std::thread::Threads;
 
-/// How many turns a part of a round has at most.
+/// The most turns of a part in a round.
 const MOST_TURNS: usize = 32;
 
-/// The most turns of the code are as many as those of the definitions.
+/// The most turns in the code are those of the definitions.
 pub fn turns_agree()
     ensures { MOST_TURNS ≡ most_events }
 {}
 
-/// Plays cells in parts of this size, beside each other; for those after the first `busy` parts
-/// nothing waits. Answers how many messages were taken.
+/// Plays cells concurrently in parts of `size` cells, but the last may have fewer. Only the first
+/// `busy` parts may have something to do; those after them are played in one thread. Returns how
+/// many messages were taken.
 pub(crate) fn play_cells<R: Threads + Sync, G: Gate>(
     rt: &R,
     gate: &G,
@@ -54,14 +55,14 @@ pub(crate) fn play_cells<R: Threads + Sync, G: Gate>(
     play_parts(rt, &play, size, busy, cells)
 }
 
-/// Plays a part: turn after turn, at most 32, until one takes nothing. Answers how many messages
+/// Plays a part: turn after turn, until one takes nothing, at most 32. Returns how many messages
 /// were taken.
 ///
-/// Where the part is `alone`, all cells are in it, and nothing comes to a link during a round but
-/// what a visit of one of them sends. Each cell is visited in the first turn, which takes all that it
-/// finds, since a visit takes as much of a link as its ring holds. So from then on something can wait
-/// only for a cell to which a visit after its own last one sent something, and a later turn visits
-/// only these; the others are passed over, and pass no gate.
+/// If the part is `alone`, all cells are in it, and during a round nothing is sent on a link except
+/// by visits of these cells. The first turn visits each cell. A visit takes all that it finds,
+/// since it takes as much of a link as its ring holds. From then on, something can wait only for a
+/// cell to which a visit after its own last one sent something. A later turn visits only these
+/// cells; the others are passed over and pass no gate.
 pub(crate) fn play_part<G: Gate>(
     gate: &G,
     alone: bool,
@@ -88,16 +89,16 @@ pub(crate) fn play_part<G: Gate>(
     Ok(taken)
 }
 
-/// Whether all cells that have not ended are to be visited in this turn: they are in the first one, and
-/// in each where the part is not `alone`, since something may come for any of them at any time.
+/// Whether this turn visits all cells that have not ended. The first turn does. If the part is not
+/// `alone`, each turn does, since something may arrive for any cell at any time.
 fn visits_all(turn: usize, alone: bool) -> bool
     ensures { turn ≡ 0 → result ≡ true }
 {
     turn == 0 || !alone
 }
 
-/// A turn: visits each cell that has not ended once, in order; where not `all` are to be visited, only
-/// those for which something waits. Answers how many messages were taken.
+/// Plays a turn: visits each cell that has not ended once, in order. If not `all` are to be
+/// visited, it visits only those for which something waits. Returns how many messages were taken.
 fn take_turn<G: Gate>(
     gate: &G,
     all: bool,
@@ -118,7 +119,7 @@ fn take_turn<G: Gate>(
     visit_waiting(gate, watch, cells)
 }
 
-/// Visits each cell that has not ended once, in order. Answers how many messages were taken.
+/// Visits each cell that has not ended once, in order. Returns how many messages were taken.
 fn visit_all<G: Gate>(gate: &G, watch: &mut Watch, cells: &mut [Cell]) -> Result<u64, VisitFault>
     requires ready { EachIs (λ c. IsReady (λ b. meaning (b.vtable, b.value)) c) cells.old }
     requires few { length cells.old ≤ variable_limit }
@@ -135,8 +136,9 @@ fn visit_all<G: Gate>(gate: &G, watch: &mut Watch, cells: &mut [Cell]) -> Result
     Ok(taken)
 }
 
-/// Visits each cell that has not ended and for which something waits once, in order, also one to
-/// which a visit before it in this turn sends something. Answers how many messages were taken.
+/// Visits each cell that has not ended and for which something waits once, in order, including a
+/// cell to which a visit before it in this turn sends something. Returns how many messages were
+/// taken.
 fn visit_waiting<G: Gate>(
     gate: &G,
     watch: &mut Watch,
@@ -159,7 +161,7 @@ fn visit_waiting<G: Gate>(
     Ok(taken)
 }
 
-/// Visits the cell at this place, if it has not ended. Answers how many messages were taken.
+/// Visits the cell at this place, if it has not ended. Returns how many messages were taken.
 fn visit_once<G: Gate>(
     gate: &G,
     place: usize,

@@ -19,16 +19,15 @@ use std::thread::Threads;
 /// Cells in the order of their agents' numbers.
 pub type CellsList = Vec<Cell>;
 
-/// One round: settles every link inside a node, of so many nodes, and then plays the cells in parts
-/// beside each other, at most as many as there are workers, of equal length but the last. A part is
-/// played in turns, in each of which every cell of the part that has not ended is visited once, in
-/// order; where all cells are one part, the turns after the first pass over those for which nothing
-/// waits, and these pass no gate. It stops after 32 turns, or after a turn that took nothing. Parts
-/// behind the last one for which something may wait are played one after another, in one thread.
-/// Answers how many messages were taken. It takes memory.
+/// Plays one round of cells in `nodes` nodes. First it settles every link inside a node. Then it
+/// plays the cells concurrently in parts, at most one for each worker; all parts are of equal
+/// length, but the last may be shorter. A part is played in turns. Each turn visits every cell of
+/// the part that has not ended once, in order. If all cells are one part, the turns after the first
+/// pass over cells for which nothing waits, and these pass no gate. A part stops after 32 turns, or
+/// after a turn that took nothing. Parts after the last one for which something may wait are played
+/// one after another, in one thread. Returns how many messages were taken. It allocates memory.
 ///
-/// After a fault the cells are as their visits left them. [`VisitFault::StampEnd`] comes only where
-/// a cell stands failed by it.
+/// After a fault the cells are as their visits left them, and a cell has failed with this fault.
 pub fn round<R: Threads + Sync, G: Gate>(
     rt: &R,
     cells: &mut CellsList,
@@ -52,7 +51,7 @@ pub fn round<R: Threads + Sync, G: Gate>(
     play_round(rt, cells.as_mut_slice(), nodes, workers, gate)
 }
 
-/// [`round`], on a slice. It also tells how the cells stand where stamps came to their end.
+/// [`round`] on a slice. It also says how the cells are left if stamps have ended.
 pub fn play_round<R: Threads + Sync, G: Gate>(
     rt: &R,
     cells: &mut [Cell],

@@ -21,23 +21,25 @@ use dcop_edge::Gate;
 use protocol_steps::RunEnd;
 use std::thread::Threads;
 
-/// For how many messages of the last round it is worth starting a thread.
+/// How many messages the last round must have taken for each worker to make starting threads
+/// worthwhile.
 const FEW_MESSAGES: u64 = 4;
 
-/// How many messages an agent takes in a round at most, on the whole, where the agents have work of
-/// their own to do rather than each other to answer.
+/// The most messages, on average, that an agent takes in a round if the agents have work of their
+/// own rather than each other to answer.
 const MANY_MESSAGES: u64 = 4;
 
-/// Starts the agents of all cells in order, and plays the cells in rounds of at most so many workers,
-/// with one node, until the run has ended under this budget of deliveries. All workers share the first
-/// round, and each that follows a round with neither few nor many messages; one plays the others. It
-/// takes memory; after [`NoMemory`] the cells are as their visits left them.
+/// Starts the agents of all cells, in order, and plays the cells in rounds in one node until the
+/// run has ended under this budget of deliveries. At most `workers` workers play a round. All of
+/// them share the first round, and each round after one that took neither few nor many messages;
+/// one worker plays the others. It allocates memory; after [`NoMemory`] the cells are as their
+/// visits left them.
 ///
-/// The budget is looked at after the start and after each round, and not within a round. The run
-/// has ended, with so many deliveries, where every agent has ended; where one has not and the
-/// deliveries are at least the budget; or where one has not and a round took nothing. So each round
-/// begins with an agent that has not ended, and each but the last takes something; where the answer
-/// is [`RunEnd::Still`] the last one takes nothing. After the last round every link is settled once
+/// The budget is compared after the start and after each round, and not within a round. The run
+/// ends, with its number of deliveries, when every agent has ended; or one has not and the
+/// deliveries are at least the budget; or one has not and a round took nothing. So each round
+/// begins with an agent that has not ended, and each but the last takes something. If the answer is
+/// [`RunEnd::Still`], the last round takes nothing. After the last round every link is settled once
 /// more.
 pub fn run<R: Threads + Sync, G: Gate>(
     rt: &R,
@@ -60,7 +62,7 @@ pub fn run<R: Threads + Sync, G: Gate>(
     run_all(rt, cells.as_mut_slice(), workers, budget, gate)
 }
 
-/// [`run`], on a slice.
+/// [`run`] on a slice.
 fn run_all<R: Threads + Sync, G: Gate>(
     rt: &R,
     cells: &mut [Cell],
@@ -139,9 +141,10 @@ fn play_out<R: Threads + Sync, G: Gate>(
     Ok(RunEnd::Spent { deliveries })
 }
 
-/// How many workers share the round after one in which so many agents took so many messages. It is
-/// all of them, but for one alone where the messages were so few that starting threads would cost more
-/// than it saves, or so many that agents who answer each other at once send more than they save.
+/// How many workers share the round after one in which `agents` agents took `taken` messages: all
+/// of them, or one alone. It is one if the messages were so few that starting threads would cost
+/// more than it saves. It is also one if they were so many that agents mainly answer each other,
+/// and concurrent agents would send more than they save.
 pub fn sharing_after(taken: u64, agents: u64, workers: u32) -> u32
     requires { 0 < workers }
     ensures some { 0 < result }
@@ -166,7 +169,8 @@ pub fn all_ended(cells: &[Cell]) -> bool
     cells.iter().all(has_ended)
 }
 
-/// Starts the agents of all cells, in order. It takes memory; after [`NoMemory`] some may have started.
+/// Starts the agents of all cells, in order. It allocates memory; after [`NoMemory`] some agents
+/// may have started.
 pub fn begin_all(cells: &mut [Cell]) -> Result<(), NoMemory>
     requires sound { EachIs (λ c. IsCell (λ b. meaning (b.vtable, b.value)) c) cells.old }
     requires fresh { EachIs (λ c. begun_in c ≡ false) cells.old }

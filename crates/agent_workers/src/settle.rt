@@ -11,8 +11,8 @@ ghost use Rattle.agent_workers.specs.Settled.{CanSettle, HasSettled, HasSettledP
 use crate::tail_places::TailPlaces;
 use agent_cells::Cell;
 
-/// Settles every link inside a node, of so many nodes. Of the parts of so many cells, it answers how
-/// many there are up to the last one for which something may wait.
+/// Settles every link inside a node, of `nodes` nodes. Returns how many parts of `size` cells there
+/// are up to the last one for which something may wait.
 pub fn settle_all(cells: &mut [Cell], nodes: u32, size: usize) -> usize
     requires size { 0 < size }
     requires joined { IsJoined (λ b. meaning (b.vtable, b.value)) nodes cells.old }
@@ -29,7 +29,7 @@ pub fn settle_all(cells: &mut [Cell], nodes: u32, size: usize) -> usize
     busy
 }
 
-/// Settles every link to this agent inside its node. Whether something may wait for it.
+/// Settles every link to this agent inside its node. Returns whether something may wait for it.
 fn settle_links_to(cells: &mut [Cell], to: usize, nodes: u32, tails: &mut TailPlaces) -> bool
     requires joined { IsJoined (λ b. meaning (b.vtable, b.value)) nodes cells.old }
     requires sound { EachIs (λ c. IsCell (λ b. meaning (b.vtable, b.value)) c) cells.old }
@@ -45,8 +45,8 @@ fn settle_links_to(cells: &mut [Cell], to: usize, nodes: u32, tails: &mut TailPl
     waits
 }
 
-/// Settles the link to an agent from its neighbour at this place, if it is in the agent's node.
-/// Whether something may wait on it.
+/// Settles the link to an agent from its neighbour at this place, if that neighbour is in the
+/// agent's node. Returns whether something may wait on it.
 fn settle_place(
     cells: &mut [Cell],
     to: usize,
@@ -68,7 +68,7 @@ fn settle_place(
     settle_at(cells, to, from, near_tail, place) > 0
 }
 
-/// Whether two agents are in one node, of so many nodes and agents.
+/// Whether two agents are in one node, for `nodes` nodes and `agents` agents.
 fn share_node(one: usize, other: usize, nodes: u32, agents: usize) -> bool
     requires inside { (one < agents) × (other < agents) }
     requires few { agents ≤ variable_limit }
@@ -81,7 +81,7 @@ fn share_node(one: usize, other: usize, nodes: u32, agents: usize) -> bool
     home(one, nodes, agents) == home(other, nodes, agents)
 }
 
-/// The node of an agent, of so many nodes and agents.
+/// The node of an agent, for `nodes` nodes and `agents` agents.
 fn home(agent: usize, nodes: u32, agents: usize) -> usize
     requires inside { agent < agents }
     requires few { agents ≤ variable_limit }
@@ -90,7 +90,8 @@ fn home(agent: usize, nodes: u32, agents: usize) -> usize
     agent * nodes as usize / agents
 }
 
-/// Settles the link to one agent from another, whose ends are looked for at these places first.
+/// Settles the link to one agent from another. Its ends are looked for at these places first.
+/// Returns how many messages are in its ring.
 fn settle_at(cells: &mut [Cell], to: usize, from: usize, near_tail: usize, near_head: usize) -> u32
     requires inside { (to < length cells.old) × (from < length cells.old) × (to ≢ from) }
     requires can { (d : _) → CanSettle (λ b. meaning (b.vtable, b.value)) (slice_index_or cells.old from d) (slice_index_or cells.old to d) }
@@ -108,7 +109,8 @@ fn settle_at(cells: &mut [Cell], to: usize, from: usize, near_tail: usize, near_
     }
 }
 
-/// Settles the link from one cell to another, whose ends are looked for at these places first.
+/// Settles the link from one cell to another. Its ends are looked for at these places first.
+/// Returns how many messages are in its ring.
 fn settle_two(from: &mut Cell, near_tail: usize, to: &mut Cell, near_head: usize) -> u32
     requires can { CanSettle (λ b. meaning (b.vtable, b.value)) from.old to.old }
     ensures did { HasSettled (λ b. meaning (b.vtable, b.value)) from.old to.old from.new to.new }

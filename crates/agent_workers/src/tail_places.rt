@@ -1,24 +1,24 @@
-//! Where the tails of links stand.
+//! The places of tails among the neighbours of their agents.
 
 use dcop_base::MAX_VARIABLES;
 
-/// For each agent, at which place among its neighbours the receiver of its next link stands, where all
-/// links are come to in the order of their receivers. No clause speaks of it: where it says wrong, a
-/// tail is found by halving.
+/// For each agent, the place among its neighbours of the receiver of its next link, if all links
+/// are visited in the order of their receivers. No clause says that these places are right: if one
+/// is wrong, the tail is found by binary search.
 #[derive(Drop)]
 pub(crate) struct TailPlaces {
     next: [u16; MAX_VARIABLES],
 }
 
 impl TailPlaces {
-    /// No link was come to.
+    /// No link is visited so far.
     pub(crate) fn new() -> Self {
         TailPlaces {
             next: [0; MAX_VARIABLES],
         }
     }
 
-    /// The place of this agent's next link, which is come to now.
+    /// The place of this agent's next link, which is visited by this.
     pub(crate) fn pass(&mut self, agent: usize) -> usize {
         if agent >= MAX_VARIABLES {
             return 0;

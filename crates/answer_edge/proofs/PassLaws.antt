@@ -1,15 +1,15 @@
--- What reading and writing keep on their way.
+-- What reading and writing keep as they go.
 use Rattle.std.proofs.Common.{◌≡◌, ℕ, ◌≤◌, List, length, take, Option}
 use Rattle.std.specs.Io.KnownBytes.{prepend_known}
 use Rattle.dcop_edge.specs.Sink.{Adds}
 
--- the first `at` bytes of a text were written, and no call failed
+-- the first `at` bytes of a text are written, and no call failed
 pub record WriteDone (before now : Option (List ℕ)) (old new : ℕ) (text : List ℕ) (at : ℕ) : Type 0 where
   pub within : at ≤ length text
   pub added : Adds before (take at text) now
   pub count : new ≡ old
 
--- these bytes were read, and no call failed
+-- these bytes are read, and no call failed
 pub record ReadDone (before now : Option (List ℕ)) (old new : ℕ) (bytes : List ℕ) : Type 0 where
   pub front : before ≡ prepend_known bytes now
   pub count : new ≡ old

@@ -1,4 +1,4 @@
--- What the status of an answer says of the answer.
+-- What the status of an answer says about the answer.
 use Rattle.std.proofs.Common.{◌≡◌, ◌≢◌, refl}
 use Rattle.certificate_text.specs.declared.report.Ending.{Ending}
 use Rattle.certificate_text.specs.declared.report.Ending.TheVariants as endings
@@ -9,17 +9,17 @@ use Rattle.solve_report.specs.declared.answer.Answer.TheVariants as answers
 use Rattle.answer_edge.specs.declared.status.Status.TheVariants.{ReadFault, WriteFault, LinkFault, LinkDiffers, NoMemory as no_memory}
 use Rattle.answer_edge.specs.Statuses.{status_of, status_of_ending, status_of_verdict}
 
--- the status of a report is no fault
+-- the status of a report is no failure of writing or reading, and not that of running out of memory
 pub ending-told : (ending : Ending) → (status_of_ending ending ≢ WriteFault) × (status_of_ending ending ≢ no_memory) × (status_of_ending ending ≢ ReadFault)
 ending-told endings.Solved = (λ e. cc, λ e. cc, λ e. cc)
 ending-told endings.Spent = (λ e. cc, λ e. cc, λ e. cc)
 
--- nor is that of a verdict
+-- the same holds for the status of a verdict
 verdict-told : (verdict : Verdict) → (status_of_verdict verdict ≢ WriteFault) × (status_of_verdict verdict ≢ no_memory) × (status_of_verdict verdict ≢ ReadFault)
 verdict-told (verdicts.Yes cost error) = (λ e. cc, λ e. cc, λ e. cc)
 verdict-told (verdicts.No differs) = (λ e. cc, λ e. cc, λ e. cc)
 
--- no answer has the status of a sink that failed, or of want of memory
+-- no answer has the status of a failed sink or of running out of memory
 pub told-status : (answer : Answer) → (status_of answer ≢ WriteFault) × (status_of answer ≢ no_memory)
 told-status (answers.Report report file) = let told = ending-told report.status in (told.0, told.1)
 told-status (answers.Verdict verdict names) = let told = verdict-told verdict in (told.0, told.1)
@@ -43,7 +43,7 @@ told-status answers.Link = (λ e. cc, λ e. cc)
 told-status (answers.LinkDiffers from to at sent taken names) = (λ e. cc, λ e. cc)
 told-status (answers.LinkBytes round from_node to_node place sent taken) = (λ e. cc, λ e. cc)
 
--- one answer alone has the status of a source that failed
+-- only one answer has the status of a failed source
 pub read-alone : (answer : Answer) → status_of answer ≡ ReadFault → answer ≡ answers.Read
 read-alone (answers.Report report file) e = absurd ((ending-told report.status).2 e)
 read-alone (answers.Drill summary) e = absurd ((ending-told summary.status).2 e)
@@ -67,7 +67,7 @@ read-alone answers.Link e = cc
 read-alone (answers.LinkDiffers from to at sent taken names) e = cc
 read-alone (answers.LinkBytes round from_node to_node place sent taken) e = cc
 
--- a report has no status of links
+-- the status of a report is not that of failed links or of links that differ
 ending-fine : (ending : Ending) → status_of_ending ending ≢ LinkFault
 ending-fine endings.Solved e = cc
 ending-fine endings.Spent e = cc
@@ -76,7 +76,7 @@ ending-same : (ending : Ending) → status_of_ending ending ≢ LinkDiffers
 ending-same endings.Solved e = cc
 ending-same endings.Spent e = cc
 
--- nor has a verdict
+-- the same holds for the status of a verdict
 verdict-fine : (verdict : Verdict) → status_of_verdict verdict ≢ LinkFault
 verdict-fine (verdicts.Yes cost error) e = cc
 verdict-fine (verdicts.No differs) e = cc
@@ -85,7 +85,7 @@ verdict-same : (verdict : Verdict) → status_of_verdict verdict ≢ LinkDiffers
 verdict-same (verdicts.Yes cost error) e = cc
 verdict-same (verdicts.No differs) e = cc
 
--- one answer alone has the status of links that failed
+-- only one answer has the status of failed links
 pub link-alone : (answer : Answer) → status_of answer ≡ LinkFault → answer ≡ answers.Link
 link-alone (answers.Report report file) e = absurd (ending-fine report.status e)
 link-alone (answers.Drill summary) e = absurd (ending-fine summary.status e)
@@ -109,13 +109,13 @@ link-alone answers.Link e = refl
 link-alone (answers.LinkDiffers from to at sent taken names) e = cc
 link-alone (answers.LinkBytes round from_node to_node place sent taken) e = cc
 
--- an answer that tells a difference between what was sent on a link and what was taken
+-- an answer that reports a difference between what was sent on a link and what was taken
 abbrev pub IsOfDifference : Answer → Type 0
 IsOfDifference (answers.LinkDiffers from to at sent taken names) = Unit {0}
 IsOfDifference (answers.LinkBytes round from_node to_node place sent taken) = Unit {0}
 IsOfDifference answer = ⊥
 
--- such an answer alone has the status of links that differ
+-- only such an answer has the status of links that differ
 pub differs-alone : (answer : Answer) → status_of answer ≡ LinkDiffers → IsOfDifference answer
 differs-alone (answers.Report report file) e = absurd (ending-same report.status e)
 differs-alone (answers.Drill summary) e = absurd (ending-same summary.status e)

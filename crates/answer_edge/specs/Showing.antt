@@ -12,7 +12,7 @@ use Rattle.answer_edge.specs.declared.status.Status.TheVariants as statuses
 use Rattle.answer_edge.specs.Output.{SinkState, AddsPrefix}
 use Rattle.answer_edge.specs.Statuses.{status_of}
 
--- the answer to a problem text with this first fault
+-- the answer to a problem text whose first fault is this
 abbrev pub refused_by : Fault → Answer
 refused_by fault = answers.ProblemText fault.line (number_of_text fault.kind) (number_of_problem fault.kind)
 
@@ -22,12 +22,13 @@ pub record IsShown (answer : Answer) (before after : SinkState) (status : Status
   pub finished : after.finished ≡ true
   pub same : status ≡ status_of answer
 
--- the sink failed behind a prefix of the text of an answer
+-- the sink failed after a prefix of the text of an answer
 pub record IsCut (answer : Answer) (before after : SinkState) (status : Status) : Type 0 where
   pub prefix : AddsPrefix before.held (answer_text answer) after.held
   pub fault : status ≡ statuses.WriteFault
 
--- an answer was shown, to a sink that did not fail; or the sink failed, as its count of faults tells; or memory was wanted
+-- an answer was shown by a sink that did not fail; or the sink failed and its count of faults rose;
+-- or memory ran out and no fault was counted
 abbrev pub Shows : Answer → SinkState → SinkState → ℕ → ℕ → Status → Type 0
 Shows answer sink sink' faults faults' status =
     ((status ≡ statuses.NoMemory) × (faults' ≡ faults))

@@ -19,7 +19,7 @@ abbrev pub status_of_verdict : Verdict → Status
 status_of_verdict (verdicts.Yes cost error) = Solved
 status_of_verdict (verdicts.No differs) = No
 
--- the status that goes with an answer
+-- the status of each answer
 abbrev pub status_of : Answer → Status
 status_of (answers.Report report file) = status_of_ending report.status
 status_of (answers.Tree deliveries nodes names) = Solved
@@ -43,7 +43,7 @@ status_of (answers.LinkBytes round from_node to_node place sent taken) = LinkDif
 status_of (answers.Many assignments) = TooMany
 status_of (answers.ManyTurns turns) = TooMany
 
--- the code with which a program ends
+-- the exit code of each status
 abbrev pub code_of : Status → ℕ
 code_of Solved = 0
 code_of Spent = 1

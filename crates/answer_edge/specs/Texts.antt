@@ -1,4 +1,4 @@
--- What the reading of a whole input gives, as code gives it. Want of memory says nothing.
+-- What reading a whole input gives, as the code gives it. Running out of memory promises nothing.
 use Rattle.std.specs.Prelude.{◌≡◌, ℕ, List, Result, Ok, Err}
 use Rattle.problem_text.specs.File.{TextFile}
 use Rattle.problem_text.specs.Steps.{declared_by}
@@ -6,7 +6,7 @@ use Rattle.problem_text.specs.declared.fault.TextFault.{TextFault}
 use Rattle.problem_text.specs.declared.fault.TextFault.TheVariants.{Bad, NoMemory}
 use Rattle.answer_edge.specs.Whole.{whole_read}
 
--- a whole input is the file of what it declares, or is refused by its first fault
+-- reading a whole input gave the file of what it declares, or its first fault
 abbrev pub IsWholeRead : List ℕ → Result TextFile TextFault → Type 0
 IsWholeRead bytes (Ok file) = whole_read bytes ≡ Ok (declared_by file)
 IsWholeRead bytes (Err (Bad line kind)) = whole_read bytes ≡ Err (record { line = line; kind = kind })

@@ -1,12 +1,12 @@
-//! What stands behind the line `end` of a problem text.
+//! What follows the line `end` of a problem text.
 
 ghost use Rattle.std.specs.Prelude.{◌≡◌, option_map};
 ghost use Rattle.answer_edge.specs.Whole.{line_after};
 
 use problem_text::next_line;
 
-/// The number of the first line with words that ends behind so many bytes of a text; `None`
-/// exactly where there is none. Lines count from 1.
+/// The number of the first line of a text that has words and ends after more than `used` bytes;
+/// `None` exactly when there is none. Lines count from 1.
 pub fn line_after(text: &[u8], used: usize) -> Option<u64>
     ensures { result ≡ option_map (λ line. line.number) (line_after text.now used) }
 {

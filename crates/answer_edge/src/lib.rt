@@ -1,5 +1,7 @@
-//! What each top call does with its source and its sink: the source is read to its end, its text is
-//! a problem to its last line or is refused, and an answer is shown whole, with a status.
+//! What each top call does with its source and its sink.
+//!
+//! It reads the source to its end ([`read_all`]), reads the text as a problem or refuses it
+//! ([`read_whole`]), and shows an answer whole, with a status ([`show`]).
 #![tactic(auto)]
 
 mod after_end;

@@ -8,7 +8,7 @@ pub use dcop_base::MAX_INPUT;
 use dcop_edge::{ReadFault, Source};
 use std::alloc::Global;
 
-/// The most bytes of one read.
+/// The most bytes that one read takes.
 const BLOCK: usize = 65_536;
 
 /// Why a source was not read to its end.
@@ -18,7 +18,7 @@ pub enum ReadEnd {
     Failed,
     /// More than [`MAX_INPUT`] bytes came.
     TooLong,
-    /// Memory was wanted and not had.
+    /// Memory ran out.
     NoMemory,
 }
 
@@ -35,12 +35,12 @@ impl From<ReadFault> for ReadEnd {
     }
 }
 
-/// All bytes that the source has left, each turn at least one.
+/// Reads all bytes that the source has left; each turn takes at least one.
 ///
 /// # Errors
 ///
-/// [`ReadEnd::Failed`] where the source fails, [`ReadEnd::TooLong`] as soon as more than
-/// [`MAX_INPUT`] bytes came, [`ReadEnd::NoMemory`] where memory was wanted and not had.
+/// [`ReadEnd::Failed`] if the source fails, [`ReadEnd::TooLong`] as soon as more than [`MAX_INPUT`]
+/// bytes came, and [`ReadEnd::NoMemory`] if memory runs out.
 pub fn read_all<S: Source>(alloc: Global, source: &mut S) -> Result<Bytes, ReadEnd>
     ensures { IsReading result
         (source_state (S.left source.old) (S.faults source.old))

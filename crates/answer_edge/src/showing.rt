@@ -11,9 +11,10 @@ use dcop_edge::Sink;
 use solve_report::{Answer, text_of};
 use std::alloc::Global;
 
-/// Writes the whole text of an answer, finishes the sink, and says how it went. With
-/// [`Status::WriteFault`] a prefix of the text is written, with [`Status::NoMemory`], where memory
-/// was wanted and not had, nothing.
+/// Writes the whole text of an answer, finishes the sink, and gives the status.
+///
+/// With [`Status::WriteFault`] a prefix of the text is written. With [`Status::NoMemory`], when
+/// memory runs out, nothing is written.
 pub fn show<K: Sink>(alloc: Global, answer: &Answer, sink: &mut K) -> Status
     requires { HasText answer.now }
     ensures shows { Shows answer.now

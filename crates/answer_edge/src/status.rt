@@ -1,4 +1,4 @@
-//! Statuses, and the codes with which a program ends.
+//! Statuses, and the exit codes of programs.
 
 ghost use Rattle.std.specs.Prelude.{◌≡◌};
 ghost use Rattle.answer_edge.specs.Statuses.{status_of_ending, status_of_verdict, status_of, code_of};
@@ -9,35 +9,35 @@ use solve_report::Answer;
 /// How a call ended.
 #[derive(Clone, Copy, Debug, PartialEq, Eq)]
 pub enum Status {
-    /// A solved report or summary, a yes, a tree, a replay, an upgraded text or the optima of an edit
-    /// session were printed.
+    /// An answer was printed: a solved report or summary, a yes, a tree, a replay, an upgraded
+    /// text, or the optima of an edit session.
     Solved,
-    /// ADOPT has spent its budget. A report or a summary with bounds was printed.
+    /// ADOPT spent its budget. A report or a summary with bounds was printed.
     Spent,
     /// The words are refused.
     BadWords,
-    /// The text of the problem, that of the report behind it or that of its edits is refused.
+    /// The text of the problem, of the report after it, or of the edits after it is refused.
     BadText,
-    /// The tables of the agents would be too wide.
+    /// The tables of the agents are too wide.
     TooWide,
     /// The source failed.
     ReadFault,
     /// The sink failed. What is written is a prefix of the answer's text.
     WriteFault,
-    /// Memory was wanted and not had. Nothing is written.
+    /// Memory ran out. Nothing is written.
     NoMemory,
-    /// The nodes of the agents could not talk: no wires were to be had between them, or one failed.
+    /// The links between the nodes failed: no wires could be had between them, or a wire failed.
     LinkFault,
-    /// What one node received of another is not what was sent.
+    /// What a node received is not what another node sent.
     LinkDiffers,
     /// The report does not hold.
     No,
-    /// The plain method would have more assignments to try than it tries.
+    /// There are more assignments than the plain method tries.
     TooMany,
 }
 
 impl Status {
-    /// The code with which a program ends: 0 for solved, and one of its own for each other status.
+    /// The exit code of a program: 0 for solved, and a different one for each other status.
     pub fn code(&self) -> u8
         ensures { result ≡ code_of self.now }
     {
@@ -77,7 +77,7 @@ impl Status {
         }
     }
 
-    /// The status that goes with an answer.
+    /// The status of an answer.
     pub(crate) fn of(answer: &Answer) -> Status
         ensures { result ≡ status_of answer.now }
     {

@@ -1,4 +1,4 @@
-//! Reading a whole input as a problem, to its last line.
+//! Reading a whole input as a problem, up to its last line.
 
 ghost use Rattle.std.specs.Prelude.{◌≡◌};
 ghost use Rattle.answer_edge.specs.Texts.{IsWholeRead};
@@ -7,13 +7,13 @@ use crate::after_end::line_after;
 use problem_text::{ProblemFile, TextFault, TextKind, read_problem};
 use std::alloc::Global;
 
-/// The problem file that a whole input tells.
+/// Reads a whole input as a problem file.
 ///
 /// # Errors
 ///
-/// The first fault of the text with its line; where there is none, [`TextKind::AfterEnd`] at the
-/// first line with words behind the line `end`; [`TextFault::NoMemory`] where memory was wanted
-/// and not had.
+/// The first fault of the text with its line. If the text up to its line `end` has none,
+/// [`TextKind::AfterEnd`] at the first line with words after that line. [`TextFault::NoMemory`] if
+/// memory runs out.
 pub fn read_whole(alloc: Global, bytes: &[u8]) -> Result<ProblemFile, TextFault>
     ensures { IsWholeRead bytes.now result }
 {

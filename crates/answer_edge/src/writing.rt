@@ -7,8 +7,7 @@ ghost use Rattle.answer_edge.specs.Output.{AddsPrefix};
 
 use dcop_edge::{Failed, Sink};
 
-/// Writes the whole text and finishes the sink. Where the sink fails, a prefix of the text was
-/// written.
+/// Writes the whole text and finishes the sink. If the sink fails, a prefix of the text is written.
 pub fn write_all<K: Sink>(sink: &mut K, text: &[u8]) -> Result<(), Failed>
     ensures written { OnOk result (Adds (K.held sink.old) text.now (K.held sink.new)) }
     ensures finished { OnOk result (K.finished sink.new ≡ true) }

@@ -1,4 +1,4 @@
-//! The bytes of one UTIL message, as they stand between two nodes.
+//! The bytes of one UTIL message, as they go between two nodes.
 
 use dcop_base::VarId;
 use message_code::{decode, encode};

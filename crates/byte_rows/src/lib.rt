@@ -1,5 +1,5 @@
-//! Calls that the program does not make, and sources and sinks that fail, with ample memory: codes, frames, numbered
-//! names, a log.
+//! Calls that the program does not make, and sources and sinks that fail, with ample memory: codes,
+//! frames, numbered names, a log.
 #![tactic(auto)]
 
 #[cfg(test)]

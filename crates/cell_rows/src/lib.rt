@@ -1,6 +1,6 @@
-//! One visit of a cell of each kind of agent, with ample memory.
+//! One visit of a cell for each kind of agent, with ample memory.
 //!
-//! The cells' crate knows no kind of agent; here each kind sits in a cell once, between real links.
+//! The crate of cells knows no kind of agent. Here each kind is in a cell once, between real links.
 #![tactic(auto)]
 
 #[cfg(test)]

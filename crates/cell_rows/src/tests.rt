@@ -35,7 +35,7 @@ fn known(alloc: Global) -> Result<Private, Fail>
     })
 }
 
-/// The place of the root.
+/// The root's place in the tree.
 fn above(alloc: Global) -> Result<Place, Fail>
     ensures { IfOk result (λ place. place ≡ (record {
       me = 0;
@@ -75,7 +75,7 @@ fn cell_of(
     Ok((cell, child_tail, child_head))
 }
 
-/// The root starts, and is visited once, with this message of its child on its link.
+/// Starts the root and visits it once, with this message of its child on the child's link.
 fn visit_once(
     rt: &impl Abort,
     alloc: Global,

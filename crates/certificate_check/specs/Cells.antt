@@ -1,4 +1,4 @@
--- The cells of a certificate's tables, and what each is compared with.
+-- The cells of a certificate's tables, and the sums with which they are compared.
 use Rattle.std.specs.Prelude.{◌≡◌, ℕ, ◌+◌, ◌<◌, ◌==◌, List, map, is_none, slice_index}
 use Rattle.std.specs.List.{count_by, sum_by, position_or_len}
 use Rattle.dcop_base.specs.Table.{CostTable}
@@ -10,15 +10,16 @@ use Rattle.certificate_text.specs.declared.certificate.Util.{Util}
 use Rattle.problem_solved.specs.Told.{told, sized, parents_told}
 use Rattle.problem_solved.specs.Cells.{values_of_cell}
 
--- each of so many variables has exactly one of these tables
+-- each variable below `count` has exactly one of these tables
 abbrev pub HaveOneEach : ℕ → List Util → Type 0
 HaveOneEach count utils = (var : ℕ) → var < count → count_by (λ u. u.var == var) utils ≡ 1
 
--- the values that cell k of a table gives to the variables of its scope, and d for the table's own variable
+-- the values that cell k of a table gives the variables of its scope, with d for the table's own
+-- variable
 abbrev pub values_at_cell : List ℕ → Util → ℕ → ℕ → ℕ → ℕ
 values_at_cell sizes u k d = with_own u.var d (value_by u.scope (values_of_cell (sized sizes u).sizes k))
 
--- what the cells of own tables and of the children's tables are together at these values
+-- the sum of the cells of own tables and of the children's tables at these values
 abbrev pub sum_below : List ℕ → List CostTable → List Util → (ℕ → ℕ) → ℕ
 sum_below sizes own children value = cost_with own value + sum_by (λ u. cell_with (sized sizes u) value) children
 

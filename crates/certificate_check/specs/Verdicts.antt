@@ -1,4 +1,4 @@
--- What comes of checking a report: that it holds, or the first difference.
+-- The verdict on a report: it holds, or it has a first difference.
 use Rattle.std.specs.Prelude.{◌≡◌, ℕ, ◌⊎◌, List, Option, Some, None, IsSomeAnd}
 use Rattle.dcop_base.specs.Problem.{Dcop}
 use Rattle.pseudotree.specs.Pseudotree.{IsPseudotree}
@@ -26,67 +26,71 @@ pub record IsTreeOf (p : Dcop) (parents : List (Option ℕ)) (paths : List (List
   pub pseudotree : IsPseudotree p paths
   pub parents_are : parents ≡ parents_of paths
 
--- the parents are those of a pseudotree, and behind them the first difference is this one, or there is none
+-- the parents are those of a pseudotree, and the first difference after those of the tree is this
+-- one, or there is none
 abbrev pub IsDifferenceIn : TextFile → Report → List Util → Option Differs → Type 0
 IsDifferenceIn f r utils differs =
     (paths : List (List ℕ)) × IsTreeOf (problem_solved f) (parents_told (problem_solved f) utils) paths
     × (difference_in f paths utils r ≡ differs)
 
--- the first difference of a report: in the tree, or else behind it
+-- the first difference of a report: in the tree, or otherwise after it
 abbrev pub IsFirstDifference : TextFile → Report → List Util → Differs → Type 0
 IsFirstDifference f r utils differs =
     IsTreeDifference (problem_solved f) (parents_told (problem_solved f) utils) differs
     ⊎ IsDifferenceIn f r utils (Some differs)
 
--- yes with the cost and the gap where there is no difference, no with the first one otherwise
+-- the verdict: yes with the cost and the gap if there is no difference, and no with the first one
+-- otherwise
 abbrev pub IsTablesVerdict : TextFile → Report → List Util → Verdict → Type 0
 IsTablesVerdict f r utils (Yes cost error) = IsDifferenceIn f r utils None × (cost ≡ r.cost) × (error ≡ gap_of f.goal r)
 IsTablesVerdict f r utils (No differs) = IsFirstDifference f r utils differs
 
--- the parents of the first turn are those of a pseudotree, and behind them the first difference is this one, or there is none
+-- the parents of the first turn are those of a pseudotree, and the first difference after those of
+-- the tree is this one, or there is none
 abbrev pub IsCutDifferenceIn : TextFile → Report → List ℕ → List Turn → Option Differs → Type 0
 IsCutDifferenceIn f r cut turns differs =
     (paths : List (List ℕ)) × IsTreeOf (problem_solved f) (parents_told (problem_solved f) (first_tables turns)) paths
     × (cut_difference f paths cut turns r ≡ differs)
 
--- yes with the cost and the gap where the turns have no difference, no with the first one otherwise: in the tree, or else behind it
+-- the verdict: yes with the cost and the gap if the turns have no difference, and no with the first
+-- one otherwise, in the tree or after it
 abbrev pub IsCutVerdict : TextFile → Report → List ℕ → List Turn → Verdict → Type 0
 IsCutVerdict f r cut turns (Yes cost error) = IsCutDifferenceIn f r cut turns None × (cost ≡ r.cost) × (error ≡ gap_of f.goal r)
 IsCutVerdict f r cut turns (No differs) =
     IsTreeDifference (problem_solved f) (parents_told (problem_solved f) (first_tables turns)) differs
     ⊎ IsCutDifferenceIn f r cut turns (Some differs)
 
--- the same of a certificate
+-- the verdict on a report with this certificate
 abbrev pub IsVerdictOn : TextFile → Report → Verdict → Certificate → Type 0
 IsVerdictOn f r verdict (Tables utils) = IsTablesVerdict f r utils verdict
 IsVerdictOn f r verdict (Log log) = IsLogVerdict f r log verdict
 IsVerdictOn f r verdict (Cut cut turns) = IsCutVerdict f r cut turns verdict
 
--- the same of the certificate that the report has
+-- the verdict on a report with the certificate that it has
 abbrev pub IsVerdict : TextFile → Report → Verdict → Type 0
 IsVerdict f r verdict = IsSomeAnd r.certificate (IsVerdictOn f r verdict)
 
--- yes exactly where these tables show that the report holds
+-- the verdict is yes exactly when the report holds with these tables
 abbrev pub IsTablesExact : TextFile → Report → List Util → Verdict → Type 0
 IsTablesExact f r utils (Yes cost error) = HoldsTables f r utils
 IsTablesExact f r utils (No differs) = ¬ HoldsTables f r utils
 
--- yes exactly where these turns of a cut show that the report holds
+-- the verdict is yes exactly when the report holds with these turns of a cut
 abbrev pub IsCutExact : TextFile → Report → List ℕ → List Turn → Verdict → Type 0
 IsCutExact f r cut turns (Yes cost error) = HoldsCut f r cut turns
 IsCutExact f r cut turns (No differs) = ¬ HoldsCut f r cut turns
 
--- the same of a certificate
+-- the verdict is yes exactly when the report holds with this certificate
 abbrev pub IsExactOn : TextFile → Report → Verdict → Certificate → Type 0
 IsExactOn f r verdict (Tables utils) = IsTablesExact f r utils verdict
 IsExactOn f r verdict (Log log) = IsLogExact f r log verdict
 IsExactOn f r verdict (Cut cut turns) = IsCutExact f r cut turns verdict
 
--- the same of the certificate that the report has
+-- the verdict is yes exactly when the report holds with the certificate that it has
 abbrev pub IsExact : TextFile → Report → Verdict → Type 0
 IsExact f r verdict = IsSomeAnd r.certificate (IsExactOn f r verdict)
 
--- no, by the first reason why the parents form no pseudotree
+-- the verdict is no, with the first reason why the parents do not form a pseudotree
 abbrev pub IsTreeVerdict : Dcop → List (Option ℕ) → Verdict → Type 0
 IsTreeVerdict p parents (Yes cost error) = ⊥
 IsTreeVerdict p parents (No differs) = IsTreeDifference p parents differs

@@ -1,4 +1,4 @@
-//! The first difference behind those of the tree.
+//! The first difference after those of the tree.
 
 ghost use Rattle.std.specs.Prelude.{◌≡◌, ◌<◌, ◌≤◌, length, is_none, IfOk};
 ghost use Rattle.std.specs.List.{position, position_or_len};
@@ -22,8 +22,8 @@ use problem_text::ProblemFile;
 use pseudotree::Tree;
 use std::alloc::Global;
 
-/// The first difference where the parents are those of this tree of the problem solved: of the
-/// scopes, of the cells and then of the numbers.
+/// The first difference of the scopes, then of the cells, then of the numbers, if the parents are
+/// those of this tree of the problem solved.
 pub(crate) fn difference_in(
     alloc: Global,
     file: &ProblemFile,
@@ -68,7 +68,7 @@ fn root_cell(problem: &Problem, parents: &[Option<VarId>], utils: &[Util]) -> u6
     util_of(utils, root).cells.as_slice()[0]
 }
 
-/// The lowest variable without a parent, where one has none.
+/// The lowest variable without a parent, if one has none.
 pub(crate) fn root_in(parents: &[Option<VarId>]) -> VarId
     requires few { length parents.now ≤ variable_limit }
     requires some { position_or_len is_none parents.now < length parents.now }
@@ -77,7 +77,7 @@ pub(crate) fn root_in(parents: &[Option<VarId>]) -> VarId
     VarId(root_of(parents) as u32)
 }
 
-/// The lowest variable without a parent; their number where each has one.
+/// The lowest variable without a parent; their number if each has one.
 fn root_of(parents: &[Option<VarId>]) -> usize
     ensures { result ≡ position_or_len is_none parents.now }
 {
@@ -87,7 +87,7 @@ fn root_of(parents: &[Option<VarId>]) -> usize
     }
 }
 
-/// The lowest variable without a parent, where there is one.
+/// The lowest variable without a parent, if there is one.
 fn found(parents: &[Option<VarId>]) -> Option<usize>
     ensures { result ≡ position is_none parents.now }
 {

@@ -1,4 +1,4 @@
-//! The cells of a certificate's tables against what they may not exceed.
+//! The cells of a certificate's tables, compared with the sums that they may not exceed.
 
 ghost use Rattle.std.specs.Prelude.{◌≡◌, ◌<◌, length, map, IfOk};
 ghost use Rattle.pseudotree.specs.Pseudotree.{IsPseudotreeOf};
@@ -17,7 +17,7 @@ use dcop_base::{NoMemory, Problem, Table, Val, VarId};
 use pseudotree::Tree;
 use std::alloc::Global;
 
-/// The first cell that is too great, by variable, cell and value.
+/// The first cell that is too large, by variable, cell and value.
 pub(crate) fn cells_difference(
     alloc: Global,
     problem: &Problem,
@@ -39,7 +39,7 @@ pub(crate) fn cells_difference(
     Ok(None)
 }
 
-/// The first cell of a variable's table that is too great.
+/// The first cell of a variable's table that is too large.
 fn variable_difference(
     alloc: Global,
     problem: &Problem,
@@ -66,8 +66,8 @@ fn variable_difference(
     ))
 }
 
-/// The first cell of a table that is too great. `values` is an assignment of zeros, in which the
-/// values of one cell after the other are put.
+/// The first cell of a table that is too large. `values` is an assignment of zeros, which receives
+/// the values of one cell after the other.
 fn table_difference(
     sizes: &[u16],
     own: &[&Table],
@@ -91,7 +91,7 @@ fn table_difference(
     None
 }
 
-/// The first value of a table's variable at which its cell k is too great. `values` is an
+/// The first value of a table's variable at which its cell k is too large. `values` is an
 /// assignment with the values of that cell.
 fn cell_difference(
     sizes: &[u16],

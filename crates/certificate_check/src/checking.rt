@@ -20,25 +20,25 @@ use problem_text::ProblemFile;
 use pseudotree::check_tree;
 use std::alloc::Global;
 
-/// Whether a report shows that no better values exist.
+/// Checks whether a report shows that no values are better by more than its gap.
 ///
-/// Yes exactly where the certificate holds, with the cost and the gap, which is the cost less the
-/// lower bound, or for goal max the upper bound less the cost. Then the cost is at most the gap
-/// worse than the best sum of the file, whoever made the report. Otherwise the first difference. For
-/// a certificate of tables they come in this order: the tree, the scopes by variable, the cells by
-/// variable, cell and value, and the numbers; for one of a cut: the tree of the first turn, the
-/// scopes by turn and variable, the cells by turn, variable, cell and value, and the numbers; for one
-/// of a log: the first event that is not lawful, the first stamp that is wrong, and what the report
-/// tells of the end.
+/// The verdict is yes exactly when the report holds with its certificate. It has the cost and the
+/// gap, which is the cost minus the lower bound, or for goal max the upper bound minus the cost.
+/// The cost is then worse than the best sum of the file by at most the gap, whoever made the
+/// report. Otherwise the verdict is no, with the first difference. For a certificate of tables the
+/// order is: the tree, the scopes by variable, the cells by variable, cell and value, and the
+/// numbers. For a cut it is: the tree of the first turn, the scopes by turn and variable, the cells
+/// by turn, variable, cell and value, and the numbers. For a log it is: the first event that is not
+/// lawful, the first stamp that is wrong, and what the report says about the end.
 ///
-/// For tables the time is of the order of what each cell is compared with: for each value of its
-/// variable the own tables and the children's tables, each by the variables of its scope; for a cut
-/// it is so in each turn, and the turn's slice is made twice; for a log it is that of the agents'
-/// activations.
+/// For tables the time is proportional to what the cells are compared with: for each cell and each
+/// value of its variable, the variable's own tables and its children's tables, each by the
+/// variables of its scope. For a cut this applies to each turn, and the turn's slice is made twice.
+/// For a log the time is that of the agents' activations.
 ///
 /// # Errors
 ///
-/// [`NoMemory`] where memory was wanted and not had.
+/// [`NoMemory`] if memory runs out.
 pub fn check(alloc: Global, file: &ProblemFile, report: &Report) -> Result<Verdict, NoMemory>
     requires certified { IsSome report.now.certificate }
     requires fits { Fits report.now file.now }
@@ -56,7 +56,7 @@ pub fn check(alloc: Global, file: &ProblemFile, report: &Report) -> Result<Verdi
     }
 }
 
-/// Whether these tables show it, in the problem solved.
+/// The same for these tables, in the problem solved.
 fn check_tables(
     alloc: Global,
     file: &ProblemFile,
@@ -73,7 +73,7 @@ fn check_tables(
     check_goal(alloc, file, report, utils)
 }
 
-/// What comes of these tables in the problem solved.
+/// The verdict on these tables in the problem solved.
 fn check_goal(
     alloc: Global,
     file: &ProblemFile,
@@ -88,7 +88,7 @@ fn check_goal(
     check_in(alloc, file, solved.problem(), report, utils)
 }
 
-/// What comes of these tables in this problem, which is the one solved.
+/// The verdict on these tables in this problem, which is the one solved.
 fn check_in(
     alloc: Global,
     file: &ProblemFile,

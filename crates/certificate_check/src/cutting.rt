@@ -26,7 +26,7 @@ use problem_text::ProblemFile;
 use pseudotree::{Tree, check_tree};
 use std::alloc::Global;
 
-/// Whether the tables of these turns show that no better values exist.
+/// Checks whether the tables of these turns show that no better values exist.
 pub(crate) fn check_cut(
     alloc: Global,
     file: &ProblemFile,
@@ -45,7 +45,7 @@ pub(crate) fn check_cut(
     check_cut_goal(alloc, file, report, cut, turns)
 }
 
-/// What comes of these turns in the problem solved.
+/// The verdict on these turns in the problem solved.
 fn check_cut_goal(
     alloc: Global,
     file: &ProblemFile,
@@ -61,7 +61,7 @@ fn check_cut_goal(
     check_cut_in(alloc, file, solved.problem(), report, cut, turns)
 }
 
-/// What comes of these turns in this problem, which is the one solved.
+/// The verdict on these turns in this problem, which is the one solved.
 fn check_cut_in(
     alloc: Global,
     file: &ProblemFile,
@@ -88,8 +88,8 @@ fn check_cut_in(
     }
 }
 
-/// The first difference where the parents of the first turn are those of this tree of the problem
-/// solved: of the scopes, of the cells and then of the numbers.
+/// The first difference of the scopes, then of the cells, then of the numbers, if the parents of
+/// the first turn are those of this tree of the problem solved.
 fn cut_difference(
     alloc: Global,
     file: &ProblemFile,

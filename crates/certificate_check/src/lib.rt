@@ -1,10 +1,14 @@
-//! Checking of certificates: whether a report holds, and so how far its cost can be from the best sum.
+//! Checking certificates: whether a report holds, and so how far its cost can be from the best sum.
 //!
-//! [`check`] trusts neither who made a report nor how. It uses the file and the report alone: the
-//! answer is yes exactly where the certificate holds, and then the cost is at most the printed gap
-//! worse than the best sum of the file. Otherwise it tells the first difference, in the order of
-//! [`Differs`](certificate_text::Differs): the tree of the parents, the scopes, the cells, and then
-//! the numbers. A certificate of a cut is checked turn by turn, each on its slice of the problem.
+//! [`check`] trusts neither a report nor its maker. It uses only the file and the report. The
+//! verdict is yes exactly when the report holds with its certificate; the cost is then worse than
+//! the best sum of the file by at most the printed gap. Otherwise the verdict is the first
+//! difference, in the order of [`Differs`](certificate_text::Differs). For tables the order is the
+//! tree of the parents, the scopes, the cells, and then the numbers. A certificate of a cut is
+//! checked turn by turn, each on its slice of the problem.
+//!
+//! It builds on `problem_solved` for when a report holds, on `log_check` for certificates of logs,
+//! and on `problem_cut` and `cut_laws` for cuts.
 #![tactic(auto)]
 
 mod behind;

@@ -11,8 +11,8 @@ use certificate_text::{Differs, Ending, Report};
 use dcop_base::{MAX_VARIABLES, Problem, cost_of};
 use problem_text::ProblemFile;
 
-/// The first number that is not the right one, where `root` is the root's cell, `deliveries` are the
-/// right ones and `problem` is the problem solved.
+/// The first number that is not right. `root` is the root's cell, `deliveries` is the right number
+/// of deliveries, and `problem` is the problem solved.
 pub(crate) fn number_difference(
     file: &ProblemFile,
     problem: &Problem,
@@ -43,7 +43,7 @@ pub(crate) fn number_difference(
     bound_difference(deliveries, report)
 }
 
-/// The first of lower bound, upper bound, error, deliveries and status that is not the right one.
+/// The first of lower bound, upper bound, error, deliveries and status that is not right.
 fn bound_difference(deliveries: u64, report: &Report) -> Option<Differs>
     ensures { result ≡ bound_difference deliveries report.now }
 {
@@ -85,7 +85,7 @@ fn status_difference(status: Ending) -> Option<Differs>
     }
 }
 
-/// How many messages DPOP takes among so many agents.
+/// How many messages DPOP takes with `agents` agents.
 pub(crate) fn dpop_deliveries(agents: usize) -> u64
     requires { agents ≤ variable_limit }
     ensures { result ≡ dpop_deliveries agents }

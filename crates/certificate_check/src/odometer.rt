@@ -1,4 +1,4 @@
-//! Going over the cells of a table: the values of one cell after the other.
+//! Going through the cells of a table: the values of one cell after the other.
 
 ghost use Rattle.std.specs.Prelude.{◌≡◌, ℕ, ◌<◌, length, false, slice_index};
 ghost use Rattle.std.specs.List.{All};
@@ -7,9 +7,9 @@ ghost use Rattle.certificate_check.specs.Odometer.{IsNextPlace};
 
 use dcop_base::{Val, VarId};
 
-/// Gives the variables of a scope the values of the next cell of a table, of which the last moves
-/// fastest; behind the last cell those of the first one, and then the answer is `false`. `values`
-/// is an assignment of variables of these sizes.
+/// Gives the variables of a scope the values of the next cell of a table; the last variable varies
+/// fastest. After the last cell it gives them the values of the first cell, and returns `false`.
+/// `values` is an assignment of variables of these sizes.
 pub(crate) fn advance(sizes: &[u16], scope: &[VarId], values: &mut [Val]) -> bool
     requires distinct { has_repeat scope.now ≡ false }
     requires named { All (λ v. v < length sizes.now) scope.now }

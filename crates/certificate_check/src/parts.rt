@@ -1,4 +1,5 @@
-//! What the cells of a variable's table are compared with: its own tables, and its children's.
+//! The tables with which the cells of a variable's table are compared: its own tables, and its
+//! children's.
 
 ghost use Rattle.std.specs.Prelude.{◌≡◌, ◌<◌, ◌&&◌, length, map, IfOk};
 ghost use Rattle.std.specs.List.{All, list_all};
@@ -92,8 +93,8 @@ fn is_within(tree: &Tree, ancestor: VarId, var: VarId) -> bool
     var == ancestor || is_above(tree, ancestor, var)
 }
 
-/// Whether a variable is a proper ancestor of another one: it stands in the other's path at the
-/// place that is its own depth.
+/// Whether a variable is a proper ancestor of another one: the other's path has it at the position
+/// that is its own depth.
 fn is_above(tree: &Tree, ancestor: VarId, var: VarId) -> bool
     requires tree { IsTree tree.now.paths }
     requires ancestor { ancestor < length tree.now.paths }

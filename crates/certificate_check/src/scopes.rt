@@ -1,4 +1,4 @@
-//! The scopes of a certificate's tables against the separators of the tree.
+//! The scopes of a certificate's tables, compared with the separators of the tree.
 
 ghost use Rattle.std.specs.Prelude.{◌≡◌, ◌<◌, length};
 ghost use Rattle.std.specs.Str.{bytes_eq};

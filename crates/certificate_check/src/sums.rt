@@ -1,4 +1,4 @@
-//! What own tables and children's tables cost together at an assignment.
+//! The sum of own tables' and children's tables' cells at an assignment.
 
 ghost use Rattle.std.specs.Prelude.{◌≡◌, ◌<◌, ◌≤◌, length, map, min, slice_index};
 ghost use Rattle.std.specs.List.{All, sum_by};
@@ -13,7 +13,7 @@ ghost use Rattle.certificate_check.specs.Odometer.{place_of};
 use certificate_text::Util;
 use dcop_base::{Table, Val, VarId, place_of};
 
-/// The sum of the cells that an assignment names, or [`u64::MAX`] where it is more.
+/// The sum of the cells that an assignment selects, or [`u64::MAX`] if that is less.
 pub(crate) fn sum_below(sizes: &[u16], own: &[&Table], children: &[&Util], values: &[Val]) -> u64
     requires own { All (IsTableOf sizes.now) (map (λ t. t.now) own.now) }
     requires children { All (FitsUtil sizes.now) (map (λ u. u.now) children.now) }
@@ -24,7 +24,7 @@ pub(crate) fn sum_below(sizes: &[u16], own: &[&Table], children: &[&Util], value
     own_sum(sizes, own, values).saturating_add(child_sum(sizes, children, values))
 }
 
-/// The sum of the tables' cells, or [`u64::MAX`] where it is more.
+/// The sum of the tables' cells, or [`u64::MAX`] if that is less.
 fn own_sum(sizes: &[u16], tables: &[&Table], values: &[Val]) -> u64
     requires tables { All (IsTableOf sizes.now) (map (λ t. t.now) tables.now) }
     requires within { AreWithin sizes.now values.now }
@@ -37,7 +37,7 @@ fn own_sum(sizes: &[u16], tables: &[&Table], values: &[Val]) -> u64
     sum
 }
 
-/// The sum of the UTIL tables' cells, or [`u64::MAX`] where it is more.
+/// The sum of the UTIL tables' cells, or [`u64::MAX`] if that is less.
 fn child_sum(sizes: &[u16], utils: &[&Util], values: &[Val]) -> u64
     requires utils { All (FitsUtil sizes.now) (map (λ u. u.now) utils.now) }
     requires within { AreWithin sizes.now values.now }
@@ -51,7 +51,7 @@ fn child_sum(sizes: &[u16], utils: &[&Util], values: &[Val]) -> u64
     sum
 }
 
-/// The cell of a UTIL table that an assignment names.
+/// The cell of a UTIL table that an assignment selects.
 fn util_cell(sizes: &[u16], util: &Util, values: &[Val]) -> u64
     requires fits { FitsUtil sizes.now util.now }
     requires within { AreWithin sizes.now values.now }
@@ -62,7 +62,7 @@ fn util_cell(sizes: &[u16], util: &Util, values: &[Val]) -> u64
     cells[place]
 }
 
-/// The place of the cell that an assignment names in a table of this scope.
+/// The position of the cell that an assignment selects in a table of this scope.
 fn place_at(sizes: &[u16], scope: &[VarId], values: &[Val]) -> usize
     requires named { All (λ v. v < length sizes.now) scope.now }
     requires within { AreWithin sizes.now values.now }
@@ -72,7 +72,7 @@ fn place_at(sizes: &[u16], scope: &[VarId], values: &[Val]) -> usize
     place_of(scope.len(), |k| digit_at(sizes, scope, values, k))
 }
 
-/// The size and the value of the variable at this place of a scope.
+/// The size and the value of the variable at this position of a scope.
 fn digit_at(sizes: &[u16], scope: &[VarId], values: &[Val], k: usize) -> (u16, Val)
     requires stands { k < length scope.now }
     requires named { All (λ v. v < length sizes.now) scope.now }

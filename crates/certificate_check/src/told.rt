@@ -1,4 +1,4 @@
-//! What the tables of a certificate tell of each variable.
+//! What the tables of a certificate say about each variable.
 
 ghost use Rattle.std.specs.Prelude.{◌≡◌, ◌==◌, ◌≤◌, length, IfOk};
 ghost use Rattle.std.specs.List.{count_by};

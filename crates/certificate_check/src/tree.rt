@@ -1,4 +1,4 @@
-//! Why parents form no pseudotree, as a difference.
+//! Why parents do not form a pseudotree, as a difference.
 
 ghost use Rattle.std.specs.Prelude.{ℕ, List, Option, IfOk};
 ghost use Rattle.dcop_base.specs.Problem.{Dcop};
@@ -9,7 +9,7 @@ use certificate_text::{Differs, Verdict};
 use dcop_base::NoMemory;
 use pseudotree::TreeFault;
 
-/// The difference of parents that are refused by this reason.
+/// The verdict on parents that are refused for this reason: no, with the difference.
 pub(crate) fn tree_verdict(fault: TreeFault) -> Result<Verdict, NoMemory>
     ensures { (p : Dcop) (parents : List (Option ℕ)) → IsFirstFault p parents fault
         → IfOk result (IsTreeVerdict p parents) }

@@ -62,7 +62,7 @@ fn scopes_in_turn(
     Ok(in_turn(number, differs))
 }
 
-/// The first cell that is too great, by turn, variable, cell and value, where no scope differs.
+/// The first cell that is too large, by turn, variable, cell and value, if no scope differs.
 pub(crate) fn cells_in_turns(
     alloc: Global,
     problem: &Problem,
@@ -85,7 +85,7 @@ pub(crate) fn cells_in_turns(
     Ok(None)
 }
 
-/// The first cell that is too great, by variable, cell and value, in the turn with this number.
+/// The first cell that is too large, by variable, cell and value, in the turn with this number.
 fn cells_in_turn(
     alloc: Global,
     problem: &Problem,
@@ -107,7 +107,7 @@ fn cells_in_turn(
     Ok(in_turn(number, differs))
 }
 
-/// A difference of tables, told of the turn with this number.
+/// A difference of tables, reported for the turn with this number.
 fn in_turn(number: usize, differs: Option<Differs>) -> Option<Differs>
     ensures { result ≡ option_map (in_turn number) differs }
 {
@@ -117,7 +117,7 @@ fn in_turn(number: usize, differs: Option<Differs>) -> Option<Differs>
     }
 }
 
-/// The same where there is a difference.
+/// The same, given a difference.
 fn told_of_turn(turn: u64, differs: Differs) -> Differs
     ensures { result ≡ in_turn turn differs }
 {
@@ -141,7 +141,7 @@ fn told_of_turn(turn: u64, differs: Differs) -> Differs
     }
 }
 
-/// The least of the first cells of this variable's tables over all turns, each at most [`CAP`].
+/// The least of the first cells of this variable's tables over all turns, and at most [`CAP`].
 pub(crate) fn least_cell(var: VarId, turns: &[Turn]) -> u64
     requires { All (λ t. count_by (λ u. u.var == var) t.tables ≡ 1) turns.now }
     ensures { result ≡ least_cell var turns.now }
@@ -153,7 +153,7 @@ pub(crate) fn least_cell(var: VarId, turns: &[Turn]) -> u64
     least
 }
 
-/// The first cell of a table; 0 where it has none.
+/// The first cell of a table; 0 if it has none.
 fn first_cell(util: &Util) -> u64
     ensures { result ≡ slice_index util.now.cells 0 }
 {
@@ -163,8 +163,8 @@ fn first_cell(util: &Util) -> u64
     }
 }
 
-/// How many messages DPOP takes in so many turns among so many agents, or
-/// [`u64::MAX`] where they are more.
+/// How many messages DPOP takes in `turns` turns with `agents` agents, or [`u64::MAX`] if that is
+/// less.
 pub(crate) fn cut_deliveries(turns: usize, agents: usize) -> u64
     requires { agents ≤ variable_limit }
     ensures { result ≡ cut_deliveries turns agents }

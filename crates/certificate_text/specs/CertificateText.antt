@@ -9,7 +9,7 @@ use Rattle.certificate_text.specs.declared.certificate.Util.{Util}
 use Rattle.run_log.specs.declared.log.LogEvent.{LogEvent}
 use Rattle.run_log.specs.LogText.{event_words}
 
--- the word of a parent: its name, `-` for none
+-- the word for a parent: its name, or `-` if there is none
 abbrev pub parent_word : List (List ℕ) → Option ℕ → List ℕ
 parent_word names None = codes "-"
 parent_word names (Some parent) = slice_index_or names parent []
@@ -51,7 +51,7 @@ certificate_lines names (Tables utils) = table_lines names utils
 certificate_lines names (Log log) = log_lines names log
 certificate_lines names (Cut cut turns) = cut_lines names cut turns
 
--- the lines of the certificate, where there is one
+-- the lines of the certificate, if there is one
 abbrev pub evidence_lines : List (List ℕ) → Option Certificate → List (List (List ℕ))
 evidence_lines names None = []
 evidence_lines names (Some certificate) = certificate_lines names certificate

@@ -11,19 +11,19 @@ use Rattle.certificate_text.specs.declared.report.Method.{Method}
 use Rattle.certificate_text.specs.declared.report.Method.TheVariants.{Plain, Dpop, Adopt, Cut}
 use Rattle.certificate_text.specs.declared.report.Report.{Report}
 
--- the word of an ending
+-- the word for an ending
 abbrev pub ending_word : Ending → List ℕ
 ending_word Solved = codes "solved"
 ending_word Spent = codes "spent"
 
--- the word of a method
+-- the word for a method
 abbrev pub method_word : Method → List ℕ
 method_word Plain = codes "plain"
 method_word Dpop = codes "dpop"
 method_word Adopt = codes "adopt"
 method_word Cut = codes "cut"
 
--- the lines above the cost
+-- the lines before the cost
 abbrev pub head_lines : Report → List (List (List ℕ))
 head_lines r =
     ((codes "status" ∷ ending_word r.status ∷ []) ∷ (codes "method" ∷ method_word r.method ∷ []) ∷ goal_lines r.goal)
@@ -33,7 +33,7 @@ head_lines r =
 abbrev pub bound_lines : Report → List (List (List ℕ))
 bound_lines r = (codes "cost" ∷ decimal r.cost ∷ []) ∷ (codes "lower" ∷ decimal r.lower ∷ []) ∷ (codes "upper" ∷ decimal r.upper ∷ []) ∷ []
 
--- the word of a value: its name where its variable has value names, its number otherwise
+-- the word for a value: its name if its variable has value names, and its number otherwise
 abbrev pub value_word : List (List ℕ) → ℕ → List ℕ
 value_word [] value = decimal value
 value_word (label ∷ labels) value = slice_index_or (label ∷ labels) value []

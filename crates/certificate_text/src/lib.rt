@@ -1,7 +1,10 @@
-//! Reports of solving, the certificates in them, and the text that tells both.
+//! Reports of solving, their certificates, and the text that states both.
 //!
-//! [`write_report`] writes exactly the text of a report; `read_report` of `report_reader` reads it. A
-//! certificate lets a reader who trusts no one check how far the report's cost can be from the best sum.
+//! [`write_report`] writes exactly the text of a report; `read_report` of `report_reader` reads it.
+//! With a certificate a reader can check, without trust in the solver, how far the report's cost
+//! can be from the best cost.
+//!
+//! It builds on `problem_text` for problem files and names, and on `run_log` for logs.
 #![tactic(auto)]
 
 mod certificate;

@@ -9,14 +9,14 @@ use problem_text::Goal;
 pub enum Ending {
     /// The gap between the bounds is at most the requested error.
     Solved,
-    /// The budget was spent before.
+    /// The budget of deliveries was spent before that.
     Spent,
 }
 
 /// The method that was run.
 #[derive(Clone, Copy, Debug, PartialEq, Eq)]
 pub enum Method {
-    /// All assignments, one after the other, in one place.
+    /// Plain search: all assignments, one after the other, in one place.
     Plain,
     /// DPOP.
     Dpop,
@@ -35,18 +35,19 @@ pub struct Report {
     pub method: Method,
     /// Whether the least or the greatest cost was sought.
     pub goal: Goal,
-    /// The requested error: how far the cost may be from the best. 0 but for ADOPT.
+    /// The requested error: how far the cost may be from the best cost. It is 0 for every method
+    /// but ADOPT.
     pub error: u64,
-    /// The deliveries of the method's run alone. 0 for plain.
+    /// The deliveries of the method's run alone. It is 0 for plain search.
     pub deliveries: u64,
     /// The cost of the values.
     pub cost: u64,
-    /// The best cost, the least or the greatest by the goal, is not lower.
+    /// A lower bound of the best cost, which is the least or the greatest cost, by the goal.
     pub lower: u64,
-    /// The best cost, the least or the greatest by the goal, is not higher.
+    /// An upper bound of the best cost, which is the least or the greatest cost, by the goal.
     pub upper: u64,
     /// The values, one for each variable, in order.
     pub values: ValList,
-    /// The evidence for the bounds, where it was asked for.
+    /// The evidence for the bounds, if it was requested.
     pub certificate: Option<Certificate>,
 }

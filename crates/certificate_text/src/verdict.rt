@@ -1,23 +1,23 @@
-//! What comes of checking a certificate.
+//! The result of checking a certificate.
 
 use crate::report::Ending;
 use dcop_base::{Val, VarId};
 use protocol_steps::EventFault;
 
-/// What comes of checking a report with a certificate.
+/// The result of checking a report with a certificate.
 #[derive(Clone, Copy, Debug, PartialEq, Eq)]
 pub enum Verdict {
-    /// The report holds: its cost, and the gap, by which the cost is at most worse than the best.
+    /// The report holds. `error` is the gap: the cost is worse than the best by at most that much.
     Yes { cost: u64, error: u64 },
-    /// The report does not hold, by its first difference.
+    /// The report does not hold. This is its first difference.
     No(Differs),
 }
 
-/// How a report differs from what holds. `left` is what was printed and `right` is what is right,
-/// unless a variant says otherwise.
+/// How a report differs from what holds. `left` is what the report says and `right` is what is
+/// right, unless a variant says otherwise.
 #[derive(Clone, Copy, Debug, PartialEq, Eq)]
 pub enum Differs {
-    /// Not exactly one variable has no parent, but so many.
+    /// The number of variables without a parent is `count`, not 1.
     TreeRoots {
         count: u64,
     },
@@ -25,7 +25,7 @@ pub enum Differs {
     TreeLoop {
         var: VarId,
     },
-    /// Two variables of one table or joint, of which neither is an ancestor of the other. They are
+    /// Neither of these two variables of one table or joint is an ancestor of the other. They are
     /// the least such pair.
     TreePair {
         one: VarId,
@@ -67,8 +67,8 @@ pub enum Differs {
         left: u64,
         right: u64,
     },
-    /// The root's cell, of a cut the least one over all turns, is not the cost of the values in the
-    /// problem solved.
+    /// The root's cell is not the cost of the values in the problem solved. Of a cut, it is the
+    /// least root's cell over all turns.
     Root {
         left: u64,
         right: u64,
@@ -88,12 +88,12 @@ pub enum Differs {
         left: u64,
         right: u64,
     },
-    /// The deliveries are not as many as the method makes.
+    /// The number of deliveries is not the one that the method makes.
     Deliveries {
         left: u64,
         right: u64,
     },
-    /// The status, which is this one, is not the right one.
+    /// The status is this one, which is not right.
     Status {
         ending: Ending,
     },
@@ -102,15 +102,15 @@ pub enum Differs {
         at: u64,
         fault: EventFault,
     },
-    /// The stamp of this event of a log, counted from 1, is not the right one. Where it is, but the
-    /// event does not follow the one before it by stamp and then agent, `right` is the stamp of
-    /// that one.
+    /// The stamp of this event of a log, counted from 1, is not the right one. If the stamp is
+    /// right, but the event does not follow the one before it by stamp and then agent, `right` is
+    /// the stamp of the event before it.
     Stamp {
         at: u64,
         left: u64,
         right: u64,
     },
-    /// The value of this variable is not the one to which its agent has come. It is the lowest such
+    /// The value of this variable is not the one that its agent has reached. It is the lowest such
     /// variable.
     Value {
         var: VarId,

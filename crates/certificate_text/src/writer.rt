@@ -17,17 +17,17 @@ use problem_text::{Labels, Names, ProblemFile, write_cells, write_goal, write_sc
 use run_log::{LogEvent, write_events};
 use std::alloc::Global;
 
-/// The text of a report on a file, whose names it prints.
+/// The text of a report on a file. It prints the names of the file.
 ///
-/// Its lines are `status`, `method`, `goal max` where the goal is max, `error`, `deliveries`,
-/// `cost`, `lower`, `upper`, a line `value NAME V` for each variable in order, the certificate
-/// where there is one, and `end`. V is the value's name where the variable has value names, and
-/// the value as a number otherwise. Where the report has a certificate and fits the file,
-/// `read_report` of `report_reader` gives it again.
+/// Its lines are `status`, `method`, `goal max` if the goal is max, `error`, `deliveries`, `cost`,
+/// `lower`, `upper`, a line `value NAME V` for each variable in order, the certificate if there is
+/// one, and `end`. V is the value's name if the variable has value names, and the value as a number
+/// otherwise. If the report has a certificate and fits the file, `read_report` of `report_reader`
+/// reads the text as the same report.
 ///
 /// # Errors
 ///
-/// [`NoMemory`] where memory was wanted and not had.
+/// [`NoMemory`] if memory runs out.
 pub fn write_report(alloc: Global, report: &Report, file: &ProblemFile) -> Result<Bytes, NoMemory>
     requires { CanTell report.now file.now }
     ensures { IfOk result (λ bytes. bytes ≡ report_text report.now file.now) }
@@ -47,7 +47,7 @@ pub fn write_report(alloc: Global, report: &Report, file: &ProblemFile) -> Resul
 }
 
 impl Ending {
-    /// The word that tells the ending: `solved` or `spent`.
+    /// The word for the ending: `solved` or `spent`.
     pub fn word(self) -> &'static str
         ensures { result.now ≡ ending_word self }
     {
@@ -59,7 +59,7 @@ impl Ending {
 }
 
 impl Method {
-    /// The word that tells the method: `plain`, `dpop`, `adopt` or `cut`.
+    /// The word for the method: `plain`, `dpop`, `adopt` or `cut`.
     pub fn word(self) -> &'static str
         ensures { result.now ≡ method_word self }
     {
@@ -94,6 +94,10 @@ fn write_bounds(text: &mut String, report: &Report) -> Result<(), NoMemory>
 }
 
 /// Writes a line of a word and a number.
+///
+/// # Errors
+///
+/// [`NoMemory`] if memory runs out. No clause then says what the text holds.
 pub fn write_number(text: &mut String, word: &str, number: u64) -> Result<(), NoMemory>
     ensures { OnOk result (string_bytes text.new
         ≡ string_bytes text.old ++ line (word.now ∷ decimal number ∷ [])) }
@@ -101,8 +105,12 @@ pub fn write_number(text: &mut String, word: &str, number: u64) -> Result<(), No
     Ok(write!(text, "{word} {number}\n")?)
 }
 
-/// Writes a line `value NAME V` for each variable in order. V is the value's name where the variable has
-/// value names, and the value as a number otherwise.
+/// Writes a line `value NAME V` for each variable in order. V is the value's name if the variable
+/// has value names, and the value as a number otherwise.
+///
+/// # Errors
+///
+/// [`NoMemory`] if memory runs out. No clause then says what the text holds.
 pub fn write_values(
     text: &mut String,
     names: &Names,
@@ -214,7 +222,7 @@ fn write_turn_values(text: &mut String, values: &[Val]) -> Result<(), NoMemory>
     Ok(text.push_str("\n")?)
 }
 
-/// Adds these values to a text, each as a number behind a space.
+/// Adds these values to a text, each as a number after a space.
 fn write_numbers(text: &mut String, values: &[Val]) -> Result<(), NoMemory>
     ensures { OnOk result (string_bytes text.new
         ≡ string_bytes text.old ++ flat_map (λ value. 32 ∷ decimal value) values.now) }
@@ -269,7 +277,7 @@ fn write_util(text: &mut String, names: &Names, util: &Util) -> Result<(), NoMem
     Ok(text.push_str("\n")?)
 }
 
-/// The word that tells a variable's parent: the parent's name, `-` for none.
+/// The word for a variable's parent: the parent's name, or `-` if there is none.
 pub fn parent_word(names: &Names, parent: Option<VarId>) -> &str
     requires { IfSome parent (λ p. p < length names.now) }
     ensures { result.now ≡ parent_word names.now parent }

@@ -1,4 +1,4 @@
--- Slices of problems: cut variables keep one value each.
+-- Slices of problems: each cut variable keeps one value.
 use Rattle.std.specs.Prelude.{◌≡◌, ℕ, ◌<◌, List, [], ◌∷◌, map, length, set, slice_index}
 use Rattle.std.specs.List.{AllZip, fold}
 use Rattle.dcop_base.specs.Table.{CostTable}
@@ -7,13 +7,13 @@ use Rattle.dcop_base.specs.Whole.{IsTableOf}
 use Rattle.cost_table.specs.Cells.{cell_of, place_in, IsTableBy}
 use Rattle.cost_table.specs.Runs.{AreFewer}
 
--- a list in which each of these places has the value beside it
+-- a list after each of these places has received the value at the same index
 abbrev pub put_in : List ℕ → List ℕ → List ℕ → List ℕ
 put_in [] values xs = xs
 put_in (p ∷ ps) [] xs = xs
 put_in (p ∷ ps) (v ∷ vs) xs = set (put_in ps vs xs) p v
 
--- sizes of which those at these places are 1
+-- the sizes with 1 at these places
 abbrev pub ones_at : List ℕ → List ℕ → List ℕ
 ones_at places sizes = fold (λ ss p. set ss p 1) sizes places
 
@@ -21,7 +21,7 @@ ones_at places sizes = fold (λ ss p. set ss p 1) sizes places
 abbrev pub places_in : List ℕ → List ℕ → List ℕ
 places_in scope vars = map (λ v. place_in scope v) vars
 
--- a table with the cut variables at these values: it has the same scope, size 1 for each of them, and the cells at the values
+-- a table with the cut variables at these values: it has the same scope, size 1 for each of them, and the cells at these values
 abbrev pub IsCut : CostTable → List ℕ → List ℕ → CostTable → Type 0
 IsCut t cut values slice =
     let places = places_in t.scope cut in
@@ -33,19 +33,19 @@ pub record IsSliceOf (p : Dcop) (cut values : List ℕ) (slice : Dcop) : Type 0 
   pub tables : AllZip (λ t s. IsCut t cut values s) p.tables slice.tables
   pub joints : slice.joints ≡ p.joints
 
--- an assignment of the slice, with the cut variables at their values, is one of the problem and costs the same
+-- every assignment of the slice becomes an assignment of the problem when the cut variables get their values, and it costs the same
 pub record KeepsCosts (p : Dcop) (cut values : List ℕ) (slice : Dcop) : Type 0 where
   pub assignment : (others : List ℕ) → IsAssignment slice others → IsAssignment p (put_in cut values others)
   pub same_cost : (others : List ℕ) → IsAssignment slice others → cost slice others ≡ cost p (put_in cut values others)
 
--- in turn, each value is below the size at its place, where the sizes have that place, and the size then becomes 1
+-- taken in turn, each value is below the size at its place, if the sizes have that place, and that size then becomes 1
 abbrev pub FitInTurn : List ℕ → List ℕ → List ℕ → Type 0
 FitInTurn sizes [] [] = Unit {0}
 FitInTurn sizes [] (v ∷ vs) = ⊥
 FitInTurn sizes (p ∷ ps) [] = ⊥
 FitInTurn sizes (p ∷ ps) (v ∷ vs) = (p < length sizes → v < slice_index sizes p) × FitInTurn (set sizes p 1) ps vs
 
--- a table of a problem with these sizes, cut, is a table of the slice, with no more and no greater cells
+-- cutting a table of a problem with these sizes gives a table of the slice, with no more cells and no greater ones
 pub record IsCutOf (sizes cut values : List ℕ) (t slice : CostTable) : Type 0 where
   pub cut_at : IsCut t cut values slice
   pub table : IsTableOf (ones_at cut sizes) slice

@@ -14,12 +14,12 @@ use dcop_base::{
 };
 use std::alloc::Global;
 
-/// The slice of a problem with its cut variables at these values: each cut variable has size 1,
-/// and each table keeps the cells at the values. Scopes and joints stay the same.
+/// The slice of a problem with its cut variables at these values: each cut variable has size 1, and
+/// each table keeps the cells at the values. Scopes and joints stay the same.
 ///
 /// # Errors
 ///
-/// [`NoMemory`] where memory was wanted and not had.
+/// [`NoMemory`] if memory runs out.
 pub fn slice(
     alloc: Global,
     problem: &Problem,
@@ -87,7 +87,7 @@ fn cut_table(alloc: Global, table: &Table, cut: &[VarId], values: &[Val]) -> Res
     Ok(slice)
 }
 
-/// The table with one variable at a value; the table itself where it does not name the variable.
+/// The table with one variable at a value; the table itself if it does not name the variable.
 fn cut_one(alloc: Global, table: Table, var: VarId, val: Val) -> Result<Table, NoMemory>
     requires whole { IsTable table }
     requires below { place_in table.scope var < length table.sizes →
@@ -104,7 +104,7 @@ fn cut_one(alloc: Global, table: Table, var: VarId, val: Val) -> Result<Table, N
     }
 }
 
-/// The table of these parts, of which the variable at this place has one value left.
+/// The table of these parts in which the variable at this place has one value left.
 fn keep_one(
     alloc: Global,
     scope: &[VarId],

@@ -6,8 +6,8 @@ ghost use Rattle.cost_table.specs.Cells.{place_in};
 
 use dcop_base::{Val, VarId, have_zero, place_of, position_of};
 
-/// How many cells a table of these sizes has: their product, 1 of none; `None` exactly where it
-/// is above `limit`.
+/// The number of cells of a table of these sizes: their product, which is 1 for no sizes; `None`
+/// exactly if it is above `limit`.
 pub fn cells_of(sizes: &[u16], limit: u64) -> Option<u64>
     ensures { result ≡ (if nat_lt limit (product sizes.now) then None else Some (product sizes.now)) }
 {
@@ -33,7 +33,7 @@ pub fn place_at(sizes: &[u16], values: &[Val]) -> usize
     place_of(sizes.len(), |k| (sizes[k], values[k]))
 }
 
-/// The place of a variable among these; their number where it does not stand there.
+/// The place of a variable in a list; the list's length if it is not there.
 pub fn place_in(vars: &[VarId], var: VarId) -> usize
     ensures { result ≡ place_in vars.now var }
 {

@@ -10,12 +10,12 @@ use crate::place::place_in;
 use dcop_base::{CellList, NoMemory, SizeList, Table, Val, VarId, VarList, product_of};
 use std::alloc::Global;
 
-/// The slice of a table at a value of a variable of its scope: the table without the variable,
-/// with the cells at that value.
+/// The slice of a table at a value of a variable of its scope: the table without the variable, with
+/// the cells at that value.
 ///
 /// # Errors
 ///
-/// [`NoMemory`] where memory was wanted and not had.
+/// [`NoMemory`] if memory runs out.
 pub fn fix(alloc: Global, table: &Table, var: VarId, val: Val) -> Result<Table, NoMemory>
     requires stands { has table.now.scope var ≡ true }
     requires below { val < slice_index table.now.sizes (place_in table.now.scope var) }
@@ -31,7 +31,7 @@ pub fn fix(alloc: Global, table: &Table, var: VarId, val: Val) -> Result<Table, 
     )
 }
 
-/// The slice of the table of these parts.
+/// The slice of the table that has these parts.
 fn slice_of(
     alloc: Global,
     scope: &[VarId],
@@ -80,8 +80,8 @@ pub(crate) fn cells_at(
     runs_of(alloc, cells, blocks, size, inner, usize::from(val.0))
 }
 
-/// Of so many blocks of cells, each of `size` runs of `inner` cells, the run of this number of
-/// each block.
+/// From each of `blocks` blocks, which have `size` runs of `inner` cells each, the run with this
+/// number.
 fn runs_of(
     alloc: Global,
     cells: &[u64],
@@ -107,7 +107,7 @@ fn runs_of(
 ///
 /// # Errors
 ///
-/// [`NoMemory`] where memory was wanted and not had.
+/// [`NoMemory`] if memory runs out.
 pub fn scope_without(alloc: Global, scope: &[VarId], place: usize) -> Result<VarList, NoMemory>
     requires { place < length scope.now }
     ensures { IfOk result (λ rest. rest ≡ remove scope.now place) }
@@ -125,7 +125,7 @@ pub fn scope_without(alloc: Global, scope: &[VarId], place: usize) -> Result<Var
 ///
 /// # Errors
 ///
-/// [`NoMemory`] where memory was wanted and not had.
+/// [`NoMemory`] if memory runs out.
 pub fn sizes_without(alloc: Global, sizes: &[u16], place: usize) -> Result<SizeList, NoMemory>
     requires { place < length sizes.now }
     ensures { IfOk result (λ rest. rest ≡ remove sizes.now place) }

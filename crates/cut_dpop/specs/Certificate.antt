@@ -13,12 +13,13 @@ use Rattle.problem_solved.specs.Turns.{turn_scopes, turn_cells}
 use Rattle.cut_dpop.specs.End.{IsCutEnd}
 use Rattle.cut_dpop.specs.declared.run.CutEnd.{CutEnd}
 
--- the tables at the end of a cut are those of so many turns as it has, they fit the problem, and with the parents of the first turn they show that the values are optimal
+-- the tables at the end of a cut form a certificate: there is an entry for each turn, they fit the
+-- problem, and with the parents of the first turn they show that the values are optimal
 pub record IsCertifiedEnd (p : Dcop) (end : CutEnd) : Type 0 where
   pub count : length end.tables ≡ turn_count p end.cut
   pub fits : FitsCut p.sizes end.cut end.tables
   pub certificate : IsCutCertificate p (parents_told p (first_tables end.tables)) end.cut (turn_scopes p end.cut end.tables) (turn_cells p end.cut end.tables) end.values
 
--- so do those at every end where tables are kept
+-- the tables at the end of every cut that keeps tables form a certificate
 abbrev pub KeptTablesCertify : Type 0
 KeptTablesCertify = (p : Dcop) (paths : List (List ℕ)) (limit : ℕ) (end : CutEnd) → IsProblem p → IsPseudotree p paths → All (λ s. s ≤ limit) p.sizes → IsCutEnd p paths limit true end → IsCertifiedEnd p end

@@ -10,7 +10,8 @@ use Rattle.cut_dpop.specs.Refusal.{refusal, IsRefusal}
 use Rattle.cut_dpop.specs.declared.run.CutEnd.{CutEnd}
 use Rattle.cut_dpop.specs.declared.fault.CutFault.{CutFault}
 
--- the cut set at a limit was played in turns, which nothing refuses, and this is its answer, with the tables of all turns where they are kept
+-- the end of a cut: the cut set at this limit was run in turns, which nothing refuses, and this is
+-- the answer, with the tables of all turns if they are kept
 pub record IsCutEnd (p : Dcop) (paths : List (List ℕ)) (limit : ℕ) (keep : Bool) (end : CutEnd) : Type 0 where
   pub cut : IsCutSet p paths limit end.cut
   pub allowed : refusal p paths end.cut keep ≡ None
@@ -19,6 +20,6 @@ pub record IsCutEnd (p : Dcop) (paths : List (List ℕ)) (limit : ℕ) (keep : B
   pub answer : IsCutAnswer p paths end.cut end.cost end.values
   pub tables : AreKept keep p paths end.cut (turn_count p end.cut) end.tables
 
--- the cut set at a limit is refused for this; want of memory may come at any
+-- the cut set at a limit is refused for this fault; memory may run out at any cut
 pub record IsRefused (p : Dcop) (paths : List (List ℕ)) (limit : ℕ) (keep : Bool) (fault : CutFault) : Type 0 where
   pub refused : (cut : List ℕ) → IsCutSet p paths limit cut → IsRefusal p paths cut keep fault

@@ -7,25 +7,25 @@ use Rattle.cut_laws.specs.Slice.{slice_of}
 use Rattle.util_tables.specs.Utils.{AreUtilsOf}
 use Rattle.cut_dpop.specs.Played.{turn_of}
 
--- the tables of the turn with this number: its values, and the tables of all variables of its slice, in preorder
+-- the turn with this number: its values, and the tables of all variables of its slice, in preorder
 pub record IsTurn (p : Dcop) (paths : List (List ℕ)) (cut : List ℕ) (number : ℕ) (turn : Turn) : Type 0 where
   pub values : turn.values ≡ turn_of p cut number
   pub tables : AreUtilsOf (slice_of p cut (turn_of p cut number)) paths turn.tables
 
--- the tables of the first so many turns, in order
+-- the first `count` turns with their tables, in order
 abbrev pub AreTurns : Dcop → List (List ℕ) → List ℕ → ℕ → List Turn → Type 0
 AreTurns p paths cut count turns = AllZip (IsTurn p paths cut) (range_with_len 0 count) turns
 
--- the tables of the first so many turns where tables are kept, and none otherwise
+-- the first `count` turns with their tables if tables are kept, and none otherwise
 abbrev pub AreKept : Bool → Dcop → List (List ℕ) → List ℕ → ℕ → List Turn → Type 0
 AreKept true p paths cut count turns = AreTurns p paths cut count turns
 AreKept false p paths cut count turns = turns ≡ []
 
--- the tables of a turn with these values, whose slice is this, are kept behind others, where tables are kept
+-- if tables are kept, those of a turn with these values and this slice are added after the others
 abbrev pub KeepsTurn : Bool → Dcop → List (List ℕ) → List ℕ → List Turn → List Turn → Type 0
 KeepsTurn true left paths values old new = (turn : Turn) × (new ≡ old ++ turn ∷ []) × (turn.values ≡ values) × AreUtilsOf left paths turn.tables
 KeepsTurn false left paths values old new = new ≡ old
 
--- the tables of the turn with this number are kept behind others, where tables are kept
+-- if tables are kept, those of the turn with this number are added after the others
 abbrev pub IsKeptNext : Bool → Dcop → List (List ℕ) → List ℕ → ℕ → List Turn → List Turn → Type 0
 IsKeptNext keep p paths cut number old new = KeepsTurn keep (slice_of p cut (turn_of p cut number)) paths (turn_of p cut number) old new

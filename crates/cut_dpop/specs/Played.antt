@@ -1,4 +1,4 @@
--- Turns that were played, and the best of them so far.
+-- Turns that were run, and the best of them so far.
 use Rattle.std.specs.Prelude.{◌≡◌, ℕ, ◌<◌, ◌≤◌, List, [], slice_index_or}
 use Rattle.dcop_base.specs.Problem.{Dcop, cost}
 use Rattle.cost_table.specs.Slices.{put_in}
@@ -9,11 +9,12 @@ use Rattle.cut_laws.specs.Turns.{turns_of}
 use Rattle.cut_dpop.specs.Start.{turn_deliveries}
 use Rattle.cut_dpop.specs.declared.turn.Played.{Played}
 
--- the turn with this number
+-- the values of the turn with this number
 abbrev pub turn_of : Dcop → List ℕ → ℕ → List ℕ
 turn_of p cut number = slice_index_or (turns_of p cut) number []
 
--- what came of a turn: the first optimum of its slice on the tree, with the turn's own values, its cost, and as many messages as DPOP takes
+-- the result of a turn: the first optimum of its slice on the tree, with the turn's own values, its
+-- cost, and the number of messages that DPOP takes
 pub record IsPlayed (p : Dcop) (paths : List (List ℕ)) (cut : List ℕ) (number : ℕ) (played : Played) : Type 0 where
   pub others : List ℕ
   pub first : IsFirstOptimumOf (slice_of p cut (turn_of p cut number)) paths others
@@ -21,7 +22,7 @@ pub record IsPlayed (p : Dcop) (paths : List (List ℕ)) (cut : List ℕ) (numbe
   pub values_are : played.values ≡ put_in cut (turn_of p cut number) others
   pub deliveries : played.deliveries ≡ turn_deliveries p
 
--- what came of the first turn of least cost among so many
+-- the result of the first turn of least cost among the first `count`
 pub record IsBestOf (p : Dcop) (paths : List (List ℕ)) (cut : List ℕ) (count : ℕ) (best : Played) : Type 0 where
   pub number : ℕ
   pub within : number < count

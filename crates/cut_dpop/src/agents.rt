@@ -21,9 +21,9 @@ use std::alloc::Global;
 use std::thread::Threads;
 use worker_runs::cells_tell_outcomes;
 
-/// What the agents of a problem come to that are run from this start, in rounds until all have ended or
-/// as many messages are delivered as DPOP takes: by workers, or, where there is one, on this thread,
-/// without cells and links.
+/// Runs the agents of a problem from this start, in rounds, until all have ended or as many
+/// messages are delivered as DPOP takes. Workers run them in cells; a single worker runs them on
+/// this thread, without cells and links.
 pub(crate) fn run_agents<R: Threads + Sync, G: Gate>(
     crew: &Crew<R, G>,
     alloc: Global,
@@ -54,8 +54,8 @@ fn play_alone<G: Gate>(
     play_out(alloc, gate, problem, start, budget)
 }
 
-/// The same, by workers. This is the one place of this crate where agents are boxed, and the boxes are
-/// handed to nobody but `run`.
+/// The same, by workers. This is the only place of this crate that boxes agents; only `run`
+/// receives the boxes.
 fn run_cells<R: Threads + Sync, G: Gate>(
     crew: &Crew<R, G>,
     alloc: Global,

@@ -1,13 +1,13 @@
-//! What agents are run by.
+//! The resources that run agents.
 
 ghost use Rattle.std.specs.Prelude.{◌<◌};
 
-/// What agents are run by.
+/// The resources that run agents.
 #[derive(Drop)]
 pub(crate) struct Crew<'a, R, G> {
-    /// What threads are started with.
+    /// The source of threads.
     pub(crate) rt: &'a R,
-    /// What each visit of an agent passes.
+    /// The gate that each visit of an agent passes.
     pub(crate) gate: &'a G,
     /// How many threads the agents share.
     pub(crate) workers: u32,

@@ -3,16 +3,17 @@
 use dcop_base::NoMemory;
 use std::alloc::AllocError;
 
-/// Why [`run_cut`](crate::run_cut) answers nothing.
+/// Why [`run_cut`](crate::run_cut) gives no answer.
 #[derive(Clone, Copy, Debug, PartialEq, Eq)]
 pub enum CutFault {
-    /// The cut has more than [`MAX_TURNS`](dcop_base::MAX_TURNS) turns: so many, or [`u64::MAX`] where there are more.
+    /// The cut has more than [`MAX_TURNS`](dcop_base::MAX_TURNS) turns. `turns` is their number, or
+    /// [`u64::MAX`] if that is less.
     TooMany { turns: u64 },
-    /// The tables to be sent in one turn, or in all turns where they are kept, have more than
-    /// [`MAX_SENT_CELLS`](dcop_base::MAX_SENT_CELLS) cells: so many, or [`u64::MAX`] where there are
-    /// more.
+    /// The tables that are sent in one turn, or in all turns if tables are kept, have more than
+    /// [`MAX_SENT_CELLS`](dcop_base::MAX_SENT_CELLS) cells. `cells` is their number, or
+    /// [`u64::MAX`] if that is less.
     Total { cells: u64 },
-    /// Memory was wanted and not had.
+    /// Memory ran out.
     NoMemory,
 }
 

@@ -15,8 +15,8 @@ use pseudotree::Tree;
 use std::alloc::Global;
 use util_tables::utils_of;
 
-/// Keeps the tables of a turn with these values behind those of earlier turns, where `keep` says so.
-/// Agents made them that began with this start.
+/// Keeps the tables of a turn with these values after those of earlier turns, if `keep` is true.
+/// The agents that made them began with this start.
 pub(crate) fn keep_turn(
     alloc: Global,
     start: &Start,

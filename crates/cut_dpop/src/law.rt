@@ -1,13 +1,13 @@
-//! The law on the tables that are kept.
+//! The law about the tables that are kept.
 
 ghost use Rattle.cut_dpop.specs.Certificate.{KeptTablesCertify};
 
 use cut_laws::{cut_answers_are_optimal, cut_sets_are_one};
 
-/// The tables that are kept of all turns of a cut make a certificate: they show that the values at
+/// The tables that are kept of all turns of a cut form a certificate: they show that the values at
 /// its end are optimal.
 ///
-/// It is the contract of a call that does nothing: who needs the law calls it.
+/// The law is the contract of a call that does nothing; code that needs the law calls it.
 pub fn kept_tables_certify()
     ensures { KeptTablesCertify }
 {

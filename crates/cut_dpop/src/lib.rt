@@ -1,9 +1,13 @@
-//! DPOP in turns: an exact answer where the tables of DPOP are too wide.
+//! DPOP in turns: an exact answer for problems whose DPOP tables are too wide.
 //!
-//! [`run_cut`] cuts variables by the rule of the cut set, so that no joined table has more cells than
-//! a limit. In each turn the cut variables have one value each, and DPOP agents solve the slice that
-//! is left, over the same tree. The first turn of least cost is the answer, and the tables of all turns
-//! are kept where they are wanted. [`kept_tables_certify`] is the law that they make a certificate.
+//! [`run_cut`] cuts variables by the rule of the cut set, so that no joined table has more cells
+//! than a limit. In each turn the cut variables are fixed to one value each, and DPOP agents solve
+//! the remaining slice, on the same tree. The first turn of least cost gives the answer. The tables
+//! of all turns are kept on request. The law [`kept_tables_certify`] says that they form a
+//! certificate.
+//!
+//! It builds on `problem_cut` and `cut_laws` for cuts, on `agent_seats` and `agent_workers` or
+//! `delivery_turns` to run the agents, and on `util_tables` for the tables.
 #![tactic(auto)]
 
 mod agents;

@@ -1,4 +1,4 @@
-//! Whether a cut may be played.
+//! Whether a cut may be run.
 
 ghost use Rattle.std.specs.Prelude.{◌≡◌, ◌*◌, if◌then◌else◌, IfOk, IfErr};
 ghost use Rattle.pseudotree.specs.Place.{sizes_of};
@@ -13,7 +13,7 @@ use problem_cut::sent_in_turn;
 use pseudotree::Tree;
 use std::alloc::Global;
 
-/// How many turns a cut has, where it may be played; the sizes are those of its variables. `keep`
+/// How many turns a cut has, if it may be run. `sizes` are the sizes of its variables, and `keep`
 /// says whether the tables of all turns are kept.
 pub(crate) fn turns_of(
     alloc: Global,
@@ -41,7 +41,7 @@ pub(crate) fn turns_of(
     Ok(turns)
 }
 
-/// The cells that are sent in one turn, or in all turns where they are kept.
+/// How many cells are sent in one turn, or in all turns if tables are kept.
 fn cells_sent(one: u64, turns: u64, keep: bool) -> u64
     ensures { result ≡ told ((if keep then turns else 1) * one) }
 {

@@ -1,4 +1,4 @@
-//! A cut, from its variables to its answer.
+//! A cut, from the choice of its variables to its answer.
 
 ghost use Rattle.std.specs.Prelude.{◌<◌, ◌≤◌, IfOk, IfErr};
 ghost use Rattle.std.specs.List.{All};
@@ -21,33 +21,33 @@ use pseudotree::Tree;
 use std::alloc::Global;
 use std::thread::Threads;
 
-/// What a cut comes to.
+/// The result of a cut.
 #[derive(Debug, Drop)]
 pub struct CutEnd {
-    /// The optimum of the problem, which the values cost.
+    /// The optimum of the problem, which is the cost of the values.
     pub cost: u64,
     /// The values of the first turn of least cost.
     pub values: ValList,
     /// The variables that are cut, in order of cutting.
     pub cut: VarList,
-    /// How many turns were played.
+    /// How many turns were run.
     pub turns: u64,
     /// How many messages were taken in all turns.
     pub deliveries: u64,
-    /// The tables of all turns in order, where they are kept; else none.
+    /// The tables of all turns in order if they are kept, and none otherwise.
     pub tables: CutList,
 }
 
 /// Cuts variables so that no joined table has more than `limit` cells, and lets DPOP agents solve
-/// the slice of each turn on the tree, with so many workers. The first turn of least cost is kept.
-/// `keep` says whether the tables of all turns are kept.
+/// the slice of each turn on the tree, with `workers` workers. The first turn of least cost gives
+/// the values. `keep` says whether the tables of all turns are kept.
 ///
 /// # Errors
 ///
-/// [`CutFault::TooMany`] exactly where the cut has more than [`MAX_TURNS`](dcop_base::MAX_TURNS) turns;
-/// else [`CutFault::Total`] exactly where the tables to be sent in one turn, or in all turns where
-/// they are kept, have more than [`MAX_SENT_CELLS`](dcop_base::MAX_SENT_CELLS) cells;
-/// [`CutFault::NoMemory`] where memory was wanted and not had.
+/// [`CutFault::TooMany`] if the cut has more than [`MAX_TURNS`](dcop_base::MAX_TURNS) turns;
+/// otherwise [`CutFault::Total`] if the tables that are sent in one turn, or in all turns if tables
+/// are kept, have more than [`MAX_SENT_CELLS`](dcop_base::MAX_SENT_CELLS) cells;
+/// [`CutFault::NoMemory`] if memory runs out.
 pub fn run_cut<R: Threads + Sync, G: Gate>(
     rt: &R,
     alloc: Global,

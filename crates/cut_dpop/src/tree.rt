@@ -16,7 +16,7 @@ pub(crate) fn copy_of(alloc: Global, tree: &Tree, problem: &Problem) -> Result<T
     tree_on(alloc, problem, paths_of(alloc, tree, problem)?)
 }
 
-/// The paths in a tree of this problem, in the same memory where they share it.
+/// The paths in a tree of this problem. They share memory if the paths of the tree do.
 fn paths_of(alloc: Global, tree: &Tree, problem: &Problem) -> Result<Vec<VarList>, NoMemory>
     requires { IsPseudotreeOf problem.now tree.now }
     ensures { IfOk result (λ paths. paths.items ≡ tree.now.paths) }

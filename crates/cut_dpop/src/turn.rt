@@ -1,4 +1,4 @@
-//! One turn after the other.
+//! The turns of a cut, one after the other.
 
 ghost use Rattle.std.specs.Prelude.{◌≡◌, ◌<◌, ◌≤◌, length, IfOk, OnOk};
 ghost use Rattle.std.specs.List.{All};
@@ -26,10 +26,10 @@ use protocol_steps::{Outcome, rounds_are_a_run};
 use std::alloc::Global;
 use std::thread::Threads;
 
-/// What came of a turn.
+/// The result of a turn.
 #[derive(Debug, Drop)]
 pub(crate) struct Played {
-    /// What the values cost.
+    /// The cost of the values.
     pub(crate) cost: u64,
     /// The values of the slice, with the turn's own values of the cut variables.
     pub(crate) values: ValList,
@@ -37,16 +37,16 @@ pub(crate) struct Played {
     pub(crate) deliveries: u64,
 }
 
-/// What came of all turns.
+/// The result of all turns.
 #[derive(Debug, Drop)]
 pub(crate) struct AllPlayed {
-    /// What came of the first turn of least cost.
+    /// The result of the first turn of least cost.
     pub(crate) best: Played,
-    /// The tables of all turns in order, where they are kept; else none.
+    /// The tables of all turns in order if they are kept, and none otherwise.
     pub(crate) tables: CutList,
 }
 
-/// What came of all turns of a cut. `keep` says whether their tables are kept.
+/// The result of all turns of a cut. `keep` says whether their tables are kept.
 pub(crate) fn play_turns<R: Threads + Sync, G: Gate>(
     crew: &Crew<R, G>,
     alloc: Global,
@@ -83,8 +83,8 @@ pub(crate) fn play_turns<R: Threads + Sync, G: Gate>(
     })
 }
 
-/// What came of the turn with this number. Its tables are kept behind those of earlier turns, where
-/// `keep` says so.
+/// The result of the turn with this number. Its tables are kept after those of earlier turns if
+/// `keep` is true.
 fn play_turn<R: Threads + Sync, G: Gate>(
     crew: &Crew<R, G>,
     alloc: Global,
@@ -121,7 +121,7 @@ fn play_turn<R: Threads + Sync, G: Gate>(
     })
 }
 
-/// What DPOP agents come to on what is left of a problem in a turn.
+/// The result of DPOP agents on the slice that is left of a problem in a turn.
 fn solve_left<R: Threads + Sync, G: Gate>(
     crew: &Crew<R, G>,
     alloc: Global,

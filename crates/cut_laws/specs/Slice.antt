@@ -1,4 +1,4 @@
--- The slice of a problem, whose cut variables keep one value each.
+-- The slice of a problem: each cut variable keeps one value.
 use Rattle.std.specs.Prelude.{◌≡◌, ℕ, ◌<◌, false, List, [], length, map}
 use Rattle.std.specs.List.{All}
 use Rattle.dcop_base.specs.Table.{CostTable, IsTable, has_repeat, AreWithin}
@@ -18,7 +18,7 @@ pub record AreCut (p : Dcop) (cut : List ℕ) : Type 0 where
 abbrev pub AreCutValues : Dcop → List ℕ → List ℕ → Type 0
 AreCutValues p cut values = AreWithin (sizes_of p cut) values
 
--- a table with the cut variables at these values: the same scope, size 1 for each of them, and the cells at the values
+-- a table with the cut variables at these values: the same scope, size 1 for each of them, and the cells at these values
 abbrev pub slice_table : List ℕ → List ℕ → CostTable → CostTable
 slice_table cut values t =
     let places = places_in t.scope cut in
@@ -36,10 +36,10 @@ slice_of p cut values = record { sizes = ones_at cut p.sizes; tables = map (slic
 abbrev pub SlicesAreProblems : Type 0
 SlicesAreProblems = (p : Dcop) (cut values : List ℕ) → IsProblem p → IsProblem (slice_of p cut values)
 
--- what is a slice by its cells is this one
+-- a problem that is a slice cell by cell, and whose tables are whole, is this slice
 abbrev pub SlicesAreOne : Type 0
 SlicesAreOne = (p : Dcop) (cut values : List ℕ) (slice : Dcop) → IsSliceOf p cut values slice → All IsTable slice.tables → slice ≡ slice_of p cut values
 
--- where nothing is cut the slice is the problem itself
+-- if nothing is cut, the slice is the problem itself
 abbrev pub UncutSlicesAreWhole : Type 0
 UncutSlicesAreWhole = (p : Dcop) → IsProblem p → slice_of p [] [] ≡ p

@@ -5,7 +5,7 @@ use Rattle.dcop_base.specs.Whole.{IsProblem}
 use Rattle.dcop_optimum.specs.Optimum.{IsOptimum}
 use Rattle.cut_laws.specs.Slice.{AreCut, AreCutValues, slice_of}
 
--- the least of the slices' optima, over all lists of values of the cut
+-- the least of the slices' optima, over all lists of values of the cut variables
 pub record IsLeastOfSlices (p : Dcop) (cut : List ℕ) (least : ℕ) : Type 0 where
   pub attained : (values : List ℕ) × AreCutValues p cut values × IsOptimum (slice_of p cut values) least
   pub lowest : (values : List ℕ) (c : ℕ) → AreCutValues p cut values → IsOptimum (slice_of p cut values) c → least ≤ c

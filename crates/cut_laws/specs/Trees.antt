@@ -1,4 +1,4 @@
--- What a slice keeps of its problem: the graph, and so the trees.
+-- What a slice keeps of its problem: the graph, and with it the trees.
 use Rattle.std.specs.Prelude.{◌≡◌, ℕ, ◌↔◌, List, length}
 use Rattle.dcop_base.specs.Problem.{Dcop}
 use Rattle.dcop_base.specs.Graph.{are_neighbours}
@@ -6,7 +6,7 @@ use Rattle.pseudotree.specs.DepthFirst.{dfs}
 use Rattle.pseudotree.specs.Pseudotree.{IsPseudotree, IsLinked, RootedTree, IsPseudotreeOf, separator_of, lower_of}
 use Rattle.cut_laws.specs.Slice.{slice_of}
 
--- a problem has as many variables as another one and the same graph, so the trees of the one are those of the other, with the same separators
+-- two problems have the same number of variables and the same graph, so they have the same trees, with the same separators
 pub record HasTreesOf (p q : Dcop) : Type 0 where
   pub count : length q.sizes ≡ length p.sizes
   pub graph : (u v : ℕ) → are_neighbours q u v ≡ are_neighbours p u v

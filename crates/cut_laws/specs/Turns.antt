@@ -11,7 +11,7 @@ use Rattle.protocol_steps.specs.Values.{choices}
 abbrev pub turns_of : Dcop → List ℕ → List (List ℕ)
 turns_of p cut = choices (sizes_of p cut)
 
--- how many turns a cut has: the product of its variables' sizes
+-- the number of turns of a cut: the product of its variables' sizes
 abbrev pub turn_count : Dcop → List ℕ → ℕ
 turn_count p cut = product (sizes_of p cut)
 
@@ -22,6 +22,6 @@ pub record AreInOrder (sizes : List ℕ) (turns : List (List ℕ)) : Type 0 wher
   pub every : (values : List ℕ) → AreWithin sizes values → Contains turns values
   pub ascending : (j k : ℕ) → j < k → k < length turns → IsBefore (slice_index_or turns j []) (slice_index_or turns k [])
 
--- the turns of every cut are so
+-- the turns of every cut are all lists of values of its variables, each once, in lexicographic order
 abbrev pub TurnsAreInOrder : Type 0
 TurnsAreInOrder = (p : Dcop) (cut : List ℕ) → AreInOrder (sizes_of p cut) (turns_of p cut)

@@ -1,11 +1,13 @@
 //! Slices of a problem, and cuts.
 //!
-//! Where an agent's joined table is too wide, variables above it are cut: each list of values of
-//! the cut variables is a turn, and the slice of the problem at these values is solved over the
-//! same tree. The laws are about definitions alone: a slice is a problem with the same graph and
-//! the same trees, the optimum is the least of the slices' optima, the rule of the cut set gives
-//! exactly one list of variables, and what a cut answers is optimal. Each is the contract of a call
-//! that does nothing: who needs the law calls it.
+//! If an agent's joined table is too wide, variables above it are cut. Each list of values of the
+//! cut variables is a turn, and the slice of the problem at these values is solved over the same
+//! tree.
+//!
+//! The laws are about definitions alone. A slice is a problem with the same graph and the same
+//! trees. The optimum is the least of the slices' optima. The rule of the cut set gives exactly one
+//! list of variables. The answer of a cut is optimal. Each law is the contract of a call that does
+//! nothing: code that needs the law calls it.
 #![tactic(auto)]
 
 mod law;

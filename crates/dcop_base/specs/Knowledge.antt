@@ -6,7 +6,7 @@ use Rattle.dcop_base.specs.Problem.{Dcop}
 use Rattle.dcop_base.specs.Graph.{neighbours}
 use Rattle.dcop_base.specs.declared.knowledge.Private.{Private}
 
--- what the agent of a variable knows that looks at no cost: its size, its neighbours and their sizes, and no tables
+-- what the agent of a variable knows without the costs: its size, its neighbours and their sizes, and no tables
 abbrev pub acquaintance_of : Dcop → ℕ → Private
 acquaintance_of p me = record {
   me = me;

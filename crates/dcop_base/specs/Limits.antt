@@ -1,11 +1,11 @@
--- The limits of the product, each a number of its own: no limit here is taken from a constant of the code, so code with another limit is refused.
+-- The limits of the product, each written as a number. No limit here is taken from a constant of the code, so code with another limit is refused.
 use Rattle.std.specs.Prelude.{ℕ}
 
 -- the greatest amount, 2^62: no cost, bound, threshold or UTIL cell is above it
 abbrev pub amount_limit : ℕ
 amount_limit = 4611686018427387904
 
--- the greatest count that is told, of cells, assignments, deliveries and faults, and the greatest place in a stream, 2^64 - 1: a greater one is told as this
+-- the greatest number that is reported as a count of cells, assignments, deliveries or faults, or as a place in a stream, 2^64 - 1; a greater one is reported as this number
 abbrev pub count_limit : ℕ
 count_limit = 18446744073709551615
 
@@ -45,7 +45,7 @@ input_limit = 268435456
 abbrev pub assignment_limit : ℕ
 assignment_limit = 65536
 
--- the most cells of an agent's joined table in a narrow tree, 2^20; so the most of a table in a message, and the most that `--cells` takes
+-- the most cells of an agent's joined table in a narrow tree, 2^20, and so of a table in a message; it is also the greatest argument of `--cells`
 abbrev pub joined_limit : ℕ
 joined_limit = 1048576
 
@@ -69,18 +69,18 @@ worker_limit = 64
 abbrev pub node_limit : ℕ
 node_limit = 8
 
--- the greatest number that a stream of random numbers begins with
+-- the greatest seed of a stream of random numbers
 abbrev pub seed_limit : ℕ
 seed_limit = 9999999999999999999
 
--- the most values of a variable of a problem that is made from a number
+-- the most values of a variable in a generated problem
 abbrev pub made_size_limit : ℕ
 made_size_limit = 16
 
--- the most tables that a variable of such a problem has with earlier ones
+-- the most tables that a variable of a generated problem shares with earlier variables
 abbrev pub made_degree_limit : ℕ
 made_degree_limit = 8
 
--- the greatest cost that a cell of such a problem may have
+-- the greatest cost that a cell of a generated problem may have
 abbrev pub made_cost_limit : ℕ
 made_cost_limit = 1000000

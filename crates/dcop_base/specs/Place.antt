@@ -1,8 +1,8 @@
--- The sizes and values of a cell's variables, told one by one.
+-- The sizes and values of a cell's variables, given one by one.
 use Rattle.std.specs.Prelude.{◌≡◌, ℕ, ◌<◌, List, length, slice_index}
 use Rattle.dcop_base.specs.Table.{AreWithin}
 
--- for each of so many variables the size and the value are told that stand in these lists
+-- for each of `count` variables, any pair that `tells` allows is the size and the value of the variable in these lists
 pub record AreDigits (tells : ℕ → ℕ × ℕ → Type 0) (count : ℕ) (sizes : List ℕ) (values : List ℕ) : Type 0 where
   pub counted : length sizes ≡ count
   pub within : AreWithin sizes values

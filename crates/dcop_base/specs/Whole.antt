@@ -1,4 +1,4 @@
--- What holds of every problem that exists: its limits, its tables and its joints.
+-- What holds of every problem: its limits, its tables and its joints.
 use Rattle.std.specs.Prelude.{◌≡◌, ℕ, ◌<◌, ◌≤◌, List, map, length, slice_index}
 use Rattle.std.specs.List.{All}
 use Rattle.dcop_base.specs.Table.{CostTable, IsTable}
@@ -7,7 +7,7 @@ use Rattle.dcop_base.specs.Faults.{cell_count, greatest_sum}
 use Rattle.dcop_base.specs.Graph.{AreJoints}
 use Rattle.dcop_base.specs.Limits.{amount_limit, variable_limit, size_limit, scope_limit, cost_limit, cell_limit}
 
--- a table of a problem with these sizes: one to four of its variables, each with its size, and cells within the limit
+-- a table of a problem with these sizes: it has one to four of the problem's variables, each with its size, and each cell is at most cost_limit
 pub record IsTableOf (sizes : List ℕ) (t : CostTable) : Type 0 where
   pub whole : IsTable t
   pub some : 1 ≤ length t.scope

@@ -7,14 +7,14 @@ use std::alloc::{AllocError, Global};
 use std::marker::Model;
 use std::sync::Arc;
 
-/// Cells of cost tables, which contracts see as the list of their costs. They lie in a `Vec`, of the
-/// list's own or shared with the lists that were cloned from it.
+/// Cells of cost tables, which contracts see as the list of their costs. They are in a `Vec` that
+/// the list owns or shares with its clones.
 #[derive(Debug, Drop)]
 pub struct CellList {
     block: Block,
 }
 
-/// Where cells lie.
+/// Where a list holds its cells.
 #[derive(Debug, Drop)]
 pub(crate) enum Block {
     Own(Vec<u64>),
@@ -32,7 +32,7 @@ impl Model for CellList {
 }
 
 impl CellList {
-    /// The list of these cells. It keeps their memory and takes none.
+    /// The list of these cells. It keeps their memory and allocates nothing.
     pub fn from_vec(cells: Vec<u64>) -> Self
         ensures { result ≡ cells.items }
     {
@@ -41,11 +41,11 @@ impl CellList {
         }
     }
 
-    /// The list of these cells, whose clones will share their memory.
+    /// The list of these cells. Its clones share its memory.
     ///
     /// # Errors
     ///
-    /// [`NoMemory`] where memory was wanted and not had. The cells are gone then too.
+    /// [`NoMemory`] if memory runs out. The cells are dropped in that case.
     pub fn shared(alloc: Global, cells: Vec<u64>) -> Result<Self, NoMemory>
         ensures { IfOk result (λ list. list ≡ cells.items) }
     {
@@ -68,7 +68,7 @@ impl CellList {
 impl Clone for CellList {
     ghost is_clone = { λ list copy. copy ≡ list };
 
-    /// The same cells, in the same memory where it is shared.
+    /// A list of the same cells. If their memory is shared, the clone shares it too.
     fn clone(&self) -> Result<Self, AllocError> {
         let block = match &self.block {
             Block::Own(cells) => Block::Own(cells.clone()?),

@@ -1,4 +1,4 @@
-//! The first thing that is wrong with the sizes and tables of a problem.
+//! The first fault of the sizes and tables of a problem.
 
 ghost use Rattle.std.specs.Prelude.{◌≡◌, ℕ, ◌+◌, ◌<◌, ◌≤◌, ◌^◌, List, [], map, length, None, ◌==◌, nat_eq, nat_lt, nat_le, slice_index};
 ghost use Rattle.std.specs.List.{All, list_any, position};
@@ -14,19 +14,19 @@ use crate::problem::ProblemFault;
 use crate::scope::repeats;
 use crate::table::Table;
 
-/// What the tables that stand before a table hold together.
+/// Totals of the tables that come before a table.
 #[derive(Clone, Copy)]
 struct Totals {
-    /// How many they are.
+    /// The number of these tables.
     tables: u64,
-    /// How many cells they have.
+    /// The number of their cells.
     cells: u64,
     /// The sum of their greatest cells.
     sum: u64,
 }
 
-/// The first thing that is wrong with sizes and tables, in the order in which a problem is
-/// refused. It is never want of memory.
+/// The first fault of sizes and tables, in the order in which a problem is refused. It is never
+/// [`ProblemFault::NoMemory`].
 pub(crate) fn fault_of(sizes: &[u16], tables: &[Table]) -> Option<ProblemFault>
     ensures { result ≡ problem_fault sizes.now tables.now }
 {
@@ -44,7 +44,7 @@ pub(crate) fn fault_of(sizes: &[u16], tables: &[Table]) -> Option<ProblemFault>
     tables_fault_of(sizes, tables)
 }
 
-/// The first variable whose size is no domain's.
+/// The first variable whose size is not a domain size.
 fn bad_size(sizes: &[u16]) -> Option<usize>
     ensures { result ≡ position is_bad_size sizes.now }
 {
@@ -71,7 +71,7 @@ fn tables_fault_of(sizes: &[u16], tables: &[Table]) -> Option<ProblemFault>
     None
 }
 
-/// The totals with one more table of these cells, of which `most` is the greatest.
+/// The totals with one more table, which has these cells. `most` is the greatest of them.
 fn totals_with(before: Totals, cells: &[u64], most: u64) -> Totals
     requires tables { before.tables < 2 ^ 63 }
     requires cells { before.cells + length cells.now ≤ cell_limit }
@@ -87,7 +87,8 @@ fn totals_with(before: Totals, cells: &[u64], most: u64) -> Totals
     }
 }
 
-/// What is wrong with a table behind those of the totals, where `most` is its greatest cell.
+/// The fault of a table that comes after those of the totals, if it has one. `most` is the table's
+/// greatest cell.
 fn next_fault_of(sizes: &[u16], before: Totals, table: &Table, most: u64) -> Option<ProblemFault>
     requires cells { before.cells ≤ cell_limit }
     requires sum { before.sum ≤ amount_limit }
@@ -119,14 +120,14 @@ fn next_fault_of(sizes: &[u16], before: Totals, table: &Table, most: u64) -> Opt
     cells_fault_of(before, table.cells.as_slice(), most)
 }
 
-/// Whether a variable is not below `variables`.
+/// Whether the scope has a variable that is not below `variables`.
 fn exceed(scope: &[VarId], variables: usize) -> bool
     ensures { result ≡ list_any (λ v. nat_le variables v) scope.now }
 {
     scope.iter().any(|var| var.0 as usize >= variables)
 }
 
-/// Whether a table's own sizes are the sizes of its variables.
+/// Whether a table's own sizes are the problem's sizes of its variables.
 fn are_sizes_of(own: &[u16], sizes: &[u16], scope: &[VarId]) -> bool
     requires { All (λ v. v < length sizes.now) scope.now }
     ensures { result ≡ pointwise nat_eq own.now (map (λ v. slice_index sizes.now v) scope.now) }
@@ -142,8 +143,8 @@ fn are_sizes_of(own: &[u16], sizes: &[u16], scope: &[VarId]) -> bool
     true
 }
 
-/// What is wrong with the cells of a table behind those of the totals, where `most` is the greatest
-/// of them.
+/// The fault, if any, in the cells of a table that comes after those of the totals. `most` is the
+/// greatest of the cells.
 fn cells_fault_of(before: Totals, cells: &[u64], most: u64) -> Option<ProblemFault>
     requires cells { before.cells ≤ cell_limit }
     requires sum { before.sum ≤ amount_limit }
@@ -167,7 +168,7 @@ fn cells_fault_of(before: Totals, cells: &[u64], most: u64) -> Option<ProblemFau
     None
 }
 
-/// The place of the first cell above [`MAX_COST`], where `most` is the greatest of them.
+/// The place of the first cell above [`MAX_COST`]. `most` is the greatest of the cells.
 fn too_large(cells: &[u64], most: u64) -> Option<usize>
     requires { most ≡ greatest cells.now }
     ensures { result ≡ position (λ c. nat_lt cost_limit c) cells.now }
@@ -185,7 +186,7 @@ fn first_above_limit(cells: &[u64]) -> Option<usize>
     cells.iter().position(|cell| *cell > MAX_COST)
 }
 
-/// The greatest cell, 0 of none.
+/// The greatest cell; 0 if there are none.
 fn greatest_of(cells: &[u64]) -> u64
     ensures { result ≡ greatest cells.now }
 {

@@ -1,4 +1,4 @@
-//! Joints: what joins the components of the graph of tables.
+//! Joints, which connect the components of the graph of tables.
 
 ghost use Rattle.std.specs.Prelude.{◌≡◌, ℕ, ◌-◌, ◌<◌, ◌≤◌, ◌∷◌, [], ◌==◌, false, map, length, IfOk, if◌then◌else◌, slice_index};
 ghost use Rattle.std.specs.List.{All, range_with_len};
@@ -12,16 +12,16 @@ use crate::sequence::PairList;
 use crate::table::Table;
 use std::alloc::Global;
 
-/// The joints of a problem of so many variables with these tables: one from variable 0 to the
+/// The joints of a problem with these tables and `variables` variables: one from variable 0 to the
 /// first variable of each other component of the graph of tables, in ascending order.
 ///
-/// Each variable has a label, at first itself, and each table gives its variables the lowest of
-/// their labels. A label is replaced everywhere at once, and never comes back, so the time is that
-/// for the scopes of all tables and for the square of the variables.
+/// Each variable starts with itself as its label. Each table then gives its variables the lowest of
+/// their labels. A label is replaced everywhere at once and never returns, so the time is
+/// proportional to the scopes of all tables plus the square of the number of variables.
 ///
 /// # Errors
 ///
-/// [`NoMemory`] where memory was wanted and not had.
+/// [`NoMemory`] if memory runs out.
 pub(crate) fn joints_of(
     alloc: Global,
     variables: usize,
@@ -52,7 +52,8 @@ fn own_labels(alloc: Global, variables: usize) -> Result<Vec<VarId>, NoMemory>
 
 /// Labels each variable with the first variable of its component in the graph of these tables.
 ///
-/// A variable behind all that a table has named so far is its own label, so those are left alone.
+/// A variable above all variables that the tables so far have named is its own label, so such
+/// variables are skipped.
 fn join_tables(labels: &mut [VarId], tables: &[Table])
     requires own { labels.old ≡ range_with_len 0 (length labels.old) }
     requires within { All (λ t. All (λ v. v < length labels.old) t.scope) tables.now }
@@ -67,7 +68,7 @@ fn join_tables(labels: &mut [VarId], tables: &[Table])
     }
 }
 
-/// The least number above all variables of a scope that is not below this one.
+/// The least number that is at least `least` and above all variables of the scope.
 fn end_of(scope: &[VarId], least: usize) -> usize
     ensures least { least ≤ result }
     ensures above { All (λ v. v < result) scope.now }
@@ -93,7 +94,8 @@ fn join_scope(labels: &mut [VarId], scope: &[VarId])
     }
 }
 
-/// Gives two variables, and all that have the label of one of them, the lower of their labels.
+/// Gives two variables, and all variables that share a label with one of them, the lower of their
+/// two labels.
 fn join(labels: &mut [VarId], one: VarId, other: VarId)
     requires one { one < length labels.old }
     requires other { other < length labels.old }
@@ -109,7 +111,7 @@ fn join(labels: &mut [VarId], one: VarId, other: VarId)
     }
 }
 
-/// Writes the one label in place of the other, which no variable below it has.
+/// Replaces the label `from` by `to`. No variable below `from` has the label `from`.
 fn relabel(labels: &mut [VarId], from: VarId, to: VarId)
     requires within { from < length labels.old }
     requires low { (v : ℕ) → slice_index labels.old v ≤ v }
@@ -119,7 +121,7 @@ fn relabel(labels: &mut [VarId], from: VarId, to: VarId)
     replace(others, from, to);
 }
 
-/// Writes the one label in place of the other at each place.
+/// Replaces the label `from` by `to` at each place.
 fn replace(labels: &mut [VarId], from: VarId, to: VarId)
     ensures { labels.new ≡ map (λ label. if label == from then to else label) labels.old }
 {
@@ -128,7 +130,7 @@ fn replace(labels: &mut [VarId], from: VarId, to: VarId)
     }
 }
 
-/// A label, or the one in place of the other.
+/// The label, or `to` if it is `from`.
 fn replaced(label: VarId, from: VarId, to: VarId) -> VarId
     ensures { result ≡ if label == from then to else label }
 {

@@ -1,8 +1,9 @@
-//! The problem that the agents solve: variables, cost tables and their limits.
+//! The problem that the agents solve: variables, cost tables, joints and the limits on them.
 //!
-//! A [`Problem`] that exists is within its limits, its graph of tables and joints is connected,
-//! and no sum of its costs exceeds [`CAP`]. The crates above rest on that and test nothing again.
-//! [`cost_of`] is what an assignment costs, and [`private`] what one agent knows of a problem.
+//! Every [`Problem`] is within the limits, its graph of tables and joints is connected, and no sum
+//! of its costs exceeds [`CAP`]. The crates above rely on these facts and do not check them again.
+//! [`cost_of`] gives the cost of an assignment, and [`private`] the part of a problem that one
+//! agent knows.
 #![tactic(auto)]
 
 mod cells;

@@ -1,13 +1,15 @@
-//! The limits of the product, all in one place, and that they are the limits of the definitions.
+//! The limits of the product, all in one place, with the proof that they are those of the
+//! definitions.
 
 ghost use Rattle.std.specs.Prelude.{◌≡◌};
 ghost use Rattle.dcop_base.specs.Limits.{amount_limit, count_limit, variable_limit, size_limit, scope_limit, cost_limit, cell_limit};
 ghost use Rattle.dcop_base.specs.Limits.{digit_limit, name_limit, input_limit, assignment_limit, joined_limit, sent_limit, turn_limit, budget_limit};
 
-/// The greatest amount, 2^62. No cost, bound, threshold or UTIL cell is ever above it.
+/// The greatest amount, 2^62. No cost, bound, threshold or UTIL cell is above it.
 pub const CAP: u64 = 4_611_686_018_427_387_904;
 
-/// The greatest count of cells that is told, 2^64 - 1: a greater one is told as this.
+/// The greatest count of cells that is reported, 2^64 - 1. A greater count is reported as this
+/// number.
 pub const MAX_COUNT: u64 = 18_446_744_073_709_551_615;
 
 /// The most variables of a problem.
@@ -49,7 +51,7 @@ pub const MAX_TURNS: u64 = 65_536;
 /// The greatest budget of deliveries.
 pub const MAX_BUDGET: u64 = 10_000_000;
 
-/// The limits of the code are those of the definitions.
+/// The limits of the code are those of the definitions. Does nothing; its contract is the law.
 pub fn limits_agree()
     ensures amounts { CAP ≡ amount_limit }
     ensures counts { MAX_COUNT ≡ count_limit }

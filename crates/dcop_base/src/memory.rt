@@ -1,8 +1,8 @@
-//! Want of memory, the one free answer of every call that allocates.
+//! The error of calls that run out of memory.
 
 use std::alloc::{AllocError, AllocFailed};
 
-/// Memory was wanted and not had. No clause says when it comes.
+/// Memory ran out. Calls that allocate may return this; no clause says when.
 #[derive(Clone, Copy, Debug, PartialEq, Eq)]
 pub struct NoMemory;
 

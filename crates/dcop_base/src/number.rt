@@ -1,4 +1,4 @@
-//! Variables, values and amounts: the numbers of a problem, each a type of its own.
+//! Variables, values and amounts: the numbers of a problem, each with a type of its own.
 
 ghost use Rattle.std.specs.Prelude.{◌≡◌, ℕ, ◌+◌, ◌<◌, ◌≤◌, ◌↔◌, min, IsSome, IfSome};
 ghost use Rattle.dcop_base.specs.Limits.{amount_limit};
@@ -30,7 +30,7 @@ impl Model for Val {
     ghost inverse = { λ n. record { 0 = n } };
 }
 
-/// A cost, a bound, a threshold or a UTIL cell: a number of at most [`CAP`].
+/// A cost, a bound, a threshold or a UTIL cell: a number that is at most [`CAP`].
 #[derive(Clone, Copy, Debug, PartialEq, Eq, PartialOrd, Ord, Hash)]
 pub struct Amount {
     value: u64,
@@ -47,7 +47,7 @@ impl Model for Amount {
 }
 
 impl Amount {
-    /// The amount of this number; `None` exactly above [`CAP`].
+    /// The amount of this number; `None` exactly if the number is above [`CAP`].
     pub fn new(value: u64) -> Option<Amount>
         ensures within { IsSome result ↔ (value ≤ amount_limit) }
         ensures same { IfSome result (λ amount. amount ≡ value) }
@@ -67,7 +67,7 @@ impl Amount {
         self.value
     }
 
-    /// The sum, or [`CAP`] where the sum is above it.
+    /// The sum, or [`CAP`] if the sum is above it.
     pub fn plus(self, other: Amount) -> Amount
         ensures { result ≡ min (self + other) amount_limit }
     {

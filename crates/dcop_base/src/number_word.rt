@@ -1,4 +1,4 @@
-//! Numbers as texts write them.
+//! Numbers in texts.
 
 ghost use Rattle.std.specs.Prelude.{◌≡◌, ◌<◌, ◌≤◌, length, IsTrue};
 ghost use Rattle.std.specs.List.{list_all};
@@ -8,7 +8,7 @@ ghost use Rattle.dcop_base.specs.NumberWord.{number_of, value_of};
 
 use crate::limit::MAX_DIGITS;
 
-/// The number that a word writes in base ten; `None` exactly where the word is no number.
+/// The number that a word spells in base ten; `None` exactly if the word is not a number.
 ///
 /// A number is a word of 1 to [`MAX_DIGITS`] ASCII digits. Leading zeros are allowed.
 pub fn number_of_word(word: &[u8]) -> Option<u64>

@@ -6,8 +6,8 @@ ghost use Rattle.dcop_base.specs.Place.{AreDigits};
 
 use crate::number::Val;
 
-/// The place of a cell among those of a table, of which the last variable moves fastest. `digit`
-/// tells the size and the value of each variable, by its place in the scope of `count` variables.
+/// The place of a cell in a table whose last variable changes fastest. `digit` gives the size and
+/// the value of each variable, by its place in the scope of `count` variables.
 pub fn place_of<F: Fn(usize) -> (u16, Val)>(count: usize, digit: F) -> usize
     requires callable { (k : ℕ) → k < count → F.pre digit k }
     requires few { (sizes : List ℕ) × (values : List ℕ)

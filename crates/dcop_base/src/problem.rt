@@ -16,31 +16,32 @@ use crate::table::Table;
 use std::alloc::{AllocError, Global};
 use std::marker::Model;
 
-/// Why sizes and tables make no problem. Variables, tables and cells count from 0, and each fault
-/// names the first place.
+/// Why sizes and tables are refused as a problem. Variables, tables and cells are counted from 0,
+/// and each fault names the first place.
 #[derive(Clone, Copy, Debug, PartialEq, Eq)]
 pub enum ProblemFault {
-    /// There are no sizes.
+    /// There are no variables: the list of sizes is empty.
     NoVariables,
-    /// There are more than [`MAX_VARIABLES`] sizes.
+    /// There are more than [`MAX_VARIABLES`] variables.
     TooManyVariables,
     /// A size is 0 or above [`MAX_SIZE`].
     DomainSize { var: VarId },
-    /// The scope has no variable, or more than [`MAX_SCOPE`].
+    /// The scope is empty or has more than [`MAX_SCOPE`] variables.
     ScopeLength { table: u64 },
-    /// A scope variable is not below the number of variables.
+    /// A variable of the scope is not below the number of variables.
     ScopeRange { table: u64 },
-    /// A variable stands twice in the scope.
+    /// The scope names a variable twice.
     ScopeRepeat { table: u64 },
-    /// The table's sizes are not the variables' sizes.
+    /// The table's sizes are not its variables' sizes.
     CellCount { table: u64 },
     /// A cell is above [`MAX_COST`].
     CostTooLarge { table: u64, cell: u64 },
-    /// The cells up to this table are more than [`MAX_CELLS`].
+    /// The tables up to and including this one have more than [`MAX_CELLS`] cells together.
     TooManyCells { table: u64 },
-    /// The sum of the tables' greatest cells up to this table is above [`CAP`](crate::CAP).
+    /// The greatest cells of the tables up to and including this one sum to more than
+    /// [`CAP`](crate::CAP).
     SumTooLarge { table: u64 },
-    /// Memory was wanted and not had.
+    /// Memory ran out.
     NoMemory,
 }
 
@@ -66,14 +67,14 @@ impl From<AllocError> for ProblemFault {
     }
 }
 
-/// A problem: how many values each variable has, cost tables over the variables, and joints.
+/// A problem: the number of values of each variable, cost tables over the variables, and joints.
 ///
 /// A joint is a pair of variables that counts as a table of zeros on that pair and holds no cells.
 /// One joint leads from variable 0 to the first variable of each other component of the graph of
 /// tables, in ascending order, so the graph of tables and joints is connected.
 ///
-/// There are 1 to [`MAX_VARIABLES`] variables with 1 to [`MAX_SIZE`] values each. A table has one
-/// to [`MAX_SCOPE`] variables, and each cell is at most [`MAX_COST`]. All tables have at most
+/// There are 1 to [`MAX_VARIABLES`] variables with 1 to [`MAX_SIZE`] values each. A table has 1 to
+/// [`MAX_SCOPE`] variables, and each cell is at most [`MAX_COST`]. All tables together have at most
 /// [`MAX_CELLS`] cells, and their greatest cells sum to at most [`CAP`](crate::CAP).
 #[derive(Debug, Drop)]
 pub struct Problem {
@@ -98,14 +99,14 @@ impl Problem {
 
     /// The problem of these sizes and tables, with the joints that make its graph connected.
     ///
-    /// Refuses by the first fault, in this order: no sizes, too many, a size that is no domain's,
-    /// and then for each table its scope's length, range and repeats, its sizes, its first cell
-    /// that is too large, too many cells, and too large a sum of greatest cells. Sizes and tables
-    /// are gone also where they are refused.
+    /// The checks come in this order: no variables, too many variables, and a size that is not a
+    /// domain size. Then come, for each table, its scope's length, range and repeats, its sizes,
+    /// its first cell that is too large, too many cells, and too large a sum of greatest cells. On
+    /// an error the sizes and tables are dropped.
     ///
     /// # Errors
     ///
-    /// The first fault, or [`ProblemFault::NoMemory`] where memory was wanted and not had.
+    /// The first fault in this order, or [`ProblemFault::NoMemory`] if memory runs out.
     pub fn new(alloc: Global, sizes: SizeList, tables: TableList) -> Result<Problem, ProblemFault>
         ensures { MakesProblem sizes tables result }
     {
@@ -115,13 +116,13 @@ impl Problem {
         Ok(Problem::of_faultless(alloc, sizes, tables)?)
     }
 
-    /// The problem of sizes and tables with which nothing is wrong, with the joints that make its
-    /// graph connected. [`Problem::new`] is the same for those of which that is not known: it looks at
-    /// each cell.
+    /// The problem of sizes and tables that have no fault, with the joints that make its graph
+    /// connected. [`Problem::new`] does the same for sizes and tables that may have a fault, and
+    /// looks at each cell to find it.
     ///
     /// # Errors
     ///
-    /// [`NoMemory`] where memory was wanted and not had. Sizes and tables are gone then too.
+    /// [`NoMemory`] if memory runs out. Sizes and tables are dropped in that case.
     pub fn of_faultless(
         alloc: Global,
         sizes: SizeList,
@@ -140,19 +141,21 @@ impl Problem {
     }
 }
 
-/// Every table is whole, so this does nothing.
+/// Every table is whole. Does nothing; its contract is the law.
 fn tables_are_whole(tables: &[Table])
     ensures { All IsTable tables.now }
 {
     for table in tables {
+        // For the prover: reading a table gives its invariant.
         let _ = table.scope.as_slice();
     }
 }
 
-/// Every problem is within its limits, and its tables and joints are whole. One that is read is
-/// known to be, so this does no more.
+/// Every problem is within its limits, and its tables and joints are whole. Does nothing; its
+/// contract is the law.
 pub fn problem_is_whole(problem: &Problem)
     ensures { IsProblem problem.now }
 {
+    // For the prover: reading the problem gives its invariant.
     let _ = problem.sizes.as_slice();
 }

@@ -24,7 +24,7 @@ impl<T> Model for Sequence<T> {
 }
 
 impl<T> Sequence<T> {
-    /// The list of these items. It keeps their memory and takes none.
+    /// The list of these items. It keeps their memory and allocates nothing.
     pub fn from_vec(items: Vec<T>) -> Self
         ensures { result ≡ items.items }
     {
@@ -76,7 +76,7 @@ pub type VarList = ShortList<VarId>;
 /// Values.
 pub type ValList = Sequence<Val>;
 
-/// Domain sizes: how many values a variable has.
+/// Domain sizes: the number of values of each variable.
 pub type SizeList = ShortList<u16>;
 
 /// Cost tables.
@@ -85,5 +85,5 @@ pub type TableList = Sequence<Table>;
 /// Pairs of variables.
 pub type PairList = Sequence<(VarId, VarId)>;
 
-/// Bytes of a text.
+/// The bytes of a text.
 pub type Bytes = Sequence<u8>;

@@ -1,4 +1,4 @@
-//! Sizes of tables: how many values each of their variables has.
+//! Sizes of tables: the number of values of each of their variables.
 
 ghost use Rattle.std.specs.Prelude.{◌≡◌, ◌==◌, min};
 ghost use Rattle.std.specs.List.{list_any};
@@ -11,8 +11,8 @@ pub fn have_zero(sizes: &[u16]) -> bool
     sizes.iter().any(|size| *size == 0)
 }
 
-/// How many cells a table of these sizes has: their product, 1 of none, or `usize::MAX` where it
-/// is more, which is no list's length.
+/// The number of cells of a table of these sizes: their product, which is 1 for no sizes. If the
+/// product is above `usize::MAX`, which is no list's length, the result is `usize::MAX`.
 pub fn product_of(sizes: &[u16]) -> usize
     ensures { result ≡ min (product sizes.now) usize.MAX }
 {

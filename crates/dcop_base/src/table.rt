@@ -18,9 +18,9 @@ use std::marker::Model;
 /// Why a table is refused.
 #[derive(Clone, Copy, Debug, PartialEq, Eq)]
 pub enum TableFault {
-    /// A variable stands twice in the scope.
+    /// The scope names a variable twice.
     Repeat,
-    /// There are not as many sizes as variables, or a size is 0.
+    /// The number of sizes is not that of the variables, or a size is 0.
     Sizes,
     /// The number of cells is not the product of the sizes.
     CellCount,
@@ -28,10 +28,11 @@ pub enum TableFault {
     CellTooLarge,
 }
 
-/// A cost table: a cell for each choice of values of its variables, the last one moving fastest.
+/// A cost table: one cell for each choice of values of its variables. The last variable changes
+/// fastest.
 ///
-/// The variables are distinct, each has a size of at least 1, there are as many cells as the
-/// product of the sizes (1 for an empty scope), and each cell is at most [`CAP`].
+/// The variables are distinct, and each has a size of at least 1. There are as many cells as the
+/// product of the sizes, which is 1 for an empty scope. Each cell is at most [`CAP`].
 #[derive(Debug, Drop)]
 pub struct Table {
     pub scope: VarList,
@@ -48,11 +49,13 @@ impl Model for Table {
 }
 
 impl Table {
-    /// The table of this scope with these sizes and cells. It keeps their memory and takes none.
+    /// The table of this scope with these sizes and cells. It keeps their memory and allocates
+    /// nothing.
     ///
     /// # Errors
     ///
-    /// The first of the faults of [`TableFault`], in their order. The lists are gone then too.
+    /// The first of the faults of [`TableFault`], in the order of their declaration. The lists are
+    /// dropped in that case.
     pub fn new(scope: VarList, sizes: SizeList, cells: CellList) -> Result<Table, TableFault>
         ensures { MatchResult result
             (λ t. (table_fault scope sizes cells ≡ None) × IsTableOfParts scope sizes cells t)
@@ -68,8 +71,8 @@ impl Table {
         }
     }
 
-    /// The cell at the values that an assignment gives to the scope's variables. `values` stands
-    /// in order of the variables' numbers, and may end behind the last variable of the scope.
+    /// The cell at the values that an assignment gives to the scope's variables. `values` is in the
+    /// order of the variables' numbers, and may end after the greatest variable of the scope.
     pub fn eval(&self, values: &[Val]) -> u64
         requires entries { All (λ v. v < length values.now) self.now.scope }
         requires sizes { AreWithin self.now.sizes (values_at self.now.scope values.now) }
@@ -95,7 +98,7 @@ impl Clone for Table {
     }
 }
 
-/// The first thing that is wrong with a table.
+/// The first fault of a table.
 fn fault_of(scope: &[VarId], sizes: &[u16], cells: &[u64]) -> Option<TableFault>
     ensures { result ≡ table_fault scope.now sizes.now cells.now }
 {

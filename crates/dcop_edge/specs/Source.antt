@@ -1,15 +1,15 @@
--- What a source gives, where it tells the bytes that it has left.
+-- What a source gives, if the bytes that it has left are known.
 use Rattle.std.specs.Prelude.{◌≡◌, ◌<◌, ◌≤◌, ℕ, ◌+◌, List, ◌++◌, length, take, drop, Option}
 use Rattle.std.specs.Io.KnownBytes.{prepend_known, IsAtEnd}
 
--- One read gave `count` bytes: they were the next ones, and stand in front in the buffer.
+-- one read gave `count` bytes: they were the next ones, and they are at the front of the buffer
 pub record Gives (before after : Option (List ℕ)) (buffer filled : List ℕ) (count : ℕ) : Type 0 where
   pub within : count ≤ length buffer
   pub front : before ≡ prepend_known (take count filled) after
   pub behind : drop count filled ≡ drop count buffer
   pub end : count ≡ 0 → 0 < length buffer → IsAtEnd after
 
--- One read added `count` bytes, at most so many: they were the next ones, and stand behind those that were held.
+-- one read added `count` bytes, at most `most`: they were the next ones, and they come after those that were held
 pub record GivesBehind (before after : Option (List ℕ)) (held grown : List ℕ) (most count : ℕ) : Type 0 where
   pub within : count ≤ most
   pub size : length grown ≡ length held + count

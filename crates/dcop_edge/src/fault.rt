@@ -1,22 +1,22 @@
-//! Faults of the outside, and the calls that fail on purpose.
+//! Faults of sources and sinks, and calls that fail on purpose.
 
-ghost use Rattle.std.specs.Prelude.{◌≡◌, is_err};
-ghost use Rattle.dcop_edge.specs.Faults.{HasCause};
+ghost use Rattle.std.specs.Prelude.{◌≡◌, ◌≤◌, is_err};
+ghost use Rattle.dcop_edge.specs.Faults.{HasCause, Rose, one_more};
 ghost use Rattle.dcop_edge.specs.Memory.{Calls, no_calls, fails_next, after_call};
 
 use std::alloc::AllocError;
 use std::marker::Model;
 
-/// A source or a sink failed. Its count of faults rose in the call that answers this.
+/// A source or a sink failed. Its count of faults rose in the call that returns this.
 #[derive(Clone, Copy, Debug, PartialEq, Eq)]
 pub struct Failed;
 
 /// Why a read into a list gave nothing.
 #[derive(Clone, Copy, Debug, PartialEq, Eq)]
 pub enum ReadFault {
-    /// The source failed. Its count of faults rose in the call that answers this.
+    /// The source failed. Its count of faults rose in the call that returns this.
     Failed,
-    /// Memory was wanted and not had.
+    /// Memory ran out.
     NoMemory,
 }
 
@@ -40,10 +40,10 @@ impl From<AllocError> for ReadFault {
     }
 }
 
-/// Which calls of an object in memory fail, with counts of the calls and of the faults. Both
-/// counts stay at 2^64 - 1 once they are there.
+/// Which calls of an object in memory fail, with counts of its calls and of its faults. Both counts
+/// stop at 2^64 - 1.
 #[derive(Drop)]
-pub(crate) struct FailingCalls {
+pub struct FailingCalls {
     fails: Vec<u64>,
     came: u64,
     faults: u64,
@@ -56,8 +56,8 @@ impl Model for FailingCalls {
 }
 
 impl FailingCalls {
-    /// The calls with these numbers, counted from 0, will fail.
-    pub(crate) fn new(fails: Vec<u64>) -> Self
+    /// The calls with these numbers, counted from 0, fail.
+    pub fn new(fails: Vec<u64>) -> Self
         ensures { result ≡ no_calls fails.items }
     {
         FailingCalls {
@@ -67,8 +67,8 @@ impl FailingCalls {
         }
     }
 
-    /// Counts one more call; `Failed` exactly where its number is among those that fail.
-    pub(crate) fn come(&mut self) -> Result<(), Failed>
+    /// Counts one more call; `Failed` exactly if its number is among those that fail.
+    pub fn come(&mut self) -> Result<(), Failed>
         ensures exact { is_err result ≡ fails_next self.old }
         ensures counted { self.new ≡ after_call self.old }
         ensures cause { HasCause self.old.faults self.new.faults result }
@@ -80,5 +80,20 @@ impl FailingCalls {
             return Err(Failed);
         }
         Ok(())
+    }
+
+    /// How many faults there were.
+    pub fn faults(&self) -> u64
+        ensures { result ≡ self.now.faults }
+    {
+        self.faults
+    }
+
+    /// Counts one more fault.
+    pub fn charge(&mut self)
+        ensures counted { self.new ≡ record self.old { faults = one_more self.old.faults } }
+        ensures rose { (self.old.faults ≤ self.new.faults) × Rose self.old.faults self.new.faults }
+    {
+        self.faults = self.faults.saturating_add(1);
     }
 }

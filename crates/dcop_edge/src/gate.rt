@@ -1,10 +1,10 @@
-//! What every visit of an agent passes: a place where a test can hold agents back or count them.
+//! A gate that every visit of an agent passes, so that a test can hold agents back or count them.
 
 use dcop_base::VarId;
 
-/// Where the visits of agents begin. A gate always returns.
+/// A gate at the start of the visits of agents. Its call always returns.
 pub trait Gate: Sync {
-    /// Is called at the start of each visit of this agent.
+    /// Called at the start of each visit of this agent.
     fn pass(&self, agent: VarId);
 }
 

@@ -1,12 +1,12 @@
-//! Bytes kept in memory while there is room for them, and counted from then on.
+//! Bytes kept in memory as long as there is room for them, and only counted after that.
 
 ghost use Rattle.std.specs.Prelude.{◌≡◌, ◌<◌, ◌≤◌, ◌+◌, ◌++◌, length, nat_le, vec_len, vec_capacity};
 ghost use Rattle.std.specs.Bool.{OnTrue, OnFalse};
 ghost use Rattle.dcop_edge.specs.Memory.{kept_whole, held_within};
 ghost use Rattle.dcop_edge.specs.Sink.{Adds};
 
-/// What was written to a sink in memory. From the first write that is not kept on, the bytes
-/// written are only counted, in a counter that stays at its last value.
+/// The bytes that were written to a sink in memory. From the first write that is not kept, bytes
+/// are only counted, in a counter that stops at its last value.
 #[derive(Drop)]
 pub(crate) struct Kept {
     pub(crate) bytes: Vec<u8>,
@@ -16,7 +16,7 @@ pub(crate) struct Kept {
 }
 
 impl Kept {
-    /// Adds the bytes, or counts them where they pass the room or find no memory.
+    /// Adds the bytes, or counts them if they do not fit into the room or memory runs out.
     pub(crate) fn add(&mut self, more: &[u8])
         ensures added { Adds (kept_whole self.old.bytes.items self.old.missing) more.now
             (kept_whole self.new.bytes.items self.new.missing) }
@@ -33,7 +33,8 @@ impl Kept {
     }
 }
 
-// Adds the bytes where all of them are within the room and find memory; whether they did.
+// Adds the bytes if all of them fit into the room and memory does not run out. Returns whether it
+// added them.
 fn extend_within(bytes: &mut Vec<u8>, more: &[u8], room: usize) -> bool
     requires { vec_len bytes.old ≤ room }
     ensures kept { OnTrue result (bytes.new.items ≡ bytes.old.items ++ more.now) }

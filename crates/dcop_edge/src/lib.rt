@@ -1,10 +1,11 @@
-//! The outside, handed in as values: where bytes come from and where they go.
+//! The outside world as values: where bytes come from and where they go.
 //!
-//! A [`Source`] gives bytes and a [`Sink`] takes them. Each tells, for proofs alone, what it holds
-//! where that is known, and counts its faults: a call answers [`Failed`] only where the count rose.
-//! So what reads and writes is proved over any source and sink. In memory there are sources and
-//! sinks that fail at chosen calls and ones that never fail; [`StdSource`] and [`StdSink`] are the
-//! real ones, of which nothing is told but counts.
+//! A [`Source`] gives bytes and a [`Sink`] takes them. For proofs alone, each states what it holds,
+//! if that is known, and counts its faults: a call returns [`Failed`] only if the count rose or is
+//! at its last value. Code that reads and writes is therefore proved over any source and sink.
+//! There are sources and sinks in memory that fail at chosen calls, and others that never fail.
+//! [`StdSource`] and [`StdSink`] are the real ones; contracts say nothing of their bytes, only of
+//! their counts of faults.
 #![tactic(auto)]
 
 mod fault;
@@ -16,7 +17,7 @@ mod source;
 mod standard;
 mod steady;
 
-pub use fault::{Failed, ReadFault};
+pub use fault::{Failed, FailingCalls, ReadFault};
 pub use gate::{Gate, OpenGate};
 pub use memory::{MemorySink, MemorySource};
 pub use sink::Sink;

@@ -28,8 +28,8 @@ impl Model for MemorySource {
 }
 
 impl MemorySource {
-    /// A source that gives these bytes, and of whose calls, counted from 0, those with the numbers
-    /// in `fails` fail. It takes no memory.
+    /// A source that gives these bytes. Its calls with the numbers in `fails`, counted from 0,
+    /// fail. Allocates nothing.
     pub fn new(bytes: Vec<u8>, fails: Vec<u64>) -> Self
         ensures { result ≡ record { left = bytes.items; calls = no_calls fails.items } }
     {
@@ -64,7 +64,8 @@ impl Source for MemorySource {
 }
 
 /// A sink in memory that fails at chosen calls of `write` and `finish`, counted together. It grows
-/// as it is written to; where it finds no memory, it only counts, and tells its bytes no more.
+/// as bytes are written to it. Once memory runs out it only counts, and its bytes are no longer
+/// known.
 #[derive(Drop)]
 pub struct MemorySink {
     kept: Kept,
@@ -83,8 +84,8 @@ impl Model for MemorySink {
 }
 
 impl MemorySink {
-    /// An empty sink of whose calls, counted from 0, those with the numbers in `fails` fail. It
-    /// takes no memory.
+    /// An empty sink. Its calls with the numbers in `fails`, counted from 0, fail. Allocates
+    /// nothing.
     pub fn new(alloc: Global, fails: Vec<u64>) -> Self
         ensures { result ≡ record { held = Some []; finished = false; calls = no_calls fails.items } }
     {
@@ -99,7 +100,8 @@ impl MemorySink {
         }
     }
 
-    /// The bytes that were written, while they are kept: then all of them, in order.
+    /// The bytes that were written. These are all of them, in order, as long as the sink keeps its
+    /// bytes.
     pub fn bytes(&self) -> &[u8]
         ensures { IfSome self.now.held (λ text. result.now ≡ text) }
     {

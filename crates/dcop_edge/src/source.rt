@@ -8,29 +8,33 @@ use crate::fault::{Failed, ReadFault};
 
 /// A source of bytes, read in order to its end.
 pub trait Source {
-    /// The bytes still to be given, where the source tells them: over memory, not over the real
-    /// thing.
+    /// The bytes still to be given, if the source knows them. A source in memory does; the real one
+    /// does not.
     ghost left: { Self → Option (List ℕ) };
 
-    /// How many of its calls failed.
+    /// The number of its calls that failed.
     ghost faults: { Self → ℕ };
 
-    /// Puts the next bytes into the front of `into`, and answers how many they are: at most its
-    /// length, and 0 for a buffer that is not empty only at the end of the input. `Failed` where
-    /// the source failed in this call: then no byte was taken, and `into` is as it was.
+    /// Puts the next bytes at the front of `into` and returns how many they are: at most its
+    /// length. If `into` is not empty, 0 means the end of the input.
+    ///
+    /// # Errors
+    ///
+    /// [`Failed`] if the source failed in this call. It then gave no bytes, and `into` is as it
+    /// was.
     fn read(&mut self, into: &mut [u8]) -> Result<usize, Failed>
         ensures given { IfOk result (Gives (left self.old) (left self.new) into.old into.new) }
         ensures none_taken { OnErr result (left self.new ≡ left self.old) }
         ensures unfilled { OnErr result (into.new ≡ into.old) }
         ensures cause { HasCause (faults self.old) (faults self.new) result };
 
-    /// Puts the next bytes behind those of `bytes`, and answers how many they are: at most `most`, and
-    /// 0 where `most` is not 0 only at the end of the input.
+    /// Adds the next bytes to the end of `bytes` and returns how many they are: at most `most`. If
+    /// `most` is not 0, 0 means the end of the input.
     ///
     /// # Errors
     ///
-    /// [`ReadFault::Failed`] where the source failed in this call, [`ReadFault::NoMemory`] where memory
-    /// was wanted and not had: then no byte was taken, and `bytes` is as it was.
+    /// [`ReadFault::Failed`] if the source failed in this call, [`ReadFault::NoMemory`] if memory
+    /// runs out. In both cases the source gave no bytes, and `bytes` is as it was.
     fn read_behind(&mut self, bytes: &mut Vec<u8>, most: usize) -> Result<usize, ReadFault>
         ensures given { IfOk result (GivesBehind (left self.old) (left self.new) bytes.old.items bytes.new.items most) }
         ensures none_taken { OnErr result (left self.new ≡ left self.old) }

@@ -14,8 +14,8 @@ const MAX_TRIES: u32 = 1_000_000;
 /// The most bytes of one read.
 const BLOCK: usize = 65_536;
 
-/// A reader of std as a source: a file, a socket, standard input. Nothing is told of its bytes; a
-/// read that the reader refuses is a fault.
+/// A reader of std as a source: a file, a socket, standard input. Its bytes are unknown to
+/// contracts. A read that the reader refuses is a fault.
 #[derive(Drop)]
 pub struct StdSource<R> {
     reader: R,
@@ -23,7 +23,7 @@ pub struct StdSource<R> {
 }
 
 impl<R: Read> StdSource<R> {
-    /// A source that reads from here.
+    /// A source that reads from this reader.
     pub fn new(reader: R) -> Self {
         StdSource { reader, faults: 0 }
     }
@@ -61,8 +61,9 @@ impl<R: Read> Source for StdSource<R> {
     }
 }
 
-/// A writer of std as a sink: a file, a socket, standard output. Nothing is told of its bytes; a
-/// write or flush that the writer refuses is a fault, and so is one that takes nothing.
+/// A writer of std as a sink: a file, a socket, standard output. Its bytes are unknown to
+/// contracts. A write or flush that the writer refuses is a fault, and so is a write that takes
+/// nothing.
 #[derive(Drop)]
 pub struct StdSink<W> {
     writer: W,
@@ -71,7 +72,7 @@ pub struct StdSink<W> {
 }
 
 impl<W: Write> StdSink<W> {
-    /// A sink that writes to here.
+    /// A sink that writes to this writer.
     pub fn new(writer: W) -> Self {
         StdSink {
             writer,
@@ -109,7 +110,7 @@ impl<W: Write> Sink for StdSink<W> {
     }
 }
 
-// One read, tried again where a signal interrupts it; `None` where it is refused.
+// One read, tried again if a signal interrupts it; `None` if it is refused.
 fn read_again<R: Read>(reader: &mut R, into: &mut [u8]) -> Option<usize>
     ensures { IfSome result (λ count. count ≤ length into.old) }
 {
@@ -126,8 +127,8 @@ fn read_again<R: Read>(reader: &mut R, into: &mut [u8]) -> Option<usize>
     None
 }
 
-// One read of at most so many bytes behind those that are there; `None` where it is refused: then
-// they are as they were.
+// One read of at most `most` bytes to the end of `bytes`. `None` if it is refused; `bytes` is then
+// as it was.
 fn append_again<R: Read>(
     reader: &mut R,
     bytes: &mut Vec<u8>,
@@ -146,7 +147,8 @@ fn append_again<R: Read>(
     Ok(found)
 }
 
-// One read into what lies behind so many bytes, which stay; `None` where it is refused.
+// One read into the part of `bytes` after the first `held` ones, which stay; `None` if it is
+// refused.
 fn read_tail<R: Read>(reader: &mut R, bytes: &mut [u8], held: usize) -> Option<usize>
     requires { held ≤ length bytes.old }
     ensures within { IfSome result (λ count. held + count ≤ length bytes.old) }
@@ -157,7 +159,7 @@ fn read_tail<R: Read>(reader: &mut R, bytes: &mut [u8], held: usize) -> Option<u
     read_again(reader, room)
 }
 
-// One write, tried again where a signal interrupts it; `None` where it is refused or takes nothing.
+// One write, tried again if a signal interrupts it; `None` if it is refused or takes nothing.
 fn write_again<W: Write>(writer: &mut W, bytes: &[u8]) -> Option<usize>
     ensures within { IfSome result (λ count. count ≤ length bytes.now) }
     ensures some { IfSome result (λ count. 0 < length bytes.now → 0 < count) }
@@ -179,7 +181,7 @@ fn write_again<W: Write>(writer: &mut W, bytes: &[u8]) -> Option<usize>
     None
 }
 
-// One flush, tried again where a signal interrupts it; whether it was done.
+// One flush, tried again if a signal interrupts it. Returns whether it was done.
 fn flush_again<W: Write>(writer: &mut W) -> bool {
     for _ in 0..MAX_TRIES {
         match writer.flush() {

@@ -28,7 +28,7 @@ impl Model for SteadySource {
 }
 
 impl SteadySource {
-    /// A source that gives these bytes. It takes no memory.
+    /// A source that gives these bytes. Allocates nothing.
     pub fn new(bytes: Vec<u8>) -> Self
         ensures { result ≡ bytes.items }
     {
@@ -56,7 +56,8 @@ impl Source for SteadySource {
     }
 }
 
-// Copies the front of `left` to the front of `into`, as much as fits.
+// Copies the front of `left` to the front of `into`, as much as fits, and returns the number of
+// bytes.
 fn fill_front(into: &mut [u8], left: &[u8]) -> usize
     ensures count { result ≡ min (length left.now) (length into.old) }
     ensures front { take result into.new ≡ take result left.now }
@@ -67,8 +68,8 @@ fn fill_front(into: &mut [u8], left: &[u8]) -> usize
     count
 }
 
-/// A sink in memory that never fails. It keeps what is written while that is at most its room, and
-/// never asks for memory; past its room it only counts, and tells its bytes no more.
+/// A sink in memory that never fails. It keeps what is written as long as that fits into its room,
+/// and no write allocates. Beyond its room it only counts, and its bytes are no longer known.
 #[derive(Drop)]
 pub struct SteadySink {
     kept: Kept,
@@ -88,7 +89,7 @@ impl Model for SteadySink {
 }
 
 impl SteadySink {
-    /// A sink with no room. It takes no memory.
+    /// A sink with no room. Allocates nothing.
     pub fn new(alloc: Global) -> Self
         ensures { result ≡ record { held = Some []; finished = false; room = 0 } }
     {
@@ -102,7 +103,11 @@ impl SteadySink {
         }
     }
 
-    /// A sink with room for so many bytes, which it reserves at once; `NoMemory` where there is none.
+    /// A sink with room for `room` bytes, which it reserves at once.
+    ///
+    /// # Errors
+    ///
+    /// [`NoMemory`] if memory runs out.
     pub fn with_room(alloc: Global, room: usize) -> Result<Self, NoMemory>
         ensures { IfOk result (λ s. s ≡ record { held = Some []; finished = false; room = room }) }
     {
@@ -116,7 +121,8 @@ impl SteadySink {
         })
     }
 
-    /// The bytes that were written, while they are kept: then all of them, in order.
+    /// The bytes that were written. These are all of them, in order, as long as the sink keeps its
+    /// bytes.
     pub fn bytes(&self) -> &[u8]
         ensures { IfSome self.now.held (λ text. result.now ≡ text) }
     {

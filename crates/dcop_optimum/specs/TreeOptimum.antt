@@ -12,7 +12,7 @@ use Rattle.dcop_optimum.specs.Decomposition.{AreChildOptima, best_cost_at}
 abbrev pub in_preorder : List (List ℕ) → List ℕ → List ℕ
 in_preorder paths values = values_at (preorder_of paths) values
 
--- the first optimum of a tree: it costs the optimum, and no assignment whose values in preorder stand before its values does
+-- the first optimum of a tree: it costs the optimum, and no assignment whose values in preorder come before its own does
 pub record IsFirstOptimumOf (p : Dcop) (paths : List (List ℕ)) (values : List ℕ) : Type 0 where
   pub assignment : IsAssignment p values
   pub optimal : IsOptimum p (cost p values)
@@ -33,13 +33,13 @@ pub record IsLowestLeast (n : ℕ) (f : ℕ → ℕ) (d : ℕ) : Type 0 where
   pub least : (e : ℕ) → e < n → f d ≤ f e
   pub lowest : (e : ℕ) → e < d → f d < f e
 
--- i has the lowest value at which its own tables and its children's subtrees cost least, where its ancestors have these values
+-- i has the lowest value at which its own tables and its children's subtrees cost least, given the values of its ancestors
 pub record IsBestChoice (p : Dcop) (paths : List (List ℕ)) (values : List ℕ) (i : ℕ) : Type 0 where
   pub optima : ℕ → ℕ → ℕ
   pub are_optima : AreChildOptima p paths i (slice_index values) optima
   pub chosen : IsLowestLeast (slice_index p.sizes i) (best_cost_at p paths i (slice_index values) optima) (slice_index values i)
 
--- where each variable of a pseudotree has its best value under those of its ancestors, the values are the first optimum of the tree
+-- if each variable of a pseudotree has its best value given the values of its ancestors, the values are the first optimum of the tree
 abbrev pub BestChoicesAreFirst : Type 0
 BestChoicesAreFirst = (p : Dcop) (paths : List (List ℕ)) (values : List ℕ) → IsProblem p → IsPseudotree p paths → length values ≡ length p.sizes
     → ((i : ℕ) → i < length p.sizes → IsBestChoice p paths values i) → IsFirstOptimumOf p paths values

@@ -9,7 +9,7 @@ ghost use Rattle.dcop_optimum.specs.Goal.{turned_table, turned, top_of, SumToTop
 use dcop_base::{CAP, CellList, NoMemory, PairList, Problem, SizeList, Table, TableList, VarList};
 use std::alloc::Global;
 
-/// The top sum: the sum of the tables' greatest cells, which no assignment's cost exceeds.
+/// The top sum: the sum of the tables' greatest cells. No assignment costs more.
 pub fn top_sum(problem: &Problem) -> u64
     ensures sum { result ≡ top_of problem.now }
     ensures within { result ≤ amount_limit }
@@ -17,9 +17,13 @@ pub fn top_sum(problem: &Problem) -> u64
     sum_of_greatest(problem.tables.as_slice())
 }
 
-/// The turned problem: each cell is replaced by its table's greatest cell less it, and sizes,
-/// scopes and joints are the same. So the dearest assignments of the problem are the cheapest of
-/// the turned one.
+/// The turned problem: each cell is replaced by its table's greatest cell minus the cell; sizes,
+/// scopes and joints are the same. The assignments that cost most in the problem cost least in the
+/// turned one.
+///
+/// # Errors
+///
+/// [`NoMemory`] if memory runs out.
 pub fn turn(alloc: Global, problem: &Problem) -> Result<Problem, NoMemory>
     ensures turned { IfOk result (λ q. q ≡ turned problem.now) }
     ensures sums { IfOk result (λ q. SumToTop problem.now q) }
@@ -46,7 +50,7 @@ fn turned_tables(alloc: Global, tables: &[Table]) -> Result<Vec<Table>, NoMemory
     Ok(turned)
 }
 
-/// The table with each cell replaced by its greatest cell less it.
+/// The table with each cell replaced by the table's greatest cell minus the cell.
 fn turned_table(alloc: Global, table: &Table) -> Result<Table, NoMemory>
     ensures { IfOk result (λ t. t ≡ turned_table table.now) }
 {
@@ -61,7 +65,7 @@ fn turned_table(alloc: Global, table: &Table) -> Result<Table, NoMemory>
     })
 }
 
-/// What each cell leaves of `top`.
+/// `top` minus each cell.
 fn cells_less(alloc: Global, cells: &[u64], top: u64) -> Result<Vec<u64>, NoMemory>
     requires { All (λ cell. cell ≤ top) cells.now }
     ensures { IfOk result (λ less. less.items ≡ map (λ cell. top - cell) cells.now) }
@@ -80,7 +84,7 @@ fn sum_of_greatest(tables: &[Table]) -> u64
         .sum()
 }
 
-/// The greatest of the cells, or 0 of none.
+/// The greatest of the cells; 0 if there are none.
 fn greatest_of(cells: &[u64]) -> u64
     ensures { result ≡ greatest cells.now }
 {

@@ -1,4 +1,4 @@
-//! The laws of the optimum, which hold of every problem.
+//! Laws of the optimum, which hold of every problem.
 
 ghost use Rattle.std.specs.Prelude.{◌≡◌, ℕ, List};
 ghost use Rattle.dcop_optimum.specs.Optimum.{IsOptimum, IsFirstOptimum};

@@ -1,13 +1,14 @@
-//! What a best assignment of a problem is, and the plain way to find one.
+//! The best assignments of a problem, and the plain way to find one.
 //!
-//! The optimum of a problem is the least cost of an assignment: there is exactly one, and
-//! [`least_plain`] finds it by trying every assignment. A problem whose greatest sum is wanted is
-//! turned: [`turn`] replaces each cell by its table's greatest cell less it, and an assignment is
-//! the cheaper in the turned problem the dearer it is in the problem itself.
+//! The optimum of a problem is the least cost of an assignment. There is exactly one, and
+//! [`least_plain`] finds it by trying every assignment. For the goal of a greatest sum the problem
+//! is turned: [`turn`] replaces each cell by its table's greatest cell minus the cell. An
+//! assignment that costs more in the problem costs less in the turned problem, by the same amount.
 //!
-//! On a pseudotree the optimum is a recursion: the subtree optimum of a variable is the least, over
-//! its values, of its own tables and its children's subtree optima. The laws of `tree_law` say so,
-//! and what follows: which values are the first optimum of a tree, and what a certificate shows.
+//! On a pseudotree the optimum is a recursion. The subtree optimum of a variable is the least, over
+//! its values, of the cost of its own tables plus its children's subtree optima. The laws of
+//! `tree_law` state this recursion and its consequences: which values are the first optimum of a
+//! tree, and what a certificate shows.
 #![tactic(auto)]
 
 mod goal;

@@ -1,4 +1,4 @@
-//! The plain solver: the best of all assignments, by trying each.
+//! The plain solver: the best of all assignments, found by trying each.
 
 ghost use Rattle.std.specs.Prelude.{◌≡◌, ℕ, ◌+◌, ◌<◌, ◌≤◌, ◌↔◌, min, IfOk, OnOk, MatchBool};
 ghost use Rattle.dcop_base.specs.Limits.{assignment_limit};
@@ -9,7 +9,7 @@ ghost use Rattle.dcop_optimum.specs.Optimum.{assignment_count, IsOptimum, IsFirs
 use dcop_base::{MAX_ASSIGNMENTS, NoMemory, Problem, Val, ValList, cost_of, product_of};
 use std::alloc::{AllocError, Global};
 
-/// A best assignment, and what it costs.
+/// A best assignment and its cost.
 #[derive(Debug, Drop, PartialEq, Eq)]
 pub struct Best {
     pub cost: u64,
@@ -19,10 +19,10 @@ pub struct Best {
 /// Why [`least_plain`] finds no assignment.
 #[derive(Clone, Copy, Debug, PartialEq, Eq)]
 pub enum PlainFault {
-    /// There are more than [`MAX_ASSIGNMENTS`] assignments: so many, or [`u64::MAX`] where there
-    /// are more than that.
+    /// There are more than [`MAX_ASSIGNMENTS`] assignments. `assignments` is their number, or
+    /// [`u64::MAX`] if there are more.
     TooMany { assignments: u64 },
-    /// Memory was wanted and not had.
+    /// Memory ran out.
     NoMemory,
 }
 
@@ -55,8 +55,8 @@ impl From<AllocError> for PlainFault {
 ///
 /// # Errors
 ///
-/// [`PlainFault::TooMany`] exactly where there are more than [`MAX_ASSIGNMENTS`];
-/// [`PlainFault::NoMemory`] where memory was wanted and not had.
+/// [`PlainFault::TooMany`] exactly if there are more than [`MAX_ASSIGNMENTS`] assignments;
+/// [`PlainFault::NoMemory`] if memory runs out.
 pub fn least_plain(alloc: Global, problem: &Problem) -> Result<Best, PlainFault>
     ensures cost { IfOk result (λ best. best.cost ≡ cost problem.now best.values) }
     ensures optimum { IfOk result (λ best. IsOptimum problem.now best.cost) }
@@ -80,8 +80,8 @@ pub fn least_plain(alloc: Global, problem: &Problem) -> Result<Best, PlainFault>
     })
 }
 
-/// Tries every assignment, from zeros on. `best` becomes the first optimal one, and the answer is
-/// its cost.
+/// Tries every assignment, starting from all zeros. Leaves the first optimal one in `best` and
+/// returns its cost.
 fn try_all(problem: &Problem, values: &mut [Val], best: &mut [Val]) -> u64
     requires within { IsAssignment problem.now values.old }
     requires first { cell_place problem.now.sizes values.old ≡ 0 }
@@ -100,15 +100,15 @@ fn try_all(problem: &Problem, values: &mut [Val], best: &mut [Val]) -> u64
     least
 }
 
-/// How many assignments there are, or [`u64::MAX`] where there are more than that.
+/// The number of assignments, or [`u64::MAX`] if there are more.
 fn assignments_of(sizes: &[u16]) -> u64
     ensures { result ≡ min (product sizes.now) u64.MAX }
 {
     product_of(sizes) as u64
 }
 
-/// Puts the next assignment in lexicographic order in place of this one; behind the last one
-/// stands the first one again, and the answer is `false`.
+/// Replaces the values by the next assignment in lexicographic order. After the last one comes the
+/// first again, and the result is `false`.
 fn advance(sizes: &[u16], values: &mut [Val]) -> bool
     requires { AreWithin sizes.now values.old }
     ensures within { AreWithin sizes.now values.new }

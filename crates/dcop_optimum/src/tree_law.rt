@@ -1,5 +1,5 @@
-//! The laws of optima on trees, which follow from the definitions alone. Each is the contract of a
-//! call that does nothing: who needs the law calls it.
+//! Laws of optima on trees, which follow from the definitions alone. Each is the contract of a call
+//! that does nothing: code that needs the law calls it.
 
 ghost use Rattle.dcop_optimum.specs.Subtree.{SubtreeOptimaAreOne};
 ghost use Rattle.dcop_optimum.specs.Decomposition.{DecompositionLaw, SubtreeOptimaReadSeparators};
@@ -16,7 +16,7 @@ pub fn subtree_optima_are_one()
 {}
 
 /// The decomposition law: a subtree optimum is the least, over the values of its variable, of the
-/// variable's own tables and its children's subtree optima; the root's is the optimum.
+/// cost of the variable's own tables plus its children's subtree optima; the root's is the optimum.
 pub fn subtree_optima_decompose()
     ensures { DecompositionLaw }
 {}
@@ -26,8 +26,8 @@ pub fn subtree_optima_read_separators()
     ensures { SubtreeOptimaReadSeparators }
 {}
 
-/// The separator of a variable consists of those of its ancestors that are its neighbours or stand
-/// in a child's separator.
+/// The separator of a variable consists of those of its ancestors that are its neighbours or are in
+/// a child's separator.
 pub fn separators_decompose()
     ensures { SeparatorsDecompose }
 {}
@@ -42,34 +42,36 @@ pub fn first_optima_of_trees_are_one()
     ensures { FirstOptimaOfTreesAreOne }
 {}
 
-/// Where each variable, from the root down, has the lowest of its best values, the values are the
-/// first optimum of the tree.
+/// If each variable of a pseudotree has the lowest of its best values given those of its ancestors,
+/// the values are the first optimum of the tree.
 pub fn best_choices_are_first()
     ensures { BestChoicesAreFirst }
 {}
 
-/// The tables that name a variable and otherwise only its ancestors are those whose deepest
-/// variable it is.
+/// In a pseudotree of a problem, the tables that name a variable and otherwise only its ancestors
+/// are those whose deepest variable it is.
 pub fn tables_on_paths_are_own()
     ensures { TablesOnPathsAreOwn }
 {}
 
-/// In the tables of a certificate, whoever made them, each cell is at most the subtree optimum.
+/// Each cell of a certificate's lower tables is at most the subtree optimum, however the tables
+/// were made.
 pub fn lower_tables_bound_optima()
     ensures { LowerTablesBoundOptima }
 {}
 
-/// Where a certificate of tables holds, its values are optimal.
+/// If a certificate of tables holds, its values are optimal.
 pub fn certificates_show_optima()
     ensures { CertificatesShowOptima }
 {}
 
-/// Tables of the subtree optima with optimal values are a certificate that holds.
+/// Tables of the subtree optima and optimal values make a certificate that holds.
 pub fn optima_make_certificates()
     ensures { OptimaMakeCertificates }
 {}
 
-/// No sum of costs over a subtree exceeds the cap.
+/// The cost of a subtree's tables is at most the cap, and so is the cost of a variable's own tables
+/// plus its children's subtree optima.
 pub fn costs_are_within_cap()
     ensures { CostsAreWithinCap }
 {}

@@ -1,8 +1,9 @@
-//! The program `dcop_trace`: reads a problem and a report with a log from standard input, plays the run, and
-//! writes event by event what each agent took, has come to and sent to standard output.
+//! The program `dcop_trace`: it reads a problem and a report with a log from standard input,
+//! replays the run, and writes to standard output, event by event, what each agent took, the state
+//! it reached and what it sent.
 //!
-//! All of its work is [`trace`]. It ends with the code of the status, or with 12 and nothing
-//! printed where it is refused its arguments.
+//! [`trace`] does all of its work. It ends with the code of the status. If the system refuses to
+//! give it its arguments, it prints nothing and ends with code 12.
 #![tactic(auto)]
 
 use dcop_edge::{StdSink, StdSource};
@@ -11,7 +12,7 @@ use std::rt::Env;
 use std::{env, io};
 use trace_top::trace;
 
-/// The code with which the program ends where it is refused its arguments, which no status has.
+/// The exit code if the system refuses to give the arguments; no status has it.
 const REFUSED_ARGUMENTS: u8 = 12;
 
 fn main(rt: HostRuntime) -> ExitCode {

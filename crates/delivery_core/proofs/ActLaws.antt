@@ -75,7 +75,7 @@ senders_asc W (t ∷ ts) b c le asc =
     let parts = asc_parts b t ts asc in
     run_from t.from c (take t.count (W t.from)) (letters_taken W ts) (omega (arith, le, parts.0)) (λ a lt. senders_asc W ts (t.from + 1) a (omega (arith, lt)) parts.1)
 
--- a sender of whom something waits
+-- a sender from which something waits
 wait_step : (l : LinkView) (ls : List LinkView) (j : ℕ) (b : Bool) → (l.from == j) ≡ b → (waiting_from ls j ≢ [] → Contains (senders ls) j) → waiting_from (l ∷ ls) j ≢ [] → Contains (senders (l ∷ ls)) j
 wait_step l ls j true h more w = subst (λ (k : ℕ). Contains (senders (l ∷ ls)) k) (eqb-true l.from j h) (Contains-head l.from (senders ls))
 wait_step l ls j false h more w = Contains-tail l.from (senders ls) j (more (λ e. w (rw h e)))
@@ -134,7 +134,7 @@ module _ (p : Dcop) (net : Network) (seats : List SeatView) (s : Shows p net sea
 pub read_seat : (seats : List SeatView) (e : Event) (h : Seated seats e) (k : ℕ) (d : SeatView) → k ≡ e.agent → get_or seats k d ≡ h.seat
 read_seat seats e h k d same = get_or_from_slice_get seats k h.seat d (subst (λ (i : ℕ). slice_get seats i ≡ Some h.seat) (sym same) h.here)
 
--- what the code leaves is what the event leads to
+-- the agents after the code are those to which the event leads
 pub moved : (seats : List SeatView) (e : Event) (h : Seated seats e) (k agent : ℕ) (y : SeatView) (out : List (ℕ × Message)) (final : List SeatView)
     → k ≡ e.agent → agent ≡ e.agent → y ≡ seat_after h.seat e.takes → out ≡ seat_sends h.seat e.takes → All (IsToNeighbour h.seat.view) out → final ≡ deliver_all agent (slice_set seats k y) out → Moves seats e final
 moved seats e h k agent y out final at by after sends reach is = λ p net s.
@@ -145,7 +145,7 @@ moved seats e h k agent y out final at by after sends reach is = λ p net s.
     ∙ ap (λ (z : SeatView). deliver_all e.agent (slice_set seats e.agent z) out) after ∙ ap (λ (ms : List (ℕ × Message)). deliver_all e.agent (slice_set seats e.agent (seat_after h.seat e.takes)) ms) sends) in
     subst (λ (zs : List SeatView). Shows p (effect net e) zs) end (shown_after p net seats s e h.seat h.here h.fine all)
 
--- what the code tells is what the agent takes and sends in the network
+-- what the code reports is what the agent takes and sends in the network
 pub traded : (seats : List SeatView) (e : Event) (h : Seated seats e) (took sent : List (ℕ × Message)) → took ≡ letters_by h.seat.inbox e.takes → sent ≡ seat_sends h.seat e.takes → Trades seats e took sent
 traded seats e h took sent taken sends = λ p net s.
     let same : letters_by h.seat.inbox e.takes ≡ batch net.desks e.agent e.takes = letters_same p net seats s e h.seat h.here h.fine in

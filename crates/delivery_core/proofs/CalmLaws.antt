@@ -26,7 +26,7 @@ behind bytes rest from k is low p =
     let e : from + (k - from) ≡ k = omega (arith, low) in
     ap (is_byte 1) (in_rest bytes rest from (k - from) is ∙ ap (λ (n : ℕ). slice_index bytes n) e) ∙ p
 
--- a search of what is behind a place of a list
+-- a search from a place of a list on
 pub none_from : (bytes rest : List ℕ) (from : ℕ) (r : Option ℕ) → rest ≡ drop from bytes → r ≡ None → IsFirstByte (is_byte 1) rest r → Nowhere (Passes (is_byte 1) bytes) from (length bytes)
 none_from bytes rest from r is none h = λ k low high p.
     let found : Nowhere (Passes (is_byte 1) rest) 0 (length rest) = subst (λ (o : Option ℕ). IsFirstByte (is_byte 1) rest o) none h in

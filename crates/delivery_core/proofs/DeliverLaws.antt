@@ -39,7 +39,7 @@ there_step l ls j true h c more = (l, rw h refl)
 there_step l ls j false h (inl e) more = absurd (false≢true (sym h ∙ eq-eqb l.from j e))
 there_step l ls j false h (inr c) more = let x = more c in (x.0, rw h x.1)
 
--- a link of a sender that stands in an inbox
+-- a link of a sender in an inbox
 pub link_there : (ls : List LinkView) (j : ℕ) → Contains (senders ls) j → (l : LinkView) × (link_from j ls ≡ Some l)
 link_there [] j h = absurd (Contains-none j h)
 link_there (l ∷ ls) j h = there_step l ls j (l.from == j) refl (Contains-cases l.from (senders ls) j h) (link_there ls j)
@@ -69,7 +69,7 @@ last_to ls i j m =
 abbrev pub seen_from : ℕ → ℕ → List Message → List (ℕ × Message)
 seen_from i j ms = if i == j then letters_of i ms else []
 
--- what agents have after parcels came
+-- what agents have after parcels arrive
 pub record Delivered (i : ℕ) (ps : List (ℕ × Message)) (old new : List SeatView) : Type 0 where
   pub size : length new ≡ length old
   pub views : views_of new ≡ views_of old

@@ -1,4 +1,4 @@
--- An inbox after letters came, after takes, and after what was taken is kept.
+-- An inbox after letters arrive, after takes, and after what was taken is kept.
 use Rattle.std.proofs.Common.{◌≡◌, ℕ, ◌+◌, ◌<◌, ◌≤◌, Bool, true, false, cond, ◌==◌, nat_le, if◌then◌else◌, List, [], ◌∷◌, ◌++◌, take, Option, Some, None, refl, sym, ap, ◌∙◌, arith}
 use Rattle.std.specs.List.{filter, flat_map, fold, last_or}
 use Rattle.std.proofs.lemmas.Bool.{eqb-true, ne_eqb, eqb-false, leb-true, false≢true}
@@ -13,7 +13,7 @@ use Rattle.delivery_core.specs.State.{LinkView, link_from, waiting_on, waiting_f
 use Rattle.delivery_core.specs.NetworkState.{letters_of}
 use Rattle.delivery_core.specs.Inboxes.{senders, edit_link, without_next, with_last, take_off, keep_last, letters_by}
 
--- a link that may be there is changed, where it is the one
+-- a link, if there is one, is changed if it is the one that is edited
 abbrev pub map_link : Bool → (LinkView → LinkView) → Option LinkView → Option LinkView
 map_link true f None = None
 map_link true f (Some l) = Some (f l)
@@ -68,7 +68,7 @@ link_off j ls (t ∷ ts) =
     ∙ off_step (t.from == j) t.count (taken_from j ts) (link_from j ls)
     ∙ ap (λ (k : ℕ). map_link true (without_next k) (link_from j ls)) (sym (sum_by-cons (λ (u : Take). if u.from == j then u.count else 0) t ts))
 
--- letters that are kept: the last one of its sender
+-- letters that are kept: the last one of each sender
 abbrev pub from_of : ℕ → List (ℕ × Message) → List (ℕ × Message)
 from_of j ms = filter (λ m. m.0 == j) ms
 

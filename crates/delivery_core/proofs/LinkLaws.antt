@@ -61,7 +61,7 @@ found j ls k d h =
 pub missed : (j : ℕ) (ls : List LinkView) → position (λ l. l.from == j) ls ≡ None → link_from j ls ≡ None
 missed j ls h = find_none (is_from j) ls h
 
--- letters behind others: the next ones of a link
+-- letters after others: the next ones of a link
 pub front_of : (ms : List (ℕ × Message)) (count j : ℕ) (ls : List LinkView) (k : ℕ) (d : LinkView) → position (λ l. l.from == j) ls ≡ Some k
     → ms ++ take count (get_or ls k d).waiting ≡ ms ++ take count (waiting_from ls j)
 front_of ms count j ls k d h = ap (λ (o : Option LinkView). ms ++ take count (waiting_on o)) (sym (found j ls k d h))
@@ -84,18 +84,18 @@ last_push o (x ∷ y ∷ ys) d some =
 pub last_is : {A : Type 0} (o : Option A) (xs : List A) (d : A) → 0 < length xs → d ≡ get_or xs (length xs - 1) d → last_or o xs ≡ Some d
 last_is o xs d some is = last_push o xs d some ∙ ap (λ y. Some y) (sym is)
 
--- the last letter of a queue with letters behind its first one
+-- the last letter of a queue with letters after its first one
 pub last_queued : (first : Option (ℕ × Message)) (behind : List (ℕ × Message)) (o : Option (ℕ × Message)) (d : ℕ × Message) → 0 < length behind → d ≡ get_or behind (length behind - 1) d → last_or o (queued first behind) ≡ Some d
 last_queued None behind o d some is = last_is o behind d some is
 last_queued (Some first) behind o d some is = last_is (Some first) behind d some is
 
 module _ {X : Type 0} where
-  -- where one more is taken off a list, it is the first of those that are left
+  -- if one more element is taken off a list, it is the first of those that are left
   pub one_more : (k : ℕ) (xs ys : List X) (x : X) → x ∷ ys ≡ drop k xs → (take (k + 1) xs ≡ take k xs ++ (x ∷ [])) × (ys ≡ drop (k + 1) xs)
   one_more k xs ys x h =
       (take-add k 1 xs ∙ ap (λ zs. take k xs ++ take 1 zs) (sym h), ap (drop 1) h ∙ drop-drop 1 k xs)
 
-  -- and where none is left, none is
+  -- and if none is left, none is taken
   pub no_more : (k : ℕ) (xs : List X) → [] ≡ drop k xs → (take (k + 1) xs ≡ take k xs) × ([] ≡ drop (k + 1) xs)
   no_more k xs h =
       (take-add k 1 xs ∙ ap (λ zs. take k xs ++ take 1 zs) (sym h) ∙ append-nil (take k xs), ap (drop 1) h ∙ drop-drop 1 k xs)

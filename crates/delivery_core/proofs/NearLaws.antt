@@ -15,7 +15,7 @@ filter_step f y ys x true h more c = elim (Contains-cases y (filter f ys) x c) [
 ]
 filter_step f y ys x false h more c = let r = more c in (r.0, Contains-tail y ys x r.1)
 
--- what a filter keeps passes, and is of the list
+-- an element that a filter keeps passes its test and is in the list
 pub from_filter : (f : ℕ → Bool) (ys : List ℕ) (x : ℕ) → Contains (filter f ys) x → (f x ≡ true) × Contains ys x
 from_filter f [] x c = absurd (Contains-none x c)
 from_filter f (y ∷ ys) x c = filter_step f y ys x (f y) refl (from_filter f ys x) c

@@ -98,7 +98,7 @@ module _ (p : Dcop) (net : Network) (seats : List SeatView) (s : Shows p net sea
       let d = there_is net.desks e.agent (omega (arith, s.desks, lt)) in
       fault_with e x d.0 (view_there e.agent (Some x) h) d.1 ∙ takes_same e x h
 
-  -- an event is lawful by the agents where it is in the network
+  -- an event is lawful for the agents if it is in the network
   pub fault_same : (e : Event) → event_fault net e ≡ core_fault seats e
   fault_same e = fault_by e (slice_get seats e.agent) refl
 

@@ -47,7 +47,7 @@ split_set [] k v h = absurd (none-some v h)
 split_set (w ∷ ws) zero v h = ap (λ (u : View). after_start u ∷ ws) (sym (same_Some w v h))
 split_set (w ∷ ws) (suc k) v h = ap (λ (vs : List View). after_start w ∷ vs) (split_set ws k v h)
 
--- what waits of agent j, where the first k agents have started, and then agent k does
+-- what waits of agent j after the first k agents have started, and after agent k does
 by_bools : (k j : ℕ) (A : ℕ → List Message) (b c d : Bool) → (c ≡ true → (b ≡ false) × (d ≡ true) × (k ≡ j)) → (c ≡ false → b ≡ d)
     → letters_of j (if b then A j else []) ++ (if c then letters_of k (A k) else []) ≡ letters_of j (if d then A j else [])
 by_bools k j A true true d h g = absurd (false≢true (sym (h refl).0))
@@ -217,7 +217,7 @@ neighbours_kept p Token i = refl
 neighbours_kept p (Dpop tree) i = refl
 neighbours_kept p (Adopt tree error) i = refl
 
--- what agents are made from fits together, with tables or without
+-- what agents know when they are made fits together, with tables or without
 pub knowledge_fits : PrivatesAreKnowledge → AcquaintancesAreKnowledge → (p : Dcop) (start : Start) (i : ℕ) → IsProblem p → i < length p.sizes → IsKnowledge (knowledge_for p start i)
 knowledge_fits privates acquaintances p Token i whole inside = acquaintances p i whole inside
 knowledge_fits privates acquaintances p (Dpop tree) i whole inside = privates p i whole inside

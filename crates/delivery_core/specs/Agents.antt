@@ -9,12 +9,14 @@ use Rattle.protocol_steps.specs.Network.{Network, start_state}
 use Rattle.delivery_core.specs.declared.start.Start.{Start}
 use Rattle.delivery_core.specs.declared.start.Start.TheVariants.{Token, Dpop, Adopt}
 
--- a tree on which the agents of a problem run: a pseudotree of it, with its separators and lower neighbours, and linked
+-- a tree on which the agents of a problem run: a pseudotree of the problem with its separators and
+-- lower neighbours, in which each variable except the root is a neighbour of its parent
 pub record IsTreeFor (p : Dcop) (tree : RootedTree) : Type 0 where
   pub pseudotree : IsPseudotreeOf p tree
   pub linked : IsLinked p tree.paths
 
--- a start of this problem's agents: its tree, where it has one, is one on which they run, and its error, where it has one, is an amount
+-- a start of the agents of this problem: its tree, if it has one, is one on which they run, and its
+-- requested error, if it has one, is at most 2^62
 abbrev pub IsStartFor : Dcop → Start → Type 0
 IsStartFor p Token = Unit {0}
 IsStartFor p (Dpop tree) = IsTreeFor p tree
@@ -26,6 +28,6 @@ agents_of p Token = token_agents p
 agents_of p (Dpop tree) = dpop_agents p tree.paths
 agents_of p (Adopt tree error) = adopt_agents p tree.paths error
 
--- the network where all agents of a start have started
+-- the network in which all agents of a start have started
 abbrev pub network_of : Dcop → Start → Network
 network_of p start = start_state (agents_of p start)

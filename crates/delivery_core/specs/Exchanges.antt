@@ -8,11 +8,12 @@ use Rattle.protocol_steps.specs.Effect.{event_sends}
 use Rattle.delivery_core.specs.State.{SeatView, CoreView}
 use Rattle.delivery_core.specs.Shown.{Shows, IsCore}
 
--- in the event the agent takes these letters, and sends these parcels
+-- in this event of a core state the agent takes these letters and sends these parcels
 pub record Exchanges (s : CoreView) (e : Event) (took : List (ℕ × Message)) (sent : List (ℕ × Message)) : Type 0 where
   pub letters : (p : Dcop) (net : Network) → IsCore p net s → took ≡ batch net.desks e.agent e.takes
   pub parcels : (p : Dcop) (net : Network) → IsCore p net s → sent ≡ event_sends net e
 
--- in the event the agent that is there takes these letters, and sends these parcels
+-- the same for a list of agents: in this event its agent takes these letters and sends these
+-- parcels
 abbrev pub Trades : List SeatView → Event → List (ℕ × Message) → List (ℕ × Message) → Type 0
 Trades seats e took sent = (p : Dcop) (net : Network) → Shows p net seats → (took ≡ batch net.desks e.agent e.takes) × (sent ≡ event_sends net e)

@@ -9,7 +9,8 @@ use Rattle.delivery_core.specs.declared.replaying.ReplayFault.TheVariants.{BadEv
 use Rattle.delivery_core.specs.State.{CoreView}
 use Rattle.delivery_core.specs.NetworkState.{IsStateOf}
 
--- the events before the one at this place, counted from 0, are a run, and that event has this fault where the run ends
+-- the events before place `at`, counted from 0, are a run, and the event at that place has this
+-- fault at the end of the run
 pub record FirstFault (net : Network) (es : List Event) (at : ℕ) (fault : EventFault) : Type 0 where
   pub middle : Network
   pub before : run net (take at es) ≡ Some middle
@@ -17,7 +18,9 @@ pub record FirstFault (net : Network) (es : List Event) (at : ℕ) (fault : Even
   pub is : slice_get es at ≡ Some event
   pub unlawful : event_fault middle event ≡ Some fault
 
--- the events are a run, at whose end the network state is this core state; or the one of this number, counted from 1, is the first unlawful one
+-- what a replay returns: a core state that is the network state at the end of the run of these
+-- events; or a fault of the first unlawful event, with its number, counted from 1; out of memory
+-- says nothing of the events
 abbrev pub Replays : Network → List Event → Result CoreView ReplayFault → Type 0
 Replays net es (Ok s) = (end : Network) × (run net es ≡ Some end) × IsStateOf end s
 Replays net es (Err (BadEvent at fault)) = (place : ℕ) × (at ≡ place + 1) × FirstFault net es place fault

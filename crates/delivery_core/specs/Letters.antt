@@ -4,14 +4,14 @@ use Rattle.protocol_steps.specs.declared.message.Message.{Message}
 use Rattle.delivery_core.specs.declared.letters.Letters.{Letters}
 use Rattle.delivery_core.specs.declared.letters.Letters.TheVariants.{Nothing, Waiting, Taken, Many}
 
--- the last letter that was taken, where one was
+-- the last letter that was taken, if there is one
 abbrev pub taken_in : Letters → Option (ℕ × Message)
 taken_in Nothing = None
 taken_in (Waiting m) = None
 taken_in (Taken m) = Some m
 taken_in (Many b) = b.value.taken
 
--- the letters that wait, in the order in which they came
+-- the letters that wait, in the order in which they were sent
 abbrev pub waiting_in : Letters → List (ℕ × Message)
 waiting_in Nothing = []
 waiting_in (Waiting m) = m ∷ []

@@ -15,7 +15,8 @@ most_counted = count_limit
 abbrev pub letters_of : ℕ → List Message → List (ℕ × Message)
 letters_of j ms = map (λ m. (j, m)) ms
 
--- the core state is this network state: the same views, on each link the same messages that wait and the same last one, and all deliveries, as far as they are counted
+-- the core state is this network state: it has the same views, on each link the same messages that
+-- wait and the same last message, and the same number of deliveries, or 2^64 - 1 if they are more
 pub record IsStateOf (net : Network) (s : CoreView) : Type 0 where
   pub views : views_of s.seats ≡ net.views
   pub size : length net.desks ≡ length s.seats

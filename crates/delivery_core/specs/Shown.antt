@@ -1,4 +1,5 @@
--- When the agents of a core state are those of a network, with all that an event needs to know of them.
+-- When the agents of a core state are those of a network, with all that an event needs to know of
+-- them.
 use Rattle.std.specs.Prelude.{◌≡◌, ℕ, ◌<◌, true, List, ◌++◌, length, Some, None, min, slice_get}
 use Rattle.std.specs.List.{last_or}
 use Rattle.dcop_base.specs.Problem.{Dcop}
@@ -14,12 +15,13 @@ use Rattle.delivery_core.specs.State.{SeatView, CoreView, waiting_from, last_tak
 use Rattle.delivery_core.specs.NetworkState.{letters_of, most_counted}
 use Rattle.delivery_core.specs.Inboxes.{senders}
 
--- an agent of this problem that has started
+-- the view of an agent of this problem that has started: its neighbours are those of variable i
 pub record IsRunning (p : Dcop) (i : ℕ) (v : View) : Type 0 where
   pub near : (private_of v).neighbours ≡ neighbours p i
   pub started : started_of v ≡ true
 
--- each agent has a link of each neighbour; on a link stand what was taken, and after it what waits
+-- the agents are those of this network: they have the same views, and each has a link for each
+-- neighbour; the messages of a link are those that were taken, followed by those that wait
 pub record Shows (p : Dcop) (net : Network) (seats : List SeatView) : Type 0 where
   pub size : length seats ≡ length p.sizes
   pub desks : length net.desks ≡ length seats
@@ -42,22 +44,22 @@ pub record IsCore (p : Dcop) (net : Network) (s : CoreView) : Type 0 where
 abbrev pub IsSomeCore : CoreView → Type 0
 IsSomeCore s = (p : Dcop) × (net : Network) × IsCore p net s
 
--- an event is lawful, and leads from one core state to another
+-- an event is lawful in one core state, and leads from it to another
 abbrev pub Advances : CoreView → Event → CoreView → Type 0
 Advances old e new = (p : Dcop) (net : Network) → IsCore p net old → (event_fault net e ≡ None) × IsCore p (effect net e) new
 
--- an event has this fault
+-- an event has this fault in this core state
 abbrev pub Refuses : CoreView → Event → EventFault → Type 0
 Refuses s e fault = (p : Dcop) (net : Network) → IsCore p net s → event_fault net e ≡ Some fault
 
--- so many messages of one agent wait for another one that is there
+-- exactly `count` messages of agent `from` wait for agent `to`, if there is such an agent
 abbrev pub CountsWaiting : CoreView → ℕ → ℕ → ℕ → Type 0
 CountsWaiting s to from count = (p : Dcop) (net : Network) → IsCore p net s → to < length s.seats → count ≡ length (waiting net.desks to from)
 
--- the event of an agent that is there, with these takes, leads from some agents to others
+-- the event leads from the first list of agents to the second
 abbrev pub Moves : List SeatView → Event → List SeatView → Type 0
 Moves old e new = (p : Dcop) (net : Network) → Shows p net old → Shows p (effect net e) new
 
--- some events are a run that ends in this core state
+-- these events are a run that ends in this core state
 abbrev pub RunsTo : Dcop → Network → List Event → CoreView → Type 0
 RunsTo p first es s = (net : Network) × (run first es ≡ Some net) × IsCore p net s

@@ -18,7 +18,7 @@ use Rattle.delivery_core.specs.State.{LinkView, SeatView, waiting_from, last_tak
 use Rattle.delivery_core.specs.NetworkState.{letters_of}
 use Rattle.delivery_core.specs.Inboxes.{senders}
 
--- what the agent of a variable is made from: a token agent gets no tables
+-- what the agent of a variable knows when it is made: a token agent gets no tables
 abbrev pub knowledge_for : Dcop → Start → ℕ → Private
 knowledge_for p Token i = acquaintance_of p i
 knowledge_for p (Dpop tree) i = known_by p i
@@ -34,7 +34,7 @@ agent_of p (Adopt tree error) i = AdoptKind (new_adopt (known_by p i) (place_at 
 abbrev pub new_link : ℕ → LinkView
 new_link j = record { from = j; taken = None; waiting = [] }
 
--- an agent as it is made
+-- a new agent with a new link for each neighbour
 abbrev pub new_seat : View → SeatView
 new_seat v = record { view = v; inbox = map new_link (private_of v).neighbours }
 
@@ -46,12 +46,13 @@ sends_in (Some v) = (start_of v).sends
 abbrev pub first_sends : List View → ℕ → List (ℕ × Message)
 first_sends made j = sends_in (slice_get made j)
 
--- an agent of this problem as it is made
+-- the view of an agent of this problem that has not started: its neighbours are those of variable i
 pub record IsFresh (p : Dcop) (i : ℕ) (v : View) : Type 0 where
   pub near : (private_of v).neighbours ≡ neighbours p i
   pub fresh : started_of v ≡ false
 
--- the first k of these agents have started
+-- the first k of these agents have started: what they sent at their start waits on its links, and
+-- nothing was taken
 pub record Begun (p : Dcop) (made : List View) (k : ℕ) (seats : List SeatView) : Type 0 where
   pub size : length seats ≡ length made
   pub count : length made ≡ length p.sizes
@@ -61,6 +62,7 @@ pub record Begun (p : Dcop) (made : List View) (k : ℕ) (seats : List SeatView)
   pub waits : (i j : ℕ) → i < length seats → waiting_from (inbox_at seats i) j ≡ letters_of j (if nat_lt j k then messages_to i (first_sends made j) else [])
   pub last : (i j : ℕ) → i < length seats → last_taken (inbox_at seats i) j ≡ None
 
--- the start of agent k, after those before it
+-- if the first k agents have started in the first list, the first `next` agents have started in the
+-- second
 abbrev pub Starts : ℕ → List SeatView → ℕ → List SeatView → Type 0
 Starts k old next new = (p : Dcop) (made : List View) → Begun p made k old → Begun p made next new

@@ -1,4 +1,5 @@
--- What a core state holds: each agent's view, what waits for it and what it took last, and a count of deliveries.
+-- What a core state has: the view of each agent, what waits for it and what it took last, and the
+-- number of deliveries.
 use Rattle.std.specs.Prelude.{ℕ, List, [], map, length, Option, Some, None, ◌==◌, slice_get}
 use Rattle.std.specs.List.{find, last_or}
 use Rattle.dcop_base.specs.Table.{CostTable}
@@ -18,12 +19,12 @@ pub record SeatView : Type 0 where
   pub view : View
   pub inbox : List LinkView
 
--- all agents, and how many messages were taken
+-- all agents, and the number of deliveries: how many messages were taken
 pub record CoreView : Type 0 where
   pub seats : List SeatView
   pub delivered : ℕ
 
--- what an inbox holds of one sender
+-- the link of an inbox from one sender, if there is one
 abbrev pub link_from : ℕ → List LinkView → Option LinkView
 link_from j inbox = find (λ l. l.from == j) inbox
 
@@ -42,7 +43,7 @@ waiting_from inbox j = waiting_on (link_from j inbox)
 abbrev pub last_taken : List LinkView → ℕ → Option (ℕ × Message)
 last_taken inbox j = taken_on (link_from j inbox)
 
--- the last letter of one sender: the last one that waits, else the last one that was taken
+-- the last letter of one sender: the last one that waits, or else the last one that was taken
 abbrev pub last_letter : List LinkView → ℕ → Option (ℕ × Message)
 last_letter inbox j = last_or (last_taken inbox j) (waiting_from inbox j)
 
@@ -50,7 +51,7 @@ abbrev pub inbox_of : Option SeatView → List LinkView
 inbox_of None = []
 inbox_of (Some x) = x.inbox
 
--- what agent i was sent
+-- what agent i was sent, by sender; nothing if there is no such agent
 abbrev pub inbox_at : List SeatView → ℕ → List LinkView
 inbox_at seats i = inbox_of (slice_get seats i)
 
@@ -62,11 +63,11 @@ abbrev pub message_of : Option (ℕ × Message) → Option Message
 message_of None = None
 message_of (Some l) = Some l.1
 
--- the last message on a link, where one was sent
+-- the last message on a link, if one was sent
 abbrev pub last_sent : CoreView → ℕ → ℕ → Option Message
 last_sent s from to = message_of (last_letter (inbox_at s.seats to) from)
 
--- each agent's view
+-- the view of each agent
 abbrev pub views_of : List SeatView → List View
 views_of seats = map (λ x. x.view) seats
 

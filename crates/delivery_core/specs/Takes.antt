@@ -6,19 +6,19 @@ use Rattle.protocol_steps.specs.View.{ended_of}
 use Rattle.protocol_steps.specs.Rounds.{link_share}
 use Rattle.delivery_core.specs.State.{LinkView, SeatView}
 
--- a take of so many messages, at most 64, where there are some
+-- a take of `count` messages from agent j, or of 64 if they are more; no take if there are none
 abbrev pub take_some : ℕ → ℕ → List Take
 take_some j count = if count == 0 then [] else record { from = j; count = min count link_share } ∷ []
 
--- what is taken of the links of an inbox, at most 64 letters of each
+-- a take of each link of an inbox on which something waits, of at most 64 letters
 abbrev pub inbox_takes : List LinkView → List Take
 inbox_takes inbox = flat_map (λ l. take_some l.from (length l.waiting)) inbox
 
--- what an agent takes in its turn
+-- what an agent takes in its turn; nothing if it has ended
 abbrev pub seat_takes : SeatView → List Take
 seat_takes x = if ended_of x.view then [] else inbox_takes x.inbox
 
--- the agents from one place up to another take nothing
+-- the agents from place `from` up to, but not including, place `to` take nothing
 abbrev pub TakeNothing : List SeatView → ℕ → ℕ → Type 0
 TakeNothing seats from to = (k : ℕ) (d : SeatView) → from ≤ k → k < to → seat_takes (slice_index_or seats k d) ≡ []
 
@@ -26,11 +26,12 @@ TakeNothing seats from to = (k : ℕ) (d : SeatView) → from ≤ k → k < to �
 abbrev pub IsSet : List Bool → ℕ → Type 0
 IsSet flags k = slice_get flags k ≡ Some true
 
--- each agent has a flag, and takes nothing where it is not set
+-- each agent has a flag, and an agent whose flag is not set takes nothing
 abbrev pub KnowsBusy : List Bool → List SeatView → Type 0
 KnowsBusy busy seats = (length busy ≡ length seats) × ((k : ℕ) (x : SeatView) → slice_get busy k ≡ Some false → slice_get seats k ≡ Some x → seat_takes x ≡ [])
 
--- each flag is kept, and where it is not set afterwards it was not set before, and the agent is as it was
+-- there are as many flags as before; an agent whose flag is not set has not changed, and its flag
+-- was not set before
 abbrev pub KeepCalm : List Bool → List SeatView → List Bool → List SeatView → Type 0
 KeepCalm busy seats busy_now seats_now =
     (length busy_now ≡ length busy) × ((k : ℕ) → slice_get busy_now k ≡ Some false → (slice_get busy k ≡ Some false) × (slice_get seats_now k ≡ slice_get seats k))

@@ -1,4 +1,4 @@
-//! Agents of any kind.
+//! An agent of any kind: token, DPOP or ADOPT.
 
 ghost use Rattle.std.specs.Prelude.{◌≡◌, ◌≤◌, [], IfOk, OnOk, OnErr, MatchOption, Some, None};
 ghost use Rattle.std.specs.List.{All};
@@ -21,8 +21,8 @@ use pseudotree::Place;
 use std::alloc::Global;
 use std::marker::Model;
 
-/// The kinds of agents. An ADOPT agent is the largest by far, so it lies in a box, and leaves those of
-/// the other kinds closer together.
+/// The kinds of agents. An ADOPT agent is by far the largest, so it is boxed; agents of the other
+/// kinds then lie closer together in memory.
 #[derive(Drop)]
 pub(crate) enum Kind {
     Token(TokenAgent),
@@ -47,7 +47,7 @@ impl Model for Agent {
 }
 
 impl Agent {
-    /// A token agent that knows this.
+    /// Makes a token agent from what it knows.
     pub(crate) fn token(alloc: Global, own: Private) -> Result<Agent, NoMemory>
         requires { IsKnowledge own }
         ensures { IfOk result (λ agent. agent ≡ TokenKind (new_token own)) }
@@ -58,7 +58,7 @@ impl Agent {
         })
     }
 
-    /// A DPOP agent that knows this, with this place in a tree.
+    /// Makes a DPOP agent from what it knows and its place in a pseudotree.
     pub(crate) fn dpop(alloc: Global, own: Private, place: Place) -> Result<Agent, NoMemory>
         requires known { IsKnowledge own }
         requires placed { IsPlaceFor own place }
@@ -70,7 +70,8 @@ impl Agent {
         })
     }
 
-    /// An ADOPT agent that knows this, with this place in a tree, for a requested error.
+    /// Makes an ADOPT agent from what it knows and its place in a pseudotree, for a requested error
+    /// of at most 2^62.
     pub(crate) fn adopt(
         alloc: Global,
         own: Private,
@@ -88,7 +89,7 @@ impl Agent {
         })
     }
 
-    /// Starts the agent. `out` gets what it sends.
+    /// Starts the agent. `out`, which must be empty, gets what it sends.
     pub(crate) fn start(&mut self, out: &mut Outbox) -> Result<(), NoMemory>
         requires ready { MayStart self.old }
         requires empty { out.old ≡ [] }
@@ -102,7 +103,7 @@ impl Agent {
         }
     }
 
-    /// One activation on a whole batch. `out` gets what the agent sends.
+    /// Activates the agent once on a whole batch. `out`, which must be empty, gets what it sends.
     pub(crate) fn react(&mut self, batch: &Batch, out: &mut Outbox) -> Result<(), NoMemory>
         requires ready { MayReact self.old }
         requires empty { out.old ≡ [] }
@@ -139,7 +140,7 @@ impl Agent {
         }
     }
 
-    /// The agent's bounds and threshold.
+    /// The agent's lower bound, upper bound and threshold.
     pub(crate) fn standing(&self) -> Standing
         ensures { result ≡ standing_of self.now }
     {
@@ -150,7 +151,7 @@ impl Agent {
         }
     }
 
-    /// The context of an ADOPT agent.
+    /// The context of an ADOPT agent; `None` for agents of other kinds.
     pub(crate) fn context(&self) -> Option<&AgentContext>
         ensures { MatchOption result (context_of self.now ≡ None) (λ c. context_of self.now ≡ Some c.now) }
     {
@@ -160,7 +161,7 @@ impl Agent {
         }
     }
 
-    /// The place of a token agent that has ended.
+    /// The place of a token agent that has ended; `None` for every other agent.
     pub(crate) fn place(&self) -> Option<&Place>
         ensures { MatchOption result (place_of self.now ≡ None) (λ p. place_of self.now ≡ Some p.now) }
     {
@@ -184,7 +185,7 @@ impl Agent {
         }
     }
 
-    /// The UTIL table that a DPOP agent made.
+    /// The UTIL table that a DPOP agent has made; `None` for every other agent.
     pub(crate) fn table(&self) -> Option<&Table>
         ensures { MatchOption result (table_of self.now ≡ None) (λ t. table_of self.now ≡ Some t.now) }
     {

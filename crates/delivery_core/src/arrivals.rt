@@ -1,4 +1,4 @@
-//! For whom something came, and who may take something.
+//! Which agents were sent something, and which may take something.
 
 ghost use Rattle.std.specs.Prelude.{◌≡◌, ◌≤◌, ◌<◌, true, false, length, IfOk, IfSome, Some, slice_get, replicate};
 ghost use Rattle.std.specs.List.{slice_set};
@@ -10,25 +10,26 @@ use memchr::memchr;
 use std::alloc::Global;
 use std::marker::Model;
 
-/// The byte of an agent of which it is known that it takes nothing.
+/// The byte of an agent that is known to take nothing.
 const CALM: u8 = 0;
 
 /// The byte of an agent that may take something.
 const BUSY: u8 = 1;
 
-/// How many agents one word has a bit for.
+/// How many agents share one word, with one bit each.
 const BITS: usize = 64;
 
-/// How many words have a bit for each of the most agents that there can be.
+/// How many words have a bit for each agent, if there are as many as a problem can have.
 const WORDS: usize = 16;
 
-/// For whom something came since they were looked at last, and who may take something.
+/// Which agents were sent something since they were last looked at, and which may take something.
+/// Contracts see only the second.
 #[derive(Drop)]
 pub(crate) struct Arrivals {
-    // For whom something came: a bit of the agent's word. No clause speaks of it: what it says wrong
-    // could only leave a message for a later round.
+    // Which agents were sent something, with one bit each. No clause says that these bits are
+    // right: a wrong one can only leave a message for a later round.
     marks: [u64; WORDS],
-    // By agent, whether it may take something. It may be busy where it takes nothing.
+    // For each agent, whether it may take something. A busy agent may turn out to take nothing.
     busy: Vec<u8>,
 }
 
@@ -41,7 +42,7 @@ impl Model for Arrivals {
     ghost view = { λ a. map (is_byte 1) a.busy.items };
 }
 
-/// Sets the byte of an agent, where there is one.
+/// Sets the byte of an agent, if there is one.
 fn set_byte(bytes: &mut [u8], agent: usize, byte: u8)
     ensures { bytes.new ≡ slice_set bytes.old agent byte }
 {
@@ -50,7 +51,7 @@ fn set_byte(bytes: &mut [u8], agent: usize, byte: u8)
     }
 }
 
-/// The first place of a busy agent, from this one on.
+/// The first busy agent that is not below `from`.
 fn first_busy(bytes: &[u8], from: usize) -> Option<usize>
     ensures { IsFirst (Passes (is_byte BUSY) bytes.now) from (length bytes.now) result }
 {
@@ -64,7 +65,8 @@ fn first_busy(bytes: &[u8], from: usize) -> Option<usize>
 }
 
 impl Arrivals {
-    /// Nothing came to any of so many agents, and each may take something.
+    /// The arrivals of `agents` agents: nothing was sent to any of them, and each may take
+    /// something.
     pub(crate) fn new(alloc: Global, agents: usize) -> Result<Self, NoMemory>
         ensures { IfOk result (λ arrivals. arrivals ≡ replicate agents true) }
     {
@@ -75,7 +77,7 @@ impl Arrivals {
         })
     }
 
-    /// Something came to this agent.
+    /// Records that something was sent to this agent. From then on it may take something.
     pub(crate) fn tell(&mut self, agent: usize)
         ensures { self.new ≡ slice_set self.old agent true }
     {
@@ -85,7 +87,7 @@ impl Arrivals {
         }
     }
 
-    /// This agent is looked at.
+    /// Records that this agent is looked at.
     pub(crate) fn forget(&mut self, agent: usize)
         ensures { self.new ≡ self.old }
     {
@@ -94,21 +96,21 @@ impl Arrivals {
         }
     }
 
-    /// This agent may take something.
+    /// Records that this agent may take something.
     pub(crate) fn rouse(&mut self, agent: usize)
         ensures { self.new ≡ slice_set self.old agent true }
     {
         set_byte(self.busy.as_mut_slice(), agent, BUSY);
     }
 
-    /// This agent takes nothing.
+    /// Records that this agent takes nothing.
     pub(crate) fn settle(&mut self, agent: usize)
         ensures { self.new ≡ slice_set self.old agent false }
     {
         set_byte(self.busy.as_mut_slice(), agent, CALM);
     }
 
-    /// Whether it is known that this agent takes nothing.
+    /// Whether this agent is known to take nothing.
     pub(crate) fn is_calm(&self, agent: usize) -> bool
         ensures { result ≡ true → slice_get self.now agent ≡ Some false }
     {
@@ -118,14 +120,14 @@ impl Arrivals {
         }
     }
 
-    /// The next agent that may take something, from this one on.
+    /// The first agent that is not below `from` and may take something.
     pub(crate) fn next_busy(&self, from: usize) -> Option<usize>
         ensures { IsFirst (IsSet self.now) from (length self.now) result }
     {
         first_busy(self.busy.as_slice(), from)
     }
 
-    /// The first agent to whom something came, from this one on, among so many.
+    /// The first of the `agents` agents that is not below `from` and was sent something.
     pub(crate) fn next(&self, from: usize, agents: usize) -> Option<usize>
         ensures { IfSome result (λ agent. (from ≤ agent) × (agent < agents)) }
     {
@@ -138,8 +140,8 @@ impl Arrivals {
         None
     }
 
-    /// The first agent to whom something came, from this one on. It passes over words without a mark at
-    /// once.
+    /// The first agent that is not below `from` and was sent something. A word without a set bit is
+    /// skipped as a whole.
     fn first_from(&self, from: usize) -> Option<usize>
         ensures { IfSome result (λ agent. from ≤ agent) }
     {

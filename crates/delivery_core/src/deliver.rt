@@ -1,4 +1,4 @@
-//! What a lawful event does.
+//! What a lawful event does to the agents.
 
 ghost use Rattle.std.specs.Prelude.{◌≡◌, ◌<◌, length, None, OnOk, min};
 ghost use Rattle.std.specs.List.{All, sum_by};
@@ -17,7 +17,7 @@ use dcop_base::{NoMemory, VarId};
 use protocol_steps::{Letter, Parcel, Take};
 use std::alloc::Global;
 
-/// A parcel comes to its receiver, and is told.
+/// Adds a parcel to the inbox of its receiver, and records the arrival.
 fn post_one(
     seats: &mut [Seat],
     arrivals: &mut Arrivals,
@@ -33,7 +33,8 @@ fn post_one(
     seats[to.0 as usize].add(from, Letter { from, message })
 }
 
-/// All parcels that an agent sent come to their receivers, and are told. Their room is left.
+/// Adds each parcel that an agent sent to the inbox of its receiver, in order, and records the
+/// arrivals. `parcels` is emptied and keeps its memory.
 pub(crate) fn post(
     seats: &mut [Seat],
     arrivals: &mut Arrivals,
@@ -50,8 +51,8 @@ pub(crate) fn post(
     Ok(())
 }
 
-/// An agent takes its batch by lawful takes, steps and sends. The batch lies in the room of
-/// `letters`, and what it sends in that of `parcels`.
+/// Lets an agent take the batch that these lawful takes name, step once and send. `letters` and
+/// `parcels` are buffers for the batch and for what the agent sends.
 pub(crate) fn act(
     alloc: Global,
     seats: &mut [Seat],
@@ -71,7 +72,7 @@ pub(crate) fn act(
     post(seats, arrivals, agent, parcels)
 }
 
-/// As [`act`], and what the agent took and sent takes the place of what `exchange` held.
+/// Does what [`act`] does, and replaces the content of `exchange` by what the agent took and sent.
 pub(crate) fn act_telling(
     alloc: Global,
     seats: &mut [Seat],
@@ -93,7 +94,7 @@ pub(crate) fn act_telling(
     post(seats, arrivals, agent, &mut parcels)
 }
 
-/// How many messages are taken, as far as they are counted.
+/// How many messages the takes name together, or 2^64 - 1 if they are more.
 pub(crate) fn count_of(takes: &[Take]) -> u64
     ensures { result ≡ min (sum_by (λ t. t.count) takes.now) most_counted }
 {

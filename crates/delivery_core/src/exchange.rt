@@ -9,14 +9,14 @@ use std::alloc::Global;
 /// What an agent took and what it sent in an event.
 #[derive(Debug, Drop)]
 pub struct Exchange {
-    /// The messages that it took, in the order in which they were handed in.
+    /// The messages that it took, in the order in which they were handed to it.
     pub took: Vec<Letter>,
     /// The messages that it sent, in order.
     pub sent: Vec<Parcel>,
 }
 
 impl Exchange {
-    /// Nothing taken and nothing sent.
+    /// An exchange in which nothing is taken and nothing is sent.
     pub fn new(alloc: Global) -> Exchange
         ensures took { result.took.items ≡ [] }
         ensures sent { result.sent.items ≡ [] }
@@ -28,7 +28,7 @@ impl Exchange {
     }
 }
 
-/// The same letter again.
+/// A copy of a letter.
 fn letter_copy(letter: &Letter) -> Result<Letter, NoMemory>
     ensures { IfOk result (λ copy. copy ≡ letter.now) }
 {
@@ -39,7 +39,7 @@ fn letter_copy(letter: &Letter) -> Result<Letter, NoMemory>
     })
 }
 
-/// The same parcel again.
+/// A copy of a parcel.
 fn parcel_copy(parcel: &Parcel) -> Result<Parcel, NoMemory>
     ensures { IfOk result (λ copy. copy ≡ parcel.now) }
 {
@@ -50,7 +50,7 @@ fn parcel_copy(parcel: &Parcel) -> Result<Parcel, NoMemory>
     })
 }
 
-/// Copies letters, in order, in place of what `copies` held.
+/// Replaces the content of `copies` by copies of these letters, in order.
 pub(crate) fn copy_letters(letters: &[Letter], copies: &mut Vec<Letter>) -> Result<(), NoMemory>
     ensures { OnOk result (copies.new.items ≡ letters.now) }
 {
@@ -61,7 +61,7 @@ pub(crate) fn copy_letters(letters: &[Letter], copies: &mut Vec<Letter>) -> Resu
     Ok(())
 }
 
-/// Copies parcels, in order, in place of what `copies` held.
+/// Replaces the content of `copies` by copies of these parcels, in order.
 pub(crate) fn copy_parcels(parcels: &[Parcel], copies: &mut Vec<Parcel>) -> Result<(), NoMemory>
     ensures { OnOk result (copies.new.items ≡ parcels.now) }
 {

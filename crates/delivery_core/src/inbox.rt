@@ -13,10 +13,10 @@ use dcop_base::{NoMemory, VarId};
 use protocol_steps::{EventFault, Letter, Take};
 use std::alloc::Global;
 
-/// The most messages of one link that are taken in a turn.
+/// The most messages that a turn takes from one link.
 const MOST_TAKEN: usize = 64;
 
-/// A link of each of these senders, on which nothing was sent.
+/// A new link for each of these senders, on which nothing was sent.
 pub(crate) fn new_links(alloc: Global, senders: &[VarId]) -> Result<Vec<Link>, NoMemory>
     ensures { IfOk result (λ links. links.items ≡ map new_link senders.now) }
 {
@@ -27,14 +27,14 @@ pub(crate) fn new_links(alloc: Global, senders: &[VarId]) -> Result<Vec<Link>, N
     Ok(links)
 }
 
-/// Where the link of this sender is.
+/// The place of this sender's link, if it has one.
 fn place_of(links: &[Link], from: VarId) -> Option<usize>
     ensures { result ≡ position (λ l. l.from == from) links.now }
 {
     links.iter().position(|link| link.from() == from)
 }
 
-/// How many letters of this sender wait.
+/// How many letters of this sender wait; 0 if it has no link.
 pub(crate) fn count_from(links: &[Link], from: VarId) -> usize
     ensures { result ≡ length (waiting_from links.now from) }
 {
@@ -44,7 +44,8 @@ pub(crate) fn count_from(links: &[Link], from: VarId) -> usize
     }
 }
 
-/// The last letter of this sender, where one was sent.
+/// The last letter of this sender: the last one that waits, or else the last one that was taken;
+/// `None` if there is neither.
 pub(crate) fn last_of(links: &[Link], from: VarId) -> Option<&Letter>
     ensures { MatchOption result (last_letter links.now from ≡ None)
         (λ l. last_letter links.now from ≡ Some l.now) }
@@ -55,7 +56,7 @@ pub(crate) fn last_of(links: &[Link], from: VarId) -> Option<&Letter>
     }
 }
 
-/// A letter comes on the link of this sender.
+/// Adds a letter to the link of this sender. If there is no such link, nothing changes.
 pub(crate) fn add(links: &mut [Link], from: VarId, letter: Letter) -> Result<(), NoMemory>
     ensures { OnOk result (links.new ≡ edit_link from (with_letter letter) links.old) }
 {
@@ -65,7 +66,8 @@ pub(crate) fn add(links: &mut [Link], from: VarId, letter: Letter) -> Result<(),
     }
 }
 
-/// The first take that asks for more than waits.
+/// The fault of the first take that asks for more messages than wait; `None` if there is no such
+/// take.
 pub(crate) fn short_of(links: &[Link], takes: &[Take]) -> Option<EventFault>
     ensures { result ≡ short_in links.now takes.now }
 {
@@ -83,7 +85,7 @@ pub(crate) fn short_of(links: &[Link], takes: &[Take]) -> Option<EventFault>
     None
 }
 
-/// Takes off the letters of a take, and puts them behind those of the batch.
+/// Removes the letters of a take from their link, and appends them to the batch.
 fn gather_one(links: &mut [Link], next: Take, batch: &mut Vec<Letter>) -> Result<(), NoMemory>
     ensures batch { OnOk result (batch.new.items ≡ batch.old.items ++ take next.count (waiting_from links.old next.from)) }
     ensures rest { OnOk result (links.new ≡ take_off links.old next) }
@@ -94,7 +96,8 @@ fn gather_one(links: &mut [Link], next: Take, batch: &mut Vec<Letter>) -> Result
     Ok(())
 }
 
-/// Takes off the letters of all takes, one take after another, in place of what the batch held.
+/// Removes the letters of all takes, one take after another, and replaces the content of the batch
+/// by them.
 pub(crate) fn gather(
     links: &mut [Link],
     takes: &[Take],
@@ -110,7 +113,8 @@ pub(crate) fn gather(
     Ok(())
 }
 
-/// Keeps a letter that was taken as the last one of this sender.
+/// Keeps a letter that was taken as the last one of this sender. If there is no link of this
+/// sender, nothing changes.
 fn keep_one(links: &mut [Link], from: VarId, letter: Letter) -> Result<(), NoMemory>
     ensures { OnOk result (links.new ≡ edit_link from (with_last letter) links.old) }
 {
@@ -120,14 +124,15 @@ fn keep_one(links: &mut [Link], from: VarId, letter: Letter) -> Result<(), NoMem
     }
 }
 
-/// Who sent a letter.
+/// The sender of a letter.
 fn sender_of(letter: &Letter) -> VarId
     ensures { result ≡ letter.now.0 }
 {
     letter.from
 }
 
-/// Keeps letters that were taken, of each sender the last one, and leaves their room.
+/// Keeps, for each sender, the last of these letters that were taken. `letters` is emptied and
+/// keeps its memory.
 pub(crate) fn keep_all(links: &mut [Link], letters: &mut Vec<Letter>) -> Result<(), NoMemory>
     ensures { OnOk result (links.new ≡ fold keep_last links.old letters.old.items) }
 {
@@ -138,7 +143,8 @@ pub(crate) fn keep_all(links: &mut [Link], letters: &mut Vec<Letter>) -> Result<
     Ok(())
 }
 
-/// A take of each link on which something waits, in place of what the list held.
+/// Replaces the content of `takes` by a take of each link on which something waits, of at most 64
+/// messages.
 pub(crate) fn list_takes(links: &[Link], takes: &mut Vec<Take>) -> Result<(), NoMemory>
     ensures { OnOk result (takes.new.items ≡ inbox_takes links.now) }
 {

@@ -9,21 +9,21 @@ use crate::inbox::short_of;
 use crate::seat::Seat;
 use protocol_steps::{Event, EventFault, Take};
 
-/// Whether a sender is not below the number of agents.
+/// Whether a take names a sender that is not below the number of agents.
 fn is_unknown(count: usize, takes: &[Take]) -> bool
     ensures { result ≡ list_any (λ t. nat_le count t.from) takes.now }
 {
     takes.iter().any(|take| count <= take.from.0 as usize)
 }
 
-/// Whether a take is of no message.
+/// Whether a take asks for no message.
 fn has_empty(takes: &[Take]) -> bool
     ensures { result ≡ list_any (λ t. t.count == 0) takes.now }
 {
     takes.iter().any(|take| take.count == 0)
 }
 
-/// Whether the senders ascend.
+/// Whether the senders are in strictly ascending order.
 fn is_ascending(takes: &[Take]) -> bool
     ensures { result ≡ ascends_from 0 takes.now }
 {
@@ -38,7 +38,8 @@ fn is_ascending(takes: &[Take]) -> bool
     true
 }
 
-/// What is wrong with takes by their form: among so many agents, by one that has ended or not.
+/// The first fault in the form of these takes, among `count` agents and by an agent that has ended
+/// or not; `None` if there is none.
 fn form_of(count: usize, ended: bool, takes: &[Take]) -> Option<EventFault>
     ensures { result ≡ form_fault count ended takes.now }
 {
@@ -57,7 +58,7 @@ fn form_of(count: usize, ended: bool, takes: &[Take]) -> Option<EventFault>
     None
 }
 
-/// The first thing that is wrong with an event.
+/// The first fault of an event; `None` if there is none.
 pub(crate) fn fault_of(seats: &[Seat], event: &Event) -> Option<EventFault>
     ensures { result ≡ core_fault seats.now event.now }
 {

@@ -10,21 +10,21 @@ use protocol_steps::Letter;
 use std::alloc::Global;
 use std::mem;
 
-/// The letters of a link. One letter lies in the link itself, so a link on which no more than one
-/// ever went takes no memory of its own.
+/// The letters of a link. One letter is stored in the link itself, so a link on which at most one
+/// letter is ever sent allocates no memory.
 #[derive(Drop)]
 pub(crate) enum Letters {
-    /// None is there.
+    /// No letter is kept.
     Nothing,
-    /// One letter waits, and none was taken.
+    /// One letter waits, and none is kept as taken.
     Waiting(Letter),
-    /// One letter was taken last, and none waits.
+    /// The last letter that was taken is kept, and none waits.
     Taken(Letter),
-    /// Any letters, once there were two.
+    /// Any number of letters, as soon as there have been two.
     Many(Box<Many>),
 }
 
-/// The last letter that was taken, and those that wait, in the order in which they came.
+/// The last letter that was taken, and the letters that wait, in the order in which they were sent.
 #[derive(Drop)]
 pub(crate) struct Many {
     taken: Option<Letter>,
@@ -43,7 +43,7 @@ impl Letters {
         }
     }
 
-    /// The same letters, with room for more.
+    /// The same letters, in the form that holds any number of them.
     fn into_many(self, alloc: Global) -> Result<Box<Many>, NoMemory>
         ensures taken { IfOk result (λ many. many.value.taken ≡ taken_in self) }
         ensures waiting { IfOk result (λ many. many.value.waiting ≡ waiting_in self) }
@@ -61,7 +61,7 @@ impl Letters {
         Ok(Box::new(alloc, Many { taken, waiting })?)
     }
 
-    /// A letter comes.
+    /// Adds a letter after those that wait.
     pub(crate) fn add(&mut self, alloc: Global, letter: Letter) -> Result<(), NoMemory>
         ensures taken { OnOk result (taken_in self.new ≡ taken_in self.old) }
         ensures waiting { OnOk result (waiting_in self.new ≡ waiting_in self.old ++ letter ∷ []) }
@@ -78,7 +78,7 @@ impl Letters {
         Ok(())
     }
 
-    /// The first letter that waits leaves, if there is one.
+    /// Removes the first letter that waits, and returns it, if there is one.
     pub(crate) fn pop(&mut self) -> Option<Letter>
         ensures taken { taken_in self.new ≡ taken_in self.old }
         ensures items { waiting_in self.old ≡ option_to_list result ++ waiting_in self.new }
@@ -112,7 +112,7 @@ impl Letters {
         Ok(())
     }
 
-    /// The last letter, if there is one: the last one that waits, else the one that was taken.
+    /// The last letter, if there is one: the last one that waits, or else the one that was taken.
     pub(crate) fn last(&self) -> Option<&Letter>
         ensures { MatchOption result (last_or (taken_in self.now) (waiting_in self.now) ≡ None)
             (λ l. last_or (taken_in self.now) (waiting_in self.now) ≡ Some l.now) }

@@ -1,12 +1,12 @@
-//! The network of agents as a machine that one thread runs, one event after another.
+//! The network of agents as a state machine that one thread runs, one event after another.
 //!
-//! [`replay`] runs a list of events, and refuses the first one that is not lawful. It ends in a
-//! [`CoreState`], which is the network state at the end of that run. Who has more to do at each event
-//! begins with [`CoreState::start`], and plays it by [`CoreState::happen`]. Who makes the events
-//! asks [`CoreState::next_busy`] for who may take something and [`CoreState::list_takes`] for what an
-//! agent takes, and plays it by [`CoreState::follow`]. Who shows a run hears from [`first_parcels`] and
-//! [`CoreState::happen_telling`] what each agent took and sent. What the agents have come to at last,
-//! [`outcome_of`] hands on.
+//! [`replay`] runs a list of events and refuses the first one that is not lawful. Its result is a
+//! [`CoreState`]: the network state at the end of that run. To do more at each event, begin with
+//! [`CoreState::start`] and play each event by [`CoreState::happen`]. To choose the events, ask
+//! [`CoreState::next_busy`] for an agent that may take something and [`CoreState::list_takes`] for
+//! what it takes, and play the event by [`CoreState::follow`]. To show a run, use [`first_parcels`]
+//! and [`CoreState::happen_telling`], which report what each agent took and sent. [`outcome_of`]
+//! turns the last state into the outcome of the run.
 #![tactic(auto)]
 
 mod agent;

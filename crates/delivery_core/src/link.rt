@@ -55,7 +55,7 @@ impl Link {
         self.letters.count()
     }
 
-    /// A letter comes.
+    /// Adds a letter after those that wait.
     pub(crate) fn add(&mut self, letter: Letter) -> Result<(), NoMemory>
         ensures { OnOk result (self.new ≡ with_letter letter self.old) }
     {
@@ -63,7 +63,8 @@ impl Link {
         self.letters.add(alloc, letter)
     }
 
-    /// Takes off the next letters, and puts them behind those of the batch.
+    /// Removes the first `count` letters that wait, or all if they are fewer, and appends them to
+    /// the batch.
     pub(crate) fn take_off(&mut self, count: u32, batch: &mut Vec<Letter>) -> Result<(), NoMemory>
         ensures batch { OnOk result (batch.new.items ≡ batch.old.items ++ take count self.old.waiting) }
         ensures rest { OnOk result (self.new ≡ without_next count self.old) }
@@ -84,7 +85,8 @@ impl Link {
         self.letters.keep(alloc, letter)
     }
 
-    /// The last letter, where one was sent.
+    /// The last letter: the last one that waits, or else the last one that was taken; `None` if
+    /// there is neither.
     pub(crate) fn last(&self) -> Option<&Letter>
         ensures { MatchOption result (last_or self.now.taken self.now.waiting ≡ None)
             (λ l. last_or self.now.taken self.now.waiting ≡ Some l.now) }

@@ -1,4 +1,4 @@
-//! What agents have come to.
+//! The outcome of a run.
 
 ghost use Rattle.std.specs.Prelude.{◌≡◌, ◌<◌, length, map, IfOk};
 ghost use Rattle.protocol_steps.specs.View.{value_of, table_of, place_of};
@@ -11,14 +11,14 @@ use protocol_steps::{OptionList, Outcome};
 use pseudotree::Place;
 use std::alloc::Global;
 
-/// What agents have made, one item for each.
+/// What the agents have made, with one item for each agent.
 #[derive(Drop)]
 struct Made {
     tables: OptionList<Table>,
     places: OptionList<Place>,
 }
 
-/// The values of agents.
+/// The values of the agents, in order.
 fn values_of(alloc: Global, seats: &[Seat]) -> Result<ValList, NoMemory>
     ensures { IfOk result (λ values. values ≡ map (λ x. value_of x.view) seats.now) }
 {
@@ -29,7 +29,7 @@ fn values_of(alloc: Global, seats: &[Seat]) -> Result<ValList, NoMemory>
     Ok(ValList::from_vec(values))
 }
 
-/// What agents have made.
+/// The tables and the places that the agents have made, in order.
 fn made_by(alloc: Global, seats: Vec<Seat>) -> Result<Made, NoMemory>
     ensures tables { IfOk result (λ made. made.tables ≡ map (λ x. table_of x.view) seats.items) }
     ensures places { IfOk result (λ made. made.places ≡ map (λ x. place_of x.view) seats.items) }
@@ -44,11 +44,13 @@ fn made_by(alloc: Global, seats: Vec<Seat>) -> Result<Made, NoMemory>
     Ok(Made { tables, places })
 }
 
-/// What the agents of a state have come to. Their tables and places are handed on, and not copied.
+/// The outcome of the agents of a state: their values, UTIL tables and places, the bounds and the
+/// threshold of agent 0, the number of deliveries, and whether all agents have ended. Tables and
+/// places are moved, not copied.
 ///
 /// # Errors
 ///
-/// [`NoMemory`] where memory was wanted and not had.
+/// [`NoMemory`] if memory runs out.
 pub fn outcome_of(alloc: Global, state: CoreState) -> Result<Outcome, NoMemory>
     requires { 0 < length state.seats }
     ensures { IfOk result (TellsOf state) }

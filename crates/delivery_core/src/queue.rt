@@ -1,4 +1,4 @@
-//! Letters that wait.
+//! A queue of letters that wait.
 
 ghost use Rattle.std.specs.Prelude.{◌≡◌, ◌+◌, ◌++◌, [], ◌∷◌, length, OnOk, MatchOption, Option, Some, option_to_list};
 ghost use Rattle.std.specs.List.{last_or};
@@ -10,13 +10,14 @@ use std::collections::VecDeque;
 use std::marker::Model;
 use std::mem;
 
-/// Letters that wait, in the order in which they came. One that comes to none lies in the queue
-/// itself, so a queue in which no two ever wait takes no memory.
+/// Letters that wait, in the order in which they were sent. A letter that is added to an empty
+/// queue is stored in the queue itself, so a queue in which no two letters ever wait allocates no
+/// memory.
 #[derive(Drop)]
 pub(crate) struct Queue {
-    /// The first letter, where it came to none.
+    /// The first letter, if it was added to an empty queue.
     first: Option<Letter>,
-    /// The others.
+    /// The letters after it.
     behind: VecDeque<Letter>,
 }
 
@@ -32,7 +33,7 @@ impl Model for Queue {
 }
 
 impl Queue {
-    /// No letters.
+    /// A queue without letters.
     pub(crate) fn new(alloc: Global) -> Queue
         ensures { result ≡ [] }
     {
@@ -52,7 +53,7 @@ impl Queue {
         }
     }
 
-    /// A letter comes.
+    /// Appends a letter.
     pub(crate) fn push(&mut self, letter: Letter) -> Result<(), NoMemory>
         ensures { OnOk result (self.new ≡ self.old ++ letter ∷ []) }
     {
@@ -64,7 +65,7 @@ impl Queue {
         Ok(())
     }
 
-    /// The first letter leaves, if there is one.
+    /// Removes the first letter, and returns it, if there is one.
     pub(crate) fn pop(&mut self) -> Option<Letter>
         ensures items { self.old ≡ option_to_list result ++ self.new }
         ensures none { MatchOption result (self.old ≡ []) (λ _. length self.old ≡ length self.new + 1) }

@@ -10,17 +10,17 @@ use dcop_base::{NoMemory, Problem};
 use protocol_steps::{EventFault, EventList};
 use std::alloc::Global;
 
-/// Why events are no run.
+/// Why a replay has failed.
 #[derive(Clone, Copy, Debug, PartialEq, Eq)]
 pub enum ReplayFault {
-    /// An event is not lawful; those before it are.
+    /// An event is not lawful; those before it are a run.
     BadEvent {
         /// Its number, counted from 1.
         at: u64,
-        /// Why.
+        /// Its fault.
         fault: EventFault,
     },
-    /// Memory was wanted and not had.
+    /// Memory ran out.
     NoMemory,
 }
 
@@ -35,15 +35,15 @@ impl From<NoMemory> for ReplayFault {
     }
 }
 
-/// Runs these events from the start state, and gives the network state at their end. A tree of the
-/// start is a pseudotree of the problem, and linked: each variable but the root is a neighbour of
-/// its parent; an error is at most 2^62.
+/// Runs these events from the start state, and returns the network state at their end. The tree of
+/// a start must be a pseudotree of the problem, and linked: each variable except the root is a
+/// neighbour of its parent. The requested error must be at most 2^62.
 ///
 /// # Errors
 ///
-/// [`ReplayFault::BadEvent`] exactly where they are no run: the first event that is not lawful, by
-/// its number, counted from 1, and its first fault. [`ReplayFault::NoMemory`] where memory was
-/// wanted and not had.
+/// [`ReplayFault::BadEvent`] only if the events are not a run: it has the number of the first event
+/// that is not lawful, counted from 1, and the fault of that event. [`ReplayFault::NoMemory`] if
+/// memory runs out.
 pub fn replay(
     alloc: Global,
     problem: &Problem,

@@ -49,21 +49,21 @@ impl Seat {
         &self.agent
     }
 
-    /// The agent alone.
+    /// The agent, without its links.
     pub(crate) fn into_agent(self) -> Agent
         ensures { result ≡ self.view }
     {
         self.agent
     }
 
-    /// What it was sent.
+    /// The links of the agent: what it was sent, by sender.
     pub(crate) fn links(&self) -> &[Link]
         ensures { result.now ≡ self.now.inbox }
     {
         self.links.as_slice()
     }
 
-    /// A letter comes from this sender.
+    /// Adds a letter to the link of this sender.
     pub(crate) fn add(&mut self, from: VarId, letter: Letter) -> Result<(), NoMemory>
         ensures { OnOk result (self.new
             ≡ record self.old { inbox = edit_link from (with_letter letter) self.old.inbox }) }
@@ -71,7 +71,7 @@ impl Seat {
         inbox::add(self.links.as_mut_slice(), from, letter)
     }
 
-    /// Starts the agent. What it sends takes the place of what `parcels` held.
+    /// Starts the agent, and replaces the content of `parcels` by what it sends.
     pub(crate) fn begin(&mut self, alloc: Global, parcels: &mut Vec<Parcel>) -> Result<(), NoMemory>
         requires { MayStart self.old.view }
         ensures view { OnOk result (self.new ≡ record self.old { view = (start_of self.old.view).view }) }
@@ -85,8 +85,8 @@ impl Seat {
         Ok(())
     }
 
-    /// One activation of the agent on what these takes say. Its batch lies in the room of `letters`, and
-    /// what it sends takes the place of what `parcels` held.
+    /// Activates the agent once on the letters that these takes name, and replaces the content of
+    /// `parcels` by what it sends. `letters` is a buffer for the batch.
     pub(crate) fn react(
         &mut self,
         alloc: Global,
@@ -104,7 +104,8 @@ impl Seat {
         self.answer(alloc, letters, parcels)
     }
 
-    /// As [`Seat::react`], and copies of what it takes and sends take the place of what `exchange` held.
+    /// Does what [`Seat::react`] does, and replaces the content of `exchange` by copies of what the
+    /// agent takes and sends.
     pub(crate) fn react_telling(
         &mut self,
         alloc: Global,
@@ -128,8 +129,8 @@ impl Seat {
         Ok(())
     }
 
-    /// One activation of the agent on a batch that was taken off its links. What it sends takes the
-    /// place of what `parcels` held. The room of the batch is left.
+    /// Activates the agent once on a batch that was removed from its links, and replaces the
+    /// content of `parcels` by what it sends. `letters` is emptied and keeps its memory.
     fn answer(
         &mut self,
         alloc: Global,
@@ -156,8 +157,8 @@ impl Seat {
         Ok(())
     }
 
-    /// What the agent takes in its turn, in place of what the list held: what is pending, at most 64
-    /// messages of each sender. It passes the gate first, unless it has ended.
+    /// Replaces the content of `takes` by what the agent takes in its turn: from each sender what
+    /// is pending, at most 64 messages. Unless it has ended, the agent passes the gate first.
     pub(crate) fn list_takes<G: Gate>(
         &self,
         gate: &G,

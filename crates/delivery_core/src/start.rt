@@ -31,7 +31,7 @@ use std::alloc::Global;
 /// problem.
 #[derive(Debug, Drop)]
 pub enum Start {
-    /// Token agents, which search the problem's depth-first tree.
+    /// Token agents, which find the depth-first tree of the problem.
     Token,
     /// DPOP agents on this tree.
     Dpop(Tree),
@@ -51,7 +51,7 @@ fn place_in(alloc: Global, problem: &Problem, tree: &Tree, me: VarId) -> Result<
     place(alloc, tree, problem, me)
 }
 
-/// What the agents of a start are made from. Token agents look at no cost, so they get no tables.
+/// What each agent of a start knows, in order. Token agents read no cost, so they get no tables.
 fn known_for(alloc: Global, problem: &Problem, start: &Start) -> Result<Vec<Private>, NoMemory>
     ensures { IfOk result (λ known. known.items ≡ map (knowledge_for problem.now start.now) (range_with_len 0 (length problem.now.sizes))) }
 {
@@ -61,7 +61,7 @@ fn known_for(alloc: Global, problem: &Problem, start: &Start) -> Result<Vec<Priv
     }
 }
 
-/// The agent of a variable, which knows this.
+/// Makes the agent of a variable from what it knows.
 fn make_agent(
     alloc: Global,
     problem: &Problem,
@@ -89,7 +89,7 @@ fn make_agent(
     }
 }
 
-/// The agent of a variable, which knows this, with a link of each neighbour.
+/// Makes the agent of a variable from what it knows, with a link for each neighbour.
 fn make_seat(
     alloc: Global,
     problem: &Problem,
@@ -107,7 +107,7 @@ fn make_seat(
     Ok(Seat::new(agent, links))
 }
 
-/// The agents of a start.
+/// Makes the agents of a start, in order.
 pub(crate) fn make(alloc: Global, problem: &Problem, start: &Start) -> Result<Vec<Seat>, NoMemory>
     requires { IsStartFor problem.now start.now }
     ensures made { IfOk result (λ seats. seats.items ≡ map new_seat (agents_of problem.now start.now)) }
@@ -122,12 +122,13 @@ pub(crate) fn make(alloc: Global, problem: &Problem, start: &Start) -> Result<Ve
     Ok(seats)
 }
 
-/// What each agent of a start sends as it starts, in order: the item of agent 0 first. A tree of the
-/// start is a pseudotree of the problem, and linked; an error is at most 2^62.
+/// What each agent of a start sends when it starts: item i of the result is what agent i sends, in
+/// order. The tree of a start must be a pseudotree of the problem, and linked: each variable except
+/// the root is a neighbour of its parent. The requested error must be at most 2^62.
 ///
 /// # Errors
 ///
-/// [`NoMemory`] where memory was wanted and not had.
+/// [`NoMemory`] if memory runs out.
 pub fn first_parcels(
     alloc: Global,
     problem: &Problem,
@@ -141,7 +142,7 @@ pub fn first_parcels(
     first_of_all(alloc, seats)
 }
 
-/// What an agent sends as it starts.
+/// What an agent sends when it starts.
 fn first_of(alloc: Global, mut seat: Seat) -> Result<Outbox, NoMemory>
     requires { MayStart seat.view }
     ensures { IfOk result (λ sent. sent ≡ (start_of seat.view).sends) }
@@ -151,7 +152,7 @@ fn first_of(alloc: Global, mut seat: Seat) -> Result<Outbox, NoMemory>
     Ok(Sequence::from_vec(parcels))
 }
 
-/// What each of these agents sends as it starts, in order.
+/// What each of these agents sends when it starts, in order.
 fn first_of_all(alloc: Global, seats: Vec<Seat>) -> Result<Vec<Outbox>, NoMemory>
     requires { (i : ℕ) (x : SeatView) → slice_get seats.items i ≡ Some x → MayStart x.view }
     ensures { IfOk result (λ sent. sent.items ≡ map (λ x. (start_of x.view).sends) seats.items) }
@@ -163,7 +164,8 @@ fn first_of_all(alloc: Global, seats: Vec<Seat>) -> Result<Vec<Outbox>, NoMemory
     Ok(sent)
 }
 
-/// An agent starts, after those before it. What it sends lies in the room of `parcels`.
+/// Starts agent `me`, after all agents below it have started. `parcels` is a buffer for what it
+/// sends.
 fn start_one(
     alloc: Global,
     seats: &mut [Seat],
@@ -182,7 +184,7 @@ fn start_one(
     post(seats, arrivals, VarId(me as u32), parcels)
 }
 
-/// All agents start, in ascending order. What each sends lies in the room of `parcels`.
+/// Starts all agents, in ascending order. `parcels` is a buffer for what each of them sends.
 pub(crate) fn start_all(
     alloc: Global,
     seats: &mut [Seat],

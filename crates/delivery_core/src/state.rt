@@ -1,4 +1,4 @@
-//! The state of a core, and its readers.
+//! The network state that one thread plays, and the calls that read it.
 
 ghost use Rattle.std.specs.Prelude.{◌≡◌, ◌<◌, ◌≤◌, length, slice_index_or, MatchOption, IfOk, IfSome, OnOk, Some, None};
 ghost use Rattle.std.specs.Option.{option_map};
@@ -27,15 +27,15 @@ use pseudotree::Place;
 use std::alloc::Global;
 use std::marker::Model;
 
-/// A network state: what each agent is, and what stands on each link.
+/// A network state: the agents, and the messages on each link.
 #[derive(Drop)]
 pub struct CoreState {
     pub(crate) seats: Vec<Seat>,
     pub(crate) delivered: u64,
     arrivals: Arrivals,
-    // The room of each turn's batch.
+    // A buffer for the batch of a turn.
     letters: Vec<Letter>,
-    // The room of what is sent in a turn.
+    // A buffer for what is sent in a turn.
     parcels: Vec<Parcel>,
 }
 
@@ -51,7 +51,7 @@ impl Model for CoreState {
     ghost invariant = { λ s. KnowsBusy s.arrivals s.seats.items };
 }
 
-/// Whether these agents have ended.
+/// Whether all these agents have ended.
 fn have_ended(seats: &[Seat]) -> bool
     ensures { result ≡ list_all (λ x. ended_of x.view) seats.now }
 {
@@ -59,12 +59,13 @@ fn have_ended(seats: &[Seat]) -> bool
 }
 
 impl CoreState {
-    /// The state where all agents of a start have started, and nothing is taken. A tree of the start
-    /// is a pseudotree of the problem, and linked; an error is at most 2^62.
+    /// The state in which all agents of a start have started and nothing has been taken. The tree
+    /// of a start must be a pseudotree of the problem, and linked: each variable except the root is
+    /// a neighbour of its parent. The requested error must be at most 2^62.
     ///
     /// # Errors
     ///
-    /// [`NoMemory`] where memory was wanted and not had.
+    /// [`NoMemory`] if memory runs out.
     pub fn start(alloc: Global, problem: &Problem, start: &Start) -> Result<CoreState, NoMemory>
         requires { IsStartFor problem.now start.now }
         ensures core { IfOk result (λ state. IsCore problem.now (network_of problem.now start.now) state) }
@@ -91,7 +92,8 @@ impl CoreState {
         self.seats[me.0 as usize].agent().value()
     }
 
-    /// The bounds and the threshold of an ADOPT agent; 0, none and 0 of another kind.
+    /// The lower bound, the upper bound and the threshold of an ADOPT agent; 0, none and 0 for an
+    /// agent of another kind.
     pub fn standing(&self, me: VarId) -> Standing
         requires { me < length self.now.seats }
         ensures { option_map standing_of (view_at self.now me) ≡ Some result }
@@ -114,14 +116,14 @@ impl CoreState {
         have_ended(self.seats.as_slice())
     }
 
-    /// How many messages were taken, or `u64::MAX` where they are more.
+    /// How many messages were taken, or `u64::MAX` if they are more.
     pub fn deliveries(&self) -> u64
         ensures { result ≡ self.now.delivered }
     {
         self.delivered
     }
 
-    /// The last message that `from` has sent to `to`; `None` exactly where it has sent none.
+    /// The last message that `from` has sent to `to`; `None` exactly if it has sent none.
     pub fn last_sent(&self, from: VarId, to: VarId) -> Option<&Message>
         requires from { from < length self.now.seats }
         requires to { to < length self.now.seats }
@@ -134,8 +136,8 @@ impl CoreState {
         }
     }
 
-    /// How many messages from `from` wait for `to`: they were sent, and `to` has not taken them. 0
-    /// where there is no such agent.
+    /// How many messages from `from` wait for `to`: they were sent, and `to` has not taken them. It
+    /// is 0 if there is no such agent.
     pub fn waiting(&self, to: VarId, from: VarId) -> u64
         ensures count { result ≡ count_waiting self.now to from }
         ensures network { CountsWaiting self.now to from result }
@@ -146,8 +148,8 @@ impl CoreState {
         }
     }
 
-    /// The place of a token agent that has ended, without the path's sizes; `None` exactly before
-    /// that, and for other kinds.
+    /// The place of a token agent that has ended, without the domain sizes of its path; `None`
+    /// exactly if the agent has not ended or is of another kind.
     pub fn place(&self, me: VarId) -> Option<&Place>
         requires { me < length self.now.seats }
         ensures { MatchOption result (place_in (view_at self.now me) ≡ None)
@@ -156,8 +158,8 @@ impl CoreState {
         self.seats[me.0 as usize].agent().place()
     }
 
-    /// What an ADOPT agent knows of the values of its path, its context; `None` exactly for other
-    /// kinds.
+    /// The context of an ADOPT agent: what it knows of the values on its path. `None` exactly for
+    /// agents of other kinds.
     pub fn context(&self, me: VarId) -> Option<&AgentContext>
         requires { me < length self.now.seats }
         ensures { MatchOption result (context_in (view_at self.now me) ≡ None)
@@ -166,8 +168,8 @@ impl CoreState {
         self.seats[me.0 as usize].agent().context()
     }
 
-    /// The UTIL table that a DPOP agent made; `None` exactly before it has joined, and for other
-    /// kinds.
+    /// The UTIL table that a DPOP agent has made; `None` exactly if the agent has not joined its
+    /// tables or is of another kind.
     pub fn table(&self, me: VarId) -> Option<&Table>
         requires { me < length self.now.seats }
         ensures { MatchOption result (table_in (view_at self.now me) ≡ None)
@@ -176,23 +178,24 @@ impl CoreState {
         self.seats[me.0 as usize].agent().table()
     }
 
-    /// How many agents there are.
+    /// The number of agents.
     pub fn count(&self) -> usize
         ensures { result ≡ length self.now.seats }
     {
         self.seats.len()
     }
 
-    /// The next agent to whom something came since [`CoreState::list_takes`] looked at it last, from this
-    /// one on. It is a hint: no clause says that none is left out.
+    /// The first agent that is not below `from` and was sent something since
+    /// [`CoreState::list_takes`] last looked at it. It is a hint: no clause says that no such agent
+    /// is left out.
     pub fn next_called(&self, from: usize) -> Option<usize>
         ensures { IfSome result (λ me. (from ≤ me) × (me < length self.now.seats)) }
     {
         self.arrivals.next(from, self.seats.len())
     }
 
-    /// The next agent that may take something, from this one on: each that is passed over takes
-    /// nothing.
+    /// The first agent that is not below `from` and may take something. Each agent that is passed
+    /// over takes nothing.
     pub fn next_busy(&self, from: usize) -> Option<usize>
         ensures within { IfSome result (λ me. (from ≤ me) × (me < length self.now.seats)) }
         ensures passed { MatchOption result (TakeNothing self.now.seats from (length self.now.seats))
@@ -201,13 +204,13 @@ impl CoreState {
         self.arrivals.next_busy(from)
     }
 
-    /// What an agent takes in its turn, in place of what the list held: of each sender what waits, at
-    /// most 64 messages; nothing where it has ended. Where it has not and something may wait for it, it
-    /// passes the gate first.
+    /// Replaces the content of `takes` by what an agent takes in its turn: from each sender what
+    /// waits, at most 64 messages; nothing if it has ended. An agent that has not ended and for
+    /// which something may wait passes the gate first.
     ///
     /// # Errors
     ///
-    /// [`NoMemory`] where memory was wanted and not had.
+    /// [`NoMemory`] if memory runs out.
     pub fn list_takes<G: Gate>(
         &mut self,
         gate: &G,
@@ -232,12 +235,12 @@ impl CoreState {
         Ok(())
     }
 
-    /// Plays a lawful event, that of an agent with these takes: it takes, steps and sends.
-    /// [`CoreState::happen`] is the same for one of which that is not known.
+    /// Plays a lawful event, in which an agent makes these takes: it takes, steps and sends. If it
+    /// is not known whether the event is lawful, use [`CoreState::happen`].
     ///
     /// # Errors
     ///
-    /// [`NoMemory`] where memory was wanted and not had. The state is then of no more use.
+    /// [`NoMemory`] if memory runs out. No clause speaks of the state after that.
     pub fn follow(&mut self, alloc: Global, agent: VarId, takes: &[Take]) -> Result<(), NoMemory>
         requires core { IsSomeCore self.old }
         requires lawful { core_fault self.old.seats (record { agent = agent; takes = takes.now }) ≡ None }
@@ -257,12 +260,12 @@ impl CoreState {
         Ok(())
     }
 
-    /// Plays an event as [`CoreState::happen`] does, and tells what its agent took and sent, in place of what
-    /// `exchange` held.
+    /// Plays an event as [`CoreState::happen`] does. If the event is lawful, the content of
+    /// `exchange` is replaced by what its agent took and sent.
     ///
     /// # Errors
     ///
-    /// [`NoMemory`] where memory was wanted and not had. The state is then of no more use.
+    /// [`NoMemory`] if memory runs out. No clause speaks of the state after that.
     pub fn happen_telling(
         &mut self,
         alloc: Global,
@@ -282,8 +285,8 @@ impl CoreState {
         Ok(None)
     }
 
-    /// Plays a lawful event as [`CoreState::follow`] does, and tells what its agent took and sent, in
-    /// place of what `exchange` held.
+    /// Plays a lawful event as [`CoreState::follow`] does, and replaces the content of `exchange`
+    /// by what its agent took and sent.
     fn follow_telling(
         &mut self,
         alloc: Global,
@@ -310,12 +313,12 @@ impl CoreState {
         Ok(())
     }
 
-    /// Plays one event: its agent takes, steps and sends. `Some` exactly where it is not lawful, with
-    /// its first fault; nothing then changes.
+    /// Plays one event: its agent takes, steps and sends. Returns `Some` exactly if the event is
+    /// not lawful, with its first fault.
     ///
     /// # Errors
     ///
-    /// [`NoMemory`] where memory was wanted and not had. The state is then of no more use.
+    /// [`NoMemory`] if memory runs out. No clause speaks of the state after that.
     pub fn happen(&mut self, alloc: Global, event: &Event) -> Result<Option<EventFault>, NoMemory>
         requires { IsSomeCore self.old }
         ensures { IfOk result (λ found. MatchOption found (Advances self.old event.now self.new)

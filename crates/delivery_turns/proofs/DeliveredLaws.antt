@@ -57,7 +57,7 @@ effect_at-views net e None x = refl
 effect_at-views net e (Some v) None = refl
 effect_at-views net e (Some v) (Some x) = length-set net.views e.agent (step_of v (batch net.desks e.agent e.takes)).view
 
--- so many messages more, and as many agents
+-- more messages, and as many agents
 abbrev pub Delivers : ℕ → Network → Network → Type 0
 Delivers more net mid = (deliveries mid ≤ deliveries net + more) × (length mid.views ≡ length net.views)
 
@@ -95,7 +95,7 @@ round-few n net size =
     let long : length (range_with_len 0 (length net.views)) ≡ n = length-range_with_len 0 (length net.views) ∙ size in
     subst (λ (k : ℕ). Delivers ((64 * n) * k) net (after net (round net))) long all
 
--- where playing goes on, the deliveries are below the budget
+-- if playing goes on, the deliveries are below the budget
 pub on-below : (budget : ℕ) (net : Network) → stops budget net ≡ false → deliveries net < budget
 on-below budget net on =
     let first : (has_ended net || leb budget (deliveries net)) ≡ false = (or_parts (has_ended net || leb budget (deliveries net)) (eqb (length (round net)) 0) on).0 in

@@ -1,4 +1,4 @@
--- What agents have come to that were played out.
+-- The outcome of agents that were played out.
 use Rattle.std.proofs.Common.{ℕ, ◌+◌, ◌*◌, ◌≤◌, List, map, ap, sym, ◌∙◌, arith}
 use Rattle.std.specs.List.{list_all, slice_get}
 use Rattle.std.specs.Option.{option_map}
@@ -16,7 +16,8 @@ use Rattle.delivery_turns.specs.Sprints.{turn_share, PlaysSprints}
 use Rattle.delivery_core.specs.PlayedOut.{TellsOf}
 use Rattle.delivery_turns.proofs.DeliveredLaws.{none-taken}
 
--- what tells of a core state tells of its network, where so few messages were taken that they are counted
+-- an outcome of a core state is one of its network if the messages taken are few enough to be
+-- counted
 told-of : (p : Dcop) (end : Network) (s : CoreView) (outcome : Outcome) → IsCore p end s → deliveries end ≤ budget_limit + most_events * turn_share → TellsOf s outcome → IsOutcomeOf end outcome
 told-of p end s outcome core few tells = record {
   values = tells.values ∙ ap (map value_of) core.shows.views;

@@ -1,4 +1,5 @@
--- A turn of all agents: one event of an agent at most, which takes what is pending at its turn, and that is no less than before.
+-- A turn of all agents: one event of an agent at most, which takes what is pending at its turn, and
+-- that is no less than before.
 use Rattle.std.proofs.Common.{◌≡◌, ◌≢◌, ℕ, zero, suc, ◌+◌, ◌<◌, ◌≤◌, min, Bool, true, false, cond, eqb, ◌==◌, if◌then◌else◌, List, [], ◌∷◌, ◌++◌, length, drop, Option, Some, None, refl, sym, ap, subst, ◌∙◌, inl, inr, arith}
 use Rattle.std.specs.List.{flat_map, range_with_len, slice_get, slice_set}
 use Rattle.std.proofs.lemmas.Bool.{cases_eq, cases_lt, eqb-true, eq-eqb, ne_eqb}
@@ -125,7 +126,8 @@ turn-other net a i ne = event-other a i (turn_takes net a) (eqb (length (turn_ta
 turn-own : (net : Network) (i j : ℕ) → taken_in i j (turn net i) ≡ taken_from j (turn_takes net i)
 turn-own net i j = event-own i j (turn_takes net i) (eqb (length (turn_takes net i)) 0) refl
 
--- in the turns of agents from s on, agent i has no event where it is below, and one at most
+-- in the turns of agents from s on, agent i has no event if it is below s, and otherwise at most
+-- one
 few-below : (net : Network) (i s m : ℕ) → i < s → length (journal i (turns net (range_with_len s m))) ≡ 0
 few-below net i s zero lt = refl
 few-below net i s (suc m) lt =

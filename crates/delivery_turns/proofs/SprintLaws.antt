@@ -207,7 +207,7 @@ sprint_some p net k s t still none some from takes =
     let now = sprint_next p net k s t still none from takes in
     (now.0, sym (ap (λ (b : Bool). still && b) some ∙ and_false still) ∙ now.1)
 
--- so many turns are a round
+-- k turns are a round
 pub sprint_all : (p : Dcop) (net : Network) (k : ℕ) (s : CoreView) (still : Bool) → k ≤ most_events → (h : Sprinting p net k s) × (still ≡ none_of h.events) → (now : Sprinting p net most_events s) × (still ≡ none_of now.events)
 sprint_all p net k s still le from =
     let h = from.0 in (
@@ -230,7 +230,7 @@ sprint_end p net k s t still none is le from takes =
     let next = sprint_next p net k s t still none from takes in
     sprint_all p net (k + 1) t still le (next.0, sym (ap (λ (b : Bool). still && b) is ∙ and_true still) ∙ next.1)
 
--- rounds, and one more behind them
+-- rounds, and one more after them
 rounds_snoc : (budget : ℕ) (net mid end : Network) (pieces : List (List Event)) (es : List Event) → AreRounds budget net pieces mid → deliveries mid < budget → IsRound mid es end → AreRounds budget net (pieces ++ es ∷ []) end
 rounds_snoc budget net mid end [] es are lt one = (subst (λ (n : Network). deliveries n < budget) (sym are) lt, (end, subst (λ (n : Network). IsRound n es end) (sym are) one, refl))
 rounds_snoc budget net mid end (fs ∷ pieces) es are lt one = (are.0, (are.1.0, are.1.1, rounds_snoc budget are.1.0 mid end pieces es are.1.2 lt one))

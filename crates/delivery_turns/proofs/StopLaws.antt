@@ -1,4 +1,4 @@
--- Where playing stops, all agents have ended, or the budget is spent, or nothing is pending.
+-- When playing stops, all agents have ended, the budget is spent, or nothing is pending.
 use Rattle.std.proofs.Common.{◌≡◌, ℕ, zero, suc, ◌<◌, ◌≤◌, min, Bool, true, false, cond, eqb, leb, ◌||◌, List, [], ◌∷◌, ◌++◌, length, drop, get_or, Option, Some, None, refl, sym, ap, subst, ◌∙◌, inl, inr, arith}
 use Rattle.std.specs.List.{flat_map, range_with_len, slice_get}
 use Rattle.std.proofs.lemmas.Bool.{cases_Bool, cases_lt, eqb-true, leb-true, leb-false}
@@ -66,7 +66,7 @@ pub played-stops : (budget : ℕ) (net end : Network) (pieces : List (List Event
 played-stops budget net end [] plays = subst (λ (n : Network). stops budget n ≡ true) plays.1 plays.0
 played-stops budget net end (es ∷ pieces) plays = played-stops budget (after net es) end pieces plays.2
 
--- behind the last of a list stands nothing
+-- there is nothing after the last element of a list
 pub past-none : {X : Type 0} (xs : List X) (k : ℕ) → length xs ≤ k → slice_get xs k ≡ None
 past-none [] k le = refl
 past-none (x ∷ xs) zero le = absurd (omega arith)
@@ -76,7 +76,7 @@ dropped-none : (k : ℕ) → drop {A = Message} k [] ≡ []
 dropped-none zero = refl
 dropped-none (suc k) = refl
 
--- who is not there has nothing pending
+-- an agent that does not exist has nothing pending
 nobody-receives : (net : Network) (i j : ℕ) → length net.views ≤ i → pending net i j ≡ []
 nobody-receives net i j le = ap (λ (o : Option View). pending_at net i j o) (past-none net.views i le)
 
@@ -105,7 +105,7 @@ still-nothing net size none i j =
       | inr past ↦ nobody-receives net i j past
     ]
 
--- how playing ended where it stopped
+-- how playing ended when it stopped
 pub stopped-how : (budget : ℕ) (net : Network) → length net.desks ≡ length net.views → stops budget net ≡ true → (how : RunEnd) × IsRunEnd budget net how
 stopped-how budget net size stopped =
     elim (cases_Bool (has_ended net)) [

@@ -1,4 +1,5 @@
--- A turn: what the code takes of an inbox is what the turn takes in the network, and its event is lawful.
+-- A turn: what the code takes of an inbox is what the turn takes in the network, and its event is
+-- lawful.
 use Rattle.std.proofs.Common.{◌≡◌, ℕ, zero, suc, ◌+◌, ◌<◌, ◌≤◌, Bool, true, false, cond, ◌==◌, ◌&&◌, nat_le, if◌then◌else◌, List, [], ◌∷◌, ◌++◌, length, min, Option, Some, None, refl, sym, ap, subst, ◌∙◌, inl, inr, arith}
 use Rattle.std.specs.List.{slice_get, slice_index_or, filter, flat_map, range_with_len, list_any, Contains}
 use Rattle.std.proofs.lemmas.Bool.{false≢true, cases_eq, ne_eqb, eq-eqb, eqb-false, le-ltb, le-leb, lt-leb, or_parts}
@@ -240,7 +241,7 @@ module _ (p : Dcop) (net : Network) (seats : List SeatView) (s : Shows p net sea
       },
     )
 
-  -- where nothing is pending the turn is empty
+  -- if nothing is pending the turn is empty
   pub turn_none : (length (seat_takes x) == 0) ≡ true → turn net i ≡ []
   turn_none none = turn_by ∙ ap (λ (b : Bool). if b then [] else record { agent = i; takes = seat_takes x } ∷ []) none
 
@@ -254,7 +255,7 @@ turn_still p net seats s i lt none =
 pub none_leads : (p : Dcop) (net : Network) (es : List Event) (s : CoreView) → IsCore p net s → es ≡ [] → (mid : Network) × Leads p net es mid s
 none_leads p net es s core none = subst (λ (fs : List Event). (mid : Network) × Leads p net fs mid s) (sym none) (net, record { ran = refl; is = refl; core = core; more = omega arith; bounded = All-nil (λ (e : Event). AreShares e.takes) })
 
--- a turn has an event where something is taken
+-- a turn has an event if something is taken
 some_event : (i : ℕ) (ts : List Take) (b : Bool) → (length {A = Event} (if b then [] else (record { agent = i; takes = ts } ∷ [])) == 0) ≡ b
 some_event i ts true = refl
 some_event i ts false = refl
@@ -262,7 +263,7 @@ some_event i ts false = refl
 pub none_with : (i : ℕ) (ts : List Take) → (length (event_with i ts) == 0) ≡ (length ts == 0)
 none_with i ts = some_event i ts (length ts == 0)
 
--- nothing is added where nothing is taken, and else the event
+-- if nothing is taken nothing is added, and otherwise the event is
 pub added_none : (before es : List Event) (i : ℕ) (ts : List Take) → es ≡ event_with i ts → (length ts == 0) ≡ true → before ≡ before ++ es
 added_none before es i ts with none =
     sym (ap (λ (fs : List Event). before ++ fs) (with ∙ ap (λ (b : Bool). if b then [] else (record { agent = i; takes = ts } ∷ [])) none) ∙ append-nil before)
@@ -271,7 +272,7 @@ pub added_one : (before es : List Event) (i : ℕ) (ts : List Take) → es ≡ e
 added_one before es i ts with some =
     sym (ap (λ (fs : List Event). before ++ fs) (with ∙ ap (λ (b : Bool). if b then [] else (record { agent = i; takes = ts } ∷ [])) some))
 
--- so far there was no event, and now there is none
+-- there was no event so far, and there is none in this turn
 pub still_more : (still : Bool) (es fs : List Event) → still ≡ (length es == 0) → (still && (length fs == 0)) ≡ (length (es ++ fs) == 0)
 still_more still [] fs so = ap (λ (b : Bool). b && (length fs == 0)) so
 still_more still (x ∷ es) fs so =

@@ -14,7 +14,7 @@ use Rattle.delivery_turns.specs.Turns.{round}
 use Rattle.delivery_turns.specs.CoreTurns.{Leads}
 use Rattle.delivery_core.specs.Shown.{IsCore}
 
--- the most messages that one agent takes in a turn, and that all of them take
+-- the most messages that one agent takes in a turn, and the most that all agents take
 abbrev pub agent_share : ℕ
 agent_share = link_share * variable_limit
 
@@ -25,11 +25,12 @@ turn_share = agent_share * variable_limit
 abbrev pub none_of : List Event → Bool
 none_of es = length es == 0
 
--- the turns of all agents lead from one core state to another; still: without an event
+-- the turns of all agents lead from one core state to another; `still` says whether they have no
+-- event
 abbrev pub TakesAll : CoreView → CoreView → Bool → Type 0
 TakesAll old new still = (p : Dcop) (net : Network) → IsCore p net old → (mid : Network) × Leads p net (round net) mid new × (still ≡ none_of (round net))
 
--- turns of some agents, all below this one, each at most once, lead from a network to a core state
+-- turns of agents below agent `from`, each at most once, lead from a network to a core state
 pub record Turning (p : Dcop) (net : Network) (from : ℕ) (s : CoreView) : Type 0 where
   pub es : List Event
   pub mid : Network
@@ -38,13 +39,16 @@ pub record Turning (p : Dcop) (net : Network) (from : ℕ) (s : CoreView) : Type
   pub none : (i : ℕ) → from ≤ i → length (journal i es) ≡ 0
   pub counted : deliveries mid ≤ deliveries net + from * agent_share
 
--- turns of some agents, each at most once, lead from one core state to another; still: without an event
+-- turns of agents, each at most once, lead from one core state to another; `still` says whether
+-- they have no event
 abbrev pub TakesTurns : CoreView → CoreView → Bool → Type 0
 TakesTurns old new still =
     (p : Dcop) (net : Network) → IsCore p net old
     → (es : List Event) × (mid : Network) × Leads p net es mid new × (still ≡ none_of es) × ((i : ℕ) → length (journal i es) ≤ 1) × (deliveries mid ≤ deliveries net + turn_share)
 
--- turns so far, so many of each agent at most: the first was of all agents, so of each link at least 64 messages were taken, where so many were pending before; and without an event nothing is pending
+-- turns lead from a network to this core state, at most k of each agent; they took from each link
+-- all that was pending at first, or at least 64 messages if that was more; if they have no event, a
+-- turn of all agents has none either
 pub record Sprinting (p : Dcop) (net : Network) (k : ℕ) (s : CoreView) : Type 0 where
   pub events : List Event
   pub mid : Network
@@ -54,11 +58,13 @@ pub record Sprinting (p : Dcop) (net : Network) (k : ℕ) (s : CoreView) : Type 
   pub counted : deliveries mid ≤ deliveries net + k * turn_share
   pub still : length events ≡ 0 → length (round net) ≡ 0
 
--- a round of at most 32 turns leads from one core state to another; still: without an event
+-- a round of at most 32 turns leads from one core state to another; `still` says whether it has no
+-- event
 abbrev pub PlaysSprint : CoreView → CoreView → Bool → Type 0
 PlaysSprint old new still = (p : Dcop) (net : Network) → IsCore p net old → (h : Sprinting p net most_events new) × (still ≡ none_of h.events)
 
--- rounds so far
+-- rounds under this budget lead from the first network to this core state, with at least k
+-- deliveries
 pub record Sprinted (p : Dcop) (budget : ℕ) (first : Network) (k : ℕ) (s : CoreView) : Type 0 where
   pub pieces : List (List Event)
   pub mid : Network
@@ -67,7 +73,7 @@ pub record Sprinted (p : Dcop) (budget : ℕ) (first : Network) (k : ℕ) (s : C
   pub spent : k ≤ deliveries mid
   pub counted : deliveries mid ≤ deliveries first + budget + most_events * turn_share
 
--- rounds under a budget lead from one core state to another, where the run has ended
+-- rounds under a budget lead from one core state to another, at which the run has ended
 abbrev pub PlaysSprints : ℕ → CoreView → CoreView → Type 0
 PlaysSprints budget old new =
     (p : Dcop) (first : Network) → IsCore p first old

@@ -1,4 +1,4 @@
--- Playing in rounds: which events a round has, and where playing stops.
+-- Playing in rounds: which events a round has, and when playing stops.
 use Rattle.std.specs.Prelude.{◌≡◌, ℕ, Bool, true, false, ◌||◌, List, [], ◌∷◌, ◌++◌, length, ◌==◌, nat_le, if◌then◌else◌, Some}
 use Rattle.std.specs.List.{flat_map, fold, range_with_len}
 use Rattle.protocol_steps.specs.declared.event.Take.{Take}
@@ -10,11 +10,11 @@ use Rattle.delivery_core.specs.State.{CoreView}
 use Rattle.delivery_core.specs.Takes.{take_some}
 use Rattle.delivery_core.specs.NetworkState.{IsStateOf}
 
--- what agent i takes in its turn: of each sender what is pending, at most 64
+-- what agent i takes in its turn: from each sender what is pending, at most 64 messages
 abbrev pub turn_takes : Network → ℕ → List Take
 turn_takes net i = flat_map (λ j. take_some j (length (pending net i j))) (range_with_len 0 (length net.views))
 
--- an agent's event with these takes, where it takes something
+-- the event of agent i with these takes; no event if it takes nothing
 abbrev pub event_with : ℕ → List Take → List Event
 event_with i ts = if length ts == 0 then [] else record { agent = i; takes = ts } ∷ []
 
@@ -35,16 +35,19 @@ turns net (i ∷ is) = turn net i ++ turns (after net (turn net i)) is
 abbrev pub round : Network → List Event
 round net = turns net (range_with_len 0 (length net.views))
 
--- playing stops where all have ended, the deliveries are at least the budget, or the round has no event
+-- playing stops if all agents have ended, the deliveries are at least the budget, or the round has
+-- no event
 abbrev pub stops : ℕ → Network → Bool
 stops budget net = has_ended net || nat_le budget (deliveries net) || (length (round net) == 0)
 
--- rounds with events, each played where playing does not stop, lead from one network to another, where it stops
+-- these are the events of rounds, round by round, that lead from one network to another; playing
+-- does not stop before any of them, and stops at the end
 abbrev pub PlaysTo : ℕ → Network → List (List Event) → Network → Type 0
 PlaysTo budget net [] end = (stops budget net ≡ true) × (net ≡ end)
 PlaysTo budget net (es ∷ pieces) end = (stops budget net ≡ false) × (round net ≡ es) × PlaysTo budget (after net es) pieces end
 
--- what was played: the events of such rounds are a run, and the core state is the network state at its end
+-- what was played: the events of such rounds are a run, and the core state is the network state at
+-- its end
 pub record IsPlayed (budget : ℕ) (first : Network) (events : List Event) (state : CoreView) : Type 0 where
   pub end : Network
   pub pieces : List (List Event)

@@ -1,8 +1,9 @@
-//! Agents that one thread plays, turn by turn.
+//! Runs of agents that one thread plays, turn by turn.
 //!
-//! [`play_out`] plays the agents of a problem in rounds of up to 32 turns, keeps no events, and hands
-//! on what they have come to. [`play`] plays rounds of one turn each until all have ended or a budget
-//! of deliveries is spent, and gives the events with the network state at their end.
+//! [`play_out`] plays the agents of a problem in rounds of up to 32 turns, keeps no events, and
+//! returns the outcome. [`play`] plays rounds of one turn each until all agents have ended, a
+//! budget of deliveries is spent, or a round has no event. It returns the events and the network
+//! state at their end.
 #![tactic(auto)]
 
 mod sprint;

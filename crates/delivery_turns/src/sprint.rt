@@ -15,16 +15,17 @@ use delivery_core::{CoreState, Start, outcome_of};
 use protocol_steps::{Outcome, Take};
 use std::alloc::Global;
 
-/// How many turns a round has at most.
+/// The most turns of a round.
 const MOST_TURNS: usize = 32;
 
-/// The most turns of the code are as many as the events of an agent in a round of the definitions.
+/// The most turns of a round in the code are the most events of an agent in a round in the
+/// definitions.
 pub fn turns_agree()
     ensures { MOST_TURNS ≡ most_events }
 {}
 
-/// A turn of all agents, in ascending order: those known to take nothing are passed over. Tells whether
-/// it took nothing. `takes` is room for what one agent takes.
+/// Plays a turn of all agents, in ascending order, and passes over those that are known to take
+/// nothing. Returns whether the turn took nothing. `takes` is a buffer for what one agent takes.
 fn play_all<G: Gate>(
     alloc: Global,
     gate: &G,
@@ -45,9 +46,9 @@ fn play_all<G: Gate>(
     Ok(still)
 }
 
-/// A turn of those agents to whom something came since they were looked at last, in ascending order:
-/// also of one to whom an agent before it in this turn sends something. Tells whether it took
-/// nothing.
+/// Plays a turn of the agents that were sent something since they were last looked at, in ascending
+/// order. It includes an agent to which an agent before it in this turn sends something. Returns
+/// whether the turn took nothing.
 fn play_turn<G: Gate>(
     alloc: Global,
     gate: &G,
@@ -68,8 +69,8 @@ fn play_turn<G: Gate>(
     Ok(still)
 }
 
-/// A round: a turn of all agents, and then turns of those to whom something came, until one takes
-/// nothing, at most 32 turns in all. Tells whether none of them took anything.
+/// Plays a round: a turn of all agents, and then turns of those that were sent something, until a
+/// turn takes nothing, at most 32 turns in all. Returns whether no turn took anything.
 fn play_sprint<G: Gate>(
     alloc: Global,
     gate: &G,
@@ -114,21 +115,22 @@ fn play_sprints<G: Gate>(
     Ok(())
 }
 
-/// Plays the agents on this thread, in rounds from the start state, and tells what they have come to.
+/// Plays the agents on this thread, in rounds from the start state, and returns the outcome.
 ///
-/// In a turn agents come in ascending order, and each that has not ended and has something pending
-/// makes one event: from each sender it takes what is pending, at most 64 messages. The first turn of
-/// a round is of all agents, and each later one of those to whom something came since they were
-/// looked at last; a round ends with a turn that takes nothing, or with its 32nd. Playing stops where,
-/// after the start or a round, all have ended, the deliveries are at least `budget`, which is at most
-/// 10,000,000, or the round had no event. An agent passes the gate where it is looked at and something
-/// may wait for it. No event is kept.
+/// A turn visits agents in ascending order. Each of them that has not ended and has something
+/// pending makes one event: it takes from each sender what is pending, at most 64 messages. The
+/// first turn of a round visits all agents. Each later turn visits those that were sent something
+/// since they were last looked at. A round ends with a turn that takes nothing, or with its 32nd
+/// turn. Playing stops when, after the start or a round, all agents have ended, the deliveries are
+/// at least `budget`, or the round had no event. The budget must be at most 10,000,000. An agent
+/// passes the gate when it is looked at and something may wait for it. No event is kept.
 ///
-/// So a run with one worker of `agent_workers` goes, on the same agents: without cells and links.
+/// A run of `agent_workers` with one worker plays the same agents in this way too, with cells and
+/// links.
 ///
 /// # Errors
 ///
-/// [`NoMemory`] where memory was wanted and not had.
+/// [`NoMemory`] if memory runs out.
 pub fn play_out<G: Gate>(
     alloc: Global,
     gate: &G,

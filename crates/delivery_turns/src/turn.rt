@@ -18,12 +18,12 @@ use std::alloc::Global;
 pub struct Played {
     /// The network state at the end.
     pub state: CoreState,
-    /// What happened, in order.
+    /// The events, in order.
     pub events: EventList,
 }
 
-/// The turn of one agent: it takes what is pending, and that stands in `takes`, in place of what the
-/// list held.
+/// Plays the turn of one agent: it takes what is pending. The content of `takes` is replaced by
+/// what it takes.
 pub(crate) fn take_turn<G: Gate>(
     alloc: Global,
     gate: &G,
@@ -43,7 +43,8 @@ pub(crate) fn take_turn<G: Gate>(
     state.follow(alloc, VarId(me as u32), takes.as_slice())
 }
 
-/// The turn of one agent: it takes what is pending, and the event is added.
+/// Plays the turn of one agent: it takes what is pending. If it takes something, its event is
+/// appended.
 fn add_turn<G: Gate>(
     alloc: Global,
     gate: &G,
@@ -68,7 +69,7 @@ fn add_turn<G: Gate>(
     Ok(())
 }
 
-/// A round: the turns of all agents in ascending order.
+/// Plays a round: the turns of all agents in ascending order. Their events are appended.
 fn play_round<G: Gate>(
     alloc: Global,
     gate: &G,
@@ -92,7 +93,7 @@ pub(crate) fn is_over(state: &CoreState, budget: u64) -> bool
     state.all_ended() || state.deliveries() >= budget
 }
 
-/// Plays rounds until playing stops. Gives what happened.
+/// Plays rounds until playing stops. Returns the events.
 fn play_rounds(alloc: Global, state: &mut CoreState, budget: u64) -> Result<Vec<Event>, NoMemory>
     requires core { IsSomeCore state.old }
     requires few { length state.old.seats ≤ variable_limit }
@@ -112,16 +113,16 @@ fn play_rounds(alloc: Global, state: &mut CoreState, budget: u64) -> Result<Vec<
     Ok(events)
 }
 
-/// Plays the agents in rounds from the start state. In a round the agents come in ascending order,
-/// and each that has not ended and has something pending makes one event: from each sender it
-/// takes what is pending, at most 64 messages. Playing stops where, after the start or a round,
-/// all have ended, the deliveries are at least `budget`, or the round had no event. A tree of the
-/// start is a pseudotree of the problem, and linked: each variable but the root is a neighbour of
-/// its parent; an error is at most 2^62.
+/// Plays the agents in rounds of one turn each, from the start state. A round visits the agents in
+/// ascending order. Each of them that has not ended and has something pending makes one event: it
+/// takes from each sender what is pending, at most 64 messages. Playing stops when, after the start
+/// or a round, all agents have ended, the deliveries are at least `budget`, or the round had no
+/// event. The tree of a start must be a pseudotree of the problem, and linked: each variable except
+/// the root is a neighbour of its parent. The requested error must be at most 2^62.
 ///
 /// # Errors
 ///
-/// [`NoMemory`] where memory was wanted and not had.
+/// [`NoMemory`] if memory runs out.
 pub fn play(alloc: Global, problem: &Problem, start: Start, budget: u64) -> Result<Played, NoMemory>
     requires start { IsStartFor problem.now start }
     ensures end { IfOk result (λ played. IsPlayed budget (network_of problem.now start) played.events played.state) }

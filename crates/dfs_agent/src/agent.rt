@@ -28,9 +28,9 @@ const MOST_OTHERS: usize = MAX_VARIABLES - 1;
 
 /// A token agent: its part in the depth-first search of the graph. Contracts see its view.
 ///
-/// It opens with the first token that comes, or at its start where its variable is 0. Then it
-/// sends the token to its lowest neighbour that was not visited, waits for the subtree that comes
-/// back, and looks again. When no neighbour is left it ends and sends its own subtree to its
+/// It opens with the first token that arrives; the agent of variable 0 opens at its start. Then it
+/// sends the token to its lowest neighbour that has not been visited, waits for the subtree that
+/// comes back, and looks again. When no neighbour is left it ends, and sends its own subtree to its
 /// parent.
 #[derive(Debug, Drop)]
 pub struct TokenAgent {
@@ -38,9 +38,9 @@ pub struct TokenAgent {
     /// What it knows of the problem.
     own: Private,
     stage: Stage,
-    /// The path that came with the token, until the place has it.
+    /// The path that came with the token, until the place contains it.
     path: VarList,
-    /// The subtrees that came back, one of each child, in their order.
+    /// The subtrees that came back, one from each child, in the order of their return.
     kept: Vec<VarList>,
 }
 
@@ -61,7 +61,7 @@ impl TokenAgent {
     ///
     /// # Errors
     ///
-    /// [`NoMemory`] where memory was wanted and not had.
+    /// [`NoMemory`] if memory runs out.
     pub fn new(alloc: Global, own: Private) -> Result<TokenAgent, NoMemory>
         requires { IsKnowledge own }
         ensures { IfOk result (λ agent. agent ≡ new_token own) }
@@ -75,7 +75,7 @@ impl TokenAgent {
         })
     }
 
-    /// The place that the agent found; `None` exactly before it has ended.
+    /// The place that the agent found; `None` exactly if it has not ended.
     pub fn into_place(self) -> Option<Place>
         ensures { result ≡ token_place self }
     {
@@ -92,7 +92,7 @@ impl TokenAgent {
         }
     }
 
-    /// Sends the token on to the lowest neighbour that was not visited, or ends the search.
+    /// Sends the token on to the lowest neighbour that has not been visited, or ends the search.
     fn look(&mut self) -> Result<Option<Parcel>, NoMemory>
         requires { self.old.phase ≡ searching }
         ensures own { self.new.own ≡ self.old.own }
@@ -153,7 +153,7 @@ impl TokenAgent {
         are_distinct_without(path, self.own.me)
     }
 
-    /// Opens with a token's path, where the token is taken.
+    /// Opens with a token's path, if the token is taken.
     fn take_token(&mut self, from: VarId, path: &VarList) -> Result<Option<Parcel>, NoMemory>
         requires running { IsRunning self.old }
         requires near { Contains self.old.own.neighbours from }
@@ -183,7 +183,7 @@ impl TokenAgent {
             && count_of(self.kept.as_slice()) + visited.len() <= MOST_OTHERS
     }
 
-    /// Keeps a child's subtree and looks on, where the subtree is taken.
+    /// Keeps a child's subtree and looks for the next child, if the subtree is taken.
     fn take_done(&mut self, from: VarId, visited: &VarList) -> Result<Option<Parcel>, NoMemory>
         requires running { IsRunning self.old }
         requires range { AreVariables visited.now }
@@ -199,7 +199,7 @@ impl TokenAgent {
         self.look()
     }
 
-    /// Handles one message: what is not taken is passed over.
+    /// Handles one message. A message that is not taken is ignored.
     fn handle(&mut self, letter: &Letter) -> Result<Option<Parcel>, NoMemory>
         requires running { IsRunning self.old }
         requires near { Contains self.old.own.neighbours letter.now.0 }
@@ -215,7 +215,7 @@ impl TokenAgent {
         }
     }
 
-    /// Handles all messages of a batch, in order. What is sent goes into `parcels`.
+    /// Handles all messages of a batch, in order. Puts what is sent into `parcels`.
     #[tactic(auto, using(crate::proofs::AgentLaws::leads_on, crate::proofs::AgentLaws::led_to))]
     fn handle_all(
         &mut self,
@@ -237,7 +237,7 @@ impl TokenAgent {
         Ok(parcels)
     }
 
-    /// Fails for good.
+    /// The agent fails for good.
     fn fail(&mut self) -> NoMemory
         ensures own { self.new.own ≡ self.old.own }
         ensures failed { self.new.phase.failed ≡ true }
@@ -246,7 +246,7 @@ impl TokenAgent {
         NoMemory
     }
 
-    /// Starts: the root opens with the empty path.
+    /// The start: the root opens with the empty path.
     fn open(&mut self) -> Result<Option<Parcel>, NoMemory>
         requires { IsNew self.old }
         ensures own { self.new.own ≡ self.old.own }
@@ -260,7 +260,7 @@ impl TokenAgent {
         self.look()
     }
 
-    /// Starts. What is sent goes into `parcels`.
+    /// The start. Puts what is sent into `parcels`.
     fn begin(&mut self, mut parcels: Vec<Parcel>) -> Result<Vec<Parcel>, NoMemory>
         requires new { IsNew self.old }
         requires empty { parcels.items ≡ [] }
@@ -275,7 +275,7 @@ impl TokenAgent {
     }
 }
 
-/// The memory of an outbox that is lent empty, for what is sent; the outbox stays empty.
+/// The memory of an outbox, lent empty for what is sent; the outbox stays empty.
 fn memory_of(alloc: Global, out: &mut Outbox) -> Vec<Parcel>
     requires { out.old ≡ [] }
     ensures empty { result.items ≡ [] }

@@ -1,4 +1,5 @@
-//! The lists that an agent makes of its path and its kept subtrees, and what it sends of them.
+//! The lists that an agent makes from its path and its kept subtrees, and the messages made from
+//! them.
 
 ghost use Rattle.std.specs.Prelude.{◌≡◌, ◌<◌, ◌≤◌, [], ◌∷◌, ◌++◌, length, take, IfOk};
 ghost use Rattle.std.specs.List.{concat, flat_map};
@@ -14,7 +15,7 @@ use protocol_steps::{Message, Parcel};
 use pseudotree::Place;
 use std::alloc::Global;
 
-/// How many variables these lists have together.
+/// The number of variables in these lists together.
 pub(crate) fn count_of(lists: &[VarList]) -> usize
     requires { length (concat lists.now) ≤ variable_limit }
     ensures { result ≡ length (concat lists.now) }
@@ -39,7 +40,7 @@ pub(crate) fn children_of(alloc: Global, kept: &[VarList]) -> Result<VarList, No
     Ok(children)
 }
 
-/// The agent, and then the subtrees of its children.
+/// The agent's variable, and then the subtrees of its children.
 #[tactic(auto, using(crate::proofs::VisitLaws::concat_more))]
 fn subtree_of(alloc: Global, me: VarId, kept: &[VarList]) -> Result<VarList, NoMemory>
     requires { length (concat kept.now) ≤ variable_limit }
@@ -53,14 +54,14 @@ fn subtree_of(alloc: Global, me: VarId, kept: &[VarList]) -> Result<VarList, NoM
     Ok(VarList::shared(alloc, subtree)?)
 }
 
-/// The same variables, in the same memory where they share it.
+/// A list of the same variables. If their memory is shared, the copy shares it too.
 pub(crate) fn copy_of(vars: &VarList) -> Result<VarList, NoMemory>
     ensures { IfOk result (λ list. list ≡ vars.now) }
 {
     Ok(vars.clone()?)
 }
 
-/// The place of an agent whose subtree is searched, without the sizes of its path.
+/// The place of an agent whose subtree has been searched, without the sizes of its path.
 pub(crate) fn place_of(
     alloc: Global,
     me: VarId,
@@ -106,7 +107,7 @@ pub(crate) fn token_for(
     })
 }
 
-/// The searched subtree for the parent; `None` exactly where the path is empty.
+/// The searched subtree for the parent; `None` exactly if the path is empty.
 pub(crate) fn done_for(
     alloc: Global,
     me: VarId,

@@ -1,19 +1,19 @@
-//! Where an agent stands in its search.
+//! The stages of an agent in its search.
 
 use dcop_base::VarId;
 use pseudotree::Place;
 
-/// Where an agent stands in its search.
+/// The stage of an agent in its search.
 #[derive(Debug, Drop)]
 pub(crate) enum Stage {
     /// The agent has not started.
     Waiting,
-    /// It has started, and no token has come yet.
+    /// It has started, and no token has arrived yet.
     Closed,
-    /// A token has come, and is now with this child.
+    /// A token has arrived, and is with this child at present.
     Open { child: VarId },
-    /// Its subtree is searched.
+    /// Its subtree has been searched.
     Ended { place: Place },
-    /// Memory was wanted and not had.
+    /// Memory ran out.
     Failed,
 }

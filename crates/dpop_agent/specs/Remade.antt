@@ -1,4 +1,4 @@
--- The tables of a DPOP step that are made anew, from what was made for the children.
+-- The tables of a DPOP step made anew, from those that were made for the children.
 use Rattle.std.specs.Prelude.{◌≡◌, ℕ, ◌<◌, ◌≤◌, true, List, map, length, Option, Some, None, is_some, slice_index_or}
 use Rattle.std.specs.List.{All}
 use Rattle.dcop_base.specs.Table.{CostTable}
@@ -12,7 +12,7 @@ use Rattle.dpop_agent.specs.declared.made.Made.{Made}
 use Rattle.dpop_agent.specs.Keeping.{keeping, MayKeep}
 use Rattle.dpop_agent.specs.Joint.{IsJoint}
 
--- the table that was sent, of what was made
+-- the table that was sent, if any tables were made
 abbrev pub sent_by : Option Made → Option CostTable
 sent_by None = None
 sent_by (Some made) = Some made.sent
@@ -29,11 +29,11 @@ sent_of kept vars = map (sent_at kept) vars
 abbrev pub with_sent : Private → Place → List (Option Made) → DpopView
 with_sent own place kept = keeping own place (sent_of kept place.children)
 
--- how many cells its joined table has
+-- the number of cells of its joined table
 abbrev pub joined_count : DpopView → ℕ
 joined_count v = joined_cells_with v (kept_scopes v)
 
--- what may be made anew: the agent may be made so, what was made for its children is there and may be kept, and the joined table is not too wide
+-- when tables may be made anew: the agent's knowledge and place fit, the tables of its children are there and may be kept, and the joined table is not too wide
 pub record MayRemake (own : Private) (place : Place) (kept : List (Option Made)) : Type 0 where
   pub known : IsKnowledge own
   pub placed : IsPlaceFor own place
@@ -42,7 +42,7 @@ pub record MayRemake (own : Private) (place : Place) (kept : List (Option Made))
   pub tables : All (λ u. MayKeep own place (sent_at kept u)) place.children
   pub narrow : joined_count (with_sent own place kept) ≤ joined_limit
 
--- what is made anew: the joined table and the UTIL table
+-- the tables that are made anew: the joined table and the UTIL table
 pub record IsRemade (v : DpopView) (made : Made) : Type 0 where
   pub joined : IsJoint v made.joined
   pub sent : made.sent ≡ util_table v

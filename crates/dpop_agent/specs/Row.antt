@@ -11,11 +11,11 @@ use Rattle.protocol_steps.specs.Dpop.{DpopView, separator, size_of}
 abbrev pub AreBelowSizes : DpopView → (ℕ → ℕ) → Type 0
 AreBelowSizes v value = AreWithin (map (size_of v) (separator v)) (map value (separator v))
 
--- a table has a cell at these values and at each of so many own values
+-- a table has a cell at these values and each of the first `count` own values
 abbrev pub HasCells : ℕ → (ℕ → ℕ) → ℕ → CostTable → Type 0
 HasCells me value count t = (d : ℕ) → d < count → AreWithin t.sizes (map (with_own me d value) t.scope)
 
--- a row of costs, one for each own value, to which these tables were added at these values, capped
+-- a row of costs, one for each own value, after these tables were added at these values; the sums are cut off at the cap
 pub record HasRisen (me : ℕ) (value : ℕ → ℕ) (ts : List CostTable) (old new : List ℕ) : Type 0 where
   pub counted : length new ≡ length old
   pub within : All (λ c. c ≤ amount_limit) new

@@ -1,4 +1,4 @@
--- What the stage of a DPOP agent says of its phase.
+-- What the stage of a DPOP agent says about its phase.
 use Rattle.std.specs.Prelude.{ℕ, true, false, List, Option}
 use Rattle.dcop_base.specs.Table.{CostTable}
 use Rattle.dcop_base.specs.declared.knowledge.Private.{Private}
@@ -12,6 +12,7 @@ use Rattle.dpop_agent.specs.declared.stage.Stage.TheVariants.{Waiting, Working, 
 abbrev pub working : Phase
 working = record { started = true; ended = false; failed = false }
 
+-- the phase of an agent at a stage
 abbrev pub phase_at : Stage → Phase
 phase_at Waiting = not_started
 phase_at Working = working

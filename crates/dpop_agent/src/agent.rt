@@ -33,9 +33,9 @@ use std::mem;
 
 /// A DPOP agent: its part in the propagation of UTIL tables and values. Contracts see its view.
 ///
-/// It keeps the tables that its children send. When it has all of them it joins them with its own
-/// tables and keeps the table that is projected from that; its own value it finds from the same
-/// tables when values come.
+/// It keeps the tables that its children send. When it has all of them, it joins them with its own
+/// tables, and keeps the table that it projects from the result. When values arrive, it finds its
+/// own value from the same tables.
 #[derive(Debug, Drop)]
 pub struct DpopAgent {
     alloc: Global,
@@ -43,9 +43,9 @@ pub struct DpopAgent {
     own: Private,
     place: Place,
     stage: Stage,
-    /// The table of each child, in the order of the children, where it has come.
+    /// The table of each child, in the order of the children, once it has arrived.
     kept: Vec<Option<Table>>,
-    /// The UTIL table, projected from the joined one, which is not kept.
+    /// The UTIL table, projected from the joined table, which is not kept.
     made: Option<Table>,
     value: Val,
 }
@@ -67,7 +67,7 @@ impl DpopAgent {
     ///
     /// # Errors
     ///
-    /// [`NoMemory`] where memory was wanted and not had. The arguments are gone then too.
+    /// [`NoMemory`] if memory runs out. The arguments are dropped in that case.
     pub fn new(alloc: Global, own: Private, place: Place) -> Result<DpopAgent, NoMemory>
         requires known { IsKnowledge own }
         requires placed { IsPlaceFor own place }
@@ -85,14 +85,14 @@ impl DpopAgent {
         })
     }
 
-    /// The UTIL table that the agent made; `None` exactly before it has joined.
+    /// The UTIL table that the agent made; `None` exactly if it has not joined.
     pub fn into_table(self) -> Option<Table>
         ensures { result ≡ self.made }
     {
         self.made
     }
 
-    /// Takes the best value at these values, tells the children, and ends.
+    /// Takes the best own value at these values, sends the children their values, and ends.
     fn decide(
         &mut self,
         values: &AgentContext,
@@ -124,8 +124,9 @@ impl DpopAgent {
         Ok(told)
     }
 
-    /// Joins where all children's tables are kept and the joined table is not too wide: the table
-    /// goes to the parent; the root decides. The joined table's variables may be known already.
+    /// Joins if the tables of all children are kept and the joined table is not too wide. The UTIL
+    /// table goes to the parent; the root decides. `known` has the joined table's variables if they
+    /// are already known.
     fn join(&mut self, known: Option<Over>, parcels: Vec<Parcel>) -> Result<Vec<Parcel>, NoMemory>
         requires working { self.old.phase ≡ working }
         requires known { IfSome known (IsOver self.old) }
@@ -146,7 +147,7 @@ impl DpopAgent {
         Ok(sent)
     }
 
-    /// Keeps a child's table and joins, where the table is taken.
+    /// Keeps a child's table and joins, if the table is taken.
     fn take_util(
         &mut self,
         from: VarId,
@@ -203,7 +204,7 @@ impl DpopAgent {
         are_sized(&self.place, values.pairs()) && values.names_all(&made.scope)
     }
 
-    /// Decides, where the values are taken.
+    /// Decides, if the values are taken.
     fn take_values(
         &mut self,
         from: VarId,
@@ -224,7 +225,7 @@ impl DpopAgent {
         self.decide(values, parcels)
     }
 
-    /// Handles one message: what is not taken is passed over.
+    /// Handles one message. A message that is not taken is ignored.
     fn handle(&mut self, letter: &Letter, parcels: Vec<Parcel>) -> Result<Vec<Parcel>, NoMemory>
         requires running { IsRunning self.old }
         ensures own { (self.new.own ≡ self.old.own) × (self.new.place ≡ self.old.place) }
@@ -242,7 +243,7 @@ impl DpopAgent {
         }
     }
 
-    /// Handles all messages of a batch, in order. What is sent lies in the room of `parcels`.
+    /// Handles all messages of a batch, in order. What is sent uses the memory of `parcels`.
     #[tactic(auto, using(crate::proofs::BatchLaws::leads_on, crate::proofs::BatchLaws::led_to))]
     fn handle_all(
         &mut self,
@@ -262,7 +263,7 @@ impl DpopAgent {
         Ok(sent)
     }
 
-    /// Fails for good.
+    /// The agent fails for good.
     fn fail(&mut self) -> NoMemory
         ensures own { (self.new.own ≡ self.old.own) × (self.new.place ≡ self.old.place) }
         ensures failed { self.new.phase.failed ≡ true }
@@ -271,7 +272,8 @@ impl DpopAgent {
         NoMemory
     }
 
-    /// Starts: an agent without children joins at once. What is sent lies in the room of `parcels`.
+    /// The start: an agent without children joins at once. What is sent uses the memory of
+    /// `parcels`.
     fn begin(&mut self, parcels: Vec<Parcel>) -> Result<Vec<Parcel>, NoMemory>
         requires { self.old.phase ≡ not_started }
         ensures own { (self.new.own ≡ self.old.own) × (self.new.place ≡ self.old.place) }
@@ -335,7 +337,7 @@ impl Machine for DpopAgent {
     }
 }
 
-/// So many places for tables, of which none is kept yet.
+/// `count` places for tables, all of them empty.
 fn empty_places(alloc: Global, count: usize) -> Result<Vec<Option<Table>>, NoMemory>
     ensures { IfOk result (λ places. places.items ≡ replicate count None) }
 {

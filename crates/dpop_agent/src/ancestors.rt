@@ -1,4 +1,4 @@
-//! The variables above an agent, sought from the end of its path: most that are sought stand there.
+//! The variables above an agent, searched from the end of its path, where most of those sought are.
 
 ghost use Rattle.std.specs.Prelude.{◌≡◌, ◌==◌, ◌||◌, false, length, nat_eq};
 ghost use Rattle.std.specs.List.{filter, list_all, zip};
@@ -9,8 +9,8 @@ ghost use Rattle.dpop_agent.specs.Keeping.{AreApart};
 
 use dcop_base::{VarId, stands_in};
 
-/// The size that stands beside a variable, at the same place of the second list; `None` exactly
-/// where the variable is none of these distinct ones.
+/// The size of a variable, at the variable's place in the second list; `None` exactly if the
+/// variable is not in the first list, whose variables are distinct.
 pub(crate) fn size_from_the_end(path: &[VarId], sizes: &[u16], var: VarId) -> Option<u16>
     requires apart { has_repeat path.now ≡ false }
     requires sized { length sizes.now ≡ length path.now }
@@ -26,8 +26,8 @@ pub(crate) fn size_from_the_end(path: &[VarId], sizes: &[u16], var: VarId) -> Op
     None
 }
 
-/// Whether these variables stand in a path of distinct ones, in the path's order. Both lists are gone
-/// through from their ends, no farther than up to the first one of the variables.
+/// Whether these variables are in a path of distinct variables, in the path's order. Both lists are
+/// read from their ends, and no further than to the first of the variables.
 pub(crate) fn stand_in_order(path: &[VarId], vars: &[VarId]) -> bool
     requires { has_repeat path.now ≡ false }
     ensures { result ≡ pointwise nat_eq vars.now (filter (has vars.now) path.now) }
@@ -44,7 +44,7 @@ pub(crate) fn stand_in_order(path: &[VarId], vars: &[VarId]) -> bool
     stand_in_order(above, vars)
 }
 
-/// Whether these variables are the agent's and otherwise only those of its path.
+/// Whether a scope names only the agent and variables of its path.
 pub(crate) fn are_above(scope: &[VarId], me: VarId, path: &[VarId], lower: &[VarId]) -> bool
     requires { AreApart lower.now path.now }
     ensures { result ≡ list_all (λ u. u == me || has path.now u) scope.now }
@@ -52,8 +52,8 @@ pub(crate) fn are_above(scope: &[VarId], me: VarId, path: &[VarId], lower: &[Var
     scope.iter().all(|var| is_above(*var, me, path, lower))
 }
 
-/// Whether the variable is the agent's or one of its path. A neighbour that is none of the path is
-/// one of the lower ones, and is sought there first where they are fewer.
+/// Whether the variable is the agent's or one of its path. A neighbour that is not in the path is
+/// one of the lower variables. It is searched for there first if they are fewer.
 fn is_above(var: VarId, me: VarId, path: &[VarId], lower: &[VarId]) -> bool
     requires { AreApart lower.now path.now }
     ensures { result ≡ (var == me || has path.now var) }
@@ -67,7 +67,7 @@ fn is_above(var: VarId, me: VarId, path: &[VarId], lower: &[VarId]) -> bool
     stands_from_the_end(path, var)
 }
 
-/// Whether the variable stands among these, sought from their end on.
+/// Whether the variable is in the list, which is searched from its end.
 fn stands_from_the_end(vars: &[VarId], var: VarId) -> bool
     ensures { result ≡ has vars.now var }
 {

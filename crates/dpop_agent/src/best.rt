@@ -18,8 +18,8 @@ use pseudotree::Place;
 use std::alloc::Global;
 use util_project::lowest_of;
 
-/// The lowest own value of least joined cost at the separator's values: the costs of all own values
-/// are added up from the agent's own tables and the kept ones.
+/// The lowest own value with the least joined cost at the separator's values. The costs of all own
+/// values are added up from the agent's own tables and the kept ones.
 pub(crate) fn best_of(
     alloc: Global,
     own: &Private,
@@ -40,10 +40,10 @@ pub(crate) fn best_of(
     Ok(best_by(costs.as_mut_slice(), own, place, kept, values))
 }
 
-/// The costs of so many own values stand in a row that takes no memory.
+/// Up to this many own values, their costs are kept in an array that needs no allocation.
 const ROW: usize = 32;
 
-/// The same of few own values.
+/// The same for an agent with few own values.
 fn best_of_few(own: &Private, place: &Place, kept: &[Option<Table>], values: &AgentContext) -> Val
     requires few { own.now.size ≤ ROW }
     requires keeper { IsKeeper own.now place.now kept.now }
@@ -55,7 +55,7 @@ fn best_of_few(own: &Private, place: &Place, kept: &[Option<Table>], values: &Ag
     best_by(costs, own, place, kept, values)
 }
 
-/// The same, by a row of zeros, one for each own value.
+/// The same, given a row of zeros, one for each own value.
 fn best_by(
     costs: &mut [u64],
     own: &Private,
@@ -76,8 +76,7 @@ fn best_by(
     lowest_of(costs)
 }
 
-/// Adds to each cost the cells of the tables that name the agent and otherwise only variables of its
-/// path.
+/// Adds to each cost the cells of the tables that name only the agent and variables of its path.
 fn add_own(
     costs: &mut [u64],
     tables: &[Table],

@@ -1,4 +1,4 @@
-//! What comes from a child, and from and to the parent.
+//! Messages from a child, and from and to the parent.
 
 ghost use Rattle.std.specs.Prelude.{◌≡◌, false, ◌<◌, ◌≤◌, [], ◌∷◌, ◌++◌, ◌&&◌, ◌==◌, length, map, nat_eq, nat_le, Option, IfOk, slice_get};
 ghost use Rattle.std.specs.List.{filter, list_all, zip};
@@ -24,7 +24,7 @@ use protocol_steps::{Message, Parcel};
 use pseudotree::{MAX_JOINED_CELLS, Place};
 use std::alloc::Global;
 
-/// These parcels, and UTIL for the parent, with the table that was made; the root, whose path is
+/// These parcels, and UTIL for the parent, with the table that was made. The root, whose path is
 /// empty, sends none.
 pub(crate) fn util_for(
     alloc: Global,
@@ -61,7 +61,7 @@ pub(crate) fn is_parent(path: &[VarId], var: VarId) -> bool
     }
 }
 
-/// Whether a value is below the size of a variable of the path; also where it is another variable.
+/// Whether a value is below the size of a variable of the path; true for any other variable.
 fn is_sized(place: &Place, var: VarId, value: Val) -> bool
     requires apart { has_repeat place.now.path ≡ false }
     requires sized { length place.now.path_sizes ≡ length place.now.path }
@@ -74,7 +74,7 @@ fn is_sized(place: &Place, var: VarId, value: Val) -> bool
     }
 }
 
-/// Whether each variable of the path has a value below its size.
+/// Whether each pair gives a variable of the path a value below its size.
 pub(crate) fn are_sized(place: &Place, pairs: &[(VarId, Val)]) -> bool
     requires apart { has_repeat place.now.path ≡ false }
     requires sized { length place.now.path_sizes ≡ length place.now.path }
@@ -84,7 +84,7 @@ pub(crate) fn are_sized(place: &Place, pairs: &[(VarId, Val)]) -> bool
     pairs.iter().all(|pair| is_sized(place, pair.0, pair.1))
 }
 
-/// Whether there is a place for a child's table, and none is kept there yet.
+/// Whether there is a place for a child's table, and it is empty.
 fn is_open(kept: &[Option<Table>], child: usize) -> bool
     ensures { result ≡ is_open (slice_get kept.now child) }
 {
@@ -107,7 +107,7 @@ fn is_in_order(me: VarId, path: &[VarId], scope: &[VarId]) -> bool
     }
 }
 
-/// Whether a table of these sizes has so many cells.
+/// Whether a table of these sizes has `count` cells.
 fn are_cells_of(sizes: &[u16], count: usize) -> bool
     requires { count ≤ joined_limit }
     ensures { result ≡ (count == product sizes.now) }
@@ -125,8 +125,8 @@ fn is_narrow(sizes: &[u16]) -> bool
     cells_of(sizes, MAX_JOINED_CELLS).is_some()
 }
 
-/// Whether the child at this place may send a table of this scope, of these sizes, with these cells,
-/// where the joined table has the sizes `over` if the scope counts as kept.
+/// Whether the child at this place may send a table with this scope, these sizes and these cells.
+/// `over` has the sizes of the joined table with this scope among the kept ones.
 fn takes(
     own: &Private,
     place: &Place,
@@ -157,8 +157,8 @@ fn takes(
     is_narrow(over)
 }
 
-/// The table that a child sends with this scope and these cells, where it is taken. The joined table
-/// has the sizes `over` if the scope counts as kept.
+/// The table that a child sends with this scope and these cells, if it is taken. `over` has the
+/// sizes of the joined table with this scope among the kept ones.
 pub(crate) fn table_of(
     alloc: Global,
     own: &Private,

@@ -17,7 +17,7 @@ use pseudotree::Place;
 use std::alloc::Global;
 use util_join::{JoinFault, Joined};
 
-/// Adds the tables that name the agent and otherwise only variables of its path.
+/// Adds the tables that name only the agent and variables of its path.
 pub(crate) fn add_own(
     joined: &mut Joined,
     tables: &[Table],
@@ -50,7 +50,7 @@ fn add_kept(joined: &mut Joined, kept: &[Option<Table>])
     }
 }
 
-/// A joined table of zeros over these variables; `None` exactly where it is too wide.
+/// A joined table of zeros over these variables; `None` exactly if it would be too wide.
 pub(crate) fn zeros_over(alloc: Global, over: Over) -> Result<Option<Joined>, NoMemory>
     requires distinct { has_repeat over.vars ≡ false }
     requires sized { length over.sizes ≡ length over.vars }
@@ -64,7 +64,7 @@ pub(crate) fn zeros_over(alloc: Global, over: Over) -> Result<Option<Joined>, No
     }
 }
 
-/// The variables of the joined table: those that are known already, or else what is found.
+/// The variables of the joined table: `known` if they are already known, and otherwise found here.
 fn known_or_found(
     alloc: Global,
     own: &Private,
@@ -82,7 +82,7 @@ fn known_or_found(
     }
 }
 
-/// The joined table of zeros that an agent starts from; `None` exactly where it is too wide.
+/// The joined table of zeros from which an agent starts; `None` exactly if it would be too wide.
 fn zeros(
     alloc: Global,
     own: &Private,
@@ -98,8 +98,9 @@ fn zeros(
     zeros_over(alloc, over)
 }
 
-/// The joined table of the agent's own tables and all its children's tables; `None` exactly where
-/// not all of them are kept, or the table is too wide. Its variables may be known already.
+/// The sum of the agent's own tables and all its children's tables; `None` exactly if not all of
+/// these are kept or the joined table would be too wide. `known` has its variables if they are
+/// already known.
 pub(crate) fn joined_of(
     alloc: Global,
     own: &Private,

@@ -1,9 +1,10 @@
-//! The DPOP agent: tables of costs go up a tree, and values come down.
+//! The DPOP agent: cost tables go up a tree, and values come down.
 //!
-//! A [`DpopAgent`] knows its part of the problem and its place in the tree. When it has the tables
-//! of all its children it joins them with its own tables, projects itself out and sends the result
-//! to its parent. With the values of the parent it takes its own value and tells its children. This
-//! is the UTIL and VALUE propagation of DPOP (Petcu, Faltings, IJCAI 2005).
+//! A [`DpopAgent`] knows only its part of the problem and its place in the tree. When it has the
+//! tables of all its children, it joins them with its own tables, projects its variable out, and
+//! sends the result to its parent. When it receives its parent's values, it takes its own value and
+//! sends its children theirs. This is the UTIL and VALUE propagation of DPOP (Petcu, Faltings,
+//! IJCAI 2005).
 #![tactic(auto)]
 
 mod agent;

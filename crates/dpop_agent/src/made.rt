@@ -1,4 +1,4 @@
-//! Tables that are made anew for an agent whose children's tables are kept.
+//! Tables that are made anew for an agent, given its children's tables.
 
 ghost use Rattle.std.specs.Prelude.{◌≡◌, ◌+◌, ◌++◌, ◌<◌, ◌≤◌, [], length, map, IfOk, OnOk};
 ghost use Rattle.std.specs.List.{All, concat, flat_map};
@@ -18,14 +18,14 @@ use util_join::Joined;
 use util_project::project;
 
 /// The tables of one DPOP step of an agent: its joined table, and the table that it sends to its
-/// parent. [`remake`] alone makes one.
+/// parent. Only [`remake`] makes a value of this type.
 #[derive(Debug, Drop)]
 pub struct Made {
     joined: Table,
     sent: Table,
 }
 
-/// What was made for each variable, where anything was.
+/// What was made for each variable, if anything was.
 pub type KeptList = Vec<Option<Made>>;
 
 impl Made {
@@ -44,16 +44,16 @@ impl Made {
     }
 }
 
-/// Makes the tables of an agent's DPOP step, from what was made for its children. The steps rise by
-/// the number of joined cells.
+/// Makes the tables of an agent's DPOP step, from those that were made for its children. The count
+/// of steps rises by the number of joined cells.
 ///
-/// `kept` has an entry for each variable. The entries of the children are there, and their sent
-/// tables are over variables of the path, from the root down, and the agent. The joined table may
-/// have at most [`MAX_JOINED_CELLS`](pseudotree::MAX_JOINED_CELLS) cells.
+/// `kept` has an entry for each variable. The entries of the children are there. The tables that
+/// they sent are over variables of the path, from the root down, and then the agent. The joined
+/// table has at most [`MAX_JOINED_CELLS`](pseudotree::MAX_JOINED_CELLS) cells.
 ///
 /// # Errors
 ///
-/// [`NoMemory`] where memory was wanted and not had. The steps may have risen then, by no more than
+/// [`NoMemory`] if memory runs out. The count of steps may have risen in that case, by no more than
 /// the number of joined cells.
 pub fn remake<L: Ledger>(
     alloc: Global,
@@ -76,7 +76,7 @@ pub fn remake<L: Ledger>(
     Ok(Made { joined, sent })
 }
 
-/// The joined table of the agent's own tables and the tables that its children sent.
+/// The sum of the agent's own tables and the tables that its children sent.
 fn joined_with(
     alloc: Global,
     own: &Private,

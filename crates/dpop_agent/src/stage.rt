@@ -1,22 +1,22 @@
-//! Where an agent stands.
+//! The stages of an agent.
 
 ghost use Rattle.std.specs.Prelude.{◌≡◌};
 ghost use Rattle.dpop_agent.specs.Stage.{phase_at};
 
-/// Where an agent stands.
+/// The stage of an agent.
 #[derive(Clone, Copy, Debug)]
 pub(crate) enum Stage {
     /// The agent has not started.
     Waiting,
-    /// It has started, and has no value yet.
+    /// It has started, and has not taken its value yet.
     Working,
     /// It has taken its value.
     Ended,
-    /// Memory was wanted and not had.
+    /// Memory ran out.
     Failed,
 }
 
-/// Whether an agent that stands there has taken its value.
+/// Whether an agent at this stage has taken its value.
 pub(crate) fn has_ended(stage: Stage) -> bool
     ensures { result ≡ (phase_at stage).ended }
 {

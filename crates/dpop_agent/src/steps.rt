@@ -1,14 +1,14 @@
-//! Steps that are counted.
+//! Counted steps.
 
 ghost use Rattle.std.specs.Prelude.{◌≡◌, ◌+◌, ◌<◌};
 
 use std::marker::Model;
 use std::sync::ledger::{Blank, Book, Ledger, Share};
 
-/// Steps that were taken, by a ledger: a counter that takes no bytes. Contracts see the number.
+/// A count of steps, kept by a ledger: a counter that takes no bytes. Contracts see the number.
 ///
-/// A caller that counts nothing calls a function over `L: Ledger` that is given `Blank::new(1)`,
-/// and makes its steps from it.
+/// A caller that needs no count calls a function over `L: Ledger` that is given `Blank::new(1)` and
+/// makes its steps from it.
 #[derive(Drop)]
 pub struct Steps<L: Ledger> {
     book: Book<L>,
@@ -26,7 +26,7 @@ impl<L: Ledger> Model for Steps<L> {
 }
 
 impl<L: Ledger> Steps<L> {
-    /// No steps yet, by a ledger of at least one part.
+    /// A count of no steps, kept by a ledger of at least one part.
     pub fn new(blank: Blank) -> Steps<L>
         requires name { blank.name ≡ L.name }
         requires parts { blank.parts ≡ L.parts }
@@ -37,7 +37,7 @@ impl<L: Ledger> Steps<L> {
         Steps { book, share }
     }
 
-    /// Counts so many more.
+    /// Counts `count` more steps.
     pub(crate) fn add(&mut self, count: u64)
         ensures { self.new ≡ self.old + count }
     {

@@ -1,4 +1,4 @@
-//! The table that an agent sends up.
+//! The table that an agent sends to its parent.
 
 ghost use Rattle.std.specs.Prelude.{IfOk, IfSome};
 ghost use Rattle.dpop_agent.specs.Keeping.{keeping};
@@ -12,9 +12,9 @@ use pseudotree::Place;
 use std::alloc::Global;
 use util_project::project;
 
-/// The table that an agent with these tables sends up: its joined table without the agent's own
-/// variable; `None` exactly where it may not join. The joined table is not kept. Its variables may
-/// be known already.
+/// The table that an agent with these tables sends to its parent: its joined table without the
+/// agent's own variable; `None` exactly if it may not join. The joined table is not kept. `known`
+/// has its variables if they are already known.
 pub(crate) fn util_of(
     alloc: Global,
     own: &Private,

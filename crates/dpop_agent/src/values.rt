@@ -1,4 +1,4 @@
-//! The values that an agent tells its children.
+//! The values that an agent sends to its children.
 
 ghost use Rattle.std.specs.Prelude.{◌≡◌, ◌<◌, ◌++◌, length, map, IfOk};
 ghost use Rattle.std.specs.List.{All, flat_map, zip};
@@ -14,7 +14,7 @@ use dcop_base::{NoMemory, Table, Val, VarId};
 use protocol_steps::{Message, Parcel};
 use std::alloc::Global;
 
-/// The value that a context gives to a variable; 0 where it does not name it.
+/// The value that a context gives to a variable; 0 if it does not name the variable.
 fn value_of(var: VarId, values: &AgentContext) -> Val
     ensures { result ≡ valued values.now var }
 {
@@ -24,7 +24,7 @@ fn value_of(var: VarId, values: &AgentContext) -> Val
     }
 }
 
-/// The agent's value for its own variable, and the values that a context gives to other ones.
+/// The agent's value for its own variable, and the values that a context gives to others.
 fn value_with(var: VarId, me: VarId, best: Val, values: &AgentContext) -> Val
     ensures { result ≡ with_own me best (valued values.now) var }
 {

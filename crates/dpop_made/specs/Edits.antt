@@ -1,4 +1,4 @@
--- Problems of which a table gets other cells, and the agents that this touches.
+-- Problems in which one table gets other cells, and the agents that this affects.
 use Rattle.std.specs.Prelude.{◌≡◌, ℕ, ◌<◌, Bool, false, List, [], length, Option, slice_index_or, slice_set}
 use Rattle.dcop_base.specs.Table.{CostTable}
 use Rattle.dcop_base.specs.Problem.{Dcop}
@@ -11,7 +11,7 @@ use Rattle.dcop_optimum.specs.Subtree.{is_owner_within}
 use Rattle.dpop_agent.specs.declared.made.Made.{Made}
 use Rattle.dpop_made.specs.Held.{IsHeld}
 
--- no table, which stands for one that is not there
+-- an empty table, used for a table that is not there
 abbrev pub no_table : CostTable
 no_table = record { scope = []; sizes = []; cells = [] }
 
@@ -27,11 +27,11 @@ recelled t cells = record { scope = t.scope; sizes = t.sizes; cells = cells }
 abbrev pub with_cells : Dcop → ℕ → List ℕ → Dcop
 with_cells p k cells = record { sizes = p.sizes; tables = slice_set p.tables k (recelled (table_at p k) cells); joints = p.joints }
 
--- whether variable i lies on the way from the deepest variable of a scope to the root, both included
+-- whether variable i is on the way from the deepest variable of a scope to the root, both included
 abbrev pub is_on_way : List (List ℕ) → List ℕ → ℕ → Bool
 is_on_way paths scope i = is_owner_within paths i (owner_of paths scope)
 
--- two problems with the same sizes and the same graph have the same trees, and their trees the same widths
+-- the depth-first trees of two problems are the same, the trees of the first are trees of the second, and they have the same widths there
 pub record HaveSameTrees (p q : Dcop) : Type 0 where
   pub trees : dfs q ≡ dfs p
   pub pseudotree : (tree : RootedTree) → IsPseudotreeOf p tree → IsPseudotreeOf q tree
@@ -39,12 +39,12 @@ pub record HaveSameTrees (p q : Dcop) : Type 0 where
   pub cells : (paths : List (List ℕ)) (i : ℕ) → joined_cells q paths i ≡ joined_cells p paths i
   pub wide : (paths : List (List ℕ)) → wide_of q paths ≡ wide_of p paths
 
--- other cells in a table leave the trees, and what is held for each variable off the way from the table's deepest variable to the root
+-- other cells in a table leave the trees as they are; they also leave what is held for each variable that is not on the way from the table's deepest variable to the root
 pub record LeavesOthers (p : Dcop) (k : ℕ) (cells : List ℕ) : Type 0 where
   pub trees : HaveSameTrees p (with_cells p k cells)
   pub held : (paths : List (List ℕ)) (kept : List (Option Made)) (i : ℕ) → IsPseudotree p paths
       → is_on_way paths (table_at p k).scope i ≡ false → IsHeld p paths kept i → IsHeld (with_cells p k cells) paths kept i
 
--- so it is in every problem
+-- in every problem, other cells in a table leave the trees as they are, and what is held for each variable that is not on the way from the table's deepest variable to the root
 abbrev pub EditsLeaveOthers : Type 0
 EditsLeaveOthers = (p : Dcop) (k : ℕ) (cells : List ℕ) → IsProblem p → k < length p.tables → LeavesOthers p k cells

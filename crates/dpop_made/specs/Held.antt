@@ -1,4 +1,4 @@
--- What was made for the agents of a tree, as it is kept for all variables.
+-- The tables that were made for the agents of a tree, kept in one list for all variables.
 use Rattle.std.specs.Prelude.{◌≡◌, ℕ, ◌<◌, true, List, length, Option, Some, slice_get}
 use Rattle.dcop_base.specs.Problem.{Dcop}
 use Rattle.dcop_base.specs.Knowledge.{private_of}
@@ -12,16 +12,16 @@ use Rattle.dpop_agent.specs.Remade.{with_sent, IsRemade}
 abbrev pub agent_with : Dcop → List (List ℕ) → List (Option Made) → ℕ → DpopView
 agent_with p paths kept i = with_sent (private_of p i) (place_at p paths i) kept
 
--- for variable i its agent's tables are held: those of its DPOP step, with the tables that its children sent
+-- the tables of variable i are held: the list has those of its agent's DPOP step, made from the tables that its children sent
 pub record IsHeld (p : Dcop) (paths : List (List ℕ)) (kept : List (Option Made)) (i : ℕ) : Type 0 where
   pub made : Made
   pub there : slice_get kept i ≡ Some (Some made)
   pub tables : IsRemade (agent_with p paths kept i) made
 
--- and for variable i and all its descendants
+-- the tables of variable i and of all its descendants are held
 abbrev pub AreHeldFrom : Dcop → List (List ℕ) → List (Option Made) → ℕ → Type 0
 AreHeldFrom p paths kept i = (j : ℕ) → is_within paths i j ≡ true → IsHeld p paths kept j
 
--- and for all variables
+-- the tables of all variables are held
 abbrev pub AreAllHeld : Dcop → List (List ℕ) → List (Option Made) → Type 0
 AreAllHeld p paths kept = (i : ℕ) → i < length p.sizes → IsHeld p paths kept i

@@ -1,10 +1,11 @@
-//! Tables that the agents of a tree make and keep, and what stays of them where costs change.
+//! Tables that the agents of a tree make and that are kept, and which of them stay valid when costs
+//! change.
 //!
 //! [`remake`](dpop_agent::remake) makes the tables of one agent from those that its children sent.
-//! Nothing is run: the laws say what tables come of it where each agent has them, and which values
-//! are the first optimum then. Where a table of the problem gets other cells, an agent that does not
-//! lie on the way from the table's deepest variable to the root knows what it knew, so its tables
-//! are what they were. Each law is the contract of a call that does nothing.
+//! No agents are run. The laws say what the tables are once each agent has them, and which values
+//! are then the first optimum. When a table of the problem gets other cells, an agent that is not
+//! on the way from the table's deepest variable to the root knows the same as before, so its tables
+//! are the same. Each law is the contract of a call that does nothing.
 #![tactic(auto)]
 
 mod law;

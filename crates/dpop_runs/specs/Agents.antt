@@ -14,20 +14,20 @@ use Rattle.protocol_steps.specs.Laws.{IsBeside}
 use Rattle.dcop_optimum.specs.Subtree.{AreValuesAbove, IsSubtreeOptimum}
 use Rattle.protocol_steps.specs.TreeAgents.{place_at}
 
--- a table over the separator of variable i, from the root down, with a cell for each choice of values: the subtree optimum of i, whatever the other ancestors' values
+-- a table over the separator of variable i, from the root down, with one cell for each choice of values: the subtree optimum of i, whatever values the other ancestors have
 pub record IsOptimumTable (p : Dcop) (paths : List (List ℕ)) (i : ℕ) (t : CostTable) : Type 0 where
   pub scope : t.scope ≡ separator_of p paths i
   pub sizes : t.sizes ≡ sizes_of p t.scope
   pub full : length t.cells ≡ product t.sizes
   pub cells : (value : ℕ → ℕ) → AreValuesAbove p paths i value → IsSubtreeOptimum p paths i value (cell_with t value)
 
--- what variable i may send: a UTIL with the table of its subtree optima, or values
+-- what variable i may send: a UTIL with the table of its subtree optima, or VALUE
 abbrev pub IsSent : Dcop → List (List ℕ) → ℕ → Message → Type 0
 IsSent p paths i (Util scope cells) = IsOptimumTable p paths i (record { scope = scope; sizes = sizes_of p scope; cells = cells })
 IsSent p paths i (ValueAll values) = Unit {0}
 IsSent p paths i message = ⊥
 
--- what holds of the agent of variable i: it was made from what variable i knows and its place, has started and not failed, stands beside its parent and children, and a table that it has made is that of its subtree optima
+-- what holds of the agent of variable i: it was made from what variable i knows and its place, it has started and not failed, its parent and children are among its neighbours, and a table that it has made is that of its subtree optima
 pub record IsAgentOf (p : Dcop) (paths : List (List ℕ)) (i : ℕ) (v : View) : Type 0 where
   pub made : made_of v ≡ OfDpop (private_of p i) (place_at p paths i)
   pub started : started_of v ≡ true
@@ -35,7 +35,7 @@ pub record IsAgentOf (p : Dcop) (paths : List (List ℕ)) (i : ℕ) (v : View) :
   pub beside : IsBeside v
   pub table : (t : CostTable) → table_of v ≡ Some t → IsOptimumTable p paths i t
 
--- no joined cell of the agent of variable i is cut at the cap, whatever tables of its children it keeps: each is what the own tables and the kept ones cost together
+-- no joined cell of the agent of variable i is cut off at the cap, whatever tables of its children it keeps: each is the cost of the own tables plus that of the kept ones
 abbrev pub AreUncut : Dcop → List (List ℕ) → ℕ → DpopView → Type 0
 AreUncut p paths i v = (value : ℕ → ℕ) (d : ℕ) → AreValuesAbove p paths i value → d < slice_index p.sizes i
     → joined_cost v value d ≡ cost_with (own_tables v) (with_own v.own.me d value) + cost_with (kept_tables v) (with_own v.own.me d value)

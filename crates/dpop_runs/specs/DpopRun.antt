@@ -10,7 +10,7 @@ use Rattle.protocol_steps.specs.Network.{Network, start_state}
 use Rattle.protocol_steps.specs.Delivered.{delivered}
 use Rattle.protocol_steps.specs.Run.{run}
 
--- a run of the DPOP agents of a problem on a tree, which ends in this network
+-- a run of the DPOP agents of a problem on a tree that ends in this network
 abbrev pub IsDpopRun : Dcop → List (List ℕ) → List Event → Network → Type 0
 IsDpopRun p paths es end = run (start_state (dpop_agents p paths)) es ≡ Some end
 
@@ -24,10 +24,10 @@ abbrev pub is_value_all : Message → Bool
 is_value_all (ValueAll values) = true
 is_value_all message = false
 
--- how many UTIL messages were delivered
+-- the number of UTIL messages that were delivered
 abbrev pub utils : Network → ℕ
 utils net = count_by is_util (delivered net)
 
--- how many VALUE messages were delivered
+-- the number of VALUE messages that were delivered
 abbrev pub values : Network → ℕ
 values net = count_by is_value_all (delivered net)

@@ -20,11 +20,11 @@ use Rattle.dpop_runs.specs.Agents.{IsSent, AreAgents, AreUncut}
 abbrev pub separators_of : Dcop → List (List ℕ) → List (List ℕ)
 separators_of p paths = map (separator_of p paths) (range_with_len 0 (length paths))
 
--- each agent has made its table: that of these cells over its separator
+-- each agent has made its table: the one with these cells over its separator
 abbrev pub MadeTables : Dcop → List (List ℕ) → List (List ℕ) → List View → Type 0
 MadeTables p paths cells views = (i : ℕ) → i < length p.sizes → (v : View) × (slice_get views i ≡ Some v) × (table_of v ≡ Some (util_of p (separators_of p paths) cells i))
 
--- a run of DPOP in which all agents have ended: one UTIL and one VALUE for each variable but the root, the values are the first optimum of the tree, and the tables show that no values are better
+-- a run of DPOP in which all agents have ended: one UTIL and one VALUE for each variable but the root were delivered, the values are the first optimum of the tree, and the tables with these values are a certificate that holds
 pub record IsWhole (p : Dcop) (paths : List (List ℕ)) (end : Network) : Type 0 where
   pub all_utils : utils end ≡ length p.sizes - 1
   pub all_values : values end ≡ length p.sizes - 1
@@ -33,7 +33,7 @@ pub record IsWhole (p : Dcop) (paths : List (List ℕ)) (end : Network) : Type 0
   pub tables : MadeTables p paths cells end.views
   pub certificate : IsTableCertificate p (parents_of paths) (separators_of p paths) cells (map value_of end.views)
 
--- what holds at the end of a run of DPOP, be all agents ended or not
+-- what holds at the end of a run of DPOP, whether or not all agents have ended
 pub record HoldsOfDpop (p : Dcop) (paths : List (List ℕ)) (end : Network) : Type 0 where
   pub few_utils : utils end ≤ length p.sizes - 1
   pub few_values : values end ≤ length p.sizes - 1
@@ -46,7 +46,7 @@ pub record HoldsOfDpop (p : Dcop) (paths : List (List ℕ)) (end : Network) : Ty
   pub early : has_ended end ≡ false → deliveries end < 2 * (length p.sizes - 1)
   pub whole : has_ended end ≡ true → IsWhole p paths end
 
--- in every run of DPOP on a narrow and linked pseudotree so many messages are delivered at most, no joined cell is cut at the cap, a message is pending until all have ended, and then their values are the first optimum of the tree
+-- in every run of DPOP on a narrow and linked pseudotree at most one UTIL and one VALUE for each variable but the root are delivered, and nothing else; no joined cell is cut off at the cap; a message is pending until all agents have ended; and then their values are the first optimum of the tree
 pub record DpopRuns : Type 0 where
   pub runs : (p : Dcop) (paths : List (List ℕ)) → IsProblem p → IsPseudotree p paths → IsLinked p paths → IsNarrow p paths
       → (es : List Event) (end : Network) → IsDpopRun p paths es end → HoldsOfDpop p paths end

@@ -2,10 +2,11 @@
 
 ghost use Rattle.dpop_runs.specs.Laws.{DpopRuns};
 
-/// In every run of DPOP agents on a pseudotree that is linked and narrow at most one UTIL and one
-/// VALUE for each variable but the root are delivered, and nothing else is sent; each UTIL is the
-/// table of the sender's subtree optima over its separator. Each joined cell is a plain sum: the
-/// cap, 2^62, cuts none. A message is pending until all agents have ended. Where all have ended, exactly so many were delivered, the values are the first
+/// In every run of DPOP agents on a linked and narrow pseudotree at most one UTIL and one VALUE for
+/// each variable but the root are delivered, and nothing else is sent. Each UTIL is the table of
+/// the sender's subtree optima over its separator. Each joined cell is a plain sum: none is cut off
+/// at the cap, 2^62. A message is pending until all agents have ended. When all have ended, exactly
+/// one UTIL and one VALUE for each variable but the root were delivered, the values are the first
 /// optimum of the tree, and the tables with these values are a certificate that holds.
 pub fn dpop_runs()
     ensures { DpopRuns }

@@ -16,34 +16,37 @@ use Rattle.edit_session.specs.State.{SessionState, opened, solved_now, tree_now,
 use Rattle.edit_session.specs.declared.fault.OpenFault.{OpenFault}
 use Rattle.edit_session.specs.declared.fault.OpenFault.TheVariants.{Wide, NoMemory}
 
--- a session: what it answers from, and what is kept of each agent
+-- a session: the state that it answers from, and what is kept of each agent
 pub record OpenSession : Type 0 where
   pub state : SessionState
   pub kept : List (Option Made)
 
--- a session as it is opened: nothing is kept yet
+-- a session when it is opened: nothing is kept yet
 abbrev pub opened_session : TextFile → OpenSession
 opened_session f = record { state = opened f; kept = replicate (length f.problem.sizes) None }
 
--- of each agent that is not touched, and of its descendants, the tables of the DPOP step of the problem as it is now are held
+-- the DPOP tables, for the current problem, of each agent that is not touched and of its
+-- descendants are held
 abbrev pub HoldsOthers : OpenSession → Type 0
 HoldsOthers v = (i : ℕ) → i < length v.state.touched → is_touched v.state.touched i ≡ false → AreHeldFrom (solved_now v.state) (tree_now v.state) v.kept i
 
--- the turned problem, where it is the one that is solved
+-- the turned problem, if it is the one that is solved
 abbrev pub turned_for : Goal → Dcop → Option Dcop
 turned_for Min p = None
 turned_for Max p = Some (turned p)
 
--- the cells of a table as they are turned: each is the greatest less it
+-- the turned cells of a table: the greatest cell minus each cell
 abbrev pub turned_cells : List ℕ → List ℕ
 turned_cells cells = map (λ cell. greatest cells - cell) cells
 
--- a problem, or the one that stands in its place
+-- a problem, or the problem that replaces it
 abbrev pub or_own : Dcop → Option Dcop → Dcop
 or_own p None = p
 or_own p (Some q) = q
 
--- what holds of every session: beside the file stand the turned problem, where it is solved, and the sum of the greatest cells; the tree is the depth-first tree of the problem solved, and narrow; and of agents that are not touched the tables are held
+-- what holds of every session: besides the file it has the turned problem, if that is solved, and
+-- the sum of the greatest cells; the tree is the depth-first tree of the problem solved, and
+-- narrow; and the tables of agents that are not touched are held
 pub record IsSession (file : TextFile) (turned : Option Dcop) (top : ℕ) (tree : RootedTree) (touched : List Bool) (kept : List (Option Made)) : Type 0 where
   pub solved : turned ≡ turned_for file.goal file.problem
   pub summed : top ≡ top_of file.problem
@@ -54,7 +57,7 @@ pub record IsSession (file : TextFile) (turned : Option Dcop) (top : ℕ) (tree 
   pub counted : length kept ≡ length file.problem.sizes
   pub held : HoldsOthers (record { state = record { file = file; touched = touched }; kept = kept })
 
--- why a session is not opened: something is too wide in the tree
+-- why a session is not opened: something is too wide in the tree, or memory runs out
 abbrev pub IsOpenFault : Dcop → OpenFault → Type 0
 IsOpenFault q (Wide wide) = wide_of q (dfs q) ≡ Some wide
 IsOpenFault q NoMemory = Unit {0}

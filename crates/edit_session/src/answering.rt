@@ -18,9 +18,9 @@ use pseudotree::Tree;
 use std::alloc::Global;
 use std::sync::ledger::Ledger;
 
-/// The optimum of a problem that is solved for a file, and how many agents are touched: the tables
-/// of touched agents are made anew, and none is touched then. The steps rise by the cells of the
-/// touched agents' joined tables.
+/// The optimum of a problem that is solved for a file, and how many agents are touched. The tables
+/// of touched agents are recomputed; afterwards no agent is touched. The steps rise by the cells of
+/// the touched agents' joined tables.
 pub(crate) fn answer_with<L: Ledger>(
     alloc: Global,
     file: &ProblemFile,
@@ -61,7 +61,7 @@ pub(crate) fn answer_with<L: Ledger>(
     })
 }
 
-/// What an assignment costs in a file's problem.
+/// The cost of an assignment in a file's problem.
 fn cost_in(file: &ProblemFile, values: &[Val]) -> u64
     requires { IsAssignment file.now.problem values.now }
     ensures { result ≡ cost file.now.problem values.now }

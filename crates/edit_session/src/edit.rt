@@ -1,4 +1,4 @@
-//! Other cells in a table.
+//! Replacing the cells of a table.
 
 ghost use Rattle.std.specs.Prelude.{◌≡◌, ℕ, ◌-◌, ◌<◌, ◌≤◌, None, Some, All, IfOk, OnOk, OnErr, MatchOption, MatchResult, length, map, nat_lt, option_map, slice_index_or, slice_set};
 ghost use Rattle.std.specs.List.{list_any};
@@ -19,7 +19,7 @@ use problem_text::ProblemFile;
 use std::alloc::Global;
 use std::mem;
 
-/// The cells of a table; `None` exactly where there is no such table.
+/// The cells of a table; `None` exactly when there is no such table.
 fn cells_at(tables: &[Table], table: u64) -> Option<&[u64]>
     ensures { MatchOption result (length tables.now ≤ table)
         (λ cells. (table < length tables.now)
@@ -32,14 +32,15 @@ fn cells_at(tables: &[Table], table: u64) -> Option<&[u64]>
     Some(sought.cells.as_slice())
 }
 
-/// The problem of a file is whole. One that is read is known to be, so this does no more.
+/// The problem of a file is whole. Reading a field of the file shows this; the call does no more.
 pub(crate) fn file_is_whole(file: &ProblemFile)
     ensures { IsProblem file.now.problem }
 {
     problem_is_whole(&file.problem);
 }
 
-/// The cells of a table of a file where one of them becomes this cost, or the first fault of that.
+/// The cells of a table of a file with one of them set to this cost, or the first fault of this
+/// edit.
 pub(crate) fn set_cells(
     alloc: Global,
     file: &ProblemFile,
@@ -60,8 +61,8 @@ pub(crate) fn set_cells(
     Ok(cells)
 }
 
-/// A copy of these cells, where they may replace those of a table of a file, or the first fault of
-/// that.
+/// A copy of these cells if they may replace those of a table of a file, or the first fault of this
+/// edit.
 pub(crate) fn fill_cells(
     alloc: Global,
     file: &ProblemFile,
@@ -80,7 +81,7 @@ pub(crate) fn fill_cells(
     Ok(copy)
 }
 
-/// The cells of a table where one of them becomes this cost, or the first fault of that.
+/// The cells of a table with one of them set to this cost, or the first fault of this edit.
 fn cells_set(
     alloc: Global,
     tables: &[Table],
@@ -107,7 +108,7 @@ fn cells_set(
     Ok(cells)
 }
 
-/// A copy of these cells, where they may replace those of a table, or the first fault of that.
+/// A copy of these cells if they may replace those of a table, or the first fault of this edit.
 fn cells_for(
     alloc: Global,
     tables: &[Table],
@@ -137,15 +138,15 @@ fn exceed_cost(cells: &[u64]) -> bool
     cells.iter().any(|cell| *cell > MAX_COST)
 }
 
-/// The greatest of the cells, or 0 of none.
+/// The greatest of the cells, or 0 if there are none.
 fn greatest_of(cells: &[u64]) -> u64
     ensures { result ≡ greatest cells.now }
 {
     cells.iter().fold(0, |most, cell| most.max(*cell))
 }
 
-/// The sum of the tables' greatest cells where a table gets these cells, by the sum as it is;
-/// `None` exactly where it would exceed [`CAP`].
+/// The sum of the tables' greatest cells if a table gets these cells; `None` exactly when it would
+/// exceed [`CAP`]. `top` is the sum before the change.
 pub(crate) fn sum_with(problem: &Problem, top: u64, table: usize, cells: &[u64]) -> Option<u64>
     requires inside { table < length problem.now.tables }
     requires top { top ≡ top_of problem.now }
@@ -157,7 +158,7 @@ pub(crate) fn sum_with(problem: &Problem, top: u64, table: usize, cells: &[u64])
     sum_of(problem.tables.as_slice(), top, table, cells)
 }
 
-/// The same of tables.
+/// The same for tables.
 fn sum_of(tables: &[Table], top: u64, table: usize, cells: &[u64]) -> Option<u64>
     requires inside { table < length tables.now }
     requires top { top ≡ greatest_sum tables.now }
@@ -212,14 +213,14 @@ pub(crate) fn put_in_file(alloc: Global, file: &mut ProblemFile, table: usize, c
     put_cells(alloc, &mut file.problem, table, cells);
 }
 
-/// What each cell leaves of the greatest one.
+/// The difference of each cell from the greatest one.
 fn turn_cells(alloc: Global, cells: &[u64]) -> Result<Vec<u64>, NoMemory>
     ensures { IfOk result (λ less. less.items ≡ turned_cells cells.now) }
 {
     cells_less(alloc, cells, greatest_of(cells))
 }
 
-/// What each cell leaves of `top`.
+/// The difference of each cell from `top`.
 fn cells_less(alloc: Global, cells: &[u64], top: u64) -> Result<Vec<u64>, NoMemory>
     requires { All (λ cell. cell ≤ top) cells.now }
     ensures { IfOk result (λ less. less.items ≡ map (λ cell. top - cell) cells.now) }
@@ -227,8 +228,7 @@ fn cells_less(alloc: Global, cells: &[u64], top: u64) -> Result<Vec<u64>, NoMemo
     Ok(cells.iter().map(|cell| top - *cell).collect(alloc)?)
 }
 
-/// Replaces the cells of a table of the turned problem, where there is one, as the table with these
-/// cells is turned.
+/// Replaces the cells of a table of the turned problem, if there is one, with these cells turned.
 pub(crate) fn put_in_turned(
     alloc: Global,
     turned: &mut Option<Problem>,

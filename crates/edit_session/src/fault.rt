@@ -7,9 +7,9 @@ use std::alloc::AllocError;
 /// Why a session is not opened.
 #[derive(Clone, Copy, Debug, PartialEq, Eq)]
 pub enum OpenFault {
-    /// This is too wide in the tree.
+    /// A joined table, or all that is sent, is too wide in the tree.
     Wide(Wide),
-    /// Memory was wanted and not had.
+    /// Memory ran out.
     NoMemory,
 }
 
@@ -40,13 +40,13 @@ impl From<AllocError> for OpenFault {
 pub enum SetFault {
     /// The number of the table is not below the number of tables.
     NoTable,
-    /// There is no such cell, or there are not as many cells as the table has.
+    /// The table has no such cell, or the number of given cells is not that of the table.
     NoCell,
     /// A cost is above [`MAX_COST`](dcop_base::MAX_COST).
     CostTooLarge,
-    /// The greatest cells of all tables would exceed [`CAP`](dcop_base::CAP) together.
+    /// The sum of the greatest cells of all tables would exceed [`CAP`](dcop_base::CAP).
     SumTooLarge,
-    /// Memory was wanted and not had.
+    /// Memory ran out.
     NoMemory,
 }
 

@@ -1,10 +1,13 @@
-//! Edit sessions: a problem whose costs change, and its optimum each time it is asked for.
+//! Edit sessions: a problem whose costs change, and its optimum each time it is requested.
 //!
 //! A [`Session`] keeps the tables that the agents of its depth-first tree make in their DPOP step.
-//! An edit replaces cells of one table. It touches the agents on the way from the table's deepest
-//! variable to the root, and no other: what these know is what they knew. So an answer makes the
-//! tables of touched agents anew, from the leaves up, and picks the values from the root down. It
-//! gives what DPOP gives on the problem as it is now.
+//! An edit replaces cells of one table. It touches only the agents on the path from the table's
+//! deepest variable to the root; the tables of all other agents stay valid. An answer therefore
+//! recomputes the tables of touched agents only, from the leaves up, and picks the values from the
+//! root down. It is what DPOP gives on the current problem.
+//!
+//! It builds on `dpop_agent` for the tables of an agent, on `dpop_made` for the laws about them,
+//! and on `problem_solved` for the problem that is solved.
 #![tactic(auto)]
 
 mod answering;

@@ -10,7 +10,7 @@ ghost use Rattle.edit_session.specs.State.{is_touched, touched_by};
 use dcop_base::{Problem, VarId, problem_is_whole};
 use pseudotree::Tree;
 
-/// Marks the agents on the way from the deepest variable of a table to the root, both included.
+/// Marks the agents on the path from the deepest variable of a table to the root, both included.
 pub(crate) fn mark_way_of(touched: &mut Vec<bool>, tree: &Tree, problem: &Problem, table: usize)
     requires tree { IsTree tree.now.paths }
     requires sized { length tree.now.paths ≡ length problem.now.sizes }
@@ -24,7 +24,7 @@ pub(crate) fn mark_way_of(touched: &mut Vec<bool>, tree: &Tree, problem: &Proble
     mark_way(touched.as_mut_slice(), tree, table.scope.as_slice());
 }
 
-/// Marks the agents on the way from the deepest variable of a scope to the root, both included.
+/// Marks the agents on the path from the deepest variable of a scope to the root, both included.
 fn mark_way(touched: &mut [bool], tree: &Tree, scope: &[VarId])
     requires tree { IsTree tree.now.paths }
     requires marked { length touched.old ≡ length tree.now.paths }

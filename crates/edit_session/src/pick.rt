@@ -27,7 +27,7 @@ fn values_of(alloc: Global, vars: &[VarId], values: &[Val]) -> Result<Vec<Val>, 
     Ok(list)
 }
 
-/// The lowest value of a variable at which its agent's joined table is least, at these values of
+/// The lowest value of a variable at which its agent's joined table is least, given these values of
 /// its separator.
 fn picked(
     alloc: Global,
@@ -49,7 +49,7 @@ fn picked(
     picks_read_separators();
     problem_is_whole(problem);
     let Some(made) = &kept[var.0 as usize] else {
-        // What was made for each agent is held.
+        // The tables of each agent are held.
         unreachable!();
     };
     let others = values_of(alloc, tree.separator(var).as_slice(), values)?;

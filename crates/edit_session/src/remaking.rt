@@ -1,4 +1,4 @@
-//! Tables that are made anew.
+//! Recomputing tables.
 
 ghost use Rattle.std.specs.Prelude.{◌≡◌, ℕ, ◌+◌, ◌<◌, ◌≤◌, [], ◌∷◌, IfOk, OnOk, length, map};
 ghost use Rattle.std.specs.List.{range_with_len};
@@ -19,11 +19,13 @@ use pseudotree::{Tree, place};
 use std::alloc::Global;
 use std::sync::ledger::Ledger;
 
-/// What so few agents know is made for each alone, which takes time for the problem's scopes. What
-/// all agents know takes one pass, but that copies all tables.
+/// Up to this many touched agents, the knowledge of each agent is made for it alone, which goes
+/// through the problem's scopes each time. The knowledge of all agents is made in one pass, but
+/// that copies all tables.
 const FEW: u64 = 64;
 
-/// What all agents know, in the variables' order, where more than a few are touched, else nothing.
+/// The knowledge of all agents, in the order of the variables, if more than a few are touched, and
+/// nothing otherwise.
 fn known_to_many(
     alloc: Global,
     problem: &Problem,
@@ -37,8 +39,8 @@ fn known_to_many(
     privates(alloc, problem)
 }
 
-/// The tables of one agent, from what it knows and what was made for its children. The steps rise
-/// by the cells of its joined table.
+/// The tables of one agent, from its knowledge and its children's tables. The steps rise by the
+/// cells of its joined table.
 fn made_at<L: Ledger>(
     alloc: Global,
     problem: &Problem,
@@ -65,8 +67,8 @@ fn made_at<L: Ledger>(
     Ok(made)
 }
 
-/// The tables of one agent, from what was made for its children. What it knows is made for it
-/// alone, where it is not known. The steps rise by the cells of its joined table.
+/// The tables of one agent, from its children's tables. Its knowledge is made for it alone if it is
+/// not given. The steps rise by the cells of its joined table.
 fn made_from<L: Ledger>(
     alloc: Global,
     problem: &Problem,
@@ -93,7 +95,7 @@ fn made_from<L: Ledger>(
     made_at(alloc, problem, tree, var, &own, kept, steps)
 }
 
-/// Makes the tables of an agent anew, where it is touched, and keeps them.
+/// Recomputes and keeps the tables of an agent if it is touched.
 fn renew<L: Ledger>(
     alloc: Global,
     problem: &Problem,
@@ -126,8 +128,8 @@ fn renew<L: Ledger>(
     Ok(())
 }
 
-/// Makes the tables of all touched agents anew, from the leaves up, and keeps them. The steps rise
-/// by the cells of their joined tables.
+/// Recomputes and keeps the tables of all touched agents, from the leaves up. The steps rise by the
+/// cells of their joined tables.
 pub(crate) fn remake_touched<L: Ledger>(
     alloc: Global,
     problem: &Problem,

@@ -1,4 +1,4 @@
-//! Cells of a table that are replaced in all that a session has.
+//! Replacing the cells of a table in all parts of a session.
 
 ghost use Rattle.std.specs.Prelude.{◌≡◌, None, IfOk, IfErr, OnOk, OnErr, length};
 ghost use Rattle.pseudotree.specs.Tree.{IsTree};
@@ -15,8 +15,9 @@ use problem_text::ProblemFile;
 use pseudotree::Tree;
 use std::alloc::Global;
 
-/// Replaces the cells of a table in a file and in the turned problem, where there is one, and marks
-/// the agents on the table's way. The answer is the sum of the greatest cells then.
+/// Replaces the cells of a table in a file and in the turned problem, if there is one, and marks
+/// the agents on the path from the table's deepest variable to the root. Returns the new sum of the
+/// greatest cells.
 pub(crate) fn replace_cells(
     alloc: Global,
     file: &mut ProblemFile,

@@ -25,10 +25,10 @@ use std::alloc::Global;
 use std::marker::Model;
 use std::sync::ledger::Ledger;
 
-/// A problem whose tables may be edited, with the tables of the DPOP step of each agent that no
-/// edit has touched since the last answer.
+/// A problem whose tables may be edited, with the DPOP tables of each agent that no edit has
+/// touched since the last answer.
 ///
-/// Contracts see the file as it is now, which agents are touched, and what is kept of each agent.
+/// Contracts see the current file, which agents are touched, and what is kept of each agent.
 #[derive(Debug, Drop)]
 pub struct Session {
     alloc: Global,
@@ -56,15 +56,15 @@ impl Model for Session {
 }
 
 impl Session {
-    /// A session on this file, whose agents work on this tree. All agents are touched.
+    /// Opens a session on this file, whose agents work on this tree. All agents are touched.
     ///
     /// The tree is the depth-first tree of the problem solved for the file, which no edit changes.
-    /// File and tree are gone also where they are refused.
+    /// The file and the tree are consumed even if they are refused.
     ///
     /// # Errors
     ///
-    /// [`OpenFault::Wide`] exactly where [`widths`] tells that the tree is too wide;
-    /// [`OpenFault::NoMemory`] where memory was wanted and not had.
+    /// [`OpenFault::Wide`] if the tree is too wide, as [`widths`] reports; [`OpenFault::NoMemory`]
+    /// if memory runs out.
     pub fn open(alloc: Global, file: ProblemFile, tree: Tree) -> Result<Session, OpenFault>
         requires tree { IsPseudotreeOf (problem_solved file) tree }
         requires paths { tree.paths ≡ dfs (problem_solved file) }
@@ -92,12 +92,13 @@ impl Session {
         })
     }
 
-    /// Makes a cell of a table cost so much. Tables count from 0 in the order of the file, and cells
-    /// from 0, the last variable moving fastest. It takes the time of the table's cells.
+    /// Sets the cost of a cell of a table. Tables count from 0 in the order of the file. Cells
+    /// count from 0, and the last variable varies fastest. The time is proportional to the table's
+    /// cells.
     ///
     /// # Errors
     ///
-    /// The first fault of [`SetFault`]; the session is unchanged then.
+    /// The first fault of the edit, a [`SetFault`]. The session is then unchanged.
     pub fn set(&mut self, table: u64, cell: u64, cost: u64) -> Result<(), SetFault>
         ensures { let p = self.old.state.file.problem in
             let fault = set_fault p table cell cost in
@@ -111,12 +112,12 @@ impl Session {
         self.replace(table as usize, cells)
     }
 
-    /// Replaces all cells of a table. Tables count from 0 in the order of the file. It takes the
-    /// time of the table's cells.
+    /// Replaces all cells of a table. Tables count from 0 in the order of the file. The time is
+    /// proportional to the table's cells.
     ///
     /// # Errors
     ///
-    /// The first fault of [`SetFault`]; the session is unchanged then.
+    /// The first fault of the edit, a [`SetFault`]. The session is then unchanged.
     pub fn fill(&mut self, table: u64, cells: &CellList) -> Result<(), SetFault>
         ensures { let fault = fill_fault self.old.state.file.problem table cells.now in
             MatchResult result
@@ -128,14 +129,14 @@ impl Session {
         self.replace(table as usize, cells)
     }
 
-    /// The optimum of the problem as it is now, and how many agents were touched. The tables of
-    /// touched agents are made anew, and no agent is touched then. The steps rise by the cells of
-    /// the touched agents' joined tables.
+    /// The optimum of the current problem, and how many agents were touched. The tables of touched
+    /// agents are recomputed; afterwards no agent is touched. The steps rise by the cells of the
+    /// touched agents' joined tables.
     ///
     /// # Errors
     ///
-    /// [`NoMemory`] where memory was wanted and not had. The problem is unchanged then, the same
-    /// agents are touched, and the steps have risen by no more.
+    /// [`NoMemory`] if memory runs out. The problem is then unchanged, the same agents are touched,
+    /// and the steps have risen by at most that number.
     pub fn answer<L: Ledger>(&mut self, steps: &mut Steps<L>) -> Result<Edited, NoMemory>
         ensures answer { IfOk result (IsAnswerNow self.old.state) }
         ensures answered { OnOk result (self.new.state ≡ answered self.old.state) }
@@ -158,8 +159,8 @@ impl Session {
         )
     }
 
-    /// Of each agent that is not touched, and of its descendants, the session holds the tables of
-    /// the DPOP step of the problem as it is now. One that is read is known to, so this does no
+    /// The session holds the DPOP tables, for the current problem, of each agent that is not
+    /// touched and of its descendants. Reading a field of the session shows this; the call does no
     /// more.
     pub fn holds_others(&self)
         ensures { HoldsOthers self.now }
@@ -167,14 +168,15 @@ impl Session {
         let _top = self.top;
     }
 
-    /// The file as it is now.
+    /// The current file.
     pub fn into_file(self) -> ProblemFile
         ensures { result ≡ self.state.file }
     {
         self.file
     }
 
-    /// Replaces the cells of a table, and touches the agents on its way.
+    /// Replaces the cells of a table, and touches the agents on the path from its deepest variable
+    /// to the root.
     fn replace(&mut self, table: usize, cells: Vec<u64>) -> Result<(), SetFault>
         requires { IsReplacement self.old.state.file.problem.tables table cells.items }
         ensures { let fault = sum_fault self.old.state.file.problem table cells.items in
@@ -200,7 +202,7 @@ impl Session {
     }
 }
 
-/// The turned problem, where it is the one that is solved for a file.
+/// The turned problem, if it is the one that is solved for a file.
 fn turned_for(alloc: Global, file: &ProblemFile) -> Result<Option<Problem>, NoMemory>
     ensures { IfOk result (λ turned. turned ≡ turned_for file.now.goal file.now.problem) }
 {
@@ -210,7 +212,7 @@ fn turned_for(alloc: Global, file: &ProblemFile) -> Result<Option<Problem>, NoMe
     }
 }
 
-/// The problem that is solved for a file: its own one, or the turned one.
+/// The problem that is solved for a file: its own problem, or the turned one.
 pub(crate) fn solved_of<'a>(file: &'a ProblemFile, turned: &'a Option<Problem>) -> &'a Problem
     requires { turned.now ≡ turned_for file.now.goal file.now.problem }
     ensures { result.now ≡ problem_solved file.now }
@@ -218,7 +220,7 @@ pub(crate) fn solved_of<'a>(file: &'a ProblemFile, turned: &'a Option<Problem>) 
     or_own(&file.problem, turned)
 }
 
-/// A problem, or the turned one that is solved in its place.
+/// A problem, or the turned problem that is solved instead.
 fn or_own<'a>(problem: &'a Problem, turned: &'a Option<Problem>) -> &'a Problem
     ensures { result.now ≡ or_own problem.now turned.now }
 {
@@ -228,7 +230,7 @@ fn or_own<'a>(problem: &'a Problem, turned: &'a Option<Problem>) -> &'a Problem
     }
 }
 
-/// Nothing, for so many agents.
+/// Nothing kept, for `count` agents.
 fn nothing_kept(alloc: Global, count: usize) -> Result<KeptList, NoMemory>
     ensures { IfOk result (λ kept. kept.items ≡ replicate count None) }
 {

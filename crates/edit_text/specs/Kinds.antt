@@ -1,4 +1,4 @@
--- The numbers by which a user knows the kinds of refused edit lines.
+-- The numbers that a user sees for the kinds of refused edit lines.
 use Rattle.std.specs.Prelude.{ℕ}
 use Rattle.edit_text.specs.declared.kind.EditKind.{EditKind}
 use Rattle.edit_text.specs.declared.kind.EditKind.TheVariants.{BadLine, BadNumber, NoTable, NoCell, CostTooLarge, SumTooLarge, NoEnd}

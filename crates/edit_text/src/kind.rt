@@ -3,27 +3,27 @@
 ghost use Rattle.std.specs.Prelude.{◌≡◌};
 ghost use Rattle.edit_text.specs.Kinds.{number_of_edit};
 
-/// The kind of a fault among the lines of an edit session.
+/// The kind of a fault in the lines of an edit session.
 #[derive(Clone, Copy, Debug, PartialEq, Eq)]
 pub enum EditKind {
-    /// The line is none of the forms, or a further word follows `end`.
+    /// The line has none of the forms, or a further word follows `end`.
     BadLine,
-    /// A word that should be a number is not one of 1 to 19 digits.
+    /// A word that must be a number does not have 1 to 19 digits.
     BadNumber,
     /// The number of the table is not below the number of tables.
     NoTable,
-    /// There is no such cell, or there are not as many cells as the table has.
+    /// The table has no such cell, or the number of given cells is not that of the table.
     NoCell,
     /// A cost is above [`MAX_COST`](dcop_base::MAX_COST).
     CostTooLarge,
-    /// The greatest cells of all tables would exceed [`CAP`](dcop_base::CAP) together.
+    /// The sum of the greatest cells of all tables would exceed [`CAP`](dcop_base::CAP).
     SumTooLarge,
-    /// The input is over before `end`.
+    /// The input ends before `end`.
     NoEnd,
 }
 
 impl EditKind {
-    /// The number by which a user knows the kind.
+    /// The number that a user sees for the kind.
     pub fn number(self) -> u8
         ensures { result ≡ number_of_edit self }
     {

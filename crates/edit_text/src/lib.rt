@@ -1,7 +1,9 @@
 //! The lines of an edit session.
 //!
-//! [`read_edit_line`] reads exactly the lines `set T K C`, `fill T : CELLS`, `answer` and `end`, or
-//! tells the kind of a line's fault.
+//! [`read_edit_line`] accepts exactly the lines `set T K C`, `fill T : CELLS`, `answer` and `end`.
+//! For any other line it returns the kind of the line's fault.
+//!
+//! It builds on `problem_text` for words and on `dcop_base` for numbers.
 #![tactic(auto)]
 
 mod kind;

@@ -13,11 +13,11 @@ use std::alloc::Global;
 /// A line of an edit session.
 #[derive(Debug, Drop)]
 pub enum EditLine {
-    /// A cell of a table gets this cost.
+    /// Sets the cost of one cell of a table.
     Set { table: u64, cell: u64, cost: u64 },
-    /// All cells of a table are replaced.
+    /// Replaces all cells of a table.
     Fill { table: u64, cells: CellList },
-    /// The optimum is asked for.
+    /// Asks for the optimum.
     Answer,
     /// The last line.
     End,
@@ -27,8 +27,8 @@ pub enum EditLine {
 ///
 /// # Errors
 ///
-/// [`LineEnd::Fault`] exactly where the line has none of the forms, or a word of it that should be
-/// a number is none; [`LineEnd::NoMemory`] where memory was wanted and not had.
+/// [`LineEnd::Fault`] with the line's fault: the line has none of the forms, or a word that must be
+/// a number is not one. [`LineEnd::NoMemory`] if memory runs out.
 pub fn read_edit_line(alloc: Global, text: &[u8]) -> Result<EditLine, LineEnd<EditKind>>
     ensures { IsRead (line_said (words text.now)) result }
 {
@@ -50,7 +50,7 @@ pub fn read_edit_line(alloc: Global, text: &[u8]) -> Result<EditLine, LineEnd<Ed
     Err(LineEnd::Fault(EditKind::BadLine))
 }
 
-/// What was read without memory, as what is read with it.
+/// The result of reading that needs no memory, as the result of reading that may run out of it.
 fn faulted(said: Result<EditLine, EditKind>) -> Result<EditLine, LineEnd<EditKind>>
     ensures { IsRead said result }
 {
@@ -70,7 +70,7 @@ fn alone(line: EditLine, rest: &[u8]) -> Result<EditLine, EditKind>
     }
 }
 
-/// The line `set` with these words behind it.
+/// The line `set` with these words after it.
 fn set_line(text: &[u8]) -> Result<EditLine, EditKind>
     ensures { result ≡ set_line (words text.now) }
 {
@@ -93,7 +93,7 @@ fn set_line(text: &[u8]) -> Result<EditLine, EditKind>
     )
 }
 
-/// The line `set` with these numbers, where the words are numbers.
+/// The line `set` with these numbers, if all three words are numbers.
 fn set_of(table: Option<u64>, cell: Option<u64>, cost: Option<u64>) -> Result<EditLine, EditKind>
     ensures { result ≡ set_of table cell cost }
 {
@@ -103,7 +103,7 @@ fn set_of(table: Option<u64>, cell: Option<u64>, cost: Option<u64>) -> Result<Ed
     }
 }
 
-/// The line `fill` with these words behind it.
+/// The line `fill` with these words after it.
 fn fill_line(alloc: Global, text: &[u8]) -> Result<EditLine, LineEnd<EditKind>>
     ensures { IsRead (fill_line (words text.now)) result }
 {

@@ -6,7 +6,7 @@ use Rattle.fifo_links.specs.Slots.{ring_slots}
 use Rattle.fifo_links.specs.Link.{taken_from, known_to, HasTaken}
 
 module _ {T : Type 0} where
-  -- so many items were taken so far and added to a list
+  -- `count` items were taken so far and appended to a list
   pub record IsTaking (before : LinkHead T) (old : List T) (count : ℕ) (now : LinkHead T) (new : List T) : Type 0 where
     pub items : List T
     pub taken : taken_from now ≡ taken_from before ++ items
@@ -37,7 +37,7 @@ module _ {T : Type 0} where
     ahead = ahead_more (known_to before) t.items (known_to now) (known_to after) x t.ahead p;
   }
 
-  -- it ends at an empty ring, or at as many items as a ring holds
+  -- taking ends at an empty ring, or at as many items as a ring holds
   pub taking_empty : (before : LinkHead T) (old : List T) (count : ℕ) (now after : LinkHead T) (new : List T) → IsTaking before old count now new → count ≤ ring_slots
       → taken_from after ≡ taken_from now → known_to after ≡ [] → known_to now ≡ [] → HasTaken before old count after new
   taking_empty before old count now after new t few same none nothing = record {

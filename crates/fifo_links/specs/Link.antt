@@ -34,14 +34,16 @@ module _ {T : Type 0} where
   abbrev pub AreEnds : LinkTail T → LinkHead T → Type 0
   AreEnds t h = IsPair t.ring h.ring
 
-  -- an end before and after a call: the end of the same link
+  -- an end before and after a call: the same end of the same link
   abbrev pub SameTail : LinkTail T → LinkTail T → Type 0
   SameTail a b = SameProducer a.ring b.ring
 
   abbrev pub SameHead : LinkHead T → LinkHead T → Type 0
   SameHead a b = SameConsumer a.ring b.ring
 
-  -- the head took some items, the ones that it knew of first, and added them to a list: at most what a ring holds, and at least what it knew of; where they are fewer than a ring holds, it knows of no more
+  -- the head took `count` items, those that it knew of first, and appended them to a list: at most
+  -- as many as a ring holds, and at least as many as it knew of; if they are fewer than a ring
+  -- holds, it knows of no more
   pub record HasTaken (before : LinkHead T) (old : List T) (count : ℕ) (after : LinkHead T) (new : List T) : Type 0 where
     pub items : List T
     pub taken : taken_from after ≡ taken_from before ++ items
@@ -52,7 +54,8 @@ module _ {T : Type 0} where
     pub known : length (known_to before) ≤ count
     pub all : count < ring_slots → known_to after ≡ []
 
-  -- what was taken, the ring and the backlog are what was sent; the ring is full where there is a backlog
+  -- what was taken, what the head knows of and the backlog are, in this order, all that was sent;
+  -- the backlog is empty or the head knows of a full ring
   pub record IsSettled (t : LinkTail T) (h : LinkHead T) : Type 0 where
     pub whole : (taken_from h ++ known_to h) ++ backlog_of t ≡ sent_on t
     pub most : length (known_to h) ≤ ring_slots

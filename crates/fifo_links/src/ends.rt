@@ -14,15 +14,15 @@ use rtrb::{Consumer, Producer};
 pub use settling::settle;
 use std::collections::VecDeque;
 
-/// How many items the ring of a link holds, and so the most that one `take_all` gives.
+/// How many items the ring of a link holds, and so the most that one `take_all` takes.
 pub const SLOTS: usize = 64;
 
-/// The slots of the code are those of the definitions.
+/// The number of slots in the code is that of the definitions.
 pub fn slots_agree()
     ensures { SLOTS ≡ ring_slots }
 {}
 
-/// The end of a link that sends.
+/// The end of a link from which items are sent.
 #[derive(Drop)]
 pub struct LinkTail<T: Send + Drop> {
     ring: Producer<T>,
@@ -30,7 +30,7 @@ pub struct LinkTail<T: Send + Drop> {
     ghost slots: { producer_capacity ring ≡ ring_slots },
 }
 
-/// The end of a link that takes.
+/// The end of a link at which items are taken.
 #[derive(Drop)]
 pub struct LinkHead<T: Send + Drop> {
     ring: Consumer<T>,

@@ -1,13 +1,14 @@
-//! Links: first-in, first-out queues from one thread to another that never refuse for want of room.
+//! Links: first-in, first-out queues from one thread to another that refuse no item because they
+//! are full.
 //!
-//! A link is a ring of 64 slots, and a backlog at its tail for what finds no slot. The
-//! [`LinkTail`] sends, the [`LinkHead`] takes; each may move to a thread of its own, and neither
-//! waits for the other. With both ends in one thread, [`settle`] shows that what was taken, what
-//! stands in the ring and what stands in the backlog are together all that was sent, in order.
+//! A link is a ring of 64 slots, with a backlog at its tail for items that find no free slot. The
+//! [`LinkTail`] sends and the [`LinkHead`] takes. Each may move to a thread of its own, and neither
+//! waits for the other. When both ends are in one thread, [`settle`] shows that what was taken,
+//! what is in the ring and what is in the backlog are, in this order, all that was sent.
 //!
-//! A link of items of 8 bytes takes 1,046 bytes with both of its ends, as `bench/links.sh` measures:
-//! 512 of them are the ring's slots, 384 its counters. An item of another size takes 64 times its
-//! own, so send a handle to what is large. The backlog has no memory until it is used.
+//! A link of items of 8 bytes takes 1,046 bytes with both of its ends, as `bench/links.sh`
+//! measures: 512 of them are the slots of the ring, 384 its counters. The slots take 64 times the
+//! size of an item, so send handles to large items. The backlog takes no memory until it is used.
 #![tactic(auto)]
 
 mod ends;

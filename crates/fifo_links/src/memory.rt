@@ -1,8 +1,8 @@
-//! Want of memory.
+//! Out of memory.
 
 use std::alloc::AllocError;
 
-/// Memory was wanted and not had. No clause says when it comes.
+/// Memory ran out. No clause says when this happens.
 #[derive(Clone, Copy, Debug, PartialEq, Eq)]
 pub struct NoMemory;
 

@@ -1,11 +1,11 @@
-//! A link of one item more than its ring holds.
+//! A link with one item more than its ring holds.
 
 ghost use Rattle.fifo_links.specs.Link.{SameTail};
 
 use crate::{LinkTail, link, settle};
 use std::test::Fail;
 
-// Sends the numbers below `count`; whether none of them came back.
+// Sends the numbers below `count`. Returns whether all of them were sent.
 fn sends_up_to(tail: &mut LinkTail<u64>, count: u64) -> bool
     ensures { SameTail tail.old tail.new }
 {

@@ -1,4 +1,4 @@
--- The problem that is made from a number.
+-- The problem that is made from a seed.
 use Rattle.std.specs.Prelude.{ℕ, ◌+◌, ◌-◌, ◌*◌, ◌%◌, List, [], ◌∷◌, map, min, replicate}
 use Rattle.std.specs.List.{flat_map, range_with_len}
 use Rattle.dcop_base.specs.Table.{CostTable}
@@ -9,7 +9,7 @@ use Rattle.instance_make.specs.Stream.{state_after, word_at}
 abbrev pub cell_of : ℕ → ℕ → ℕ
 cell_of top word = word % (top + 1)
 
--- so many cells, each drawn from one word, from a state of the stream on
+-- `count` cells, each drawn from one word; the words start at this state of the stream
 abbrev pub drawn_cells : ℕ → ℕ → ℕ → List ℕ
 drawn_cells top state count = map (λ place. cell_of top (word_at state place)) (range_with_len 0 count)
 
@@ -17,7 +17,8 @@ drawn_cells top state count = map (λ place. cell_of top (word_at state place)) 
 abbrev pub table_words : ℕ → ℕ
 table_words size = 1 + size * size
 
--- the table of a variable and its partner, which is an earlier one drawn from the first word; the cells are drawn from the words behind it
+-- the table of a variable and its partner, an earlier variable drawn from the first word; the cells
+-- are drawn from the words after it
 abbrev pub drawn_table : ℕ → ℕ → ℕ → ℕ → CostTable
 drawn_table size top state var = record {
   scope = word_at state 0 % var ∷ var ∷ [];
@@ -25,21 +26,23 @@ drawn_table size top state var = record {
   cells = drawn_cells top (state_after state 1) (size * size);
 }
 
--- tables of these variables, one after the other
+-- the tables of these variables, one after the other
 abbrev pub drawn_tables : ℕ → ℕ → ℕ → List ℕ → List CostTable
 drawn_tables size top state [] = []
 drawn_tables size top state (var ∷ vars) =
     drawn_table size top state var ∷ drawn_tables size top (state_after state (table_words size)) vars
 
--- a variable, once for each table that it draws: as many as the degree tells, but no more than there are earlier variables
+-- a variable, once for each table that it draws: the lesser of the degree and the number of earlier
+-- variables
 abbrev pub draws_of : ℕ → ℕ → List ℕ
 draws_of degree var = replicate (min var degree) var
 
--- so many variables from the second on, each once for each table that it draws
+-- the `count` variables from the second on, each repeated once for each table that it draws
 abbrev pub draws_behind : ℕ → ℕ → List ℕ
 draws_behind degree count = flat_map (draws_of degree) (range_with_len 1 count)
 
--- the problem that is made from a seed: so many variables of one size, each but the first with tables on earlier ones; these connect it, so it has no joints
+-- the problem that is made from a seed: variables of one size, each but the first with tables on
+-- earlier ones. It has no joints
 abbrev pub made_problem : ℕ → ℕ → ℕ → ℕ → ℕ → Dcop
 made_problem seed vars size degree top = record {
   sizes = replicate vars size;

@@ -11,7 +11,7 @@ use rand_core::utils::NextWord;
 use rand_xoshiro::SplitMix64;
 use std::alloc::Global;
 
-/// The tables of so many variables, one after the other.
+/// The tables of `vars` variables, one after the other.
 pub(crate) fn draw_tables(
     alloc: Global,
     words: &mut SplitMix64,
@@ -56,7 +56,7 @@ fn draw_table(
     })
 }
 
-/// The variable before another one that the next word gives.
+/// An earlier variable than `var`, chosen by the next word.
 fn draw_below(words: &mut SplitMix64, var: u32) -> u32
     requires { 1 ≤ var }
     ensures partner { result ≡ word_at words.old 0 % var }
@@ -65,7 +65,7 @@ fn draw_below(words: &mut SplitMix64, var: u32) -> u32
     (words.next_word() % u64::from(var)) as u32
 }
 
-/// So many cells from 0 to `top`.
+/// `count` cells from 0 to `top`.
 fn draw_cells(
     alloc: Global,
     words: &mut SplitMix64,

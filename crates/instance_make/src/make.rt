@@ -1,4 +1,4 @@
-//! Problems from a number.
+//! Problems made from a seed.
 
 ghost use Rattle.std.specs.Prelude.{◌≡◌, IfOk};
 ghost use Rattle.problem_text.specs.Numbered.{numbered_file};
@@ -12,19 +12,20 @@ use rand_core::SeedableRng;
 use rand_xoshiro::SplitMix64;
 use std::alloc::Global;
 
-/// The problem file that is made from a seed: `vars` variables v0, v1 and so on with `size` values
-/// each, and tables whose cells are from 0 to `top`.
+/// Makes a problem file from a seed: `vars` variables v0, v1 and so on with `size` values each, and
+/// tables whose cells are from 0 to `top`.
 ///
-/// Each variable but the first has as many tables with earlier ones as `degree` tells, but no more
-/// than there are earlier variables. A table is drawn from the stream of SplitMix64 (Steele, Lea
-/// and Flood, OOPSLA 2014) that the seed begins: one word, modulo the variable's number, for its
-/// partner, and then one word for each cell, modulo `top + 1`. The same partner may come twice.
+/// Each variable but the first has `degree` tables with earlier variables, or one for each earlier
+/// variable if there are fewer. A table is drawn from the stream of SplitMix64 (Steele, Lea and
+/// Flood, OOPSLA 2014) that starts at the seed. One word, modulo the variable's number, gives the
+/// partner; then one word for each cell, modulo `top + 1`, gives the cost. The same partner may be
+/// drawn twice.
 ///
-/// There are 1 to 1,000 variables, 1 to 16 values, a degree of 1 to 8 and a top of 0 to 1,000,000.
+/// Limits: 1 to 1,000 variables, 1 to 16 values, a degree of 1 to 8, and a top of 0 to 1,000,000.
 ///
 /// # Errors
 ///
-/// [`NoMemory`] where memory was wanted and not had.
+/// [`NoMemory`] if memory runs out.
 pub fn make_problem(
     alloc: Global,
     seed: u64,

@@ -5,7 +5,7 @@ use Rattle.dcop_base.specs.Limits.{count_limit}
 use Rattle.protocol_steps.specs.declared.message.Message.{Message}
 use Rattle.node_runs.specs.Wires.{Passage, Wire, IsSame, HasHeld}
 
--- two lists are the same before a place, and not at it, where one of them may be over
+-- before this position two lists are the same, and at it they differ; one of them may be over there
 pub record DifferAt (drained arrived : List (ℕ × Message)) (place : ℕ) : Type 0 where
   pub same : take place arrived ≡ take place drained
   pub differ : slice_get arrived place ≢ slice_get drained place
@@ -14,7 +14,8 @@ pub record DifferAt (drained arrived : List (ℕ × Message)) (place : ℕ) : Ty
 abbrev pub drained_by : List Passage → ℕ
 drained_by ps = sum_by (λ p. length p.drained) ps
 
--- the first passage that was not the same has this number, and in it the lists first differ at this place; on the link so many were drained before
+-- the first passage whose two lists differ has this number, and they first differ at this position;
+-- `at` is how many messages the link had drained before, with 2^64 - 1 for any number from there up
 pub record FirstDiffer (passages : List Passage) (number place at : ℕ) : Type 0 where
   pub passage : Passage
   pub is : slice_get passages number ≡ Some passage
@@ -22,22 +23,24 @@ pub record FirstDiffer (passages : List Passage) (number place at : ℕ) : Type 
   pub differ : DifferAt passage.drained passage.arrived place
   pub counted : at ≡ min (drained_by (take number passages) + place) count_limit
 
--- a link comes before another: its sender is lower, or that is the same and its receiver is lower
+-- a link comes before another if its sender is lower, or if the senders are the same and its
+-- receiver is lower
 abbrev pub ComesBefore : Wire → Wire → Type 0
 ComesBefore v w = (v.sender < w.sender) ⊎ ((v.sender ≡ w.sender) × (v.receiver < w.receiver))
 
--- all links of the list that come before one have held
+-- each exchange took what it drained on all links of the list that come before this one
 abbrev pub HoldBefore : List Wire → Wire → Type 0
 HoldBefore ws w = (k : ℕ) (v : Wire) → slice_get ws k ≡ Some v → ComesBefore v w → HasHeld v
 
--- the lowest link that has not held stands at this place of the list, and differs first so
+-- the lowest link that differs is at this position of the list, and this is its first difference
 pub record IsFirstDifference (ws : List Wire) (link number place at : ℕ) : Type 0 where
   pub wire : Wire
   pub is : slice_get ws link ≡ Some wire
   pub lowest : HoldBefore ws wire
   pub first : FirstDiffer wire.passages number place at
 
--- these envelopes stand there, on the link from one agent to another, with so many drained before on it
+-- these two envelopes are at the first difference of the lowest link that differs, which leads from
+-- one agent to another; `at` is how many messages it had drained before
 pub record Differs (ws : List Wire) (from to at : ℕ) (sent taken : Option (ℕ × Message)) : Type 0 where
   pub link : ℕ
   pub number : ℕ

@@ -1,10 +1,10 @@
--- The lowest link that has not held, among the first links of a list.
+-- The lowest link that differs, among the first links of a list.
 use Rattle.std.specs.Prelude.{◌≡◌, ℕ, ◌<◌, Option, Some, None, slice_get, List}
 use Rattle.node_runs.specs.Wires.{Wire, HasHeld}
 use Rattle.kept_wires.specs.declared.differ.Place.{Place}
 use Rattle.kept_wires.specs.Differences.{FirstDiffer, ComesBefore}
 
--- it stands at this place, and differs first so
+-- it is at this place, and this is its first difference
 pub record IsLowest (ws : List Wire) (count : ℕ) (p : Place) : Type 0 where
   pub wire : Wire
   pub within : p.link < count
@@ -12,7 +12,7 @@ pub record IsLowest (ws : List Wire) (count : ℕ) (p : Place) : Type 0 where
   pub first : FirstDiffer wire.passages p.number p.place p.at
   pub lowest : (k : ℕ) (v : Wire) → k < count → slice_get ws k ≡ Some v → ComesBefore v wire → HasHeld v
 
--- or all of them have held
+-- it is this one, or none of them differs
 abbrev pub IsLowestOf : List Wire → ℕ → Option Place → Type 0
 IsLowestOf ws count (Some p) = IsLowest ws count p
 IsLowestOf ws count None = (k : ℕ) (v : Wire) → k < count → slice_get ws k ≡ Some v → HasHeld v

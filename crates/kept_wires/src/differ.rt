@@ -10,23 +10,24 @@ use crate::kept::{KeptLink, KeptPassage, LinkDifference};
 use crate::same::is_same;
 use protocol_steps::Envelope;
 
-/// A place in some kept links: that of the link in the list, the number of a passage of it, the place
-/// in the two lists of that passage, and how many envelopes the link had drained before.
+/// A place in some kept links: the link's position in the list, the number of a passage of it, the
+/// position in that passage's two lists, and how many envelopes the link had drained before.
 #[derive(Clone, Copy, Debug, PartialEq, Eq)]
 pub struct Place {
-    /// The link's place in the list.
+    /// The link's position in the list.
     pub link: usize,
     /// The passage's number on the link.
     pub number: usize,
-    /// The place in the passage's two lists.
+    /// The position in the passage's two lists.
     pub place: usize,
-    /// How many envelopes were drained of the link before; a greater number is told as 2^64 - 1.
+    /// How many envelopes the link had drained before. Numbers from 2^64 - 1 up are all given as
+    /// 2^64 - 1.
     pub at: u64,
 }
 
-/// Where what arrived on some links is first not what was drained of them in the same exchange: on
-/// the lowest link, by its sender and then its receiver. `None` exactly where each link has held. It
-/// takes no memory.
+/// The first place at which what arrived is not what was drained in the same exchange: on the
+/// lowest link that differs, by its sender and then its receiver. `None` exactly when each exchange
+/// took on each link what it drained there. It takes no memory.
 pub fn first_difference(kept: &[KeptLink]) -> Option<Place>
     ensures { MatchOption result (HaveHeld kept.now) (λ p. IsFirstDifference kept.now p.link p.number p.place p.at) }
 {
@@ -37,8 +38,8 @@ pub fn first_difference(kept: &[KeptLink]) -> Option<Place>
     lowest
 }
 
-/// [`first_difference`], with the envelopes there, which are taken out of the kept links. It takes
-/// no memory.
+/// [`first_difference`] with the two envelopes there, which are taken out of the kept links. It
+/// takes no memory.
 pub fn take_difference(kept: &mut [KeptLink]) -> Option<LinkDifference>
     ensures { MatchOption result (HaveHeld kept.old) (λ d. Differs kept.old d.from d.to d.at d.sent d.taken) }
 {
@@ -56,7 +57,7 @@ pub fn take_difference(kept: &mut [KeptLink]) -> Option<LinkDifference>
     })
 }
 
-/// The lowest link that has not held among those before this one, with it added.
+/// The lowest link that differs, among those before this one and this one.
 fn lower_of(kept: &[KeptLink], lowest: Option<Place>, link: usize) -> Option<Place>
     requires inside { link < length kept.now }
     requires lowest { IsLowestOf kept.now link lowest }
@@ -89,8 +90,8 @@ fn comes_before(one: &KeptLink, other: &KeptLink) -> bool
     receiver < other.to()
 }
 
-/// The number of the first passage that was not the same, the place in it, and how many were drained
-/// before on the link.
+/// The number of the first passage whose lists differ, the position in it, and how many envelopes
+/// the link had drained before.
 fn place_in(passages: &[KeptPassage]) -> Option<(usize, usize, u64)>
     ensures { MatchOption result (All IsSame passages.now) (λ r. FirstDiffer passages.now r.0 r.1 r.2) }
 {
@@ -104,7 +105,7 @@ fn place_in(passages: &[KeptPassage]) -> Option<(usize, usize, u64)>
     None
 }
 
-/// The first place at which two lists differ, where one of them may be over.
+/// The first position at which two lists differ; one of them may be over there.
 fn place_of(drained: &[Envelope], arrived: &[Envelope]) -> Option<usize>
     ensures { MatchOption result (arrived.now ≡ drained.now) (λ k. DifferAt drained.now arrived.now k) }
 {
@@ -117,7 +118,7 @@ fn place_of(drained: &[Envelope], arrived: &[Envelope]) -> Option<usize>
     None
 }
 
-/// Whether two lists have the same at a place, or are both over there.
+/// Whether two lists have the same envelope at a position, or are both over there.
 fn are_same_at(drained: &[Envelope], arrived: &[Envelope], place: usize) -> bool
     ensures { (result ≡ true) ↔ (slice_get arrived.now place ≡ slice_get drained.now place) }
 {

@@ -1,4 +1,4 @@
-//! What one link passed, exchange by exchange.
+//! What one link has passed, exchange by exchange.
 
 ghost use Rattle.std.specs.Prelude.{◌≡◌, ◌<◌, ◌∷◌, ◌++◌, [], length, Some, OnOk, OnErr, slice_get};
 ghost use Rattle.node_runs.specs.Wires.{HasPassed};
@@ -26,7 +26,7 @@ impl Model for KeptPassage {
 }
 
 impl KeptPassage {
-    /// The passage of these.
+    /// A passage with these two lists.
     pub fn new(drained: Vec<Envelope>, arrived: Vec<Envelope>) -> KeptPassage
         ensures drained { result.drained ≡ drained.items }
         ensures arrived { result.arrived ≡ arrived.items }
@@ -34,21 +34,21 @@ impl KeptPassage {
         KeptPassage { drained, arrived }
     }
 
-    /// What was drained, in order.
+    /// What was drained, oldest first.
     pub fn drained(&self) -> &[Envelope]
         ensures { result.now ≡ self.now.drained }
     {
         self.drained.as_slice()
     }
 
-    /// What arrived, in order.
+    /// What arrived, oldest first.
     pub fn arrived(&self) -> &[Envelope]
         ensures { result.now ≡ self.now.arrived }
     {
         self.arrived.as_slice()
     }
 
-    // Takes the envelopes at this place out of the two lists.
+    // Takes the envelopes at this position out of the two lists.
     fn take_out(&mut self, place: usize) -> (Option<Envelope>, Option<Envelope>)
         ensures drained { result.0 ≡ slice_get self.old.drained place }
         ensures arrived { result.1 ≡ slice_get self.old.arrived place }
@@ -59,8 +59,8 @@ impl KeptPassage {
     }
 }
 
-/// A link from an agent to one in another node, and all its passages, oldest first: one for each
-/// exchange that found something on it. Contracts see a `Wire` of `node_runs`.
+/// A link from an agent to one in another node, with all its passages, oldest first: one for each
+/// exchange that found anything on it. Contracts see it as a `Wire` of `node_runs`.
 #[derive(Drop)]
 pub struct KeptLink {
     from: VarId,
@@ -76,16 +76,17 @@ impl Model for KeptLink {
     ghost view = { λ l. record { receiver = l.to; sender = l.from; passages = l.passages.items } };
 }
 
-/// Where the envelopes that arrived on a link are first not those that were drained in the same
-/// exchange: the agents at its ends, the place on the link from 0, and the two envelopes there; where
-/// one of the exchange's two lists is over, its envelope is `None`.
+/// The first place at which the envelopes that arrived on a link are not those that were drained in
+/// the same exchange: the agents at its ends, the position on the link, and the two envelopes
+/// there. If one of the exchange's two lists is over there, its envelope is `None`.
 #[derive(Drop)]
 pub struct LinkDifference {
     /// The agent that sends on the link.
     pub from: VarId,
-    /// The agent that takes from it.
+    /// The agent that receives on the link.
     pub to: VarId,
-    /// How many envelopes the link had drained before; a greater number is told as 2^64 - 1.
+    /// How many envelopes the link had drained before. Numbers from 2^64 - 1 up are all given as
+    /// 2^64 - 1.
     pub at: u64,
     /// What was drained.
     pub sent: Option<Envelope>,
@@ -113,7 +114,7 @@ impl KeptLink {
         self.from
     }
 
-    /// The agent that takes from it.
+    /// The agent that receives on the link.
     pub fn to(&self) -> VarId
         ensures { result ≡ self.now.receiver }
     {
@@ -127,12 +128,11 @@ impl KeptLink {
         self.passages.as_slice()
     }
 
-    /// Keeps what an exchange drained and what arrived. Where it found nothing on the link, nothing
-    /// is kept of it.
+    /// Keeps what an exchange drained and what arrived. If both are empty, it keeps nothing.
     ///
     /// # Errors
     ///
-    /// [`NoMemory`] where memory was wanted and not had. The link is then as before.
+    /// [`NoMemory`] if memory runs out. The link stays as it was.
     pub fn keep(&mut self, drained: Vec<Envelope>, arrived: Vec<Envelope>) -> Result<(), NoMemory>
         ensures kept { OnOk result (self.new ≡ keeps self.old drained.items arrived.items) }
         ensures passed { OnOk result (HasPassed self.old self.new) }
@@ -145,7 +145,7 @@ impl KeptLink {
         Ok(())
     }
 
-    /// Takes the envelopes at a place out of a passage.
+    /// Takes the envelopes at a position out of a passage.
     pub(crate) fn take_out(
         &mut self,
         number: usize,
@@ -159,7 +159,7 @@ impl KeptLink {
     }
 }
 
-// Takes the envelope at this place out of a list.
+// Takes the envelope at this position out of a list.
 fn take_at(list: &mut Vec<Envelope>, place: usize) -> Option<Envelope>
     ensures { result ≡ slice_get list.old.items place }
 {

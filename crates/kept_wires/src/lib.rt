@@ -1,11 +1,11 @@
-//! What links between the nodes of agents have passed, kept exchange by exchange, and where it first
+//! What links between the nodes of agents have passed, exchange by exchange, and where it first
 //! differs.
 //!
-//! An exchange drains what agents sent to agents of another node, and something arrives there. A
-//! [`KeptLink`] keeps both of one link: contracts see it as a `Wire` of `node_runs`. Where each
-//! exchange of each link took just what it sent there, the law of `node_runs` holds of the agents'
-//! run; [`first_difference`] says whether that is so, and else where it first is not. It takes no
-//! memory.
+//! An exchange drains what agents have sent to agents of another node, and something arrives there.
+//! A [`KeptLink`] keeps both lists of one link. Contracts see it as a `Wire` of `node_runs`. If
+//! each exchange took on each link exactly what it drained there, the law of `node_runs` holds of
+//! the agents' run. [`first_difference`] says whether that is so, and if not, where it first fails.
+//! It takes no memory.
 #![tactic(auto)]
 
 mod differ;

@@ -7,7 +7,7 @@ use adopt_context::AgentContext;
 use dcop_base::{CellList, Val, VarList};
 use protocol_steps::{Envelope, Message};
 
-/// Whether two envelopes are the same: the stamp, and the message.
+/// Whether two envelopes are the same: the stamp and the message.
 pub(crate) fn is_same(one: &Envelope, other: &Envelope) -> bool
     ensures { (result ≡ true) ↔ (one.now ≡ other.now) }
 {

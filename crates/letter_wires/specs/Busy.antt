@@ -2,7 +2,7 @@
 use Rattle.std.specs.Prelude.{◌≡◌, ℕ, ◌<◌, ◌≤◌, ◌⊎◌, List, [], length, Some, slice_get}
 use Rattle.node_letters.specs.Passings.{Passing}
 
--- a part of the links outside of which nothing was drained
+-- a range of links outside which nothing was drained
 pub record IsBusyPart (ps : List Passing) (start end : ℕ) : Type 0 where
   pub order : start ≤ end
   pub inside : end ≤ length ps

@@ -1,4 +1,4 @@
--- The wires of an honest dialer.
+-- Wires that carry what is sent.
 use Rattle.std.specs.Prelude.{List}
 use Rattle.std.specs.List.{All}
 use Rattle.wire_edge.specs.Wire.{Told}

@@ -1,4 +1,4 @@
-//! The links that have something to send.
+//! The part of the links that has something to send.
 
 ghost use Rattle.std.specs.Prelude.{◌≡◌, ◌↔◌, [], true, IfOk, OnOk};
 ghost use Rattle.std.specs.List.{All};
@@ -10,8 +10,9 @@ use dcop_base::{Bytes, NoMemory};
 use node_letters::{LinkPassing, write_letters};
 use std::alloc::Global;
 
-/// Where the least part of the links begins and ends outside of which nothing was drained. In most
-/// exchanges that is one link of many, so each pair of nodes need not look at all of them.
+/// A range of links outside which nothing was drained: its first position, and the position after
+/// its last. In most exchanges it has one link of many, so that the pairs of nodes need not look at
+/// all links.
 pub(crate) fn busy_part(passings: &[LinkPassing]) -> (usize, usize)
     ensures { IsBusyPart passings.now result.0 result.1 }
 {
@@ -34,7 +35,7 @@ fn is_idle(passing: &LinkPassing) -> bool
     passing.drained().is_empty()
 }
 
-/// [`write_letters`], where only this part of the links has something. It looks at no other.
+/// [`write_letters`], when nothing was drained outside this range. It looks at no link outside.
 pub(crate) fn write_part(
     alloc: Global,
     passings: &[LinkPassing],

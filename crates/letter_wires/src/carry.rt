@@ -16,8 +16,8 @@ use std::time::Clock;
 use wire_edge::{DialFault, Dialer};
 use wire_pump::{PumpFail, Pumped, pump_by};
 
-/// Sends a list of bytes each way over the two wires between two nodes. Where both lists are empty
-/// the wires rest. A wire that fails is charged to the dialer.
+/// Sends one list of bytes in each direction over the two wires between two nodes. If both lists
+/// are empty, the wires are not used. A wire that failed is charged to the dialer.
 pub(crate) fn carry<R, D>(
     rt: &R,
     alloc: Global,
@@ -52,7 +52,7 @@ where
     }
 }
 
-/// Charges the two wires of a pump that failed.
+/// Charges to the dialer the two wires of a pump that failed.
 fn charge_both<D: Dialer>(dialer: &mut D, failed: PumpFail<D::W>)
     requires { HaveAnyFault D.W.told failed }
     ensures rose { (D.faults dialer.old ≤ D.faults dialer.new) × Rose (D.faults dialer.old) (D.faults dialer.new) }

@@ -1,4 +1,4 @@
-//! Why an exchange did not pass what it drained.
+//! Why an exchange did not deliver what it drained.
 
 ghost use Rattle.std.specs.Prelude.{◌≡◌};
 
@@ -6,26 +6,27 @@ use dcop_base::NoMemory;
 use std::alloc::AllocFailed;
 use wire_edge::DialFault;
 
-/// Why an exchange did not pass what it drained.
+/// Why an exchange did not deliver what it drained.
 #[derive(Clone, Copy, Debug, PartialEq, Eq)]
 pub enum PassFault {
-    /// The dialer failed, or a wire did, which was then charged to it: its count of faults rose.
+    /// The dialer failed, or a wire did and was charged to it. The dialer's count of faults rose.
     Failed,
-    /// The bytes that a node received are not whole frames of letters from an agent of the other node
-    /// to a neighbour in this one: the first byte that differs from those that were sent.
+    /// The bytes that a node received are not whole frames of letters from an agent of the other
+    /// node to a neighbour in this one. The fields give the first byte that differs from what was
+    /// sent.
     Bytes {
         /// The node that sent.
         from_node: u32,
         /// The node that received.
         to_node: u32,
-        /// The place in the bytes from the one node to the other, from 0.
+        /// The position in the bytes from the one node to the other in this exchange, from 0.
         place: u64,
-        /// The byte that was sent, where there is one.
+        /// The byte that was sent; `None` if the bytes that were sent are over.
         sent: Option<u8>,
-        /// The byte that was received, where there is one.
+        /// The byte that was received; `None` if the bytes that were received are over.
         taken: Option<u8>,
     },
-    /// Memory was wanted and not had.
+    /// Memory ran out.
     NoMemory,
 }
 

@@ -1,9 +1,10 @@
-//! Letters between nodes over wires that nobody trusts.
+//! Letters between nodes, over wires that are not trusted.
 //!
-//! There is a pair of wires for each pair of nodes. [`pass_all`] sends what an exchange drained of each
-//! link over the wires between its nodes, both ways at once, and adds what came to the links. Over the
-//! wires of an honest dialer just what was drained of a link arrives on it; over others anything may,
-//! and only bytes that are no frames of letters are refused here.
+//! Each pair of nodes has a pair of wires. [`pass_all`] sends what an exchange drained of each link
+//! over the wires between its nodes, in both directions at once, and adds what came to the links.
+//! Over joined wires, such as those of an honest dialer, exactly what was drained of a link arrives
+//! on it. Over other wires anything may arrive: only bytes that are not whole frames of letters are
+//! refused here.
 #![tactic(auto)]
 
 mod busy;

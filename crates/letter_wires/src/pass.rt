@@ -21,8 +21,21 @@ use std::thread::Threads;
 use std::time::Clock;
 use wire_edge::Dialer;
 
-/// Sends what was drained of each link from node to node over the wires between the two, and adds
-/// what came to the links. The pairs of nodes stand in order, and so do their wires.
+/// Sends what was drained of each link over the wires between its two nodes, and adds what came to
+/// the links. The wires are in the order of the pairs of nodes: (0, 1), (0, 2) and so on. It may
+/// wait.
+///
+/// # Errors
+///
+/// - [`PassFault::Failed`] if the dialer failed, or a wire did and was charged to it: the dialer's
+///   count of faults rises.
+/// - [`PassFault::Bytes`] only if the bytes that a node received are not whole frames of letters on
+///   the links from the other node; it has the first byte that differs from what was sent. It never
+///   comes if the wires of each pair are joined, each has received all that the other has sent, and
+///   nothing has arrived on the links.
+/// - [`PassFault::NoMemory`] if memory runs out.
+///
+/// After a fault the two wires of one pair may be gone, and letters may have been added.
 pub fn pass_all<R, D>(
     rt: &R,
     alloc: Global,
@@ -51,8 +64,8 @@ where
     Ok(())
 }
 
-/// [`pass_all`], for the pairs of a node and a later one. Of the links only this part has something to
-/// send.
+/// [`pass_all`], for the pairs of `first` and each later node. Outside the range `busy` nothing was
+/// drained.
 fn pass_from<R, D>(
     rt: &R,
     alloc: Global,
@@ -84,7 +97,7 @@ where
     Ok(())
 }
 
-/// [`pass_all`], for one pair of nodes, whose wires stand first; they go to the end.
+/// [`pass_all`], for one pair of nodes. Its wires are the first of the list, and go to its end.
 fn pass_pair<R, D>(
     rt: &R,
     alloc: Global,
@@ -120,7 +133,8 @@ where
     Ok(())
 }
 
-/// Adds what came from one node to another to the links, which lead apart.
+/// Adds what came from one node to another to the links. No two links have the same sender and
+/// receiver.
 fn take_in(
     alloc: Global,
     passings: &mut [LinkPassing],

@@ -1,4 +1,4 @@
--- The difference of a report from the end of a run, as far as a core state tells it.
+-- The difference of a report from the end of a run, given the core state at the end.
 use Rattle.std.specs.Prelude.{map, Option}
 use Rattle.std.specs.Option.{option_or}
 use Rattle.std.specs.List.{list_all}
@@ -9,7 +9,8 @@ use Rattle.certificate_text.specs.declared.verdict.Differs.{Differs}
 use Rattle.delivery_core.specs.State.{CoreView, views_of, view_at}
 use Rattle.log_holds.specs.Differences.{status_difference, count_difference, value_difference, bound_difference, standing_at}
 
--- status, deliveries and values are those of the core state, and so are the bounds
+-- the first difference from a core state: the status, the deliveries and the values must be those
+-- of the core state, and so must the bounds
 abbrev pub core_difference : TextFile → CoreView → Report → Option Differs
 core_difference f s r =
     option_or (status_difference (list_all ended_of (views_of s.seats)) r.status)

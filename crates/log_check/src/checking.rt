@@ -29,20 +29,21 @@ use run_log::LogEvent;
 use std::alloc::Global;
 use tree_search::{search_deliveries, tree_found};
 
-/// Whether a report with this log shows that no values are better by more than its gap.
+/// Checks whether a report with this log shows that no values are better by more than its gap.
 ///
-/// Yes exactly where the report holds with the log, with the cost and the gap: the log is a run of
-/// the ADOPT agents of the problem solved on its depth-first tree, for the report's error, with right
-/// stamps, and the report tells its end. Then the cost is at most the gap worse than the best sum of
-/// the file, whoever made the report, and where it is solved at most the error. Otherwise the first
-/// difference: the first event that is not lawful, the first stamp that is wrong, and then the
-/// status, the deliveries, the values, the cost, the bounds, and a gap above the error.
+/// The verdict is yes, with the cost and the gap, exactly when the report holds with the log: the
+/// log is a run of the ADOPT agents of the problem solved on its depth-first tree, for the report's
+/// error, with right stamps; the report describes its end; and if it is solved, its gap is at most
+/// the error. The cost is then worse than the best sum of the file by at most the gap, whoever made
+/// the report. Otherwise the verdict is no, with the first difference: the first event that is not
+/// lawful, the first stamp that is wrong, and then the status, the deliveries, the values, the
+/// cost, the bounds, and a gap above the error.
 ///
 /// The time is that of the agents' activations, and of the search for the tree.
 ///
 /// # Errors
 ///
-/// [`NoMemory`] where memory was wanted and not had.
+/// [`NoMemory`] if memory runs out.
 pub fn check_log(
     alloc: Global,
     file: &ProblemFile,
@@ -78,7 +79,7 @@ fn log_difference(
     difference_in(alloc, file, solved.problem(), report, log)
 }
 
-/// The same, where this is the problem solved.
+/// The same, given the problem solved.
 fn difference_in(
     alloc: Global,
     file: &ProblemFile,
@@ -99,7 +100,7 @@ fn difference_in(
     }
 }
 
-/// A difference that tells why a log is no run with right stamps.
+/// The difference that says why a log is not a run with right stamps.
 fn fault_difference(fault: LogFault) -> Result<Option<Differs>, NoMemory>
     ensures { IfOk result (IsToldBy fault) }
 {
@@ -110,7 +111,7 @@ fn fault_difference(fault: LogFault) -> Result<Option<Differs>, NoMemory>
     }
 }
 
-/// A difference that tells a stamp that is wrong.
+/// The difference of a wrong stamp.
 fn stamp_difference(wrong: WrongStamp) -> Differs
     ensures { result ≡ Differs.Stamp wrong.at wrong.left wrong.right }
 {
@@ -118,12 +119,12 @@ fn stamp_difference(wrong: WrongStamp) -> Differs
     Differs::Stamp { at, left, right }
 }
 
-/// The start of the ADOPT agents of a problem on its depth-first tree, for an error of at most 2^62.
-/// Its token agents find the tree.
+/// The start of the ADOPT agents of a problem on its depth-first tree, for an error of at most
+/// 2^62. Its token agents find the tree.
 ///
 /// # Errors
 ///
-/// [`NoMemory`] where memory was wanted and not had.
+/// [`NoMemory`] if memory runs out.
 pub fn start_for(alloc: Global, problem: &Problem, error: u64) -> Result<Start, NoMemory>
     requires { error ≤ amount_limit }
     ensures start { IfOk result (IsStartFor problem.now) }

@@ -1,4 +1,4 @@
-//! The end of the run that a log is, beside what a report tells of it.
+//! The end of the run of a log, compared with what a report says about it.
 
 ghost use Rattle.std.specs.Prelude.{◌≡◌, ◌<◌, ◌≤◌, length, map};
 ghost use Rattle.std.specs.List.{list_all};
@@ -67,7 +67,7 @@ fn core_difference(
     bound_difference(file, problem, core.standing(VarId(0)), report)
 }
 
-/// The status, where it is not the right one.
+/// The status, if it is not the right one.
 fn status_difference(ended: bool, status: Ending) -> Option<Differs>
     ensures { result ≡ status_difference ended status }
 {
@@ -77,7 +77,7 @@ fn status_difference(ended: bool, status: Ending) -> Option<Differs>
     }
 }
 
-/// The deliveries, where they are not so many.
+/// The deliveries, if their number is not right.
 fn count_difference(left: u64, right: u64) -> Option<Differs>
     ensures { result ≡ count_difference left right }
 {

@@ -1,8 +1,12 @@
-//! Checking of reports with a log.
+//! Checking reports with a log.
 //!
-//! [`check_log`] plays the log of a report as a run of the ADOPT agents of the problem solved, on its
-//! depth-first tree, and says whether the report tells the end of that run, or how it differs first.
-//! It trusts neither who made the report nor how. [`start_for`] is the start of that run.
+//! [`check_log`] plays the log of a report as a run of the ADOPT agents of the problem solved, on
+//! its depth-first tree. It says whether the report describes the end of that run, or gives the
+//! first difference. It trusts neither the report nor its maker. [`start_for`] gives the start of
+//! that run.
+//!
+//! It builds on `log_replay` to play the log, on `log_holds` for the conditions and laws, and on
+//! `delivery_turns` and `tree_search` to find the tree.
 #![tactic(auto)]
 
 mod checking;

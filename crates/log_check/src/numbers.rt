@@ -14,8 +14,8 @@ use problem_solved::gap_of;
 use problem_text::{Goal, ProblemFile};
 use protocol_steps::Standing;
 
-/// The first of cost, lower bound and upper bound that is not the right one by the standing of the
-/// root's agent, or else a gap above the error.
+/// The first of cost, lower bound and upper bound that is not right, given the standing of the
+/// root's agent, or otherwise a gap above the error.
 pub(crate) fn bound_difference(
     file: &ProblemFile,
     problem: &Problem,
@@ -53,7 +53,7 @@ pub(crate) fn bound_difference(
     error_difference(report.status, report.error, gap_of(file.goal, report))
 }
 
-/// A gap above the error, where the report is solved.
+/// A gap above the error, if the report is solved.
 fn error_difference(status: Ending, error: u64, gap: u64) -> Option<Differs>
     ensures { result ≡ error_difference status error gap }
 {
@@ -66,7 +66,7 @@ fn error_difference(status: Ending, error: u64, gap: u64) -> Option<Differs>
     }
 }
 
-/// The lesser of a sum and a bound, where the bound is there.
+/// The lesser of a sum and a bound, or the sum if there is no bound.
 fn least_known(sum: u64, bound: Option<u64>) -> u64
     ensures { result ≡ least_known sum bound }
 {

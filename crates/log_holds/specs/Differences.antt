@@ -1,4 +1,5 @@
--- The conditions on a report with a log in their order, each with the difference that tells where it fails.
+-- The conditions on a report with a log, in their order, each with the difference that is reported
+-- if it fails.
 use Rattle.std.specs.Prelude.{ℕ, ◌+◌, Bool, true, false, List, [], ◌∷◌, Option, Some, None, ◌==◌, nat_lt, if◌then◌else◌, min, slice_get}
 use Rattle.std.specs.Option.{option_map, option_or}
 use Rattle.dcop_base.specs.Limits.{count_limit}
@@ -29,7 +30,7 @@ abbrev pub unlawful : ℕ → Option EventFault → Option Differs
 unlawful k None = None
 unlawful k (Some fault) = Some (Event k fault)
 
--- the first event that is not lawful, from event k on, in a run that has come to this network
+-- the first event that is not lawful, from event k on, in a run that has reached this network
 abbrev pub fault_in : ℕ → Network → List LogEvent → Option Differs
 fault_in k net [] = None
 fault_in k net (e ∷ log) = option_or (unlawful k (event_fault net (event_of e))) (fault_in (k + 1) (effect net (event_of e)) log)
@@ -43,41 +44,44 @@ abbrev pub played : Network → List LogEvent → Network
 played net [] = net
 played net (e ∷ log) = played (effect net (event_of e)) log
 
--- the standing of agent 0, the root of the depth-first tree
+-- the standing of an agent; all zero without an upper bound if there is no agent
 abbrev pub standing_at : Option View → Standing
 standing_at None = record { lower = 0; upper = None; threshold = 0 }
 standing_at (Some v) = standing_of v
 
+-- the standing of agent 0, the root of the depth-first tree
 abbrev pub root_standing : Network → Standing
 root_standing net = standing_at (slice_get net.views 0)
 
--- a report is solved exactly where all agents have ended
+-- the difference of the status: a report must be solved exactly when all agents have ended
 abbrev pub status_difference : Bool → Ending → Option Differs
 status_difference true Solved = None
 status_difference true Spent = Some (Status Spent)
 status_difference false Solved = Some (Status Solved)
 status_difference false Spent = None
 
--- the printed number on the left is the right one
+-- the difference of a printed number, on the left, that is not the right one
 abbrev pub unless_right : (ℕ → ℕ → Differs) → ℕ → ℕ → Option Differs
 unless_right differs left right = if left == right then None else Some (differs left right)
 
--- the printed deliveries are the right ones, which are told as far as they are counted
+-- the difference of printed deliveries that are not right; the right number is reported up to
+-- count_limit
 abbrev pub count_difference : ℕ → ℕ → Option Differs
 count_difference left right = if left == right then None else Some (Deliveries left (min right count_limit))
 
--- the printed values, from that of variable i on, are the right ones
+-- the difference of printed values, from that of variable i on: the first that is not right
 abbrev pub value_difference : ℕ → List ℕ → List ℕ → Option Differs
 value_difference i (v ∷ vs) (w ∷ ws) = if v == w then value_difference (i + 1) vs ws else Some (Value i)
 value_difference i [] ws = None
 value_difference i (v ∷ vs) [] = None
 
--- the gap of a solved report is at most its error
+-- the difference of a solved report whose gap is above its error
 abbrev pub error_difference : Ending → ℕ → ℕ → Option Differs
 error_difference Solved error gap = if nat_lt error gap then Some (Error error gap) else None
 error_difference Spent error gap = None
 
--- the cost is that of the values, and the bounds are those of the root's standing and of the values' cost
+-- the first difference of the numbers: the cost must be that of the values, and the bounds must be
+-- those of the root's standing and of the values' cost
 abbrev pub bound_difference : TextFile → Standing → Report → Option Differs
 bound_difference f top r =
     let least : ℕ = least_known (cost (problem_solved f) r.values) top.upper in
@@ -86,7 +90,8 @@ bound_difference f top r =
     (option_or (unless_right (λ left right. Upper left right) r.upper (upper_for f.goal f.problem top.lower least))
     (error_difference r.status r.error (gap_of f.goal r))))
 
--- status, deliveries and values are those of the network in which the run ended, and so are the bounds
+-- the first difference from the end of the run: the status, the deliveries and the values must be
+-- those of the network in which it ended, and so must the bounds
 abbrev pub end_difference : TextFile → Network → Report → Option Differs
 end_difference f end r =
     option_or (status_difference (has_ended end) r.status)
@@ -94,7 +99,8 @@ end_difference f end r =
     (option_or (value_difference 0 r.values (values_of end))
     (bound_difference f (root_standing end) r)))
 
--- the first difference of a report with a log: the first event that is not lawful, the first stamp that is wrong, and then the end
+-- the first difference of a report with a log: the first event that is not lawful, otherwise the
+-- first wrong stamp, and otherwise the first difference from the end of the run
 abbrev pub log_difference : TextFile → Report → List LogEvent → Option Differs
 log_difference f r log =
     let net : Network = start_state (agents_for f r.error) in

@@ -1,4 +1,4 @@
--- What a report of ADOPT tells of the network in which the run ended.
+-- What a report of ADOPT says about the network in which the run ended.
 use Rattle.std.specs.Prelude.{◌≡◌, ℕ, ◌-◌, List, Option, Some, None, if◌then◌else◌, min, slice_get}
 use Rattle.dcop_base.specs.Problem.{Dcop, cost}
 use Rattle.pseudotree.specs.Tree.{IsRoot}
@@ -24,29 +24,34 @@ pub record IsRootAgent (p : Dcop) (end : Network) (v : AdoptView) : Type 0 where
   pub above_all : IsRoot (dfs p) root
   pub is : slice_get end.views root ≡ Some (AdoptKind v)
 
--- a report is solved where all agents have ended, and spent otherwise
+-- a report is solved if all agents have ended, and spent otherwise
 abbrev pub ending_of : Network → Ending
 ending_of end = if has_ended end then Solved else Spent
 
--- the lesser of a sum and a bound, where the bound is there
+-- the lesser of a sum and a bound; the sum if there is no bound
 abbrev pub least_known : ℕ → Option ℕ → ℕ
 least_known sum None = sum
 least_known sum (Some bound) = min sum bound
 
--- the bounds of the best sum of a problem, where these are bounds of the optimum of the problem solved: for goal max, what these leave of the top sum
+-- the lower bound of the best sum of a problem, given bounds of the optimum of the problem solved:
+-- for goal max, the top sum minus the upper bound
 abbrev pub lower_for : Goal → Dcop → ℕ → ℕ → ℕ
 lower_for Min p lower upper = lower
 lower_for Max p lower upper = top_of p - upper
 
+-- the upper bound of the best sum of a problem, given bounds of the optimum of the problem solved:
+-- for goal max, the top sum minus the lower bound
 abbrev pub upper_for : Goal → Dcop → ℕ → ℕ → ℕ
 upper_for Min p lower upper = upper
 upper_for Max p lower upper = top_of p - lower
 
--- the least that values and the root's agent show the optimum to be at most
+-- the least upper bound of the optimum that the values and the root's agent show
 abbrev pub least_shown : Dcop → List ℕ → AdoptView → ℕ
 least_shown p values v = least_known (cost p values) (upper_bound v)
 
--- what a report tells is this end of a run of agents of the problem solved: the status, the deliveries and the values are the network's; the cost is that of the values in the file's problem, and the bounds are those of the root's agent and of the values' cost
+-- a report describes this end of a run of agents of the problem solved: the status, the deliveries
+-- and the values are the network's; the cost is that of the values in the file's problem; and the
+-- bounds are those of the root's agent and of the values' cost
 pub record TellsEnd (f : TextFile) (end : Network) (r : Report) : Type 0 where
   pub top : AdoptView
   pub is_top : IsRootAgent (problem_solved f) end top

@@ -1,4 +1,4 @@
--- Where a report with a certificate of a log holds.
+-- When a report with a certificate of a log holds.
 use Rattle.std.specs.Prelude.{◌≡◌, ℕ, ◌≤◌, List}
 use Rattle.pseudotree.specs.DepthFirst.{dfs}
 use Rattle.protocol_steps.specs.View.{View}
@@ -17,7 +17,9 @@ use Rattle.log_holds.specs.Ends.{TellsEnd}
 abbrev pub agents_for : TextFile → ℕ → List View
 agents_for f error = adopt_agents (problem_solved f) (dfs (problem_solved f)) error
 
--- the log is a run of these agents for the report's error, with right stamps; what the report tells is the end of that run; and where it is solved, its gap is at most the error
+-- a report with this log holds: the log is a run of these agents for the report's error, with right
+-- stamps; the report describes the end of that run; and if it is solved, its gap is at most the
+-- error
 pub record HoldsLog (f : TextFile) (r : Report) (log : List LogEvent) : Type 0 where
   pub end : Network
   pub run : IsStampedRun (agents_for f r.error) log end

@@ -1,4 +1,4 @@
--- The laws on reports with a log.
+-- The laws about reports with a log.
 use Rattle.std.specs.Prelude.{◌≡◌, ℕ, ◌≤◌, List, length, None}
 use Rattle.dcop_base.specs.Problem.{IsAssignment, cost}
 use Rattle.dcop_base.specs.Whole.{IsProblem}
@@ -17,7 +17,9 @@ use Rattle.log_holds.specs.Ends.{TellsEnd}
 use Rattle.log_holds.specs.Holds.{agents_for, HoldsLog}
 use Rattle.log_holds.specs.Differences.{log_difference}
 
--- what a report tells of a file is so: its values are an assignment, its cost is their sum, the best sum lies between its bounds, and the cost is at most the gap worse than the best sum, and where it is solved at most the error
+-- what a report says about a file is true: its values are an assignment, its cost is their sum, the
+-- best sum is between its bounds, and the cost is worse than the best sum by at most the gap, and
+-- by at most the error if the report is solved
 pub record IsShown (f : TextFile) (r : Report) : Type 0 where
   pub assignment : IsAssignment f.problem r.values
   pub sum : r.cost ≡ cost f.problem r.values
@@ -25,16 +27,16 @@ pub record IsShown (f : TextFile) (r : Report) : Type 0 where
   pub near : (best : ℕ) → IsBestSum f.goal f.problem best → IsAtMostWorse f.goal (gap_of f.goal r) r.cost best
   pub solved : r.status ≡ Solved → (best : ℕ) → IsBestSum f.goal f.problem best → IsAtMostWorse f.goal r.error r.cost best
 
--- a report with a log that holds shows what it tells, whoever made it
+-- what a report with a log says is true if the report holds, whoever made it
 abbrev pub LogsShow : Type 0
 LogsShow = (f : TextFile) (r : Report) (log : List LogEvent) → IsProblem f.problem → HoldsLog f r log → IsShown f r
 
--- a report that tells the end of a run of cells holds with the merged journals as its log
+-- a report that describes the end of a run of cells holds with the merged journals as its log
 abbrev pub MergedLogsHold : Type 0
 MergedLogsHold = (f : TextFile) (r : Report) (budget : ℕ) (cells : List CellState) (end : Network) (log : List LogEvent) → IsProblem f.problem
     → IsRunOfCells budget (agents_for f r.error) cells end → IsMerge (journals_of cells) (entries_of log) → TellsEnd f end r → HoldsLog f r log
 
--- a report with a value for each variable holds exactly where it has no difference
+-- a report with a value for each variable holds exactly when it has no difference
 pub record DifferencesAreExact : Type 0 where
   pub holds : (f : TextFile) (r : Report) (log : List LogEvent) → IsProblem f.problem → length r.values ≡ length f.problem.sizes → log_difference f r log ≡ None → HoldsLog f r log
   pub none : (f : TextFile) (r : Report) (log : List LogEvent) → IsProblem f.problem → HoldsLog f r log → log_difference f r log ≡ None

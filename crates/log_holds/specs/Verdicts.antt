@@ -1,4 +1,4 @@
--- What comes of checking a report with a certificate of a log.
+-- The verdict on a report with a certificate of a log.
 use Rattle.std.specs.Prelude.{◌≡◌, List}
 use Rattle.run_log.specs.declared.log.LogEvent.{LogEvent}
 use Rattle.problem_text.specs.File.{TextFile}
@@ -9,11 +9,12 @@ use Rattle.problem_solved.specs.Verdict.{verdict_by}
 use Rattle.log_holds.specs.Holds.{HoldsLog}
 use Rattle.log_holds.specs.Differences.{log_difference}
 
--- yes with the cost and the gap where the report does not differ from the end of the run that this log is, no with the first difference otherwise
+-- the verdict: yes with the cost and the gap if the report with this log has no difference, and no
+-- with the first difference otherwise
 abbrev pub IsLogVerdict : TextFile → Report → List LogEvent → Verdict → Type 0
 IsLogVerdict f r log verdict = verdict ≡ verdict_by f r (log_difference f r log)
 
--- yes exactly where the report holds with this log
+-- the verdict is yes exactly when the report holds with this log
 abbrev pub IsLogExact : TextFile → Report → List LogEvent → Verdict → Type 0
 IsLogExact f r log (Yes cost error) = HoldsLog f r log
 IsLogExact f r log (No differs) = ¬ HoldsLog f r log

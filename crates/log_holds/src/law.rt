@@ -1,4 +1,4 @@
-//! The laws on reports with a log.
+//! The laws about reports with a log.
 
 ghost use Rattle.log_holds.specs.Laws.{DifferencesAreExact, LogsShow, MergedLogsHold};
 
@@ -7,9 +7,9 @@ use adopt_runs::adopt_bounds_enclose;
 use run_log::merged_stamps_are_right;
 use token_runs::token_runs;
 
-/// Where a report with a log holds, whoever made it: its values are an assignment, its cost is their
-/// sum in the file's tables, the best sum lies between its bounds, and the cost is at most the gap
-/// worse than the best sum. Where it is solved, the cost is at most the error worse.
+/// If a report with a log holds, whoever made it, then its values are an assignment, its cost is
+/// their sum in the file's tables, the best sum is between its bounds, and the cost is worse than
+/// the best sum by at most the gap. If it is solved, the cost is worse by at most the error.
 pub fn logs_show()
     ensures { LogsShow }
 {
@@ -17,8 +17,8 @@ pub fn logs_show()
     adopt_bounds_enclose();
 }
 
-/// A report that tells the end of a run of ADOPT cells of the problem solved holds with the merged
-/// journals of the cells as its log.
+/// A report that describes the end of a run of ADOPT cells of the problem solved holds with the
+/// merged journals of the cells as its log.
 pub fn merged_logs_hold()
     ensures { MergedLogsHold }
 {
@@ -28,9 +28,10 @@ pub fn merged_logs_hold()
     merged_stamps_are_right();
 }
 
-/// A report with a log and a value for each variable holds exactly where it has no difference, of
-/// those that are told in their order: an event that is not lawful, a stamp, the status, the
-/// deliveries, the values, the cost, the bounds, and a gap above the error.
+/// A report with a log and a value for each variable holds exactly when it has no difference. The
+/// possible differences, in the order in which they are reported, are an event that is not lawful,
+/// a stamp, the status, the deliveries, the values, the cost, the bounds, and a gap above the
+/// error.
 pub fn differences_are_exact()
     ensures { DifferencesAreExact }
 {

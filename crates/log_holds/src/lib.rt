@@ -1,10 +1,13 @@
-//! Reports with a log: where they hold, and what they show.
+//! Reports with a log: when they hold, and what they show.
 //!
-//! A report of ADOPT with the log of its run can be checked without trusting who made it: the log is
+//! A report of ADOPT with the log of its run can be checked without trust in its maker: the log is
 //! played as a run of the agents of the problem solved, on its depth-first tree
-//! (`specs/Holds.antt`). `specs/Differences.antt` has what can differ, in the order in which it is told.
-//! The laws are about definitions alone. Each is the contract of a call that
-//! does nothing: who needs the law calls it.
+//! (`specs/Holds.antt`). `specs/Differences.antt` says what can differ, in the order in which it is
+//! reported. The laws are about definitions alone. Each is the contract of a call that does
+//! nothing; code that needs the law calls it.
+//!
+//! It builds on `adopt_runs` and `adopt_ends` for what holds of every run of ADOPT, on `run_log`
+//! for logs, and on `problem_solved` for the best sum.
 #![tactic(auto)]
 
 mod law;

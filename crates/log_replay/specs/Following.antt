@@ -1,4 +1,4 @@
--- When stamps are those of a run that has come to some network.
+-- When stamps are those of a run that has reached a network.
 use Rattle.std.specs.Prelude.{◌≡◌, ℕ, ◌<◌, ◌≤◌, length, drop, Some, max, slice_get}
 use Rattle.std.specs.List.{fold}
 use Rattle.dcop_base.specs.Limits.{amount_limit}
@@ -9,7 +9,9 @@ use Rattle.protocol_steps.specs.Links.{taken_at}
 use Rattle.run_log.specs.LogStamps.{LinkStamps}
 use Rattle.log_replay.specs.Queues.{StampsView, row_at, stamps_at, receivers}
 
--- each agent's last stamp is there; each agent has a queue for each neighbour; and in the queue of a link stand the stamps of what was sent there and not taken
+-- the stamps agree with a network: they have each agent's last stamp and a queue for each of its
+-- neighbours; the queue of a link has the stamps of what was sent there and not taken; and no stamp
+-- is above amount_limit
 pub record AreStamps (p : Dcop) (net : Network) (s : LinkStamps) (v : StampsView) : Type 0 where
   pub size : length v.rows ≡ length p.sizes
   pub last : (i : ℕ) → i < length p.sizes → slice_get v.last i ≡ Some (s.last i)

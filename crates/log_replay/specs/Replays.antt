@@ -1,4 +1,5 @@
--- Replaying a log: the end of a run with right stamps, or the first event that is not lawful, or else the first stamp that is wrong.
+-- Replaying a log: the end of a run with right stamps, or the first event that is not lawful, or
+-- otherwise the first stamp that is wrong.
 use Rattle.std.specs.Prelude.{◌≡◌, ℕ, ◌+◌, List, Option, Some, None, Result, Ok, Err}
 use Rattle.protocol_steps.specs.Network.{Network}
 use Rattle.protocol_steps.specs.Run.{run}
@@ -16,7 +17,9 @@ use Rattle.log_replay.specs.Wrong.{difference_of}
 abbrev pub first_wrong : Network → List LogEvent → Option StampDifference
 first_wrong net log = stamp_difference 1 (Some net) (start_stamps net) None log
 
--- a log is a run with right stamps, at whose end the network state is this core state; or the event of this number, counted from 1, is the first that is not lawful; or it is a run, and this is its first wrong stamp
+-- the result of replaying a log: it is a run with right stamps, at whose end the network has this
+-- core state; or the event with this number, counted from 1, is the first that is not lawful; or
+-- the log is a run, and this is its first wrong stamp
 abbrev pub ReplaysLog : Network → List LogEvent → Result CoreView LogFault → Type 0
 ReplaysLog net log (Ok s) = (end : Network) × (run net (events_of log) ≡ Some end) × (first_wrong net log ≡ None) × IsStateOf end s
 ReplaysLog net log (Err (BadEvent at fault)) = (place : ℕ) × (at ≡ place + 1) × FirstFault net (events_of log) place fault

@@ -1,18 +1,19 @@
--- What is wrong with the stamp of an event, by what code knows of the event before it.
+-- What is wrong with the stamp of an event, given what is kept of the event before it.
 use Rattle.std.specs.Prelude.{ℕ, ◌||◌, ◌&&◌, Option, Some, None, ◌==◌, nat_lt, if◌then◌else◌}
 use Rattle.run_log.specs.declared.log.LogEvent.{LogEvent}
 use Rattle.run_log.specs.LogStamps.{StampDifference}
 use Rattle.log_replay.specs.declared.fault.WrongStamp.{WrongStamp}
 use Rattle.log_replay.specs.declared.wrong.Moment.{Moment}
 
--- a stamp that is wrong, as the definitions have it
+-- a wrong stamp, in the form of the definitions
 abbrev pub difference_of : WrongStamp → StampDifference
 difference_of w = record { event = w.at; left = w.left; right = w.right }
 
+-- the position of an event in the order of a log
 abbrev pub moment_of : LogEvent → Moment
 moment_of e = record { agent = e.agent; stamp = e.stamp }
 
--- what is wrong with an event's place behind the moment before it
+-- what is wrong with an event's position after the moment before it
 abbrev pub place_fault : ℕ → Option Moment → LogEvent → Option WrongStamp
 place_fault k None e = None
 place_fault k (Some m) e =

@@ -1,4 +1,4 @@
-//! Why a log is no run with right stamps.
+//! Why a log is not a run with right stamps.
 
 use dcop_base::NoMemory;
 use protocol_steps::EventFault;
@@ -10,24 +10,24 @@ pub struct WrongStamp {
     pub at: u64,
     /// The stamp.
     pub left: u64,
-    /// The right stamp; where the stamp is right, but the event does not follow the one before it by
-    /// stamp and then agent, the stamp of that one.
+    /// The right stamp. If the stamp is right, but the event does not follow the one before it by
+    /// stamp and then agent, this is the stamp of the event before it.
     pub right: u64,
 }
 
-/// Why a log is no run with right stamps.
+/// Why a log is not a run with right stamps.
 #[derive(Clone, Copy, Debug, PartialEq, Eq)]
 pub enum LogFault {
-    /// An event is not lawful; those before it are.
+    /// An event is not lawful; the events before it are.
     BadEvent {
         /// Its number, counted from 1.
         at: u64,
-        /// Why.
+        /// Why it is not lawful.
         fault: EventFault,
     },
     /// All events are lawful, and this is the first stamp that is wrong.
     BadStamp(WrongStamp),
-    /// Memory was wanted and not had.
+    /// Memory ran out.
     NoMemory,
 }
 

@@ -1,8 +1,10 @@
-//! Replaying a log: whether its events are a run from a start, with right stamps.
+//! Replaying a log: whether its events form a run from a start, with right stamps.
 //!
-//! [`replay_log`] plays the events one after another, and keeps beside the network state the stamps
-//! of the messages that wait. It gives the network state at the end, or the first event that is not
-//! lawful, or else the first stamp that is wrong (`specs/Replays.antt`).
+//! [`replay_log`] plays the events one after another. Besides the network state it keeps the stamps
+//! of the messages that wait. It returns the network state at the end, or the first event that is
+//! not lawful, or otherwise the first stamp that is wrong (`specs/Replays.antt`).
+//!
+//! It builds on `delivery_core` to play events, and on `run_log` for logs and right stamps.
 #![tactic(auto)]
 
 mod fault;

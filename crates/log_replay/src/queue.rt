@@ -42,7 +42,7 @@ impl Queue {
         self.to
     }
 
-    /// Takes off the next stamps, and gives the greatest of them; 0 where there is none.
+    /// Removes the next `count` stamps, and returns the greatest of them, or 0 if there is none.
     pub(crate) fn take_off(&mut self, count: u32) -> u64
         ensures greatest { result ≡ fold max 0 (take count self.old.stamps) }
         ensures rest { self.new ≡ without_next count self.old }
@@ -56,7 +56,7 @@ impl Queue {
         greatest
     }
 
-    /// Puts a stamp behind the others, until there are so many.
+    /// Adds a stamp after the others until there are `count`.
     pub(crate) fn fill(&mut self, count: u64, stamp: u64) -> Result<(), NoMemory>
         ensures { OnOk result (self.new ≡ record self.old {
           stamps = self.old.stamps ++ replicate (count - length self.old.stamps) stamp;

@@ -29,7 +29,7 @@ fn event_of(alloc: Global, event: &LogEvent) -> Result<Event, NoMemory>
     })
 }
 
-/// Plays the event of this number.
+/// Plays the event with this number.
 fn play(alloc: Global, core: &mut CoreState, number: u64, event: &LogEvent) -> Result<(), LogFault>
     requires { IsSomeCore core.old }
     ensures { Plays core.old number event.now core.new result }
@@ -41,8 +41,8 @@ fn play(alloc: Global, core: &mut CoreState, number: u64, event: &LogEvent) -> R
     }
 }
 
-/// What is wrong with the stamp of the event of this number, which has led to this core state. Where
-/// it is right, what was sent in it waits.
+/// What is wrong with the stamp of the event with this number, which has led to this core state. If
+/// the stamp is right, the stamps of the messages sent in the event are added.
 fn follow(
     stamps: &mut Stamps,
     core: &CoreState,
@@ -65,17 +65,17 @@ fn follow(
     Ok(found)
 }
 
-/// Replays a log from a start, and gives the network state at its end. A tree of the start is a
-/// pseudotree of the problem, and linked; an error is at most 2^62, and so is each stamp.
+/// Replays a log from a start, and returns the network state at its end. If the start has a tree,
+/// it is a linked pseudotree of the problem. An error of the start and each stamp are at most 2^62.
 ///
-/// The time is that of the agents' activations: beside each one the links from its agent are looked
-/// at once.
+/// The time is that of the agents' activations; in addition, each activation goes once through the
+/// links from its agent.
 ///
 /// # Errors
 ///
-/// [`LogFault::BadEvent`] exactly where the events are no run: the first one that is not lawful, by
-/// its number, counted from 1, and its first fault. [`LogFault::BadStamp`] exactly where they are,
-/// and a stamp is wrong: the first one. [`LogFault::NoMemory`] where memory was wanted and not had.
+/// [`LogFault::BadEvent`] if the events do not form a run, with the number, counted from 1, of the
+/// first event that is not lawful, and its first fault. [`LogFault::BadStamp`] with the first wrong
+/// stamp if they form a run and a stamp is wrong. [`LogFault::NoMemory`] if memory runs out.
 pub fn replay_log(
     alloc: Global,
     problem: &Problem,

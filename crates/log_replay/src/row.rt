@@ -36,14 +36,15 @@ fn new_queues(alloc: Global, receivers: &[VarId]) -> Result<Vec<Queue>, NoMemory
     Ok(queues)
 }
 
-/// Where the queue for this receiver is.
+/// The position of the queue for this receiver.
 fn place_of(queues: &[Queue], to: VarId) -> Option<usize>
     ensures { result ≡ position (λ q. q.to == to) queues.now }
 {
     queues.iter().position(|queue| queue.to() == to)
 }
 
-/// Takes off the next stamps for this receiver, and gives the greatest of them.
+/// Removes the next `count` stamps for this receiver, and returns the greatest of them, or 0 if
+/// there is none.
 fn take_from(queues: &mut [Queue], to: VarId, count: u32) -> u64
     ensures greatest { result ≡ fold max 0 (take count (stamps_of (queue_to to queues.old))) }
     ensures rest { queues.new ≡ edit_queue to (without_next count) queues.old }
@@ -54,8 +55,8 @@ fn take_from(queues: &mut [Queue], to: VarId, count: u32) -> u64
     }
 }
 
-/// Puts a stamp of this agent behind the others in each queue, until they are as many as its messages
-/// that wait.
+/// Adds a stamp of this agent after the others in each queue, until there are as many as its
+/// messages that wait.
 fn fill_all(queues: &mut [Queue], core: &CoreState, from: VarId, stamp: u64) -> Result<(), NoMemory>
     ensures { OnOk result (queues.new ≡ map (filled core.now from stamp) queues.old) }
 {
@@ -75,8 +76,8 @@ impl Row {
         })
     }
 
-    /// Takes off the next stamps for this receiver, and gives the greatest of them; 0 where there is
-    /// none.
+    /// Removes the next `count` stamps for this receiver, and returns the greatest of them, or 0 if
+    /// there is none.
     pub(crate) fn take_off(&mut self, to: VarId, count: u32) -> u64
         ensures greatest { result ≡ fold max 0 (take count (stamps_of (queue_to to self.old))) }
         ensures rest { self.new ≡ edit_queue to (without_next count) self.old }
@@ -84,8 +85,8 @@ impl Row {
         take_from(self.queues.as_mut_slice(), to, count)
     }
 
-    /// Puts a stamp of this agent behind the others for each receiver, until they are as many as its
-    /// messages that wait for it.
+    /// Adds a stamp of this agent after the others for each receiver, until there are as many as
+    /// its messages that wait for the receiver.
     pub(crate) fn fill(&mut self, core: &CoreState, from: VarId, stamp: u64) -> Result<(), NoMemory>
         ensures { OnOk result (self.new ≡ map (filled core.now from stamp) self.old) }
     {

@@ -1,4 +1,4 @@
-//! The stamps of a run as far as it has come.
+//! The stamps of a run up to the current event.
 
 ghost use Rattle.std.specs.Prelude.{◌≡◌, ◌<◌, ◌≤◌, List, ◌∷◌, length, map, IfOk, OnOk, max};
 ghost use Rattle.protocol_steps.specs.declared.event.Take.{Take as TakeRecord};
@@ -28,7 +28,7 @@ impl Model for Stamps {
     ghost view = { λ s. record { last = s.last.items; rows = s.rows.items } };
 }
 
-/// What an agent has sent at its start waits with stamp 0.
+/// The queues of an agent after its start: the messages that it has sent wait with stamp 0.
 fn first_row(alloc: Global, problem: &Problem, core: &CoreState, me: VarId) -> Result<Row, NoMemory>
     requires { me < length problem.now.sizes }
     ensures { IfOk result (λ row. row ≡ first_row problem.now core.now me) }
@@ -39,7 +39,7 @@ fn first_row(alloc: Global, problem: &Problem, core: &CoreState, me: VarId) -> R
     Ok(row)
 }
 
-/// What all agents have sent at their start waits with stamp 0.
+/// The queues of all agents after their start: the messages that they have sent wait with stamp 0.
 fn first_rows(alloc: Global, problem: &Problem, core: &CoreState) -> Result<Vec<Row>, NoMemory>
     ensures { IfOk result (λ rows. rows.items
         ≡ map (first_row problem.now core.now) (range_with_len 0 (length problem.now.sizes))) }
@@ -51,7 +51,7 @@ fn first_rows(alloc: Global, problem: &Problem, core: &CoreState) -> Result<Vec<
     Ok(rows)
 }
 
-/// Takes off the stamps of a take of this agent, and gives the greatest of them.
+/// Removes the stamps of a take of this agent, and returns the greatest of them.
 fn take_one(rows: &mut [Row], agent: VarId, next: Take) -> u64
     requires { next.from < length rows.old }
     ensures greatest { (later : List TakeRecord) → max result (greatest_by agent rows.new later) ≡ greatest_by agent rows.old (next ∷ later) }
@@ -60,7 +60,7 @@ fn take_one(rows: &mut [Row], agent: VarId, next: Take) -> u64
     rows[next.from.0 as usize].take_off(agent, next.count)
 }
 
-/// Takes off the stamps of all takes of this agent, and gives the greatest of them.
+/// Removes the stamps of all takes of this agent, and returns the greatest of them.
 fn take_all(rows: &mut [Row], agent: VarId, takes: &[Take]) -> u64
     requires { All (λ t. t.from < length rows.old) takes.now }
     ensures greatest { result ≡ greatest_by agent rows.old takes.now }
@@ -73,7 +73,7 @@ fn take_all(rows: &mut [Row], agent: VarId, takes: &[Take]) -> u64
     greatest
 }
 
-/// Messages of this agent with this stamp wait.
+/// Adds this stamp for the messages that this agent has sent.
 fn send_from(rows: &mut [Row], core: &CoreState, agent: VarId, stamp: u64) -> Result<(), NoMemory>
     requires { agent < length rows.old }
     ensures { OnOk result (rows.new
@@ -83,7 +83,7 @@ fn send_from(rows: &mut [Row], core: &CoreState, agent: VarId, stamp: u64) -> Re
 }
 
 impl Stamps {
-    /// The stamps where all agents of a problem have started, and nothing is taken.
+    /// The stamps after all agents of a problem have started, if nothing has been taken.
     pub(crate) fn start(
         alloc: Global,
         problem: &Problem,
@@ -97,8 +97,8 @@ impl Stamps {
         })
     }
 
-    /// Takes off the stamps of these takes of an agent, and gives the right stamp of an event in which
-    /// it takes them.
+    /// Removes the stamps of these takes of an agent, and returns the right stamp of the event with
+    /// these takes.
     pub(crate) fn take(&mut self, agent: VarId, takes: &[Take]) -> u64
         requires agent { agent < length self.old.last }
         requires senders { All (λ t. t.from < length self.old.rows) takes.now }
@@ -110,7 +110,8 @@ impl Stamps {
         self.last[agent.0 as usize].max(greatest) + 1
     }
 
-    /// What an agent has sent in an event of this stamp waits, as the core has it.
+    /// Adds this stamp for the messages that an agent has sent in an event, as the core state has
+    /// them.
     pub(crate) fn send(
         &mut self,
         core: &CoreState,

@@ -7,7 +7,7 @@ use crate::fault::WrongStamp;
 use dcop_base::VarId;
 use run_log::LogEvent;
 
-/// The place of an event in a log: its stamp, and then its agent.
+/// The position of an event in the order of a log: its stamp, and then its agent.
 #[derive(Clone, Copy, Debug, PartialEq, Eq)]
 pub(crate) struct Moment {
     agent: VarId,
@@ -15,7 +15,7 @@ pub(crate) struct Moment {
 }
 
 impl Moment {
-    /// The place of an event.
+    /// The position of an event.
     pub(crate) fn of(event: &LogEvent) -> Moment
         ensures { result ≡ moment_of event.now }
     {
@@ -25,7 +25,7 @@ impl Moment {
         }
     }
 
-    /// Whether it stands before an event.
+    /// Whether it is before an event.
     fn is_before(self, event: &LogEvent) -> bool
         ensures { result ≡ (nat_lt self.stamp event.now.stamp || (self.stamp == event.now.stamp && nat_lt self.agent event.now.agent)) }
     {
@@ -33,7 +33,7 @@ impl Moment {
     }
 }
 
-/// What is wrong with the place of the event of this number behind this one.
+/// What is wrong with the position of the event with this number after this one.
 fn behind(at: u64, before: Moment, event: &LogEvent) -> Option<WrongStamp>
     ensures { result ≡ place_fault at (Some before) event.now }
 {
@@ -45,7 +45,7 @@ fn behind(at: u64, before: Moment, event: &LogEvent) -> Option<WrongStamp>
     Some(WrongStamp { at, left, right })
 }
 
-/// What is wrong with the place of the event of this number behind the one before it.
+/// What is wrong with the position of the event with this number after the one before it.
 fn place_fault(at: u64, before: Option<Moment>, event: &LogEvent) -> Option<WrongStamp>
     ensures { result ≡ place_fault at before event.now }
 {
@@ -55,8 +55,8 @@ fn place_fault(at: u64, before: Option<Moment>, event: &LogEvent) -> Option<Wron
     }
 }
 
-/// What is wrong with the event of this number, where this is its right stamp: its stamp, or else its
-/// place behind the one before it.
+/// What is wrong with the event with this number, given its right stamp: its stamp, or otherwise
+/// its position after the one before it.
 pub(crate) fn stamp_fault(
     at: u64,
     right: u64,

@@ -1,4 +1,4 @@
--- The code of an envelope: its bytes between two nodes. A number has its highest byte first.
+-- The code of an envelope: its bytes between two nodes. All numbers are big-endian.
 use Rattle.std.specs.Prelude.{ℕ, List, [], ◌∷◌, ◌++◌, length, Option, Some, None}
 use Rattle.std.specs.List.{flat_map}
 use Rattle.std.specs.Int.{w16, w32, w64, to_be_bytes}
@@ -6,36 +6,36 @@ use Rattle.adopt_context.specs.Context.{Context}
 use Rattle.protocol_steps.specs.declared.message.Message.{Message}
 use Rattle.protocol_steps.specs.declared.message.Message.TheVariants.{Token, Done, Util, ValueAll, Value, Cost, Threshold, Terminate}
 
--- a variable has four bytes
+-- the code of a variable: four bytes
 abbrev pub variable_code : ℕ → List ℕ
 variable_code v = to_be_bytes w32 v
 
--- a value has two
+-- the code of a value: two bytes
 abbrev pub value_code : ℕ → List ℕ
 value_code a = to_be_bytes w16 a
 
--- an amount has eight
+-- the code of an amount: eight bytes
 abbrev pub amount_code : ℕ → List ℕ
 amount_code c = to_be_bytes w64 c
 
--- a list is the number of its items in four bytes, and their codes
+-- the code of a list: the number of its items in four bytes, and then the code of each item
 abbrev pub list_code : {X : Type 0} → (X → List ℕ) → List X → List ℕ
 list_code code xs = to_be_bytes w32 (length xs) ++ flat_map code xs
 
--- a pair of a variable and its value
+-- the code of a pair: the variable and then its value
 abbrev pub pair_code : ℕ × ℕ → List ℕ
 pair_code p = variable_code p.0 ++ value_code p.1
 
--- a context is the list of its pairs
+-- the code of a context: the list of its pairs
 abbrev pub context_code : Context → List ℕ
 context_code c = list_code pair_code c
 
--- a bound is a byte that says whether it is there, and then the amount
+-- the code of an upper bound: the byte 0 if there is none, else the byte 1 and the amount
 abbrev pub bound_code : Option ℕ → List ℕ
 bound_code None = 0 ∷ []
 bound_code (Some u) = 1 ∷ amount_code u
 
--- the tag of a message
+-- the tag of each kind of message
 abbrev pub tag_of : Message → ℕ
 tag_of (Token path) = 1
 tag_of (Done visited) = 2
@@ -46,7 +46,7 @@ tag_of (Cost context lower upper) = 6
 tag_of (Threshold amount context) = 7
 tag_of (Terminate context) = 8
 
--- the fields of a message, in order
+-- the codes of a message's fields, in order
 abbrev pub fields_code : Message → List ℕ
 fields_code (Token path) = list_code variable_code path
 fields_code (Done visited) = list_code variable_code visited
@@ -57,6 +57,6 @@ fields_code (Cost context lower upper) = context_code context ++ (amount_code lo
 fields_code (Threshold amount context) = amount_code amount ++ context_code context
 fields_code (Terminate context) = context_code context
 
--- an envelope is its stamp, a byte with the tag of its message, and the fields
+-- the code of an envelope: its stamp, one byte with the tag of its message, and the fields
 abbrev pub code_of : ℕ × Message → List ℕ
 code_of e = amount_code e.0 ++ (tag_of e.1 ∷ fields_code e.1)

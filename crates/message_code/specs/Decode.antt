@@ -10,7 +10,7 @@ use Rattle.message_code.specs.declared.fault.DecodeFault.TheVariants.{Bad, NoMem
 use Rattle.message_code.specs.Code.{code_of}
 use Rattle.message_code.specs.Form.{bad_place}
 
--- the variables of a message's context ascend, as those of each context of the program do
+-- if a message has a context, its variables ascend
 abbrev pub HasContext : Message → Type 0
 HasContext (Token path) = Unit {0}
 HasContext (Done visited) = Unit {0}
@@ -21,32 +21,34 @@ HasContext (Cost context lower upper) = AscendsFrom 0 context
 HasContext (Threshold amount context) = AscendsFrom 0 context
 HasContext (Terminate context) = AscendsFrom 0 context
 
--- an envelope within its ranges
+-- the stamp and the message of an envelope are within their ranges, and the variables of its
+-- context ascend
 pub record IsEnvelope (e : ℕ × Message) : Type 0 where
   pub stamp : e.0 ≤ amount_limit
   pub message : IsInRange e.1
   pub context : HasContext e.1
 
--- a refusal tells the first bad place
+-- a refusal gives the first bad position of the bytes; one for lack of memory says nothing
 abbrev pub IsFault : List ℕ → DecodeFault → Type 0
 IsFault bytes (Bad place) = bad_place bytes ≡ Some place
 IsFault bytes NoMemory = Unit {0}
 
--- what is found in bytes is an envelope whose code they are
+-- if decoding gives an envelope, it is within its ranges and the bytes are its code; a refusal
+-- gives the first bad position
 abbrev pub Decodes : List ℕ → Result (ℕ × Message) DecodeFault → Type 0
 Decodes bytes (Ok e) = IsEnvelope e × (bytes ≡ code_of e)
 Decodes bytes (Err fault) = IsFault bytes fault
 
--- the code of an envelope is decoded to it, unless memory is wanted
+-- if the bytes are the code of an envelope, decoding gives that envelope or runs out of memory
 abbrev pub Finds : List ℕ → Result (ℕ × Message) DecodeFault → Type 0
 Finds bytes (Ok found) = (e : ℕ × Message) → IsEnvelope e → bytes ≡ code_of e → found ≡ e
 Finds bytes (Err (Bad place)) = (e : ℕ × Message) → IsEnvelope e → bytes ≡ code_of e → ⊥
 Finds bytes (Err NoMemory) = Unit {0}
 
--- two different envelopes have different codes
+-- envelopes with the same code are the same
 abbrev pub CodesDiffer : Type 0
 CodesDiffer = (d e : ℕ × Message) → IsEnvelope d → IsEnvelope e → code_of d ≡ code_of e → d ≡ e
 
--- a code has no bad place
+-- the code of an envelope has no bad position
 abbrev pub CodesAreGood : Type 0
 CodesAreGood = (e : ℕ × Message) → IsEnvelope e → bad_place (code_of e) ≡ None

@@ -1,34 +1,36 @@
--- The form of codes, field by field, and the first place at which bytes leave it.
+-- The form of codes, field by field, and the first position at which bytes do not follow it.
 use Rattle.std.specs.Prelude.{ℕ, zero, suc, ◌+◌, Bool, ◌&&◌, List, [], ◌∷◌, length, take, drop, Option, Some, None, ◌==◌, nat_le, nat_lt, if◌then◌else◌}
 use Rattle.std.specs.Int.{Width, w8, w16, w32, w64, byte_len, from_be_bytes}
 use Rattle.dcop_base.specs.Limits.{amount_limit, variable_limit, size_limit, joined_limit}
 
--- what may stand in bytes: no more field; or a number of a width, from `least` on and below `limit`, and then what the number decides
+-- what bytes may hold: nothing more; or a number of a given width, at least `least` and below
+-- `limit`, and then a form that may depend on that number
 pub data Form : Type 0 where
   ended : Form
   number : Width → ℕ → ℕ → (ℕ → Form) → Form
 
--- whether the field at the front of bytes is whole and in its range
+-- whether the first field of the bytes is whole and within its range
 abbrev pub stands : Width → ℕ → ℕ → List ℕ → Bool
 stands w least limit bytes = nat_le (byte_len w) (length bytes) && (nat_le least (from_be_bytes w (take (byte_len w) bytes)) && nat_lt (from_be_bytes w (take (byte_len w) bytes)) limit)
 
--- the place of the first field that is cut short or outside its range, or of the first byte that is left over; none where neither is. So many bytes, `place`, stand before
+-- the position of the first field that is cut short or outside its range, or of the first byte that
+-- is left over; none if there is neither. Positions count from `place`
 abbrev pub first_fault : Form → ℕ → List ℕ → Option ℕ
 first_fault ended place [] = None
 first_fault ended place (b ∷ bytes) = Some place
 first_fault (number w least limit next) place bytes =
     if stands w least limit bytes then first_fault (next (from_be_bytes w (take (byte_len w) bytes))) (place + byte_len w) (drop (byte_len w) bytes) else Some place
 
--- so many numbers of a width, each below a limit
+-- n numbers of one width, each below a limit
 abbrev pub numbers : Width → ℕ → ℕ → Form → Form
 numbers w limit zero next = next
 numbers w limit (suc k) next = number w 0 limit (λ n. numbers w limit k next)
 
--- a variable, from `least` on, and its value
+-- a variable, at least `least`, and its value
 abbrev pub pair : ℕ → (ℕ → Form) → Form
 pair least next = number w32 least variable_limit (λ v. number w16 0 size_limit (λ a. next v))
 
--- so many pairs; their variables ascend, from `least` on
+-- n pairs whose variables ascend, the first at least `least`
 abbrev pub pairs : ℕ → ℕ → Form → Form
 pairs zero least next = next
 pairs (suc k) least next = pair least (λ v. pairs k (v + 1) next)
@@ -53,16 +55,16 @@ value next = number w16 0 size_limit (λ a. next)
 abbrev pub amount : Form → Form
 amount next = number w64 0 (amount_limit + 1) (λ c. next)
 
--- an amount, where the flag is set
+-- an amount, unless the flag is 0
 abbrev pub flagged : ℕ → Form → Form
 flagged zero next = next
 flagged (suc f) next = amount next
 
--- a flag, 0 or 1, and then an amount where it is 1
+-- a flag, 0 or 1, and then an amount if it is 1
 abbrev pub bound : Form → Form
 bound next = number w8 0 2 (λ flag. flagged flag next)
 
--- the fields that stand behind a tag, 1 to 8
+-- the fields of the message with this tag, 1 to 8
 abbrev pub fields : ℕ → Form → Form
 fields tag next =
     if tag == 1 then variable_list next
@@ -74,10 +76,11 @@ fields tag next =
     else (if tag == 7 then amount (context next)
     else context next))))))
 
--- an envelope: stamp, tag, and the fields of the message
+-- an envelope: its stamp, its tag, and the fields of its message
 abbrev pub envelope : Form → Form
 envelope next = amount (number w8 1 9 (λ tag. fields tag next))
 
--- the place, from 0, of the first field of bytes that is cut short or outside its range, or of the first byte behind an envelope; none where the bytes are whole fields in their ranges and no more
+-- the position, from 0, of the first field that is cut short or outside its range, or of the first
+-- byte after an envelope; none if the bytes are whole fields within their ranges and nothing more
 abbrev pub bad_place : List ℕ → Option ℕ
 bad_place bytes = first_fault (envelope ended) 0 bytes

@@ -15,7 +15,7 @@ use adopt_context::AgentContext;
 use dcop_base::{MAX_SIZE, MAX_VARIABLES, Val, VarId};
 use std::alloc::Global;
 
-/// A context, and the bytes behind it.
+/// A context, and the bytes after it.
 pub(crate) fn context_at(alloc: Global, bytes: &[u8]) -> Result<(AgentContext, &[u8]), Stop>
     ensures read { Reads (λ x. context_code x.0 ++ x.1.now) context bytes.now result }
     ensures range { IfOk result (λ x. IsContext x.0) }
@@ -26,7 +26,7 @@ pub(crate) fn context_at(alloc: Global, bytes: &[u8]) -> Result<(AgentContext, &
     Ok((context, rest))
 }
 
-/// A context of so many pairs with ascending variables, and the bytes behind it.
+/// A context of `count` pairs whose variables ascend, and the bytes after it.
 fn so_many_pairs(alloc: Global, count: u32, bytes: &[u8]) -> Result<(AgentContext, &[u8]), Stop>
     ensures read { Reads (λ x. flat_map pair_code x.0 ++ x.1.now) (pairs count 0) bytes.now result }
     ensures count { IfOk result (λ x. length x.0 ≡ count) }
@@ -45,7 +45,7 @@ fn so_many_pairs(alloc: Global, count: u32, bytes: &[u8]) -> Result<(AgentContex
     Ok((context, rest))
 }
 
-/// A variable from `least` on and its value, and the bytes behind them.
+/// A variable from `least` up and its value, and the bytes after them.
 fn pair_at(bytes: &[u8], least: u32) -> Result<(u32, u16, &[u8]), Stop>
     ensures read { Reads (λ x. pair_code (x.0, x.1) ++ x.2.now) (pair least) bytes.now result }
     ensures range { IfOk result (λ x. (least ≤ x.0) × (x.0 < variable_limit) × (x.1 < size_limit)) }

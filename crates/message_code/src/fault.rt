@@ -1,4 +1,4 @@
-//! Why bytes are not decoded.
+//! Why bytes cannot be decoded.
 
 ghost use Rattle.std.specs.Prelude.{◌≡◌};
 ghost use Rattle.message_code.specs.declared.fault.DecodeFault.TheVariants.{NoMemory as no_memory};
@@ -7,17 +7,17 @@ use dcop_base::NoMemory;
 use std::alloc::{AllocError, AllocFailed};
 use thiserror::Error;
 
-/// Why bytes give no envelope.
+/// Why bytes cannot be decoded into an envelope.
 #[derive(Clone, Copy, Debug, PartialEq, Eq, Error)]
 pub enum DecodeFault {
     /// The bytes are not the code of an envelope.
     #[error("bad message at byte {place}")]
     Bad {
-        /// The place, from 0, of the first field that is cut short or outside its range, or else of
-        /// the first byte behind the last field.
+        /// The position, from 0, of the first field that is cut short or outside its range; or, if
+        /// each field is fine, of the first byte after the last field.
         place: u64,
     },
-    /// Memory was wanted and not had. No clause says when it comes.
+    /// Memory ran out. No clause says when.
     #[error("out of memory")]
     NoMemory,
 }

@@ -1,4 +1,5 @@
-//! Laws of codes. Each is the contract of a call that does nothing: who needs the law calls it.
+//! Laws of codes. Each is the contract of a function that does nothing: a proof that needs the law
+//! calls it.
 
 ghost use Rattle.message_code.specs.Decode.{CodesDiffer, CodesAreGood};
 
@@ -7,7 +8,7 @@ pub fn codes_differ()
     ensures { CodesDiffer }
 {}
 
-/// The code of an envelope has no bad place.
+/// The code of an envelope has no bad position.
 pub fn codes_are_good()
     ensures { CodesAreGood }
 {}

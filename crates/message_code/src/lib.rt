@@ -1,10 +1,11 @@
-//! The bytes of a message between two nodes.
+//! The byte code of a message between two nodes.
 //!
-//! [`encode`] gives the code of an envelope: its stamp, the tag of its message and the fields
-//! (`specs/Code.antt`). [`decode`] is its inverse. It refuses exactly the bytes that are no
-//! envelope's code, with the place of the first field that is cut short or outside its range, or of
-//! the first byte that is left over (`specs/Form.antt`). What is encoded is decoded to the same
-//! envelope, and two different envelopes have different codes ([`codes_differ`]).
+//! [`encode`] writes the code of an envelope: its stamp, the tag of its message, and the fields of
+//! the message (`specs/Code.antt`). [`decode`] is the inverse. It refuses exactly those bytes that
+//! are the code of no envelope (`specs/Form.antt`). A refusal has the position of the first field
+//! that is cut short or outside its range, or of the first byte that is left over. Decoding the
+//! code of an envelope gives that envelope, unless memory runs out. Different envelopes have
+//! different codes ([`codes_differ`]).
 #![tactic(auto)]
 
 mod context;

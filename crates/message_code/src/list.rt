@@ -14,7 +14,7 @@ use crate::stop::Stop;
 use dcop_base::{CAP, CellList, MAX_JOINED_CELLS, MAX_VARIABLES, VarId, VarList};
 use std::alloc::Global;
 
-/// A list of variables, and the bytes behind it.
+/// A list of variables, and the bytes after it.
 pub(crate) fn variables_at(alloc: Global, bytes: &[u8]) -> Result<(VarList, &[u8]), Stop>
     ensures read { Reads (λ x. list_code variable_code x.0 ++ x.1.now) variable_list bytes.now result }
     ensures range { IfOk result (λ x. AreVariables x.0) }
@@ -24,7 +24,7 @@ pub(crate) fn variables_at(alloc: Global, bytes: &[u8]) -> Result<(VarList, &[u8
     Ok((VarList::from_vec(variables), rest))
 }
 
-/// So many variables, and the bytes behind them.
+/// `count` variables, and the bytes after them.
 fn so_many_variables(alloc: Global, count: u32, bytes: &[u8]) -> Result<(Vec<VarId>, &[u8]), Stop>
     ensures read { Reads (λ x. flat_map variable_code x.0.items ++ x.1.now) (numbers w32 variable_limit count) bytes.now result }
     ensures count { IfOk result (λ x. length x.0.items ≡ count) }
@@ -40,7 +40,7 @@ fn so_many_variables(alloc: Global, count: u32, bytes: &[u8]) -> Result<(Vec<Var
     Ok((variables, rest))
 }
 
-/// A list of amounts, and the bytes behind it.
+/// A list of amounts, and the bytes after it.
 pub(crate) fn cells_at(alloc: Global, bytes: &[u8]) -> Result<(CellList, &[u8]), Stop>
     ensures read { Reads (λ x. list_code amount_code x.0 ++ x.1.now) cell_list bytes.now result }
     ensures range { IfOk result (λ x. AreCells x.0) }
@@ -50,7 +50,7 @@ pub(crate) fn cells_at(alloc: Global, bytes: &[u8]) -> Result<(CellList, &[u8]),
     Ok((CellList::from_vec(cells), rest))
 }
 
-/// So many amounts, and the bytes behind them.
+/// `count` amounts, and the bytes after them.
 fn so_many_amounts(alloc: Global, count: u32, bytes: &[u8]) -> Result<(Vec<u64>, &[u8]), Stop>
     ensures read { Reads (λ x. flat_map amount_code x.0.items ++ x.1.now) (numbers w64 (amount_limit + 1) count) bytes.now result }
     ensures count { IfOk result (λ x. length x.0.items ≡ count) }

@@ -1,4 +1,4 @@
-//! Reading messages, each behind its tag.
+//! Reading the fields of a message, by its tag.
 
 ghost use Rattle.std.specs.Prelude.{◌≡◌, ◌<◌, ◌≤◌, ◌++◌, IfOk};
 ghost use Rattle.dcop_base.specs.Limits.{amount_limit};
@@ -15,7 +15,7 @@ use dcop_base::{CAP, MAX_SIZE, Val};
 use protocol_steps::Message;
 use std::alloc::Global;
 
-/// The message with a tag from 1 to 8, and the bytes behind its fields.
+/// The message whose tag, from 1 to 8, was read, and the bytes after its fields.
 pub(crate) fn message_at(alloc: Global, tag: u8, bytes: &[u8]) -> Result<(Message, &[u8]), Stop>
     requires { (1 ≤ tag) × (tag < 9) }
     ensures { IsRead tag bytes.now result }
@@ -97,7 +97,7 @@ fn terminate_at(alloc: Global, bytes: &[u8]) -> Result<(Message, &[u8]), Stop>
     Ok((Message::Terminate { context }, rest))
 }
 
-/// An amount, and the bytes behind it.
+/// An amount, and the bytes after it.
 #[inline]
 pub(crate) fn amount_at(bytes: &[u8]) -> Result<(u64, &[u8]), Stop>
     ensures read { Reads (λ x. amount_code x.0 ++ x.1.now) amount bytes.now result }
@@ -107,7 +107,7 @@ pub(crate) fn amount_at(bytes: &[u8]) -> Result<(u64, &[u8]), Stop>
     Ok((amount, rest))
 }
 
-/// A flag, and the amount behind it where the flag is 1; and the bytes behind them.
+/// A flag, and if it is 1 the amount that follows; and the bytes after them.
 fn bound_at(bytes: &[u8]) -> Result<(Option<u64>, &[u8]), Stop>
     ensures read { Reads (λ x. bound_code x.0 ++ x.1.now) bound bytes.now result }
     ensures range { IfOk result (λ x. IsBound x.0) }

@@ -7,7 +7,7 @@ ghost use Rattle.message_code.specs.Reading.{Reads};
 
 use crate::stop::Stop;
 
-/// A number of one byte, from `least` on and below `limit`, and the bytes behind it.
+/// A number of one byte, at least `least` and below `limit`, and the bytes after it.
 #[inline]
 pub(crate) fn u8_at(bytes: &[u8], least: u8, limit: u8) -> Result<(u8, &[u8]), Stop>
     ensures read { Reads (λ x. to_be_bytes w8 x.0 ++ x.1.now) (number w8 least limit) bytes.now result }
@@ -22,7 +22,7 @@ pub(crate) fn u8_at(bytes: &[u8], least: u8, limit: u8) -> Result<(u8, &[u8]), S
     Err(Stop::Bad { left: bytes.len() })
 }
 
-/// The number that two bytes stand for, the highest first.
+/// The number that two bytes encode, big-endian.
 #[inline]
 fn u16_of(field: [u8; 2]) -> u16
     ensures value { result ≡ from_be_bytes w16 field }
@@ -31,7 +31,7 @@ fn u16_of(field: [u8; 2]) -> u16
     u16::from_be_bytes(field)
 }
 
-/// A number of two bytes below `limit`, and the bytes behind it.
+/// A number of two bytes below `limit`, and the bytes after it.
 #[inline]
 pub(crate) fn u16_at(bytes: &[u8], limit: u16) -> Result<(u16, &[u8]), Stop>
     ensures read { Reads (λ x. to_be_bytes w16 x.0 ++ x.1.now) (number w16 0 limit) bytes.now result }
@@ -46,7 +46,7 @@ pub(crate) fn u16_at(bytes: &[u8], limit: u16) -> Result<(u16, &[u8]), Stop>
     Err(Stop::Bad { left: bytes.len() })
 }
 
-/// The number that four bytes stand for, the highest first.
+/// The number that four bytes encode, big-endian.
 #[inline]
 fn u32_of(field: [u8; 4]) -> u32
     ensures value { result ≡ from_be_bytes w32 field }
@@ -55,7 +55,7 @@ fn u32_of(field: [u8; 4]) -> u32
     u32::from_be_bytes(field)
 }
 
-/// A number of four bytes, from `least` on and below `limit`, and the bytes behind it.
+/// A number of four bytes, at least `least` and below `limit`, and the bytes after it.
 #[inline]
 pub(crate) fn u32_at(bytes: &[u8], least: u32, limit: u32) -> Result<(u32, &[u8]), Stop>
     ensures read { Reads (λ x. to_be_bytes w32 x.0 ++ x.1.now) (number w32 least limit) bytes.now result }
@@ -70,7 +70,7 @@ pub(crate) fn u32_at(bytes: &[u8], least: u32, limit: u32) -> Result<(u32, &[u8]
     Err(Stop::Bad { left: bytes.len() })
 }
 
-/// The number that eight bytes stand for, the highest first.
+/// The number that eight bytes encode, big-endian.
 #[inline]
 fn u64_of(field: [u8; 8]) -> u64
     ensures value { result ≡ from_be_bytes w64 field }
@@ -79,7 +79,7 @@ fn u64_of(field: [u8; 8]) -> u64
     u64::from_be_bytes(field)
 }
 
-/// A number of eight bytes below `limit`, and the bytes behind it.
+/// A number of eight bytes below `limit`, and the bytes after it.
 #[inline]
 pub(crate) fn u64_at(bytes: &[u8], limit: u64) -> Result<(u64, &[u8]), Stop>
     ensures read { Reads (λ x. to_be_bytes w64 x.0 ++ x.1.now) (number w64 0 limit) bytes.now result }

@@ -15,9 +15,10 @@ use std::alloc::Global;
 ///
 /// # Errors
 ///
-/// [`DecodeFault::Bad`] exactly where the bytes are no envelope's code, with the place of the first
-/// field that is cut short or outside its range, or of the first byte that is left over.
-/// [`DecodeFault::NoMemory`] where memory was wanted and not had.
+/// - [`DecodeFault::Bad`] exactly when the bytes are the code of no envelope. It has the position
+///   of the first field that is cut short or outside its range, or of the first byte that is left
+///   over.
+/// - [`DecodeFault::NoMemory`] if memory runs out.
 pub fn decode(alloc: Global, bytes: &[u8]) -> Result<Envelope, DecodeFault>
     ensures decoded { Decodes bytes.now result }
     ensures only { Finds bytes.now result }
@@ -41,7 +42,7 @@ fn envelope_at(alloc: Global, bytes: &[u8]) -> Result<Envelope, Stop>
     Ok(Envelope { stamp, message })
 }
 
-/// The fault of these bytes, of which reading stopped here.
+/// The fault of these bytes, given where reading them stopped.
 fn fault_of(bytes: &[u8], stop: Stop) -> DecodeFault
     requires { Stopped (λ (_ : Unit {0}). envelope ended) bytes.now stop }
     ensures { IsFault bytes.now result }

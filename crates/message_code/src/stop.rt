@@ -1,4 +1,4 @@
-//! Where the reading of a part stops.
+//! Where the reading of a part of a code stops.
 
 ghost use Rattle.std.specs.Prelude.{◌≡◌};
 ghost use Rattle.message_code.specs.declared.stop.Stop.TheVariants.{NoMemory as no_memory};
@@ -6,12 +6,12 @@ ghost use Rattle.message_code.specs.declared.stop.Stop.TheVariants.{NoMemory as 
 use dcop_base::NoMemory;
 use std::alloc::{AllocError, AllocFailed};
 
-/// Why a part of a code is not read.
+/// Why a part of a code cannot be read.
 #[derive(Clone, Copy, Debug)]
 pub(crate) enum Stop {
-    /// A field is cut short or outside its range; so many bytes are left from it on.
+    /// A field is cut short or outside its range. From its first byte on, `left` bytes are left.
     Bad { left: usize },
-    /// Memory was wanted and not had.
+    /// Memory ran out.
     NoMemory,
 }
 

@@ -11,15 +11,15 @@ use dcop_base::{Bytes, NoMemory, Val, VarId};
 use protocol_steps::{Envelope, Message};
 use std::alloc::Global;
 
-/// Room for the code of each message without a list.
+/// The bytes that are reserved at first: enough for each message without a list.
 const SMALL: usize = 32;
 
-/// The code of an envelope. It tells besides that the envelope is within its ranges, with a context
-/// whose variables ascend, which is what decoding the code asks.
+/// The code of an envelope. The contract also says that the envelope is within its ranges and that
+/// the variables of its context ascend: [`decode`](crate::decode) needs both.
 ///
 /// # Errors
 ///
-/// [`NoMemory`] where memory was wanted and not had.
+/// [`NoMemory`] if memory runs out.
 pub fn encode(alloc: Global, envelope: &Envelope) -> Result<Bytes, NoMemory>
     ensures code { IfOk result (λ bytes. bytes ≡ code_of envelope.now) }
     ensures ranges { OnOk result (IsEnvelope envelope.now) }
@@ -79,8 +79,8 @@ fn put_fields(out: &mut Vec<u8>, message: &Message) -> Result<(), NoMemory>
     }
 }
 
-/// Writes how many items a list has, in four bytes: the last four of its length, since each list of
-/// a message has fewer than 2^32 items.
+/// Writes the number of items of a list in four bytes. They are the last four of the eight bytes of
+/// its length: each list of a message has fewer than 2^32 items.
 fn put_count(out: &mut Vec<u8>, count: usize) -> Result<(), NoMemory>
     ensures { OnOk result (out.new.items ≡ out.old.items ++ to_be_bytes w32 count) }
 {
@@ -126,7 +126,7 @@ fn put_context(out: &mut Vec<u8>, context: &AgentContext) -> Result<(), NoMemory
     Ok(())
 }
 
-/// Writes a bound: whether it is there, and the amount.
+/// Writes a bound: a flag that says whether there is an amount, and then the amount.
 fn put_bound(out: &mut Vec<u8>, bound: Option<u64>) -> Result<(), NoMemory>
     ensures { OnOk result (out.new.items ≡ out.old.items ++ bound_code bound) }
 {

@@ -11,7 +11,7 @@ use Rattle.node_letters.specs.Payloads.{payload_code}
 abbrev pub letter : ℕ → ℕ → ℕ × Message → Addressed
 letter from to e = record { from = from; to = to; envelope = e }
 
--- its payload
+-- the payload of a letter
 abbrev pub letter_code : Addressed → List ℕ
 letter_code l = payload_code l.from l.to l.envelope
 
@@ -19,12 +19,12 @@ letter_code l = payload_code l.from l.to l.envelope
 abbrev pub stream_of : List Addressed → List ℕ
 stream_of ls = flat_map (λ l. framed (letter_code l)) ls
 
--- a letter within its ranges
+-- the sender and the receiver of a letter are below 2^32, and its envelope is within its ranges
 pub record IsLetter (l : Addressed) : Type 0 where
   pub from : l.from < 2 ^ 32
   pub to : l.to < 2 ^ 32
   pub envelope : IsEnvelope l.envelope
 
--- what letters bring from one agent to another, in order
+-- the envelopes of those letters that go from one agent to another, in order
 abbrev pub carried : ℕ → ℕ → List Addressed → List (ℕ × Message)
 carried from to ls = flat_map (λ l. if l.from == from && l.to == to then l.envelope ∷ [] else []) ls

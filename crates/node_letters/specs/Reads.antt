@@ -4,7 +4,7 @@ use Rattle.std.specs.List.{All}
 use Rattle.node_letters.specs.declared.payload.Addressed.{Addressed}
 use Rattle.node_letters.specs.Letters.{letter_code, IsLetter}
 
--- of these letters some were opened, and the payloads of the rest are still to come
+-- the letters are those that were opened and then the rest, whose payloads the reader still holds
 pub record AreOpened (ls opened : List Addressed) (ready : List (List ℕ)) : Type 0 where
   pub rest : List Addressed
   pub whole : ls ≡ opened ++ rest

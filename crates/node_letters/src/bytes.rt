@@ -1,4 +1,4 @@
-//! The first byte that a node received and that is not the one that was sent.
+//! The first byte that a node received and that differs from what was sent.
 
 ghost use Rattle.std.specs.Prelude.{◌≡◌, ◌↔◌, true, slice_get, IfOk, MatchOption};
 ghost use Rattle.node_letters.specs.Passings.{AreNoLetters, IsOtherByte};
@@ -9,19 +9,20 @@ use crate::write::write_letters;
 use dcop_base::NoMemory;
 use std::alloc::Global;
 
-/// The first byte that a node received and that is not the one that was sent to it.
+/// The first position at which the bytes that a node received differ from those that were sent to
+/// it.
 #[derive(Clone, Copy, Debug, PartialEq, Eq)]
 pub struct OtherByte {
-    /// Its place in the bytes of the exchange from the one node to the other, from 0.
+    /// The position in the bytes of the exchange from the one node to the other, from 0.
     pub place: usize,
-    /// The byte that was sent, where there is one.
+    /// The byte that was sent; `None` if the bytes that were sent are over.
     pub sent: Option<u8>,
-    /// The byte that was received, where there is one.
+    /// The byte that was received; `None` if the bytes that were received are over.
     pub taken: Option<u8>,
 }
 
-/// The first byte that is not the one that was sent, where what came is no letters. What was sent is written once more for
-/// it, which takes memory.
+/// The first byte that differs, given bytes that are not whole frames of letters on these links. It
+/// writes once more what was sent, which takes memory.
 pub(crate) fn other_byte(
     alloc: Global,
     passings: &[LinkPassing],
@@ -43,7 +44,7 @@ pub(crate) fn other_byte(
     })
 }
 
-/// The first place at which two lists of bytes differ, where one of them may be over.
+/// The first position at which two lists of bytes differ; one of them may be over there.
 fn first_other(went: &[u8], came: &[u8]) -> Option<usize>
     ensures { MatchOption result (came.now ≡ went.now) (IsFirstOther went.now came.now) }
 {
@@ -56,7 +57,7 @@ fn first_other(went: &[u8], came: &[u8]) -> Option<usize>
     None
 }
 
-/// Whether two lists of bytes have the same at a place, or are both over there.
+/// Whether two lists of bytes have the same byte at a position, or are both over there.
 fn are_same_at(went: &[u8], came: &[u8], place: usize) -> bool
     ensures { (result ≡ true) ↔ (slice_get came.now place ≡ slice_get went.now place) }
 {
@@ -69,7 +70,7 @@ fn are_same_at(went: &[u8], came: &[u8], place: usize) -> bool
     }
 }
 
-/// The byte at a place, if there is one.
+/// The byte at a position, if there is one.
 fn byte_at(bytes: &[u8], place: usize) -> Option<u8>
     ensures { result ≡ slice_get bytes.now place }
 {

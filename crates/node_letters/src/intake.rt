@@ -1,4 +1,4 @@
-//! Taking in what one node has received from another in an exchange.
+//! Adding to the links what one node has received from another in an exchange.
 
 ghost use Rattle.std.specs.Prelude.{◌≡◌, ◌∷◌, [], ◌&&◌, true, None as none, position, IfOk, IfSome, List};
 ghost use Rattle.std.specs.List.{All};
@@ -14,13 +14,17 @@ use crate::read::read_letters;
 use dcop_base::{NoMemory, VarId};
 use std::alloc::Global;
 
-/// Adds what these bytes bring to the links from one node to another, which lead apart. Where they
-/// are no whole frames of letters on these links, it answers the first byte that is not the one that
-/// was sent; some letters may have been added then.
+/// Adds the letters in these bytes to the links from one node to another. No two links have the
+/// same sender and receiver.
+///
+/// If the bytes are those that were sent, the answer is `None`, and each link has all that was
+/// drained of it. If the answer is a byte, the bytes are not whole frames of letters on these
+/// links, and it is the first byte that differs from what was sent. Some letters may have been
+/// added then.
 ///
 /// # Errors
 ///
-/// [`NoMemory`] where memory was wanted and not had; some letters may have been added.
+/// [`NoMemory`] if memory runs out. Some letters may have been added.
 pub fn receive(
     alloc: Global,
     passings: &mut [LinkPassing],
@@ -41,8 +45,8 @@ pub fn receive(
     Ok(Some(other))
 }
 
-/// Adds what these bytes bring to the links from one node to another. Whether they are whole frames of
-/// letters on these links.
+/// Adds the letters in these bytes to the links from one node to another. The answer is true if the
+/// bytes are whole frames of letters on these links.
 fn deliver_all(
     alloc: Global,
     passings: &mut [LinkPassing],
@@ -73,8 +77,8 @@ fn both(one: bool, other: bool) -> bool
     one && other
 }
 
-/// Adds a letter to its link, if there is one that leads from the one node to the other. Whether there
-/// is.
+/// Adds a letter to its link, if there is one from the one node to the other. The answer is whether
+/// there is one.
 fn deliver(
     passings: &mut [LinkPassing],
     from_node: u32,
@@ -93,7 +97,7 @@ fn deliver(
     Ok(true)
 }
 
-/// The place of the link from an agent of one node to an agent of another.
+/// The position of the link with this sender and receiver, from the one node to the other.
 fn place_of(
     passings: &[LinkPassing],
     from_node: u32,
@@ -108,7 +112,7 @@ fn place_of(
         .position(|passing| is_on(passing, from_node, to_node, from, to))
 }
 
-/// Whether a link leads from an agent of one node to an agent of another.
+/// Whether a link has this sender and receiver, and leads from the one node to the other.
 fn is_on(passing: &LinkPassing, from_node: u32, to_node: u32, from: VarId, to: VarId) -> bool
     ensures { result ≡ is_link from_node to_node from to passing.now }
 {

@@ -8,8 +8,8 @@ use protocol_steps::Envelope;
 use std::alloc::Global;
 use std::marker::Model;
 
-/// A link, by the agents and the nodes at its ends, with what an exchange drained of it and what has
-/// arrived so far. Contracts see these parts.
+/// A link with the agents and the nodes at its ends, what an exchange drained of it, and what has
+/// arrived on it so far. Contracts see these six parts.
 #[derive(Drop)]
 pub struct LinkPassing {
     from: VarId,
@@ -29,7 +29,8 @@ impl Model for LinkPassing {
 }
 
 impl LinkPassing {
-    /// A link of which this was drained, and on which nothing has arrived.
+    /// A link of which these envelopes were drained, and on which nothing has arrived. The sender
+    /// and its node come first in the two pairs.
     pub fn new(
         alloc: Global,
         ends: (VarId, VarId),
@@ -57,28 +58,28 @@ impl LinkPassing {
         self.from
     }
 
-    /// The agent that takes from it.
+    /// The agent that receives on the link.
     pub fn to(&self) -> VarId
         ensures { result ≡ self.now.to }
     {
         self.to
     }
 
-    /// What was drained, in order.
+    /// What was drained, oldest first.
     pub fn drained(&self) -> &[Envelope]
         ensures { result.now ≡ self.now.drained }
     {
         self.drained.as_slice()
     }
 
-    /// Whether nothing was drained, and nothing has arrived.
+    /// Whether nothing was drained and nothing has arrived.
     pub fn is_idle(&self) -> bool
         ensures { (result ≡ true) ↔ ((self.now.drained ≡ []) × (self.now.arrived ≡ [])) }
     {
         self.drained.is_empty() && self.arrived.is_empty()
     }
 
-    /// Whether it leads from one node to another.
+    /// Whether the link leads from the one node to the other.
     pub fn leads(&self, from_node: u32, to_node: u32) -> bool
         ensures { result ≡ leads from_node to_node self.now }
     {
@@ -86,7 +87,7 @@ impl LinkPassing {
         from == from_node && to == to_node
     }
 
-    /// Gives it what was drained, in place of what it held.
+    /// Replaces what was drained.
     pub fn hold(&mut self, drained: Vec<Envelope>)
         ensures { self.new ≡ holding self.old drained.items }
     {
@@ -94,6 +95,10 @@ impl LinkPassing {
     }
 
     /// Adds an envelope that has arrived.
+    ///
+    /// # Errors
+    ///
+    /// [`NoMemory`] if memory runs out. The link stays as it was.
     pub fn receive(&mut self, envelope: Envelope) -> Result<(), NoMemory>
         ensures same { SamePassing self.old self.new }
         ensures arrived { OnOk result (self.new.arrived ≡ self.old.arrived ++ envelope ∷ []) }
@@ -103,7 +108,7 @@ impl LinkPassing {
         Ok(())
     }
 
-    /// Takes out what was drained and what arrived; nothing is left of either.
+    /// Takes out what was drained and what arrived, in this order. Both lists are then empty.
     pub fn take_lists(&mut self, alloc: Global) -> (Vec<Envelope>, Vec<Envelope>)
         ensures lists { (result.0.items ≡ self.old.drained) × (result.1.items ≡ self.old.arrived) }
         ensures left { self.new ≡ emptied self.old }

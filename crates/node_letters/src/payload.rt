@@ -1,4 +1,4 @@
-//! A message between two nodes as the payload of a frame.
+//! A message between two nodes, as the payload of a frame.
 
 ghost use Rattle.std.specs.Prelude.{◌≡◌, ◌<◌, ◌≤◌, ◌++◌, ◌^◌, ℕ, length, Some, IfOk, OnOk, IfSome, MatchOption};
 ghost use Rattle.std.specs.Int.{w32, to_be_bytes};
@@ -13,19 +13,19 @@ use message_code::{DecodeFault, decode, encode};
 use protocol_steps::Envelope;
 use std::alloc::Global;
 
-/// What a payload holds: an envelope, with its sender and its receiver.
+/// A letter: an envelope with its sender and its receiver.
 #[derive(Drop)]
 pub struct Addressed {
     /// The agent that sends.
     pub from: VarId,
-    /// The agent that takes.
+    /// The agent that receives.
     pub to: VarId,
     /// What is sent.
     pub envelope: Envelope,
 }
 
-/// The payload of an envelope: the sender and the receiver in four bytes each, and the code of the
-/// envelope.
+/// The payload of a letter: the sender and the receiver in four bytes each, big-endian, and then
+/// the code of the envelope.
 pub(crate) fn write_payload(
     alloc: Global,
     from: VarId,
@@ -45,8 +45,7 @@ pub(crate) fn write_payload(
     Ok(Bytes::from_vec(bytes))
 }
 
-/// The envelope that these bytes are the payload of, with its sender and receiver; `None` where they
-/// are no payload.
+/// The letter whose payload these bytes are; `None` if they are the payload of none.
 pub(crate) fn read_payload(alloc: Global, bytes: &[u8]) -> Result<Option<Addressed>, NoMemory>
     ensures found { IfOk result (λ o. IfSome o (λ a. bytes.now ≡ payload_code a.from a.to a.envelope)) }
     ensures only { IfOk result (λ o. (from to : ℕ) (e : ℕ × Message) → from < 2 ^ 32 → to < 2 ^ 32 → IsEnvelope e → bytes.now ≡ payload_code from to e → IsFoundAs o from to e) }
@@ -68,7 +67,8 @@ pub(crate) fn read_payload(alloc: Global, bytes: &[u8]) -> Result<Option<Address
     }
 }
 
-/// The number in the first four bytes, the highest first, and the bytes behind it.
+/// The number in the first four bytes, big-endian, and the bytes after it; `None` if there are
+/// fewer than four bytes.
 fn number_at(bytes: &[u8]) -> Option<(u32, &[u8])>
     ensures { MatchOption result (length bytes.now < 4) (λ r. bytes.now ≡ to_be_bytes w32 r.0 ++ r.1.now) }
 {
@@ -76,7 +76,7 @@ fn number_at(bytes: &[u8]) -> Option<(u32, &[u8])>
     Some((number_of(*field), rest))
 }
 
-/// The number that four bytes stand for, the highest first.
+/// The number that four bytes encode, big-endian.
 fn number_of(field: [u8; 4]) -> u32
     ensures { to_be_bytes w32 result ≡ field }
 {

@@ -10,7 +10,8 @@ use dcop_base::NoMemory;
 use std::alloc::Global;
 use wire_frames::{FrameFault, FrameReader};
 
-/// The letters of which these bytes are the frames; `None` where they are no whole frames of letters.
+/// The letters whose frames these bytes are. `None` only if the bytes are not whole frames of
+/// letters.
 pub(crate) fn read_letters(alloc: Global, bytes: &[u8]) -> Result<Option<Vec<Addressed>>, NoMemory>
     ensures { IfOk result (λ o. (ls : List Addressed) → All IsLetter ls → bytes.now ≡ stream_of ls → MatchOption o ⊥ (λ v. v.items ≡ ls)) }
 {
@@ -26,7 +27,8 @@ pub(crate) fn read_letters(alloc: Global, bytes: &[u8]) -> Result<Option<Vec<Add
     open_all(alloc, &mut reader)
 }
 
-/// The letters of the payloads that a reader holds; `None` where one is no payload of a letter.
+/// The letters whose payloads a reader holds. `None` only if one of them is not the payload of a
+/// letter.
 fn open_all(alloc: Global, reader: &mut FrameReader) -> Result<Option<Vec<Addressed>>, NoMemory>
     ensures { IfOk result (λ o. (ls : List Addressed) → All IsLetter ls → reader.old.ready ≡ map letter_code ls → MatchOption o ⊥ (λ v. v.items ≡ ls)) }
 {

@@ -14,8 +14,12 @@ use protocol_steps::Envelope;
 use std::alloc::Global;
 use wire_frames::frame;
 
-/// The frames of all that was drained of links from one node to another, link by link, and in the
-/// order of sending.
+/// The frames of all that was drained of the links from one node to another, link by link, and on
+/// each link oldest first.
+///
+/// # Errors
+///
+/// [`NoMemory`] if memory runs out.
 pub fn write_letters(
     alloc: Global,
     passings: &[LinkPassing],

@@ -6,14 +6,14 @@ use Rattle.worker_runs.specs.Cells.{CellState, lane, known_from, EachAre}
 use Rattle.worker_runs.specs.Visits.{IsQuiet}
 use Rattle.node_runs.specs.Wires.{Wire, drained_in, arrived_in, ArePassedOn}
 
--- the link to agent i from agent j of another node, by the cells of both: all that was sent is drained; what was taken, and then what waits, is what arrived, and of what waits the lesser of 64 and all is known
+-- the link to agent i from agent j of another node was exchanged, by the cells of both: all that was sent has been drained; what was taken followed by what waits is what arrived; and of the waiting messages at least the lesser of 64 and all are known
 pub record IsExchanged (wires : List Wire) (i j : ℕ) (to from : CellState) : Type 0 where
   pub drained : drained_in i j wires ≡ lane i from.sent
   pub waiting : List (ℕ × Message)
   pub arrived : lane j to.taken ++ waiting ≡ arrived_in i j wires
   pub known : min link_share (length waiting) ≤ known_from j to.known
 
--- one exchange: nothing of the cells has changed but what they know
+-- one exchange: each link between nodes was exchanged, and nothing of the cells has changed but what they know
 pub record IsExchange (node : ℕ → ℕ) (wires more : List Wire) (before after : List CellState) : Type 0 where
   pub passed : ArePassedOn wires more
   pub quiet : EachAre IsQuiet before after

@@ -7,7 +7,7 @@ use Rattle.worker_runs.specs.Cells.{CellState, lane, known_from}
 use Rattle.node_runs.specs.Wires.{Wire, AreApart}
 use Rattle.node_runs.specs.Exchanges.{IsExchanged}
 
--- one link, by the cells at its ends: all that was sent is drained; what was taken, and then what waits, is what arrived, and of what waits the lesser of 64 and all is known
+-- one link was exchanged, by the cells at its ends: all that was sent has been drained; what was taken followed by what waits is what arrived; and of the waiting messages at least the lesser of 64 and all are known
 pub record IsLinkExchanged (w : Wire) (to from : CellState) : Type 0 where
   pub drained : flat_map (λ p. p.drained) w.passages ≡ lane w.receiver from.sent
   pub waiting : List (ℕ × Message)
@@ -18,12 +18,12 @@ pub record IsLinkExchanged (w : Wire) (to from : CellState) : Type 0 where
 abbrev pub LeadsNone : List Wire → ℕ → ℕ → Type 0
 LeadsNone ws i j = (k : ℕ) (w : Wire) → slice_get ws k ≡ Some w → w.receiver ≡ i → w.sender ≢ j
 
--- agents between which no link leads, though they are in different nodes, have sent nothing to each other
+-- agents in different nodes with no link between them have sent nothing on it, and taken nothing
 abbrev pub SayNothing : (ℕ → ℕ) → List Wire → List CellState → Type 0
 SayNothing node wires cells = (i j : ℕ) (to from : CellState) → slice_get cells i ≡ Some to → slice_get cells j ≡ Some from → node i ≢ node j → LeadsNone wires i j
     → (lane i from.sent ≡ []) × (lane j to.taken ≡ [])
 
--- where each link is exchanged, and there is no other, all agents' are
+-- if each link was exchanged, and agents without a link sent nothing, the links of all agents were exchanged
 abbrev pub LinksAreExchanged : Type 0
 LinksAreExchanged = (node : ℕ → ℕ) (wires : List Wire) (cells : List CellState) → AreApart wires
     → ((k : ℕ) (w : Wire) (to from : CellState) → slice_get wires k ≡ Some w → slice_get cells w.receiver ≡ Some to → slice_get cells w.sender ≡ Some from → IsLinkExchanged w to from)

@@ -1,4 +1,4 @@
--- Nodes make a run: what cells in several nodes have made, where each exchange took just what it sent.
+-- Nodes make a run: what cells in several nodes have done, if in each exchange exactly what was sent arrived.
 use Rattle.std.specs.Prelude.{◌≡◌, ℕ, ◌<◌, false, List, ◌∷◌}
 use Rattle.std.specs.List.{All}
 use Rattle.protocol_steps.specs.declared.run_end.RunEnd.{RunEnd}
@@ -13,29 +13,30 @@ use Rattle.worker_runs.specs.StampCounts.{ArePrefixes}
 use Rattle.node_runs.specs.Wires.{Wire, HaveHeld}
 use Rattle.node_runs.specs.NodeRounds.{IsNodeRound, AreNodeRounds, IsNodeEnd, ArePlayedOver}
 
--- cells have made a run in rounds, at the start and the end of each of which what was taken on any link is a first part of what was sent on it
+-- cells have made a run in rounds; at the start and at the end of each round, what was taken on any link is the first part of what was sent on it
 pub record IsRunInOrder (budget : ℕ) (made : List View) (cells last : List CellState) (rounds : List (List CellState)) : Type 0 where
   pub end : Network
   pub run : IsRunOfCells budget made last end
   pub in_order : All ArePrefixes (cells ∷ rounds)
 
--- cells in nodes that have started, and were played in rounds with an exchange before each and after the last, have made a run in order, where each exchange took on each link just what it sent there
+-- cells in nodes that have started, and were played in rounds with an exchange before each and after the last, have made a run in order, if in each exchange exactly what was sent on each link arrived
 abbrev pub NodesMakeARun : Type 0
 NodesMakeARun = (node : ℕ → ℕ) (budget : ℕ) (made : List View) (cells after last : List CellState) (rounds : List (List CellState)) (begun wires more : List Wire)
     → AreStarted made cells → AreNodeRounds node budget begun cells rounds wires after → IsNodeEnd node wires more after last → HaveHeld more
     → IsRunInOrder budget made cells last rounds
 
--- where so much holds, each link is settled as it is inside one node: the rounds in nodes are rounds of cells, behind the last of which every link is settled
+-- each link is settled as it is inside one node: the rounds in nodes are rounds of cells, and after the last one every link is settled
 pub record IsAsInOneNode (budget : ℕ) (cells after last : List CellState) (rounds : List (List CellState)) : Type 0 where
   pub rounds_are : AreCellRounds budget cells rounds after
   pub quiet : EachAre IsQuiet after last
   pub settled : AreSettled last
 
+-- rounds in nodes are rounds as in one node, if in each exchange exactly what was sent on each link arrived
 abbrev pub NodesAreOne : Type 0
 NodesAreOne = (node : ℕ → ℕ) (budget : ℕ) (cells after last : List CellState) (rounds : List (List CellState)) (begun wires more : List Wire)
     → AreNodeRounds node budget begun cells rounds wires after → IsNodeEnd node wires more after last → HaveHeld more → IsAsInOneNode budget cells after last rounds
 
--- how cells in nodes are played, and what they have made at the end: where they tell that all have ended or that the budget is spent, or that nothing waits, and where a round took nothing
+-- how cells in nodes are played, and the run that they have made at the end: when they show that all have ended, that the budget is spent or that nothing waits, and when a round took nothing
 pub record PlayedNodesMakeRuns : Type 0 where
   pub none : (node : ℕ → ℕ) (budget : ℕ) (wires : List Wire) (cells : List CellState) → ArePlayedOver node budget wires cells wires cells
   pub more : (node : ℕ → ℕ) (budget : ℕ) (begun wires between : List Wire) (cells now next : List CellState) → ArePlayedOver node budget begun cells wires now → total now < budget

@@ -1,4 +1,4 @@
--- No stamp comes to its end in nodes where each exchange took just what it sent.
+-- Stamps do not run out in nodes, if in each exchange exactly what was sent arrived.
 use Rattle.std.specs.Prelude.{◌≡◌, ℕ, ◌≤◌, List, Some, slice_get, max}
 use Rattle.std.specs.List.{All}
 use Rattle.protocol_steps.specs.Stamps.{Gain}
@@ -12,14 +12,14 @@ use Rattle.node_runs.specs.Wires.{Wire, HaveHeld}
 use Rattle.node_runs.specs.Exchanges.{IsExchange}
 use Rattle.node_runs.specs.NodeRounds.{IsNodeEnd, ArePlayedOver}
 
--- a cell has taken this of its peers, or nothing, and its agent has made no step on it
+-- a cell has taken these messages from its peers, or none, and its agent has made no step on them
 pub record HasOnlyTaken (before after : CellState) : Type 0 where
   pub gains : List Gain
   pub senders : All (IsFrom (peers before.taken)) gains
   pub taken : after.taken ≡ grown (λ j. gained_from j gains) before.taken
   pub sent : after.sent ≡ before.sent
 
--- cells in nodes were played in rounds, and in one more, which was broken off behind an exchange: each cell then stood after some activations, and may have taken something without a step
+-- cells in nodes were played in rounds, and then in one more that was broken off after its exchange: each cell had made some activations by then, and may have taken messages without a step
 pub record AreBrokenOver (node : ℕ → ℕ) (budget : ℕ) (begun : List Wire) (cells : List CellState) (wires : List Wire) (stood now : List CellState) : Type 0 where
   pub before : List CellState
   pub passed : List Wire
@@ -29,7 +29,7 @@ pub record AreBrokenOver (node : ℕ → ℕ) (budget : ℕ) (begun : List Wire)
   pub moved : EachAre IsMoved ready stood
   pub taken : EachAre HasOnlyTaken stood now
 
--- then no stamp of a cell, nor of what it took at last, is above the number of messages that were taken with a step, where each exchange took just what it sent, one more at the end too
+-- no stamp of such a cell, nor of what it took last, is above the number of messages that were taken with a step, if in each exchange, and in one more at the end, exactly what was sent arrived
 abbrev pub NodeStampsAreFew : Type 0
 NodeStampsAreFew = (node : ℕ → ℕ) (budget : ℕ) (made : List View) (begun wires more : List Wire) (cells stood now last : List CellState) → AreStarted made cells
     → AreBrokenOver node budget begun cells wires stood now → IsNodeEnd node wires more now last → HaveHeld more

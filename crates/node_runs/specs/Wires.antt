@@ -1,11 +1,11 @@
--- What passed over links between nodes, exchange by exchange.
+-- What passed over the links between nodes, exchange by exchange.
 use Rattle.std.specs.Prelude.{◌≡◌, ℕ, List, [], ◌++◌, Option, Some, ◌==◌, ◌&&◌, if◌then◌else◌, slice_get}
 use Rattle.std.specs.List.{All, flat_map}
 use Rattle.std.specs.Option.{option_to_list}
 use Rattle.protocol_steps.specs.declared.message.Message.{Message}
 use Rattle.worker_runs.specs.Cells.{EachAre}
 
--- what one exchange did on one link: the messages that it drained in the sender's node, and those that arrived in the receiver's, each with its stamp
+-- what one exchange did on one link: the messages that it drained in the sender's node, and those that arrived in the receiver's node, each with its stamp
 pub record Passage : Type 0 where
   pub drained : List (ℕ × Message)
   pub arrived : List (ℕ × Message)
@@ -16,37 +16,37 @@ pub record Wire : Type 0 where
   pub sender : ℕ
   pub passages : List Passage
 
--- just that arrived which was drained, no fewer and no more
+-- exactly what was drained arrived
 abbrev pub IsSame : Passage → Type 0
 IsSame p = p.arrived ≡ p.drained
 
--- so it was in each exchange, on one link
+-- a link has held: in each exchange exactly what was drained arrived
 abbrev pub HasHeld : Wire → Type 0
 HasHeld w = All IsSame w.passages
 
--- and on each link
+-- all links have held
 abbrev pub HaveHeld : List Wire → Type 0
 HaveHeld ws = All HasHeld ws
 
--- no two links lead from the same agent to the same
+-- no two links lead from the same agent to the same agent
 abbrev pub AreApart : List Wire → Type 0
 AreApart ws = (k l : ℕ) (v w : Wire) → slice_get ws k ≡ Some v → slice_get ws l ≡ Some w → v.receiver ≡ w.receiver → v.sender ≡ w.sender → k ≡ l
 
--- a link after one exchange more: it has one passage more, or none, where there was nothing to pass
+-- a link after one more exchange: it has one more passage, or none if there was nothing to pass
 pub record HasPassed (before after : Wire) : Type 0 where
   pub passage : Option Passage
   pub receiver : after.receiver ≡ before.receiver
   pub sender : after.sender ≡ before.sender
   pub passages : after.passages ≡ before.passages ++ option_to_list passage
 
--- all links after one exchange more
+-- all links after one more exchange
 abbrev pub ArePassedOn : List Wire → List Wire → Type 0
 ArePassedOn before after = EachAre HasPassed before after
 
--- all messages that were drained of the link to agent i from agent j
+-- all messages that were drained from the link to agent i from agent j
 abbrev pub drained_in : ℕ → ℕ → List Wire → List (ℕ × Message)
 drained_in i j ws = flat_map (λ w. if w.receiver == i && w.sender == j then flat_map (λ p. p.drained) w.passages else []) ws
 
--- all that arrived on it
+-- all messages that arrived on the link to agent i from agent j
 abbrev pub arrived_in : ℕ → ℕ → List Wire → List (ℕ × Message)
 arrived_in i j ws = flat_map (λ w. if w.receiver == i && w.sender == j then flat_map (λ p. p.arrived) w.passages else []) ws

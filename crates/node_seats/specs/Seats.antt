@@ -10,14 +10,15 @@ use Rattle.tcp_links.specs.Plans.{IsPlan}
 use Rattle.node_seats.specs.Links.{AreLinksOver}
 
 module _ {W : Type 0} where
-  -- a plan has the same agents, nodes and wires as before
+  -- a plan is still valid, and has the same agents, nodes and wires as before
   pub record IsSameFrame (before after : NodePlan W) : Type 0 where
     pub plan : IsPlan after
     pub agents : after.agents ≡ before.agents
     pub nodes : after.nodes ≡ before.nodes
     pub wires : after.wires.items ≡ before.wires.items
 
-  -- the agents of a start in the nodes of a plan, each with the ends of links to and from its neighbours
+  -- the agents of a start in the nodes of a plan, each with the ends of the links to and from its
+  -- neighbours
   pub record AreSeatsOver (p : Dcop) (start : Start) (plan : NodePlan W) (seats : List Seat) : Type 0 where
     pub tails : List (List Tail)
     pub heads : List (List Head)

@@ -1,8 +1,8 @@
 //! The agents of a problem in the nodes of a plan, each with the ends of its links.
 //!
-//! [`seats_over`] makes them for a [`Start`](delivery_core::Start). Inside a node two neighbours talk
-//! over a ring, and between two nodes over links of which the plan keeps the inner ends. A problem in
-//! one node needs no plan: its agents are made by `agent_seats` alone.
+//! [`seats_over`] makes them for a [`Start`](delivery_core::Start). Two neighbours in one node are
+//! linked by a ring. Two neighbours in different nodes are linked over the plan, which keeps the
+//! inner ends of the link. A problem in one node needs no plan: `agent_seats` makes its agents.
 #![tactic(auto)]
 
 mod links;

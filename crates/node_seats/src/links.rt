@@ -19,13 +19,13 @@ use std::alloc::Global;
 use tcp_links::NodePlan;
 use wire_edge::Wire;
 
-/// A link from each agent to each of its neighbours, on which nothing was sent: a ring inside a node,
-/// and a link of the plan between two nodes. The agents know this, each one's at the place of its
-/// number.
+/// A link from each agent to each of its neighbours: a ring inside a node, and a link of the plan
+/// between two nodes. Nothing was sent on any of them. `known` has what each agent knows, agent i
+/// at position i.
 ///
 /// # Errors
 ///
-/// [`NoMemory`] where memory was wanted and not had. The plan may then have some of the links.
+/// [`NoMemory`] if memory runs out. The plan may then have some of the links.
 pub fn link_over<W: Wire>(
     alloc: Global,
     known: &[Private],
@@ -49,7 +49,7 @@ pub fn link_over<W: Wire>(
     Ok(Links { tails, heads })
 }
 
-/// So many empty lists.
+/// `count` empty lists.
 fn empty_rows<T: Drop>(alloc: Global, count: usize) -> Result<Vec<Vec<T>>, NoMemory>
     ensures { IfOk result (λ rows. rows_in rows.items ≡ replicate count []) }
 {
@@ -140,8 +140,8 @@ fn link_one<W: Wire>(
     Ok(())
 }
 
-/// The ends of a new link: those of a ring where both agents are in one node, and else the outer ends
-/// of a link of the plan.
+/// The outer ends of a new link: those of a ring if both agents are in one node, else those of a
+/// link of the plan.
 fn new_link<W: Wire>(
     alloc: Global,
     plan: &mut NodePlan<W>,
@@ -164,7 +164,7 @@ fn new_link<W: Wire>(
     Ok(ends)
 }
 
-/// Adds an item to one of some lists.
+/// Adds an item to the list at position `at`.
 fn push_at<T: Drop>(rows: &mut [Vec<T>], at: usize, item: T) -> Result<(), NoMemory>
     requires inside { at < length rows.old }
     ensures added { OnOk result (rows_in rows.new ≡ pushed at item (rows_in rows.old)) }

@@ -13,12 +13,12 @@ use std::alloc::Global;
 use tcp_links::NodePlan;
 use wire_edge::Wire;
 
-/// The agents of a start in the nodes of a plan, with links to their neighbours. The plan has no
-/// link before.
+/// The agents of a start in the nodes of a plan, linked to their neighbours. The plan has no links
+/// yet.
 ///
 /// # Errors
 ///
-/// [`NoMemory`] where memory was wanted and not had. The plan may then have some of the links.
+/// [`NoMemory`] if memory runs out. The plan may then have some of the links.
 pub fn seats_over<W: Wire>(
     alloc: Global,
     problem: &Problem,

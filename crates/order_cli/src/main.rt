@@ -1,8 +1,8 @@
-//! The program `dcop_order`: reads a problem from standard input and writes it in an order that
-//! makes its depth-first tree narrow to standard output.
+//! The program `dcop_order`: it reads a problem from standard input and writes it to standard
+//! output, in an order that makes its depth-first tree narrower, or as it is.
 //!
-//! All of its work is [`order`]. It ends with the code of the status, or with 12 and nothing
-//! printed where it is refused its arguments.
+//! [`order`] does all of its work. It ends with the code of the status. If the system refuses to
+//! give it its arguments, it prints nothing and ends with code 12.
 #![tactic(auto)]
 
 use dcop_edge::{StdSink, StdSource};
@@ -11,7 +11,7 @@ use std::process::ExitCode;
 use std::rt::Env;
 use std::{env, io};
 
-/// The code with which the program ends where it is refused its arguments, which no status has.
+/// The exit code if the system refuses to give the arguments; no status has it.
 const REFUSED_ARGUMENTS: u8 = 12;
 
 fn main(rt: HostRuntime) -> ExitCode {

@@ -1,9 +1,9 @@
-//! The search for an order of a problem's variables in which its depth-first tree is narrow.
+//! The search for an order of a problem's variables that makes its depth-first tree narrow.
 //!
-//! [`narrow_order`] searches, and its clause says which order it finds: the best of the order as
-//! given, of those that rules build, and of so many changes of the best so far. [`narrowed`] takes
-//! what was found where it makes the tree of a file narrower. What an order is and when a tree is
-//! narrower stands in `problem_order`, which also compares.
+//! [`narrow_order`] searches. Its clause says which order it finds: the best of the given order, of
+//! the orders that rules build, and of `n` changes, each of the best so far. [`narrowed`] puts a
+//! file into that order if this makes its tree narrower. `problem_order` says what an order is and
+//! when a tree is narrower, and compares trees.
 #![tactic(auto)]
 
 mod changes;

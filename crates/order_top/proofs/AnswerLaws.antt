@@ -1,4 +1,4 @@
--- Which answer belongs to which words and input, and what its status says of the source.
+-- Which answer belongs to which words and input, and what its status says about the source.
 use Rattle.std.proofs.Common.{◌≡◌, ℕ, ◌<◌, List, Option, Some, Result, Ok, Err, IfOk, sym, ap, subst, arith, refl}
 use Rattle.dcop_edge.specs.Faults.{Rose}
 use Rattle.dcop_base.specs.declared.memory.NoMemory.{NoMemory}
@@ -29,7 +29,7 @@ pub ordered-answered : (asked : Asked) (read : Result Declared Fault) (old file 
 ordered-answered asked read old file told whole narrowed searched =
     subst (λ (r : Result Declared Fault). IsTextAnswer asked r (answers.Upgraded file)) (sym told) (record { old = old; whole = whole; declared = refl; narrowed = narrowed; searched = searched })
 
--- the answer to an input, where words are accepted
+-- the answer to an input, if the words are accepted
 pub input-answered : (words : List (List ℕ)) (asked : Asked) (before after : SourceState) (input : Input) (answer : Answer)
     → Ok asked ≡ order_answer_to words → IsReadFrom input before after → IsInputAnswer asked input answer → IsAnswered words before after answer
 input-answered words asked before after input answer told read is = record {
@@ -38,7 +38,7 @@ input-answered words asked before after input answer told read is = record {
   belongs = subst (λ (r : Result Asked WordFault). IsAskedAnswer r input answer) told is;
 }
 
--- the same on all bytes that were read, unless memory was wanted
+-- the same on all bytes that were read, unless memory ran out
 pub text-answered : (words : List (List ℕ)) (asked : Asked) (before after : SourceState) (bytes slice : List ℕ) (result : Result Answer NoMemory)
     → Ok asked ≡ order_answer_to words → IsReadFrom (Whole bytes) before after → slice ≡ bytes
     → IfOk result (IsTextAnswer asked (whole_read slice)) → IfOk result (IsAnswered words before after)
@@ -68,13 +68,13 @@ asked-broken (Ok asked) answer is = ap status_of is
 asked-broken (Err (words.Bad at kind)) answer is = cc is.0
 asked-broken (Err words.NoMemory) answer is = absurd is
 
--- an answer by a failed reading comes only where the source failed
+-- an answer by a failed reading comes only if the source failed
 pub rose-answered : (words : List (List ℕ)) (before after : SourceState) (answer : Answer) → IsAnswered words before after answer
     → status_of answer ≡ ReadFault → Rose before.faults after.faults
 rose-answered words before after answer done fault =
     subst (λ (i : Input). IsReadFrom i before after) (asked-sound (order_answer_to words) done.input answer done.belongs fault) done.read
 
--- and it comes wherever the source failed
+-- it comes whenever the source failed
 failed-input : (words : List (List ℕ)) (before after : SourceState) (input : Input) (answer : Answer) → IsReadFrom input before after → IsAskedAnswer (order_answer_to words) input answer
     → before.faults < after.faults → status_of answer ≡ ReadFault
 failed-input words before after Unread answer read is more = absurd (omega (arith, more, ap (λ (s : SourceState). s.faults) read))
@@ -110,7 +110,7 @@ ordered-well asked d answers.Link is = absurd is
 ordered-well asked d (answers.LinkDiffers from to at sent taken links) is = absurd is
 ordered-well asked d (answers.LinkBytes round from_node to_node place sent taken) is = absurd is
 
--- all of a text that is told, and accepted, is read and goes well
+-- an accepted text whose source is known is read whole and goes well
 input-well : (words : List (List ℕ)) (text : List ℕ) (accepted : IsAccepted words text) (before after : SourceState) (input : Input) (answer : Answer)
     → before.left ≡ Some text → ¬ Rose before.faults after.faults → IsReadFrom input before after → IsInputAnswer accepted.asked input answer → GoesWell (status_of answer)
 input-well words text accepted before after Unread answer told steady read is = absurd is

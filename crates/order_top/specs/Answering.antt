@@ -18,7 +18,8 @@ use Rattle.answer_edge.specs.Whole.{whole_read}
 use Rattle.order_top.specs.declared.words.Asked.{Asked}
 use Rattle.order_top.specs.Words.{order_answer_to}
 
--- a file becomes this one by the search that is asked for, which is never wider
+-- a text that declares this becomes this file by the search that the words ask for, which never
+-- makes its tree wider
 pub record IsOrderedAs (asked : Asked) (d : Declared) (file : TextFile) : Type 0 where
   pub old : TextFile
   pub whole : IsProblem old.problem
@@ -26,7 +27,7 @@ pub record IsOrderedAs (asked : Asked) (d : Declared) (file : TextFile) : Type 0
   pub narrowed : IsNarrowed old file
   pub searched : IsSearched old asked.tries asked.seed file
 
--- the canonical text of the file that was read, in the order that is found
+-- the answer is the canonical text of the file read, in the order that the search finds
 abbrev pub IsOrdered : Asked → Declared → Answer → Type 0
 IsOrdered asked d (answers.Upgraded file) = IsOrderedAs asked d file
 IsOrdered asked d answer = ⊥
@@ -43,7 +44,7 @@ IsInputAnswer asked Broken answer = answer ≡ answers.Read
 IsInputAnswer asked TooLong answer = answer ≡ answers.ProblemText 0 9 0
 IsInputAnswer asked (Whole bytes) answer = IsTextAnswer asked (whole_read bytes) answer
 
--- the answer to what words ask, or to words that are refused
+-- the answer to what words ask for, or to words that are refused
 abbrev pub IsAskedAnswer : Result Asked WordFault → Input → Answer → Type 0
 IsAskedAnswer (Ok asked) input answer = IsInputAnswer asked input answer
 IsAskedAnswer (Err (words.Bad at kind)) input answer = (input ≡ Unread) × (answer ≡ answers.Words at (number_of_words kind))
@@ -53,6 +54,6 @@ IsAskedAnswer (Err words.NoMemory) input answer = ⊥
 abbrev pub IsOrderAnswer : List (List ℕ) → Input → Answer → Type 0
 IsOrderAnswer words input answer = IsAskedAnswer (order_answer_to words) input answer
 
--- one answer belongs to words and an input: the same words and the same bytes give the same text
+-- the same words and the same input have one answer, and so one text
 abbrev pub OrderAnswersAreOne : Type 0
 OrderAnswersAreOne = (words : List (List ℕ)) (input : Input) (a b : Answer) → IsOrderAnswer words input a → IsOrderAnswer words input b → a ≡ b

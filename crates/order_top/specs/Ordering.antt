@@ -1,4 +1,5 @@
--- What the top call of `dcop_order` does: it answers, and shows its answer as the top call of `dcop` does.
+-- What the top call of `dcop_order` does: it finds an answer and shows it, as the top call of
+-- `dcop` does.
 use Rattle.std.specs.Prelude.{◌≡◌, ℕ, ◌≤◌, ◌⊎◌, List, length, Ok}
 use Rattle.dcop_base.specs.Limits.{input_limit}
 use Rattle.problem_text.specs.Declarations.{Declared}
@@ -13,19 +14,20 @@ use Rattle.order_top.specs.declared.words.Asked.{Asked}
 use Rattle.order_top.specs.Words.{order_answer_to}
 use Rattle.order_top.specs.Answering.{IsOrderAnswer}
 
--- an answer to words, with what was read for it of a source that stood so before and stands so afterwards
+-- an answer to words, with the input read for it from a source with this state before and this
+-- state after
 pub record IsAnswered (words : List (List ℕ)) (before after : SourceState) (answer : Answer) : Type 0 where
   pub input : Input
   pub read : IsReadFrom input before after
   pub belongs : IsOrderAnswer words input answer
 
--- a call on these words answered and showed its answer, or its sink failed
+-- a call on these words found an answer and showed it, or its sink failed after a prefix of it
 pub record Orders (words : List (List ℕ)) (source source' : SourceState) (sink sink' : SinkState) (status : Status) : Type 0 where
   pub answer : Answer
   pub answered : IsAnswered words source source' answer
   pub shown : IsShown answer sink sink' status ⊎ IsCut answer sink sink' status
 
--- words and a text that are accepted
+-- words and a text are accepted
 pub record IsAccepted (words : List (List ℕ)) (text : List ℕ) : Type 0 where
   pub asked : Asked
   pub answered : order_answer_to words ≡ Ok asked
@@ -33,7 +35,7 @@ pub record IsAccepted (words : List (List ℕ)) (text : List ℕ) : Type 0 where
   pub declared : Declared
   pub read : whole_read text ≡ Ok declared
 
--- the call wrote a text, or memory was wanted
+-- the call wrote a text, or memory ran out
 abbrev pub GoesWell : Status → Type 0
 GoesWell statuses.Solved = Unit {0}
 GoesWell statuses.NoMemory = Unit {0}

@@ -18,8 +18,9 @@ use solve_report::Answer;
 use solve_words::WordFault;
 use std::alloc::Global;
 
-/// The answer to words, and where they are accepted to all that the source has left. The words are
-/// tested before anything is read.
+/// Finds the answer to words, and reads all that the source has left if the words are accepted.
+///
+/// The words are tested before anything is read.
 pub(crate) fn answer_of<S: Source>(
     alloc: Global,
     words: &[String],
@@ -60,8 +61,8 @@ fn text_answer(alloc: Global, asked: Asked, bytes: &[u8]) -> Result<Answer, NoMe
     }
 }
 
-/// The problem of every file is whole. One that is read is known to have such a problem, so this does
-/// no more.
+/// The problem of every file is whole. The type of a file that is read says so; this call only
+/// makes it known.
 fn whole_problem(file: &ProblemFile)
     ensures { IsProblem file.now.problem }
 {

@@ -12,12 +12,12 @@ use dcop_edge::{Sink, Source};
 use std::alloc::Global;
 
 /// Answers these words, which are the arguments of the program: reads a problem from the source,
-/// writes it in an order that makes its depth-first tree narrow to the sink, and says how it went.
-/// Words, texts and faults are refused as by the program `dcop`.
+/// writes it to the sink in an order that makes its depth-first tree narrower, or as it is, and
+/// gives the status. Words, texts and faults are refused as by the program `dcop`.
 ///
-/// [`Status::ReadFault`] and [`Status::WriteFault`] come only where the source or the sink failed
-/// in this call. With `WriteFault` a prefix of the answer is written, with [`Status::NoMemory`],
-/// where memory was wanted and not had, nothing, and otherwise the whole answer, and the sink is
+/// [`Status::ReadFault`] and [`Status::WriteFault`] come only if the source or the sink failed in
+/// this call. With `WriteFault` a prefix of the answer is written. With [`Status::NoMemory`], when
+/// memory runs out, nothing is written. Otherwise the whole answer is written, and the sink is
 /// finished.
 pub fn order<S: Source, K: Sink>(
     alloc: Global,

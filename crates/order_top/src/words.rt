@@ -6,12 +6,12 @@ ghost use Rattle.order_top.specs.Words.{order_option_named, most_of, number_give
 use dcop_base::number_of_word;
 use solve_words::{WordFault, WordKind};
 
-/// What words ask.
+/// What words ask for.
 #[derive(Clone, Copy, Debug, PartialEq, Eq)]
 pub struct Asked {
-    /// How many changed orders are tried, 0 to 1,000,000.
+    /// How many changed orders are tried: 0 to 1,000,000.
     pub tries: u64,
-    /// From what the changes follow, 0 to 9,999,999,999,999,999,999.
+    /// The seed of the changes: 0 to 9,999,999,999,999,999,999.
     pub seed: u64,
 }
 
@@ -25,7 +25,7 @@ pub enum OrderOption {
 }
 
 impl OrderOption {
-    /// The option that a word names; `None` exactly where no option has it.
+    /// The option with this name; `None` exactly if no option has it.
     fn named(word: &str) -> Option<OrderOption>
         ensures { result ≡ order_option_named word.now }
     {
@@ -47,17 +47,17 @@ impl OrderOption {
     }
 }
 
-/// The numbers that were given.
+/// The numbers that the words have given so far.
 #[derive(Clone, Copy, Debug, PartialEq, Eq)]
 pub struct Given {
-    /// Of `--tries`.
+    /// The number of `--tries`.
     pub tries: Option<u64>,
-    /// Of `--seed`.
+    /// The number of `--seed`.
     pub seed: Option<u64>,
 }
 
 impl Given {
-    /// The number that was given for an option.
+    /// The number given for an option.
     fn number(self, option: OrderOption) -> Option<u64>
         ensures { result ≡ number_given option self }
     {
@@ -83,7 +83,7 @@ impl Given {
         }
     }
 
-    /// The place of the word behind the pairs that gave these numbers, counted from 1.
+    /// The place of the word after the pairs that gave these numbers, counted from 1.
     fn place_behind(self) -> u64
         ensures same { result ≡ place_behind self }
         ensures low { result ≤ 5 }
@@ -91,7 +91,7 @@ impl Given {
         1 + words_for(self.tries) + words_for(self.seed)
     }
 
-    /// What is asked, with the default of each number that was not given.
+    /// What is asked for, with the default of each number that was not given.
     fn asked(self) -> Asked
         ensures { result ≡ asked_by self }
     {
@@ -102,7 +102,7 @@ impl Given {
     }
 }
 
-/// How many words gave a number.
+/// How many words give a number: two, or none if it is not given.
 fn words_for(number: Option<u64>) -> u64
     ensures same { result ≡ words_for number }
     ensures low { result ≤ 2 }
@@ -113,9 +113,11 @@ fn words_for(number: Option<u64>) -> u64
     }
 }
 
-/// What words ask, or their first fault. The words are pairs of an option and its value, read from
-/// left to right: of each pair it is tested that the option exists, that it is new, that a value
-/// stands behind it, and that the value is a number in the option's range.
+/// What words ask for, or their first fault.
+///
+/// The words are pairs of an option and its value, read from left to right. Of each pair the option
+/// must exist and be new, a value must follow it, and the value must be a number in the option's
+/// range.
 pub(crate) fn read_order_words(words: &[String]) -> Result<Asked, WordFault>
     ensures { result ≡ order_answer_to (map string_bytes words.now) }
 {
@@ -126,7 +128,7 @@ pub(crate) fn read_order_words(words: &[String]) -> Result<Asked, WordFault>
     Ok(read_pairs(none, words)?.asked())
 }
 
-/// The numbers that are given with those of these words, or the first fault of the words.
+/// The numbers that are given after the pairs of these words, or the first fault of the words.
 fn read_pairs(given: Given, words: &[String]) -> Result<Given, WordFault>
     ensures { result ≡ pairs_told given (map string_bytes words.now) }
 {
@@ -142,7 +144,7 @@ fn read_pairs(given: Given, words: &[String]) -> Result<Given, WordFault>
     read_pairs(given.with(option, number), rest)
 }
 
-/// The option that a word names and that was not given before, or the fault of the word.
+/// The option that a word names, if it was not given already; otherwise the fault of the word.
 fn read_option(given: Given, name: &str) -> Result<OrderOption, WordFault>
     ensures { result ≡ option_told given name.now }
 {
@@ -167,7 +169,7 @@ fn read_number(at: u64, option: OrderOption, word: &str) -> Result<u64, WordFaul
     }
 }
 
-/// The fault of the word at a place.
+/// The fault of the word at this place.
 fn bad(at: u64, kind: WordKind) -> WordFault
     ensures { result ≡ WordFault.Bad at kind }
 {

@@ -12,9 +12,9 @@ ghost use Rattle.own_costs.specs.Stride.{stride};
 use adopt_context::AgentContext;
 use dcop_base::{CAP, Table, Val, VarId, place_of, product_of};
 
-/// Adds a table's cells to the costs of the own values: to each cost the cell where the agent has the
-/// value that the cost stands for, and each other variable its known value, or 0 where none is
-/// known. The sums are cut off at [`CAP`].
+/// Adds a table's cells to the costs of the own values. Each cost gains the cell at its own value
+/// and at the known values of the other variables, which are 0 if not known. A sum above [`CAP`]
+/// becomes [`CAP`].
 pub fn add_table(costs: &mut [u64], table: &Table, me: VarId, known: &AgentContext)
     requires some { 1 ≤ length costs.old }
     requires costs { All (λ c. c ≤ amount_limit) costs.old }
@@ -44,7 +44,7 @@ fn place_at(scope: &[VarId], sizes: &[u16], me: VarId, d: Val, known: &AgentCont
     )
 }
 
-/// The agent's own value, and the known values of other variables; 0 where none is known.
+/// The own value for the agent's variable, and the known value for another one; 0 if none is known.
 fn value_of(var: VarId, me: VarId, d: Val, known: &AgentContext) -> Val
     ensures { result ≡ with_own me d (valued known.now) var }
 {
@@ -57,8 +57,8 @@ fn value_of(var: VarId, me: VarId, d: Val, known: &AgentContext) -> Val
     }
 }
 
-/// How far apart the cells of a variable's neighbouring values stand: the product of the sizes
-/// behind it, or `usize::MAX` where that is more; 0 where the variable is none of these.
+/// How far apart the cells of a variable's neighbouring values are: the product of the sizes after
+/// the variable, or `usize::MAX` if that is more; 0 if the variable is not in the scope.
 #[tactic(auto, using(crate::proofs::PlaceLaws::stride_next))]
 fn stride_of(scope: &[VarId], sizes: &[u16], var: VarId) -> usize
     requires { length sizes.now ≡ length scope.now }
@@ -73,8 +73,8 @@ fn stride_of(scope: &[VarId], sizes: &[u16], var: VarId) -> usize
     0
 }
 
-/// Adds to each cost its cell, capped: the first cell to the first cost, and one so many cells on
-/// to each further cost.
+/// Adds to each cost its cell: to the first cost the cell at `first`, and to each next cost the
+/// cell `stride` places further on. A sum above [`CAP`] becomes [`CAP`].
 fn add_cells(costs: &mut [u64], cells: &[u64], first: usize, stride: usize)
     requires costs { All (λ c. c ≤ amount_limit) costs.old }
     requires cells { All (λ c. c ≤ amount_limit) cells.now }

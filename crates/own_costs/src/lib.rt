@@ -1,8 +1,8 @@
-//! What the values of an agent's own variable cost.
+//! The cost of each value of an agent's own variable.
 //!
-//! [`add_table`] adds a table's cells to a row of costs, one for each own value, where the other
-//! variables have the values that a context gives them. So the DPOP agent finds its best value when
-//! values come, and the ADOPT agent what its values cost by its own tables.
+//! [`add_table`] adds a table's cells to a row of costs, one for each own value. The other
+//! variables have the values that a context gives them. The DPOP agent uses it to find its best
+//! value when values arrive, and the ADOPT agent to find the cost of its values by its own tables.
 #![tactic(auto)]
 
 mod adding;

@@ -1,9 +1,11 @@
-//! Cuts of a problem: which variables are cut, how many turns that makes, and the slice of a turn.
+//! Cuts of a problem: which variables are cut, the turns of a cut, and the slice of each turn.
 //!
-//! [`cut_set`] gives the variables by the rule, so that no joined table has more cells than a limit.
-//! A turn is one list of values of them; [`turn_at`] gives the turns by their numbers, in
-//! lexicographic order, and [`slice_at`] the problem that is left in a turn. [`sent_in_turn`] counts
-//! the cells that all agents send in one turn.
+//! [`cut_set`] chooses the cut variables by a rule, so that no joined table has more cells than a
+//! limit. A turn is a list of values, one for each cut variable. [`turn_at`] gives the turn with a
+//! number, in lexicographic order, and [`slice_at`] gives the problem that is left in a turn.
+//! [`sent_in_turn`] counts the cells that all agents send in one turn.
+//!
+//! It builds on `cut_laws` for the rule of the cut set, and on `cost_table` for slices of tables.
 #![tactic(auto)]
 
 mod rule;

@@ -15,7 +15,7 @@ use std::alloc::Global;
 ///
 /// # Errors
 ///
-/// [`NoMemory`] where memory was wanted and not had.
+/// [`NoMemory`] if memory runs out.
 pub fn slice_at(
     alloc: Global,
     problem: &Problem,
@@ -32,12 +32,12 @@ pub fn slice_at(
     Ok(left)
 }
 
-/// The turn with this number, of those of cut variables with these sizes; numbers count from 0, in
-/// lexicographic order of the values.
+/// The turn with this number, for cut variables of these sizes. Turns count from 0, in
+/// lexicographic order of their values.
 ///
 /// # Errors
 ///
-/// [`NoMemory`] where memory was wanted and not had.
+/// [`NoMemory`] if memory runs out.
 pub fn turn_at(alloc: Global, sizes: &[u16], number: usize) -> Result<ValList, NoMemory>
     requires few { product sizes.now ≤ usize.MAX }
     requires within { number < product sizes.now }
@@ -48,7 +48,7 @@ pub fn turn_at(alloc: Global, sizes: &[u16], number: usize) -> Result<ValList, N
     Ok(ValList::from_vec(values))
 }
 
-/// Puts the values of the turn with this number behind these.
+/// Adds the values of the turn with this number after these.
 fn push_values(values: &mut Vec<Val>, sizes: &[u16], number: usize) -> Result<(), NoMemory>
     requires few { product sizes.now ≤ usize.MAX }
     requires within { number < product sizes.now }

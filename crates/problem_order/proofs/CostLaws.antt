@@ -46,7 +46,7 @@ zip_from [] (v ∷ vs) long each = absurd (omega (arith, long))
 zip_from (s ∷ ss) [] long each = absurd (omega (arith, long))
 zip_from (s ∷ ss) (v ∷ vs) long each = (each 0 (omega arith), zip_from ss vs (omega (arith, long)) (λ k lt. each (suc k) (omega (arith, lt))))
 
--- the first place at which a variable stands
+-- the first place of a variable
 abbrev place_in : List ℕ → ℕ → ℕ
 place_in [] v = 0
 place_in (x ∷ xs) v = cond (eqb x v) 0 (suc (place_in xs v))
@@ -81,7 +81,7 @@ module _ (old new : TextFile) (order : List ℕ) (whole : IsProblem old.problem)
     cost = cost_same order values old.problem.tables new.problem.tables is.tables scopes;
   }
 
-  -- the assignment of the old file that is told in the new order as these values
+  -- the assignment of the old problem whose values in the new order are these
   abbrev told_back : List ℕ → List ℕ
   told_back values = map (λ v. slice_index values (place_in order v)) (range_with_len 0 (length old.problem.sizes))
 

@@ -1,4 +1,4 @@
--- A file with its variables in another order is a file, and in the given order it is the file itself.
+-- A file with its variables in another order is a file; in the given order it is the file itself.
 use Rattle.std.proofs.Common.{◌≡◌, ℕ, zero, suc, ◌<◌, Bool, true, ◌||◌, ltb, List, [], ◌∷◌, length, get_or, map, refl, sym, ap, subst, ◌∙◌, zero-add, inl, inr, arith}
 use Rattle.std.specs.List.{All, AllZip, IsDistinct, list_any, list_all, slice_index, range_with_len}
 use Rattle.std.specs.Str.{bytes_eq}

@@ -1,4 +1,4 @@
--- Names in another order stay distinct, and so each is new where it is put behind others.
+-- Names in another order stay distinct, so each is new when it is put after others.
 use Rattle.std.proofs.Common.{◌≡◌, ◌≢◌, ℕ, ◌+◌, ◌<◌, Bool, false, cond, List, [], ◌∷◌, ◌++◌, Some, length, get_or, take, map, sym, ap, ◌∙◌, inl, inr, arith}
 use Rattle.std.specs.List.{IsDistinct, list_any, slice_get}
 use Rattle.std.specs.Str.{bytes_eq}

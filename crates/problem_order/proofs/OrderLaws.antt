@@ -31,7 +31,7 @@ range_leads n k lt =
     let here : slice_index (range_with_len 0 n) k ≡ k = range_at n k (omega (arith, long, lt)) in
     (omega (arith, here, lt), ap (slice_index (range_with_len 0 n)) here ∙ here)
 
--- variables in the order of their numbers stand at their own numbers
+-- variables in the order of their numbers are at their own numbers
 pub range_is_places : (n : ℕ) (vars places : List ℕ) → vars ≡ range_with_len 0 n → places ≡ range_with_len 0 n → ArePlaces vars places
 range_is_places n vars places e f =
     subst (λ (xs : List ℕ). ArePlaces xs places) (sym e)
@@ -48,7 +48,7 @@ range_more items news n e is =
 pub order_of_count : (count : ℕ) (order vars : List ℕ) → IsOrder (length order) order → vars ≡ order → length order ≡ count → IsOrder count vars
 order_of_count count order vars is e many = subst (λ (vs : List ℕ). IsOrder count vs) (sym e) (subst (λ (n : ℕ). IsOrder n order) many is)
 
--- where each variable of an order stands in the list of places, the list has their places
+-- if the list of places has each variable's place in the order, it is the list of their places
 pub places_are : (vars places : List ℕ) → length places ≡ length vars → ((k : ℕ) → k < length vars → slice_index places (slice_index vars k) ≡ k) → IsOrder (length vars) vars → ArePlaces vars places
 places_are vars places many stand is = record {
   many = many;
@@ -60,11 +60,11 @@ places_are vars places many stand is = record {
       (omega (arith, here, low), ap (slice_index vars) here ∙ every.2);
 }
 
--- so many variables stand at their places
+-- the first `count` variables are at their places
 abbrev pub StandUpTo : List ℕ → List ℕ → ℕ → Type 0
 StandUpTo vars places count = IsOrder (length vars) vars → (k : ℕ) → k < count → slice_index places (slice_index vars k) ≡ k
 
--- one variable more
+-- one more variable
 pub stands_more : (vars places new : List ℕ) (i v : ℕ) → i < length vars → v ≡ slice_index vars i → length places ≡ length vars → new ≡ set places v i → StandUpTo vars places i → StandUpTo vars new (i + 1)
 stands_more vars places new i v lt var many put before is k lk =
     elim (cases_lt k i) [

@@ -23,7 +23,7 @@ use Rattle.problem_order.specs.Reordered.{IsTableFor}
 use Rattle.problem_order.proofs.ReadLaws.{read_at}
 use Rattle.problem_order.proofs.TableLaws.{whole_table, zip_within}
 
--- tables of a problem within the limits have no fault behind the earlier ones
+-- tables of a problem within the limits have no fault after the earlier ones
 tables_faultless : (sizes : List ℕ) (earlier tables : List CostTable) → All (IsTableOf sizes) tables → cell_count (earlier ++ tables) ≤ cell_limit → greatest_sum (earlier ++ tables) ≤ amount_limit → tables_fault sizes earlier tables ≡ None
 tables_faultless sizes earlier [] all cells sum = refl
 tables_faultless sizes earlier (t ∷ ts) all cells sum =
@@ -104,7 +104,7 @@ parts_faultless p order read sizes ts us h is many r e s are =
     ap (λ (ss : List ℕ). problem_fault ss us) (s ∙ ap (λ (ss : List ℕ). map (λ v. slice_index ss v) order) r)
     ∙ reordered_faultless p order us h (subst (λ (n : ℕ). IsOrder n order) many is) zip (zip_within order p.tables us zip)
 
--- where sizes and tables have no fault, only memory can be wanted
+-- if sizes and tables have no fault, only memory can run out
 pub only_memory_left : (sizes : List ℕ) (tables : List CostTable) (fault : ProblemFault) → MakesProblem sizes tables (Err fault) → problem_fault sizes tables ≡ None → fault ≡ NoMemory
 only_memory_left sizes tables NoVariables made none = absurd (none-some NoVariables (sym none ∙ made))
 only_memory_left sizes tables TooManyVariables made none = absurd (none-some TooManyVariables (sym none ∙ made))

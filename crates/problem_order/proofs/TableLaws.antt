@@ -30,7 +30,7 @@ scope_below order places scope are within k d lt =
     let there : slice_index places (get_or scope k 0) < length order = (are.of_places (get_or scope k 0) (omega (arith, many, below))).0 in
     subst (λ (u : ℕ). u < length order) (sym (get_or-map (slice_index places) scope k 0 d lk)) there
 
--- what stands among numbers has its image among theirs
+-- the image of one of these numbers is among their images
 has_map : (f : ℕ → ℕ) (xs : List ℕ) (x : ℕ) → has xs x ≡ true → has (map f xs) (f x) ≡ true
 has_map f [] x h = absurd (true≢false (sym h))
 has_map f (y ∷ ys) x h =
@@ -91,7 +91,7 @@ zip_more order ts k t u new next lt is so one e =
     (subst (λ (xs : List CostTable). AllZip (IsTableFor order) xs (new ++ (u ∷ []))) (sym (take_more ts k t lt ∙ ap (λ (x : CostTable). take k ts ++ (x ∷ [])) (sym is)))
     (AllZip-push (IsTableFor order) (take k ts) new t u so one))
 
--- each of such tables names places of the order
+-- each of these tables names places of the order
 pub zip_within : (order : List ℕ) (ts us : List CostTable) → AllZip (IsTableFor order) ts us → All (λ u. All (λ v. v < length order) u.scope) us
 zip_within order [] [] so = All-nil (λ (w : CostTable). All (λ v. v < length order) w.scope)
 zip_within order [] (u ∷ us) so = absurd so

@@ -5,14 +5,16 @@ use Rattle.dcop_base.specs.Table.{CostTable}
 use Rattle.problem_text.specs.File.{TextFile}
 use Rattle.problem_order.specs.Order.{IsOrder}
 
--- a table for variables in another order: its scope names the same variables in the same order, by their new numbers, which are places of the order; so its cells stay where they are
+-- a table for variables in another order: its scope has the same variables in the same order, by
+-- their new numbers, which are places of the order; so its cells stay where they are
 pub record IsTableFor (order : List ℕ) (old new : CostTable) : Type 0 where
   pub within : All (λ v. v < length order) new.scope
   pub scope : map (slice_index order) new.scope ≡ old.scope
   pub sizes : new.sizes ≡ old.sizes
   pub cells : new.cells ≡ old.cells
 
--- the same file with its variables in this order: variable k of the new file is variable `order k` of the old one
+-- the same file with its variables in this order: variable `k` of the new file is the old file's
+-- variable at place `k` of the order
 pub record IsReordered (old : TextFile) (order : List ℕ) (new : TextFile) : Type 0 where
   pub is_order : IsOrder (length old.problem.sizes) order
   pub version : new.version ≡ old.version

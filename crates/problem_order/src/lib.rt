@@ -1,10 +1,10 @@
 //! A problem with its variables in another order.
 //!
-//! The agents of a problem find its depth-first tree, and which tree that is follows from the order
-//! in which the variables are declared. [`reordered`] gives the same file in another order, and
-//! [`narrower`] does so where that makes the depth-first tree narrower, whoever made the order. Two
-//! laws say what stays: what assignments cost by names, and every line of the text but the order of
-//! the lines of the variables.
+//! The order in which a problem declares its variables decides which depth-first tree its agents
+//! find. [`reordered`] gives the same file in another order. [`narrower`] does so if that makes the
+//! depth-first tree narrower, wherever the order comes from. Two laws say what stays the same: what
+//! assignments cost by names, and all lines of the text except for the order of the lines of the
+//! variables.
 #![tactic(auto)]
 
 mod depth_first;

@@ -15,13 +15,15 @@ use problem_text::{LabelList, Labels, Names, ProblemFile};
 use std::alloc::Global;
 
 /// The same file with its variables in this order: variable `k` is the old file's variable at place
-/// `k` of the order. Names, sizes, value names and the goal go with their variables, and a table
-/// names the same variables in the same order, so its cells stay where they are. Takes time for the
-/// names, the scopes and the cells, and for the joints of a problem.
+/// `k` of the order.
+///
+/// Names, domain sizes and value names go with their variables, and the goal stays. A table has the
+/// same variables in the same order, so its cells stay where they are. The time is that of the
+/// names, the scopes and the cells, and of the problem's joints.
 ///
 /// # Errors
 ///
-/// [`NoMemory`] where memory was wanted and not had.
+/// [`NoMemory`] if memory runs out.
 pub fn reordered(alloc: Global, file: &ProblemFile, order: &Order) -> Result<ProblemFile, NoMemory>
     requires { length order.now ≡ length file.now.problem.sizes }
     ensures { IfOk result (λ new. IsReordered file.now order.now new) }
@@ -93,7 +95,7 @@ fn problem_in(alloc: Global, problem: &Problem, order: &Order) -> Result<Problem
     }
 }
 
-/// Want of memory, where nothing else is at fault.
+/// Out of memory, as the only fault that can come.
 fn only_memory(fault: ProblemFault) -> NoMemory
     requires { fault ≡ ProblemFault.NoMemory }
 {

@@ -6,7 +6,7 @@ use Rattle.std.specs.declared.alloc.Global.{Global}
 use Rattle.dcop_base.specs.Table.{has}
 
 module _ {T : Type 0} where
-  -- the lists of some vectors
+  -- the lists of items of these vectors
   abbrev pub rows_in : List (Vec T Global) → List (List T)
   rows_in rows = map (λ row. row.items) rows
 
@@ -14,11 +14,11 @@ module _ {T : Type 0} where
 abbrev pub names : List (List ℕ) → ℕ → ℕ → Bool
 names rows u v = has (slice_index_or rows u []) v
 
--- each list ascends
+-- each list is strictly increasing
 abbrev pub AreAscending : List (List ℕ) → Type 0
 AreAscending rows = (u : ℕ) → u < length rows → IsStrictlyIncreasing (slice_index_or rows u [])
 
--- the pairs of different variables that pass a test are added to lists, and no others, and the lists ascend
+-- the lists gained exactly the pairs of different variables that pass a test, and they are strictly increasing
 pub record Adds (near : ℕ → ℕ → Bool) (old new : List (List ℕ)) : Type 0 where
   pub ascend : AreAscending new
   pub named : (u v : ℕ) → u < length old → names new u v ≡ (names old u v || (not (u == v) && near u v))

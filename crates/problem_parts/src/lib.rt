@@ -1,8 +1,8 @@
-//! What all agents know of a problem, in one pass over its tables and joints.
+//! What all agents know of a problem, found in one pass over its tables and joints.
 //!
-//! [`acquaintances`] is what they know that looks at no cost, and [`add_tables`] gives each of them
-//! the tables that name its variable; [`privates`] does both. For one variable alone there are
-//! `acquaintance` and `private` of `dcop_base`, which go over the whole problem.
+//! [`acquaintances`] gives what each agent knows without the costs, and [`add_tables`] adds the
+//! tables that name its variable; [`privates`] does both. For one variable alone, `acquaintance`
+//! and `private` of `dcop_base` do the same by a pass over the whole problem.
 #![tactic(auto)]
 
 mod neighbours;

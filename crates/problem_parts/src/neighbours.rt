@@ -19,7 +19,7 @@ pub(crate) fn neighbour_rows(alloc: Global, problem: &Problem) -> Result<Vec<Var
     Ok(rows)
 }
 
-/// So many empty lists.
+/// `count` empty lists.
 fn empty_rows(alloc: Global, count: usize) -> Result<Vec<VarList>, NoMemory>
     ensures { IfOk result (λ rows. rows.items ≡ replicate count []) }
 {
@@ -30,7 +30,7 @@ fn empty_rows(alloc: Global, count: usize) -> Result<Vec<VarList>, NoMemory>
     Ok(rows)
 }
 
-/// Adds the neighbours of each variable to its list, which has none yet.
+/// Adds the neighbours of each variable to its list. The lists are empty at the start.
 fn add_neighbours(rows: &mut [VarList], problem: &Problem) -> Result<(), NoMemory>
     requires { rows.old ≡ replicate (length problem.now.sizes) [] }
     ensures added { OnOk result (rows.new ≡ map (neighbours problem.now) (range_with_len 0 (length problem.now.sizes))) }

@@ -11,13 +11,13 @@ use dcop_base::{NoMemory, Private, Problem, Sequence, VarId, VarList, sizes_of};
 use std::alloc::Global;
 use std::mem;
 
-/// What each agent knows that looks at no cost, in the variables' order: its size, and its
-/// neighbours by tables and joints with their sizes, without tables. Takes time for the pairs of
-/// each scope, the joints and the neighbours.
+/// What each agent knows without the costs, in the variables' order: its size, and its neighbours
+/// by tables and joints with their sizes, but no tables. Takes time for the pairs of each scope,
+/// the joints and the neighbours.
 ///
 /// # Errors
 ///
-/// [`NoMemory`] where memory was wanted and not had.
+/// [`NoMemory`] if memory runs out.
 pub fn acquaintances(alloc: Global, problem: &Problem) -> Result<Vec<Private>, NoMemory>
     ensures { IfOk result (λ known. known.items ≡ map (acquaintance_of problem.now) (range_with_len 0 (length problem.now.sizes))) }
 {
@@ -30,7 +30,7 @@ pub fn acquaintances(alloc: Global, problem: &Problem) -> Result<Vec<Private>, N
     Ok(known)
 }
 
-/// One of some rows, which leaves another one in its place.
+/// Takes the row at a place, and leaves another one there.
 fn take_row<R>(rows: &mut Vec<R>, place: usize, other: R) -> R
     requires { place < length rows.old.items }
     ensures row { (d : _) → result ≡ slice_index_or rows.old.items place d }
@@ -40,7 +40,7 @@ fn take_row<R>(rows: &mut Vec<R>, place: usize, other: R) -> R
     mem::replace(&mut rows[place], other)
 }
 
-/// What the agent of a variable with these neighbours knows that looks at no cost.
+/// What the agent of a variable with these neighbours knows without the costs.
 fn acquaintance_with(
     alloc: Global,
     problem: &Problem,
@@ -62,12 +62,12 @@ fn acquaintance_with(
     })
 }
 
-/// Gives each agent the tables that name its variable, in the problem's order. The cells of a table that
-/// is shared are not copied.
+/// Gives each agent the tables that name its variable, in the problem's order. If the cells of a
+/// table are shared, they are not copied.
 ///
 /// # Errors
 ///
-/// [`NoMemory`] where memory was wanted and not had. Some agents may then have their tables.
+/// [`NoMemory`] if memory runs out. Some agents may have their tables in that case.
 pub fn add_tables(alloc: Global, problem: &Problem, known: &mut [Private]) -> Result<(), NoMemory>
     requires { known.old ≡ map (acquaintance_of problem.now) (range_with_len 0 (length problem.now.sizes)) }
     ensures { OnOk result (known.new ≡ map (private_of problem.now) (range_with_len 0 (length problem.now.sizes))) }
@@ -80,12 +80,12 @@ pub fn add_tables(alloc: Global, problem: &Problem, known: &mut [Private]) -> Re
 }
 
 /// What each agent knows, in the variables' order: its size, its neighbours by tables and joints
-/// with their sizes, and the tables that name its variable. Takes time as [`acquaintances`] and for
-/// the cells of tables that are not shared.
+/// with their sizes, and the tables that name its variable. Takes the time of [`acquaintances`]
+/// plus that for the cells of tables that are not shared.
 ///
 /// # Errors
 ///
-/// [`NoMemory`] where memory was wanted and not had.
+/// [`NoMemory`] if memory runs out.
 pub fn privates(alloc: Global, problem: &Problem) -> Result<Vec<Private>, NoMemory>
     ensures { IfOk result (λ known. known.items ≡ map (private_of problem.now) (range_with_len 0 (length problem.now.sizes))) }
 {

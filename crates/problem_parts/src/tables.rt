@@ -33,7 +33,7 @@ fn empty_rows(alloc: Global, problem: &Problem) -> Result<Vec<Vec<Table>>, NoMem
     Ok(rows)
 }
 
-/// How many tables name each variable.
+/// For each variable, the number of tables that name it.
 fn table_counts(alloc: Global, problem: &Problem) -> Result<Vec<usize>, NoMemory>
     ensures { IfOk result (λ counts. length counts.items ≡ length problem.now.sizes) }
 {

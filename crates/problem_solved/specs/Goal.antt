@@ -1,4 +1,4 @@
--- What is sought in a file: the problem solved, the best sum, and how far a sum is from it.
+-- The goal of a file: the problem that is solved, the best sum, and how far a sum is from another.
 use Rattle.std.specs.Prelude.{ℕ, ◌+◌, ◌≤◌}
 use Rattle.dcop_base.specs.Problem.{Dcop}
 use Rattle.dcop_optimum.specs.Optimum.{IsOptimum}
@@ -7,7 +7,7 @@ use Rattle.problem_text.specs.File.{TextFile}
 use Rattle.problem_text.specs.declared.file.Goal.{Goal}
 use Rattle.problem_text.specs.declared.file.Goal.TheVariants.{Min, Max}
 
--- the problem that is solved: for goal max the turned one, whose cheapest assignments are the dearest
+-- the problem that is solved: for goal max the turned problem, and the problem itself otherwise
 abbrev pub solved : Goal → Dcop → Dcop
 solved Min p = p
 solved Max p = turned p
@@ -21,7 +21,7 @@ abbrev pub IsBestSum : Goal → Dcop → ℕ → Type 0
 IsBestSum Min p sum = IsOptimum p sum
 IsBestSum Max p sum = IsGreatestSum p sum
 
--- a sum is at most so much worse than another one: greater, or for goal max less
+-- a sum is worse than another by at most `error`: greater for goal min, and less for goal max
 abbrev pub IsAtMostWorse : Goal → ℕ → ℕ → ℕ → Type 0
 IsAtMostWorse Min error sum best = sum ≤ best + error
 IsAtMostWorse Max error sum best = best ≤ sum + error

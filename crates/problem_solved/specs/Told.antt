@@ -1,11 +1,12 @@
--- What the tables of a certificate tell of each variable.
+-- What the tables of a certificate say about each variable.
 use Rattle.std.specs.Prelude.{ℕ, List, [], ◌∷◌, map, length, Option, None, ◌==◌, if◌then◌else◌, slice_index}
 use Rattle.std.specs.List.{range_with_len}
 use Rattle.dcop_base.specs.Table.{CostTable}
 use Rattle.dcop_base.specs.Problem.{Dcop}
 use Rattle.certificate_text.specs.declared.certificate.Util.{Util}
 
--- what is told of a variable: the table that names it as its own
+-- the table of a variable: the first one that has it as its own variable, or an empty one if there
+-- is none
 abbrev pub told : List Util → ℕ → Util
 told [] v = record { var = v; parent = None; scope = []; cells = [] }
 told (u ∷ us) v = if u.var == v then u else told us v
@@ -22,7 +23,7 @@ parents_told p utils = map (λ v. (told utils v).parent) (variables p)
 abbrev pub scopes_told : Dcop → List Util → List (List ℕ)
 scopes_told p utils = map (λ v. (told utils v).scope) (variables p)
 
--- the cells, a list for each variable
+-- the cells, one list for each variable
 abbrev pub cells_told : Dcop → List Util → List (List ℕ)
 cells_told p utils = map (λ v. (told utils v).cells) (variables p)
 

@@ -1,4 +1,4 @@
--- What the tables of the turns of a cut tell.
+-- What the tables of the turns of a cut say.
 use Rattle.std.specs.Prelude.{ℕ, List, [], slice_index_or}
 use Rattle.dcop_base.specs.Table.{cell_place}
 use Rattle.dcop_base.specs.Problem.{Dcop}
@@ -11,7 +11,8 @@ use Rattle.problem_solved.specs.Told.{scopes_told, cells_told}
 abbrev pub turn_at : List Turn → ℕ → Turn
 turn_at turns number = slice_index_or turns number (record { values = []; tables = [] })
 
--- the turn with these values of the cut variables, whose number is their place in lexicographic order
+-- the turn with these values of the cut variables; its number is their position in lexicographic
+-- order
 abbrev pub turn_by : Dcop → List ℕ → List Turn → List ℕ → Turn
 turn_by p cut turns values = turn_at turns (cell_place (sizes_of p cut) values)
 

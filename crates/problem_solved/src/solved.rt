@@ -19,11 +19,11 @@ pub enum ProblemSolved<'a> {
 }
 
 impl<'a> ProblemSolved<'a> {
-    /// The problem that is solved for this file. Nothing is copied for goal min.
+    /// The problem that is solved for this file. For goal min nothing is copied.
     ///
     /// # Errors
     ///
-    /// [`NoMemory`] where memory was wanted and not had, which goal min never does.
+    /// [`NoMemory`] if memory runs out, which never happens for goal min.
     pub fn of(alloc: Global, file: &'a ProblemFile) -> Result<ProblemSolved<'a>, NoMemory>
         ensures { IfOk result (λ solved. problem_in solved ≡ problem_solved file.now) }
     {

@@ -7,7 +7,8 @@ ghost use Rattle.problem_solved.specs.Verdict.{verdict_by};
 use certificate_text::{Differs, Report, Verdict};
 use problem_text::{Goal, ProblemFile};
 
-/// No with the first difference of a report, and yes with the cost and the gap where there is none.
+/// The verdict on a report: no with the first difference, or yes with the cost and the gap if there
+/// is no difference.
 pub fn verdict_of(file: &ProblemFile, report: &Report, differs: Option<Differs>) -> Verdict
     ensures { result ≡ verdict_by file.now report.now differs }
 {
@@ -20,8 +21,8 @@ pub fn verdict_of(file: &ProblemFile, report: &Report, differs: Option<Differs>)
     }
 }
 
-/// By how much the best sum may be better than the cost of a report, by its bounds: the cost less the
-/// lower bound, for goal max the upper bound less the cost.
+/// The gap of a report: by how much, given its bounds, the best sum may be better than its cost. It
+/// is the cost minus the lower bound, or for goal max the upper bound minus the cost.
 pub fn gap_of(goal: Goal, report: &Report) -> u64
     ensures { result ≡ gap_of goal report.now }
 {

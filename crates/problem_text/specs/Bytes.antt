@@ -1,11 +1,12 @@
--- The bytes that cut a text into lines and words, that begin a comment, and that may stand in names besides letters and digits.
+-- The bytes that divide a text into lines and words, that begin a comment, and that names may
+-- contain besides letters and digits.
 use Rattle.std.specs.Prelude.{ℕ}
 
 -- LF, which ends a line
 abbrev pub line_feed : ℕ
 line_feed = 10
 
--- CR, which may stand before it
+-- CR, which may precede the LF of a line
 abbrev pub carriage_return : ℕ
 carriage_return = 13
 
@@ -13,11 +14,11 @@ carriage_return = 13
 abbrev pub hash_sign : ℕ
 hash_sign = 35
 
--- the space, which stands between words
+-- the space, which separates words
 abbrev pub space : ℕ
 space = 32
 
--- the tab, which may stand there too
+-- the tab, which also separates words
 abbrev pub tab : ℕ
 tab = 9
 

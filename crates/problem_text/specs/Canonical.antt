@@ -1,4 +1,4 @@
--- The canonical text of a file: its lines in order, each the words of that line with one space between them.
+-- The canonical text of a file: its lines in order, with one space between the words of a line.
 use Rattle.std.specs.Prelude.{ℕ, List, [], ◌∷◌, ◌++◌, map, codes}
 use Rattle.std.specs.List.{flat_map, join_with_byte, slice_index_or}
 use Rattle.std.specs.Fmt.{decimal}
@@ -12,7 +12,7 @@ use Rattle.problem_text.specs.declared.file.Goal.TheVariants.{Min, Max}
 abbrev pub line : List (List ℕ) → List ℕ
 line words = join_with_byte space words ++ (line_feed ∷ [])
 
--- `goal max`, where the goal is max
+-- the line `goal max` if the goal is max, and no line otherwise
 abbrev pub goal_lines : Goal → List (List (List ℕ))
 goal_lines Min = []
 goal_lines Max = (codes "goal" ∷ codes "max" ∷ []) ∷ []
@@ -21,7 +21,7 @@ goal_lines Max = (codes "goal" ∷ codes "max" ∷ []) ∷ []
 abbrev pub opening_lines : ℕ → Goal → List (List (List ℕ))
 opening_lines version goal = (codes "dcop" ∷ decimal version ∷ []) ∷ goal_lines goal
 
--- what tells the values of a variable: its size, or `:` and its value names
+-- the words for the values of a variable: its size, or `:` and its value names
 abbrev pub value_words : ℕ → List (List ℕ) → List (List ℕ)
 value_words size [] = decimal size ∷ []
 value_words size (label ∷ labels) = codes ":" ∷ label ∷ labels

@@ -1,4 +1,5 @@
--- What holds of all that lines have declared so far: it is the beginning of a problem file.
+-- What holds of everything that the lines have declared so far: it is the beginning of a problem
+-- file.
 use Rattle.std.specs.Prelude.{◌≡◌, ℕ, ◌≤◌, true, ◌||◌, ◌⊎◌, [], length, None}
 use Rattle.std.specs.List.{list_all, AllZip, IsDistinct, position}
 use Rattle.std.specs.Str.{bytes_eq}
@@ -8,7 +9,7 @@ use Rattle.problem_text.specs.Name.{is_name}
 use Rattle.problem_text.specs.File.{is_max, has_wide_table, has_labels, AreLabels}
 use Rattle.problem_text.specs.Declarations.{Declared}
 
--- what lines have declared is within the limits of a problem and of its version
+-- what the lines have declared is within the limits of a problem and of its version
 pub record IsDraft (d : Declared) : Type 0 where
   pub version : (d.version ≡ 1) ⊎ (d.version ≡ 2)
   pub second : has_wide_table d.tables || is_max d.goal || has_labels d.labels ≡ true → d.version ≡ 2

@@ -8,7 +8,8 @@ use Rattle.problem_text.specs.Name.{is_name}
 use Rattle.problem_text.specs.declared.file.Goal.{Goal}
 use Rattle.problem_text.specs.declared.file.Goal.TheVariants.{Min, Max}
 
--- a problem with its version, its goal, the names of its variables, and the value names of each variable, none where none were given
+-- a problem with its version, its goal, the names of its variables, and the value names of each
+-- variable (an empty list if the file gives none)
 pub record TextFile : Type 0 where
   pub version : ℕ
   pub goal : Goal
@@ -29,17 +30,19 @@ has_wide_table tables = list_any (λ t. nat_lt 2 (length t.scope)) tables
 abbrev pub has_labels : List (List (List ℕ)) → Bool
 has_labels labels = list_any (λ names. nat_lt 0 (length names)) labels
 
--- whether only version 2 can tell the file
+-- whether only version 2 can express the file
 abbrev pub needs_second : TextFile → Bool
 needs_second f = has_wide_table f.problem.tables || is_max f.goal || has_labels f.labels
 
--- the value names of a variable of this size: none, or one for each value, all of them names and distinct
+-- the value names of a variable of this size: none, or one for each value; all are names, and they
+-- are distinct
 pub record AreLabels (size : ℕ) (labels : List (List ℕ)) : Type 0 where
   pub many : (labels ≡ []) ⊎ (length labels ≡ size)
   pub distinct : IsDistinct bytes_eq labels
   pub names : list_all is_name labels ≡ true
 
--- a file: version 2 where it is needed, one name for each variable, all of them names and distinct, and value names that fit the sizes
+-- a well-formed file: the version is 1 or 2, and 2 if it is needed; there is one name for each
+-- variable; all are names, and they are distinct; and the value names fit the sizes
 pub record IsFile (f : TextFile) : Type 0 where
   pub version : (f.version ≡ 1) ⊎ (f.version ≡ 2)
   pub second : needs_second f ≡ true → f.version ≡ 2

@@ -1,11 +1,11 @@
--- The numbers by which a user knows the kinds of a refused text and of a refused report.
+-- The numbers that a user sees for the kinds of a refused text and of a refused report.
 use Rattle.std.specs.Prelude.{ℕ}
 use Rattle.problem_text.specs.declared.fault.TextKind.{TextKind}
 use Rattle.problem_text.specs.declared.fault.TextKind.TheVariants as texts
 use Rattle.problem_text.specs.declared.fault.ReportKind.{ReportKind}
 use Rattle.problem_text.specs.declared.fault.ReportKind.TheVariants as reports
 
--- the number of a text that is refused for its problem
+-- the number of the kind of a text that is refused for a fault of its problem
 abbrev pub problem_kind : ℕ
 problem_kind = 7
 
@@ -21,7 +21,7 @@ number_of_text (texts.Problem number) = problem_kind
 number_of_text texts.AfterEnd = 8
 number_of_text texts.TooLong = 9
 
--- the number of the fault of a problem, where a text is refused for one, and 0 otherwise
+-- the number of the problem's fault if a text is refused for one, and 0 otherwise
 abbrev pub number_of_problem : TextKind → ℕ
 number_of_problem (texts.Problem number) = number
 number_of_problem _ = 0

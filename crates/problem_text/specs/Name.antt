@@ -13,7 +13,7 @@ is_name_start byte = is_ascii_alphabetic byte || byte == underscore
 abbrev pub is_name_byte : ℕ → Bool
 is_name_byte byte = is_ascii_alphanumeric byte || byte == underscore || byte == hyphen || byte == full_stop
 
--- whether a word is a name: 1 to name_limit bytes of a name, of which the first may begin one
+-- whether a word is a name: 1 to name_limit bytes of a name, whose first byte may begin one
 abbrev pub is_name : List ℕ → Bool
 is_name [] = false
 is_name (byte ∷ bytes) = is_name_start byte && list_all is_name_byte bytes && nat_le (length (byte ∷ bytes)) name_limit

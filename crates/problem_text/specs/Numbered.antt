@@ -11,15 +11,16 @@ use Rattle.problem_text.specs.declared.file.Goal.TheVariants.{Min}
 abbrev pub numbered_name : ℕ → List ℕ
 numbered_name var = codes "v" ++ decimal var
 
--- the names of so many variables
+-- the names of `count` variables
 abbrev pub numbered_names : ℕ → List (List ℕ)
 numbered_names count = map numbered_name (range_with_len 0 count)
 
--- the lower version that the tables allow
+-- the lowest version that the tables allow
 abbrev pub lower_version : List CostTable → ℕ
 lower_version tables = if has_wide_table tables then 2 else 1
 
--- the problem with numbered names, in the lower version that its tables allow, with goal min and no value names
+-- the problem with numbered names, in the lowest version that its tables allow, with goal min and
+-- no value names
 abbrev pub numbered_file : Dcop → TextFile
 numbered_file p = record {
   version = lower_version p.tables;

@@ -5,7 +5,7 @@ use Rattle.problem_text.specs.Bytes.{line_feed, carriage_return}
 use Rattle.problem_text.specs.declared.plain_line.PlainLine.{PlainLine}
 use Rattle.problem_text.specs.Lines.{has_some, lines, without_last, words}
 
--- what a line says: its line_feed, then one carriage_return at its end are dropped
+-- the content of a line: its line_feed, then one carriage_return at its end are dropped
 abbrev pub plain_content : List ℕ → List ℕ
 plain_content line = without_last carriage_return (without_last line_feed line)
 
@@ -14,17 +14,18 @@ pub record Plain : Type 0 where
   pub number : ℕ
   pub words : List (List ℕ)
 
--- lines as numbers and words, from this number on
+-- lines with their numbers and words; the first has this number
 abbrev pub plain_numbered : ℕ → List (List ℕ) → List Plain
 plain_numbered number [] = []
 plain_numbered number (line ∷ later) =
     record { number = number; words = words (plain_content line) } ∷ plain_numbered (number + 1) later
 
--- the lines of a text that have words, of which the first line has this number
+-- the lines of a text that have words; the text's first line has this number
 abbrev pub plain_lines : ℕ → List ℕ → List Plain
 plain_lines number text = filter (λ line. has_some line.words) (plain_numbered number (lines text))
 
--- the first of these lines, with the text behind it, where there is one
+-- the result is the first of these lines with the text after it, and none exactly if there are no
+-- lines
 abbrev pub IsFirstPlain : List Plain → Option PlainLine → Type 0
 IsFirstPlain ls None = ls ≡ []
 IsFirstPlain ls (Some l) = ls ≡ record { number = l.number; words = words l.text.now } ∷ plain_lines (l.number + 1) l.after.now

@@ -1,4 +1,5 @@
--- The lines that are no tables: the header, the goal, variables and the end. Each test is one fault, in the order of the faults.
+-- The lines other than tables: the header, the goal, variables and the end. Each test is for one
+-- fault; the first test that fails gives the fault.
 use Rattle.std.specs.Prelude.{ℕ, Bool, false, not, ◌&&◌, ◌||◌, List, [], ◌∷◌, length, Option, Some, None, ◌==◌, nat_le, if◌then◌else◌, codes}
 use Rattle.std.specs.List.{list_all}
 use Rattle.dcop_base.specs.Faults.{is_bad_size}
@@ -21,7 +22,7 @@ header (first ∷ second ∷ []) =
     else Fails BadHeader))
 header _ = Fails BadHeader
 
--- what stands behind `goal`: `min` or `max`, on the second line with words alone
+-- the words after `goal`: `min` or `max`, and only on the second line with words
 abbrev pub goal_line : Bool → Declared → List (List ℕ) → Outcome
 goal_line is_second d (word ∷ []) =
     if not is_second then Fails BadWord
@@ -30,23 +31,23 @@ goal_line is_second d (word ∷ []) =
     else Fails BadWord))
 goal_line is_second d _ = Fails BadWord
 
--- the first fault of a further variable's size, behind so many variables
+-- the first fault of one more variable's size, after `many` variables
 abbrev pub size_fault : ℕ → ℕ → Option TextKind
 size_fault many size =
     if nat_le variable_limit many then Some (Problem 10)
     else (if is_bad_size size then Some (Problem 2)
     else None)
 
--- a further variable with this name, these value names and this size
+-- the outcome of one more variable with this name, these value names and this size
 abbrev pub variable : Declared → List ℕ → List (List ℕ) → ℕ → Outcome
 variable d name values size = unless (size_fault (length d.sizes) size) (with_variable d name values size)
 
--- a further variable with this name and size, where the size is a number
+-- the outcome of one more variable with this name and size, if the size is a number
 abbrev pub sized : Declared → List ℕ → Option ℕ → Outcome
 sized d name None = Fails BadNumber
 sized d name (Some size) = variable d name [] size
 
--- whether a word stands among words twice
+-- whether a word occurs twice among words
 abbrev pub has_twice : List (List ℕ) → Bool
 has_twice [] = false
 has_twice (word ∷ later) = is_among later word || has_twice later
@@ -65,14 +66,14 @@ with_size d name size further =
     else (if is_among d.names name then Fails NameTwice
     else sized d name (number_of size))
 
--- what stands behind `var`: `NAME : VALUES` in version 2, or `NAME SIZE`
+-- the words after `var`: `NAME : VALUES` in version 2, or `NAME SIZE`
 abbrev pub var_line : Declared → List (List ℕ) → Outcome
 var_line d (name ∷ third ∷ further) =
     if d.version == 2 && bytes_eq third (codes ":") then with_values d name further
     else with_size d name third further
 var_line d _ = Fails BadWord
 
--- what stands behind `end`: nothing, and there is a variable
+-- the words after `end`: there are none, and at least one variable is declared
 abbrev pub end_line : Declared → List (List ℕ) → Outcome
 end_line d further =
     if has_some further then Fails BadWord

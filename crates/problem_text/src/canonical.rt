@@ -15,10 +15,15 @@ use std::alloc::Global;
 
 /// The canonical text of a file, in the file's version.
 ///
-/// It has one space between words, LF at each line's end, no comment and no empty line, and
-/// numbers without leading zeros. Its lines are `dcop` and the version; `goal max` where the goal
-/// is max; all variables in order, `var NAME SIZE` or `var NAME : VALUES`; all tables in order,
-/// `table NAMES : CELLS`; and `end`. [`read_problem`](crate::read_problem) of it gives the file again.
+/// The text has one space between words, LF at the end of each line, no comments, no empty lines,
+/// and numbers without leading zeros. Its lines are: `dcop` and the version; `goal max` if the goal
+/// is max; one line `var NAME SIZE` or `var NAME : VALUES` for each variable, in order; one line
+/// `table NAMES : CELLS` for each table, in order; and `end`. [`read_problem`](crate::read_problem)
+/// reads this text as the same file.
+///
+/// # Errors
+///
+/// [`NoMemory`] if memory runs out.
 pub fn write_problem(alloc: Global, file: &ProblemFile) -> Result<Bytes, NoMemory>
     ensures text { IfOk result (λ text. text ≡ canonical file.now) }
     ensures again { IfOk result (λ text. IsReadAs text file.now) }
@@ -41,7 +46,11 @@ fn write_head(text: &mut String, version: u8, goal: Goal) -> Result<(), NoMemory
     write_goal(text, goal)
 }
 
-/// Adds the line `goal max` to a text, where the goal is max.
+/// Adds the line `goal max` to a text, if the goal is max.
+///
+/// # Errors
+///
+/// [`NoMemory`] if memory runs out. No clause then says what the text holds.
 pub fn write_goal(text: &mut String, goal: Goal) -> Result<(), NoMemory>
     ensures { OnOk result (string_bytes text.new
         ≡ string_bytes text.old ++ flat_map line (goal_lines goal)) }
@@ -117,7 +126,11 @@ fn write_table(text: &mut String, names: &Names, table: &Table) -> Result<(), No
     Ok(text.push_str("\n")?)
 }
 
-/// Adds the names of these variables to a text, each behind a space.
+/// Adds the names of these variables to a text, each after a space.
+///
+/// # Errors
+///
+/// [`NoMemory`] if memory runs out. No clause then says what the text holds.
 pub fn write_scope(text: &mut String, names: &Names, scope: &[VarId]) -> Result<(), NoMemory>
     requires { All (λ v. v < length names.now) scope.now }
     ensures { OnOk result (string_bytes text.new
@@ -130,7 +143,11 @@ pub fn write_scope(text: &mut String, names: &Names, scope: &[VarId]) -> Result<
     Ok(())
 }
 
-/// Adds these numbers to a text, each behind a space.
+/// Adds these numbers to a text, each after a space.
+///
+/// # Errors
+///
+/// [`NoMemory`] if memory runs out. No clause then says what the text holds.
 pub fn write_cells(text: &mut String, cells: &[u64]) -> Result<(), NoMemory>
     ensures { OnOk result (string_bytes text.new
         ≡ string_bytes text.old ++ flat_map (λ cell. 32 ∷ decimal cell) cells.now) }

@@ -17,14 +17,14 @@ use crate::short_numbers::short_run;
 use dcop_base::{CAP, MAX_CELLS, MAX_COST, product_of};
 use std::alloc::Global;
 
-/// How many cells there are, and the greatest, 0 of none.
+/// The number of cells and the greatest cell, which is 0 if there are no cells.
 #[derive(Clone, Copy, Debug, PartialEq, Eq)]
 pub struct Summary {
     pub count: u64,
     pub greatest: u64,
 }
 
-/// The first fault of a further table's cells, by what is told of them.
+/// The first fault of one more table's cells, found from their summary.
 pub fn fault_of(draft: &Draft, sizes: &[u16], cells: &Summary) -> Option<TextKind>
     requires { cells.now.count < 2 ^ 64 - 1 }
     ensures { (t : CostTable) → t.sizes ≡ sizes.now → summary t.cells ≡ cells.now
@@ -47,8 +47,8 @@ pub fn fault_of(draft: &Draft, sizes: &[u16], cells: &Summary) -> Option<TextKin
     None
 }
 
-/// The cells that the words of a text write, and what is told of them. Only the first `most` are
-/// kept: that is all of them where there are no more.
+/// The cells that the words of a text write, and their summary. Only the first `most` cells are
+/// kept; if there are at most `most`, these are all of them.
 pub fn cells_of(
     alloc: Global,
     text: &[u8],

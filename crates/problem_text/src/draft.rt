@@ -9,7 +9,7 @@ use dcop_base::{NoMemory, Table};
 use std::alloc::Global;
 use std::marker::Model;
 
-/// What lines have declared: the beginning of a problem file.
+/// What the lines up to here declare: the beginning of a problem file.
 #[derive(Debug, Drop)]
 pub struct Draft {
     pub version: u8,
@@ -41,7 +41,7 @@ impl Draft {
     ghost use Rattle.problem_text.specs.Tables.{cells_fault};
     ghost use Rattle.problem_text.specs.Cells.{summary};
 
-    /// Nothing but the version.
+    /// A draft that declares only the version.
     pub fn new(alloc: Global, version: u8) -> Draft
         requires { (version ≡ 1) ⊎ (version ≡ 2) }
         ensures { result ≡ version_alone version }
@@ -58,7 +58,7 @@ impl Draft {
         }
     }
 
-    /// The same with this goal.
+    /// The same draft with this goal.
     pub fn with_goal(self, goal: Goal) -> Draft
         requires { self.version ≡ 2 }
         ensures { result ≡ record self { goal = goal } }
@@ -85,7 +85,7 @@ impl Draft {
         }
     }
 
-    /// The same with a further variable.
+    /// The same draft with one more variable.
     pub fn with_variable(self, name: &str, labels: Labels, size: u16) -> Result<Draft, NoMemory>
         requires draft { IsDraft (with_variable self name.now labels size) }
         requires fresh { is_among self.names name.now ≡ false }
@@ -116,7 +116,7 @@ impl Draft {
         })
     }
 
-    /// The same with a further table, of whose cells this is told.
+    /// The same draft with one more table, whose cells have this summary.
     pub fn with_table(self, table: Table, told: Summary) -> Result<Draft, NoMemory>
         requires draft { IsDraft (with_table self table) }
         requires told { summary table.cells ≡ told }

@@ -13,7 +13,7 @@ pub enum TextFault {
     /// The first fault of the text, with its line, which counts from 1.
     #[error("line {line} of the problem text")]
     Bad { line: u64, kind: TextKind },
-    /// Memory was wanted and not had.
+    /// Memory ran out.
     #[error("out of memory")]
     NoMemory,
 }
@@ -56,21 +56,22 @@ impl<T: Drop> From<AllocFailed<T>> for TextFault {
 pub enum TextKind {
     /// Kind 1: the first line with words is neither `dcop 1` nor `dcop 2`.
     BadHeader,
-    /// Kind 2: the line's words are no line of the grammar.
+    /// Kind 2: the words do not form a line of the grammar.
     BadWord,
-    /// Kind 3: a size or a cell is no number.
+    /// Kind 3: a size or a cell is not a number.
     BadNumber,
-    /// Kind 4: a table names what no earlier line declared.
+    /// Kind 4: a table names a variable that no earlier line declares.
     UnknownName,
-    /// Kind 5: a name was declared before, or a value's name stands twice.
+    /// Kind 5: an earlier line declares the same name, or a value name occurs twice in a line.
     NameTwice,
-    /// Kind 6: the text is over and no line `end` came.
+    /// Kind 6: the text ends without a line `end`.
     NoEnd,
-    /// Kind 7: the sizes and tables make no problem. The number is that of the fault.
+    /// Kind 7: the sizes and tables do not form a problem. `number` is the number of the problem's
+    /// fault.
     Problem { number: u8 },
-    /// Kind 8: a line with words stands behind the line `end`.
+    /// Kind 8: a line with words follows the line `end`.
     AfterEnd,
-    /// Kind 9: the text is too long. The line is 0.
+    /// Kind 9: the text is too long. The fault's line is 0.
     TooLong,
 }
 
@@ -92,7 +93,7 @@ impl TextKind {
         }
     }
 
-    /// The number of the problem's fault where that is what is wrong, and 0 otherwise.
+    /// The number of the problem's fault if the kind is 7, and 0 otherwise.
     pub fn problem(self) -> u8
         ensures { result ≡ number_of_problem self }
     {
@@ -109,7 +110,7 @@ pub enum ReportFault {
     /// The first fault of the text, with its line, which counts from 1.
     #[error("line {line} of the report")]
     Bad { line: u64, kind: ReportKind },
-    /// Memory was wanted and not had.
+    /// Memory ran out.
     #[error("out of memory")]
     NoMemory,
 }
@@ -151,23 +152,23 @@ impl<T: Drop> From<AllocFailed<T>> for ReportFault {
 /// discriminant.
 #[derive(Clone, Copy, Debug, PartialEq, Eq)]
 pub enum ReportKind {
-    /// The line is not of the form that its place asks for.
+    /// The line does not have the form that its position requires.
     BadLine = 1,
-    /// A number is no number, or is too great.
+    /// A word that must be a number is not one, or the number is too large.
     BadNumber = 2,
-    /// A name is not in the problem, or not the one that its place asks for.
+    /// A name is not in the problem, or is not the one that its position requires.
     UnknownName = 3,
-    /// The cells of a line are not as many as its scope asks for.
+    /// The number of cells in a line differs from the number that its scope requires.
     CellCount = 4,
     /// The report has no certificate.
     NoCertificate = 5,
-    /// The text is over and no line `end` came.
+    /// The text ends without a line `end`.
     NoEnd = 6,
-    /// A line with words stands behind the line `end`.
+    /// A line with words follows the line `end`.
     AfterEnd = 7,
     /// A value is not below its variable's size.
     BadValue = 8,
-    /// The certificate is not that of a log.
+    /// The certificate is not a log.
     NoLog = 9,
 }
 

@@ -10,7 +10,7 @@ use crate::fault::TextKind;
 use crate::file::Goal;
 use crate::word::{is_word, next_word};
 
-/// The version that a header names; `None` exactly where the line is none.
+/// The version that a header names; `None` exactly when the line is not a header.
 pub fn version_of(line: &[u8]) -> Option<u8>
     ensures header { MatchOption result (header (words line.now) ≡ Fails TextKind.BadHeader)
         (λ v. header (words line.now) ≡ Declares (version_alone v)) }
@@ -30,7 +30,7 @@ pub fn version_of(line: &[u8]) -> Option<u8>
     }
 }
 
-/// The goal that the words behind `goal` name; `None` exactly where they name none.
+/// The goal that the words after `goal` name; `None` exactly when they do not name one.
 pub fn goal_of(text: &[u8]) -> Option<Goal>
     ensures { (d : Declared)
         → MatchOption result (goal_line true d (words text.now) ≡ Fails TextKind.BadWord)

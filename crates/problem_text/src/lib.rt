@@ -1,9 +1,12 @@
-//! Problems as files: the names that go with a problem, and the text that tells both.
+//! Problem files: a problem with its names, and the text that states both.
 //!
-//! A [`ProblemFile`] that exists has one name for each variable and value names that fit the
-//! sizes, all of them names by one rule. It has one canonical text, and [`write_problem`] writes
-//! exactly that. [`read_problem`] reads exactly the problem texts, line by line: it gives the file
-//! that a text declares, or the line and the kind of the text's first fault.
+//! Every [`ProblemFile`] has one name for each variable, and value names that fit the domain sizes.
+//! All names obey one rule ([`is_name`]). A file has one canonical text, and [`write_problem`]
+//! writes exactly that text. [`read_problem`] accepts exactly the problem texts, line by line. It
+//! returns the file that a text declares, or the line and the kind of the text's first fault.
+//!
+//! It builds on `dcop_base` for problems, tables, numbers and limits, and on `indexmap` and
+//! `memchr`.
 #![tactic(auto)]
 
 mod canonical;

@@ -11,13 +11,13 @@ use memchr::memchr;
 /// The byte that ends a line.
 pub const LF: u8 = b'\n';
 
-/// The byte of which one at the end of a line is dropped.
+/// A byte that is dropped, once, at the end of a line.
 pub const CR: u8 = b'\r';
 
 /// The byte that begins a comment.
 pub const HASH: u8 = b'#';
 
-/// The first line of a text that has one, with its LF, and the text behind it.
+/// The first line of a non-empty text, with its LF, and the text after it.
 pub fn first_line(text: &[u8]) -> (&[u8], &[u8])
     requires { 0 < length text.now }
     ensures line { lines text.now ≡ result.0.now ∷ lines result.1.now }
@@ -32,14 +32,15 @@ pub fn first_line(text: &[u8]) -> (&[u8], &[u8])
     }
 }
 
-/// What a line says: it is without its LF, one CR at its end and its comment.
+/// The content of a line: the line without its LF, one CR at its end, and its comment.
 pub fn content_of(line: &[u8]) -> &[u8]
     ensures { result.now ≡ content line.now }
 {
     uncommented(plain_content_of(line))
 }
 
-/// What a line says where no byte begins a comment: it is without its LF and one CR at its end.
+/// The content of a line in which no byte begins a comment: the line without its LF and one CR at
+/// its end.
 pub fn plain_content_of(line: &[u8]) -> &[u8]
     ensures { result.now ≡ plain_content line.now }
 {
@@ -61,7 +62,7 @@ fn uncommented(bytes: &[u8]) -> &[u8]
     bytes.split_at(place_of(bytes, HASH)).0
 }
 
-/// The first place of a byte; the length where it stands nowhere.
+/// The first position of a byte, or the length if the byte does not occur.
 fn place_of(bytes: &[u8], sought: u8) -> usize
     ensures { result ≡ position_or_len (λ b. b == sought) bytes.now }
 {
@@ -74,7 +75,7 @@ fn found(bytes: &[u8], sought: u8) -> Option<usize>
     memchr(sought, bytes)
 }
 
-/// The number of the line behind a text: 1 plus the number of its LF bytes.
+/// The number of the line that follows a text: 1 plus the number of its LF bytes.
 pub fn line_behind(text: &[u8]) -> u64
     ensures { result ≡ 1 + count_by (λ b. b == line_feed) text.now }
 {

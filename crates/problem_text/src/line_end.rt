@@ -6,12 +6,12 @@ ghost use Rattle.problem_text.specs.declared.line_end.LineEnd.TheVariants.{NoMem
 use dcop_base::NoMemory;
 use std::alloc::{AllocError, AllocFailed};
 
-/// Why nothing comes of a line, where a fault is told by its kind.
+/// Why reading a line gives no result; `K` is the kind of a fault.
 #[derive(Clone, Copy, Debug)]
 pub enum LineEnd<K> {
     /// The line's first fault.
     Fault(K),
-    /// Memory was wanted and not had.
+    /// Memory ran out.
     NoMemory,
 }
 

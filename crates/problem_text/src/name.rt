@@ -8,8 +8,8 @@ use dcop_base::MAX_NAME;
 
 /// Whether a word is a name.
 ///
-/// A name has 1 to [`MAX_NAME`] bytes out of ASCII letters, digits, `_`, `-` and `.`, and begins
-/// with a letter or `_`.
+/// A name has 1 to [`MAX_NAME`] bytes. Each is an ASCII letter, a digit, `_`, `-` or `.`, and the
+/// first is a letter or `_`.
 pub fn is_name(word: &[u8]) -> bool
     ensures { result ≡ is_name_of word.now }
 {

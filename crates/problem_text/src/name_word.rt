@@ -14,7 +14,7 @@ use dcop_base::NoMemory;
 use std::alloc::Global;
 use std::str;
 
-/// The word as a text; `None` exactly where it is no name.
+/// The word as a string; `None` exactly when it is not a name.
 pub fn name_of(word: &[u8]) -> Option<&str>
     ensures { MatchOption result (is_name_of word.now ≡ false)
         (λ s. (is_name_of word.now ≡ true) × (s.now ≡ word.now)) }
@@ -49,7 +49,7 @@ pub fn is_declared(names: &Names, name: &str) -> bool
     names.find(name).is_some()
 }
 
-/// The words of a text as value names; `None` exactly where one stands twice.
+/// The words of a text as value names; `None` exactly when a word occurs twice.
 pub fn labels_of(alloc: Global, text: &[u8]) -> Result<Option<Labels>, NoMemory>
     requires { list_all is_name_of (words text.now) ≡ true }
     ensures { IfOk result (λ o. MatchOption o (has_twice (words text.now) ≡ true)

@@ -12,7 +12,7 @@ use indexmap::IndexSet;
 use std::alloc::Global;
 use std::marker::Model;
 
-/// Distinct names in order, which contracts see as the list of their bytes.
+/// Distinct names in order. Contracts see them as the list of their bytes.
 #[derive(Debug, Drop)]
 pub struct NameSet {
     set: IndexSet<String>,
@@ -27,7 +27,7 @@ impl Model for NameSet {
 }
 
 impl NameSet {
-    /// No names. It takes no memory; what the names need is taken from `alloc` as they come.
+    /// No names. This takes no memory; memory for names is taken from `alloc` when they are added.
     pub fn new(alloc: Global) -> NameSet
         ensures { result ≡ [] }
     {
@@ -44,7 +44,7 @@ impl NameSet {
         self.set.len()
     }
 
-    /// The name at this place.
+    /// The name at this position.
     pub fn name(&self, place: usize) -> &str
         requires { place < length self.now }
         ensures { slice_get self.now place ≡ Some result.now }
@@ -52,14 +52,14 @@ impl NameSet {
         self.set.as_slice()[place].as_str()
     }
 
-    /// The place of this name; `None` exactly where it is not there.
+    /// The position of this name; `None` exactly when it is not among the names.
     pub fn position(&self, name: &str) -> Option<usize>
         ensures { result ≡ position (bytes_eq name.now) self.now }
     {
         self.set.get_index_of(name)
     }
 
-    /// The value of this name; `None` exactly where no value has it.
+    /// The value with this name; `None` exactly when no value has it.
     pub fn find_value(&self, name: &str) -> Option<Val>
         requires { length self.now ≤ size_limit }
         ensures { result ≡ position (bytes_eq name.now) self.now }
@@ -70,7 +70,12 @@ impl NameSet {
         }
     }
 
-    /// Puts a name at the end. The answer is false, and the names stay, exactly where it is there.
+    /// Adds a name at the end. Returns false, and leaves the names unchanged, exactly when the name
+    /// is already among them.
+    ///
+    /// # Errors
+    ///
+    /// [`NoMemory`] if memory runs out. The names are then unchanged.
     pub fn push(&mut self, name: &str) -> Result<bool, NoMemory>
         ensures added { IfOk result (λ added. added ≡ not (list_any (bytes_eq name.now) self.old)) }
         ensures names { OnOk result (self.new ≡ with_name self.old name.now) }
@@ -99,7 +104,7 @@ impl Model for Names {
 }
 
 impl Names {
-    /// No names. It takes no memory; what the names need is taken from `alloc` as they come.
+    /// No names. This takes no memory; memory for names is taken from `alloc` when they are added.
     pub fn new(alloc: Global) -> Names
         ensures { result ≡ [] }
     {
@@ -125,7 +130,7 @@ impl Names {
         self.list.name(var.0 as usize)
     }
 
-    /// The variable of this name; `None` exactly where it is not there.
+    /// The variable with this name; `None` exactly when no variable has it.
     pub fn find(&self, name: &str) -> Option<VarId>
         ensures { result ≡ position (bytes_eq name.now) self.now }
     {
@@ -135,8 +140,12 @@ impl Names {
         }
     }
 
-    /// Names the next variable. The answer is false, and the names stay, exactly where the name is
-    /// there.
+    /// Names the next variable. Returns false, and leaves the names unchanged, exactly when the
+    /// name is already among them.
+    ///
+    /// # Errors
+    ///
+    /// [`NoMemory`] if memory runs out. The names are then unchanged.
     pub fn push(&mut self, name: &str) -> Result<bool, NoMemory>
         requires { length self.old < variable_limit }
         ensures added { IfOk result (λ added. added ≡ not (list_any (bytes_eq name.now) self.old)) }

@@ -11,8 +11,8 @@ ghost use Rattle.problem_text.specs.Tables.{onto, numbers_of};
 use crate::word::{after_blanks, is_blank_byte, next_word};
 use dcop_base::{MAX_DIGITS, number_of_word};
 
-/// The number that the first word of a text writes, where it is one, and what stands behind that
-/// word; `None` exactly where there is no word. A number's bytes are gone over once.
+/// The number that the first word of a text writes, if it is a number, and the text after that
+/// word; `None` exactly when there is no word. The bytes of a number are read once.
 pub fn next_number(text: &[u8]) -> Option<(Option<u64>, &[u8])>
     ensures { MatchOption result (words text.now ≡ [])
         (λ r. (numbers_of (words text.now) ≡ onto r.0 (numbers_of (words r.1.now)))
@@ -29,8 +29,8 @@ pub fn next_number(text: &[u8]) -> Option<(Option<u64>, &[u8])>
     }
 }
 
-/// The number that the word at the head of a text writes, and how many bytes that word has; `None`
-/// where no number stands there.
+/// The number that the word at the start of a text writes, and how many bytes that word has; `None`
+/// if there is no number.
 fn number_at(text: &[u8]) -> Option<(u64, usize)>
     ensures some { IfSome result (λ r. 1 ≤ r.1) }
     ensures within { IfSome result (λ r. r.1 ≤ length text.now) }
@@ -47,8 +47,8 @@ fn number_at(text: &[u8]) -> Option<(u64, usize)>
     Some((value, count))
 }
 
-/// The value of the digits at the head of a text, and how many they are: up to the first other byte,
-/// and at most [`MAX_DIGITS`].
+/// The value of the digits at the start of a text, and how many digits there are: those up to the
+/// first other byte, and at most [`MAX_DIGITS`].
 fn leading_digits(text: &[u8]) -> (u64, usize)
     ensures within { result.1 ≤ length text.now }
     ensures short { result.1 ≤ digit_limit }

@@ -13,7 +13,11 @@ use std::alloc::Global;
 impl ProblemFile {
     /// The file of this problem in which variable i is named `v` followed by i in decimal.
     ///
-    /// It has the lower version that the tables allow, goal min and no value names.
+    /// It has the lowest version that the tables allow, goal min and no value names.
+    ///
+    /// # Errors
+    ///
+    /// [`NoMemory`] if memory runs out.
     pub fn numbered(alloc: Global, problem: Problem) -> Result<ProblemFile, NoMemory>
         ensures { IfOk result (λ file. file ≡ numbered_file problem) }
     {

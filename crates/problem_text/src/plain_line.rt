@@ -11,14 +11,14 @@ use crate::word::next_word;
 pub struct PlainLine<'a> {
     /// Its number, counted from 1.
     pub number: u64,
-    /// What it says.
+    /// Its content.
     pub text: &'a [u8],
-    /// The text behind it.
+    /// The text after it.
     pub after: &'a [u8],
 }
 
-/// The first line with words of a text without comments, whose first line has this number; `None`
-/// exactly where no line has words.
+/// The first line with words of a text without comments; `None` exactly when no line has words.
+/// `number` is the number of the text's first line.
 pub fn next_plain_line(text: &[u8], number: u64) -> Option<PlainLine<'_>>
     requires { number + length text.now < 2 ^ 64 }
     ensures line { IsFirstPlain (plain_lines number text.now) result }

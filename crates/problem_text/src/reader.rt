@@ -22,7 +22,7 @@ use crate::word_line::next_line;
 use dcop_base::{NoMemory, Problem, SizeList, TableList};
 use std::alloc::Global;
 
-/// What a line does to the draft.
+/// The effect of a line on the draft.
 #[derive(Debug, Drop)]
 pub enum Step {
     /// It declares more.
@@ -31,7 +31,7 @@ pub enum Step {
     Ends(Draft),
 }
 
-/// The step of a line with words, behind so many others.
+/// The step of a line with words. `before` is how many lines with words precede it.
 fn step_of(alloc: Global, draft: Draft, before: u64, text: &[u8]) -> Result<Step, LineEnd<TextKind>>
     ensures { IsStep draft result (line_outcome before draft (words text.now)) }
 {
@@ -44,7 +44,7 @@ fn step_of(alloc: Global, draft: Draft, before: u64, text: &[u8]) -> Result<Step
     }
 }
 
-/// The step of a line behind the header.
+/// The step of a line after the header.
 fn later_step(
     alloc: Global,
     draft: Draft,
@@ -71,7 +71,7 @@ fn later_step(
     Err(LineEnd::Fault(TextKind::BadWord))
 }
 
-/// The draft with the variable that the words behind `var` declare.
+/// The draft with the variable that the words after `var` declare.
 fn with_variable(alloc: Global, draft: Draft, text: &[u8]) -> Result<Draft, LineEnd<TextKind>>
     ensures { Gives (λ d. Declares d) result (lines.var_line draft (words text.now)) }
 {
@@ -79,7 +79,7 @@ fn with_variable(alloc: Global, draft: Draft, text: &[u8]) -> Result<Draft, Line
     Ok(draft.with_variable(variable.name, variable.labels, variable.size)?)
 }
 
-/// The draft with the table that the words behind `table` declare.
+/// The draft with the table that the words after `table` declare.
 fn with_table(alloc: Global, draft: Draft, text: &[u8]) -> Result<Draft, LineEnd<TextKind>>
     ensures { Gives (λ d. Declares d) result (table_line draft (words text.now)) }
 {
@@ -87,7 +87,7 @@ fn with_table(alloc: Global, draft: Draft, text: &[u8]) -> Result<Draft, LineEnd
     Ok(draft.with_table(table, told)?)
 }
 
-/// The draft with the goal that the words behind `goal` name.
+/// The draft with the goal that the words after `goal` name.
 fn with_goal(draft: Draft, is_second: bool, text: &[u8]) -> Result<Draft, LineEnd<TextKind>>
     requires { draft.version ≡ 2 }
     ensures { Gives (λ d. Declares d) result (lines.goal_line is_second draft (words text.now)) }
@@ -101,7 +101,7 @@ fn with_goal(draft: Draft, is_second: bool, text: &[u8]) -> Result<Draft, LineEn
     }
 }
 
-/// The step of the line `end`, by the words behind it.
+/// The step of the line `end`, given the words that follow `end`.
 fn ended(draft: Draft, text: &[u8]) -> Result<Step, LineEnd<TextKind>>
     ensures { IsStep draft result (lines.end_line draft (words text.now)) }
 {
@@ -114,7 +114,7 @@ fn ended(draft: Draft, text: &[u8]) -> Result<Step, LineEnd<TextKind>>
     Ok(Step::Ends(draft))
 }
 
-/// What the lines of a text declare, and how many bytes it has up to and with the line `end`.
+/// What the lines of a text declare, and how many bytes it has up to and including the line `end`.
 fn draft_of(alloc: Global, bytes: &[u8]) -> Result<(Draft, usize), TextFault>
     ensures { ReadsDraft bytes.now result }
 {
@@ -146,7 +146,7 @@ fn draft_of(alloc: Global, bytes: &[u8]) -> Result<(Draft, usize), TextFault>
     })
 }
 
-/// The file of a whole draft.
+/// The file of a complete draft.
 fn file_of(alloc: Global, draft: Draft) -> Result<ProblemFile, NoMemory>
     requires { 0 < length draft.sizes }
     ensures { IfOk result (λ f. declared_by f ≡ draft) }
@@ -175,12 +175,12 @@ fn file_of(alloc: Global, draft: Draft) -> Result<ProblemFile, NoMemory>
     })
 }
 
-/// Reads a problem text up to its line `end`. What stands behind that line is not looked at.
+/// Reads a problem text up to its line `end`. The bytes after that line are not examined.
 ///
 /// # Errors
 ///
-/// [`TextFault::Bad`] with the line and the kind of the first fault, of kinds 1 to 7; and
-/// [`TextFault::NoMemory`] where memory was wanted and not had.
+/// [`TextFault::Bad`] with the line and the kind of the first fault, which is of kind 1 to 7;
+/// [`TextFault::NoMemory`] if memory runs out.
 pub fn read_problem(alloc: Global, bytes: &[u8]) -> Result<ReadFile, TextFault>
     ensures { Reads bytes.now result }
 {

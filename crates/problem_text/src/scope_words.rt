@@ -17,8 +17,8 @@ use crate::word::{is_word, next_word};
 use dcop_base::{MAX_SCOPE, VarId, VarList};
 use std::alloc::Global;
 
-/// How many words stand before the first `:`, and what stands behind it; `None` exactly where
-/// there is no `:`.
+/// How many words precede the first `:`, and the text after it; `None` exactly when there is no
+/// `:`.
 pub fn past_colon(text: &[u8]) -> Option<(usize, &[u8])>
     ensures none { MatchOption result (list_any is_colon (words text.now) ≡ false)
         (λ r. list_any is_colon (words text.now) ≡ true) }
@@ -37,7 +37,7 @@ pub fn past_colon(text: &[u8]) -> Option<(usize, &[u8])>
     None
 }
 
-/// The most variables that a table has in this version.
+/// The most variables that a table may have in this version.
 pub fn most_names(version: u8) -> usize
     ensures { result ≡ most_names_of version }
 {
@@ -67,7 +67,7 @@ pub fn scope_of(alloc: Global, names: &Names, text: &[u8]) -> Result<VarList, Li
     Ok(scope)
 }
 
-/// The variable that a word names; `None` exactly where no variable has that name.
+/// The variable that a word names; `None` exactly when no variable has that name.
 pub fn variable_of_word(names: &Names, word: &[u8]) -> Option<VarId>
     requires { list_all is_name_of names.now ≡ true }
     ensures { result ≡ position (bytes_eq word.now) names.now }

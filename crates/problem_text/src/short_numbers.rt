@@ -1,5 +1,5 @@
-//! Short numbers: those of few digits, each between two spaces. Most cells of a table are such, and
-//! are read without a search for the ends of words.
+//! Short numbers: numbers of few digits between two spaces. Most cells of a table are short
+//! numbers. They are read without a search for the ends of words.
 
 ghost use Rattle.std.specs.Prelude.{◌≡◌, ◌+◌, ◌-◌, ◌<◌, ◌≤◌, ◌++◌, true, false, Some, length, take, IfSome, MatchOption};
 ghost use Rattle.std.specs.List.{position_or_len};
@@ -13,19 +13,20 @@ ghost use Rattle.problem_text.specs.Tables.{onto, numbers_of};
 /// The most digits of a short number.
 const SHORT: usize = 8;
 
-/// What was read of the numbers that a text begins with.
+/// The result of reading the numbers that a text begins with.
 #[derive(Clone, Copy, Debug)]
 pub struct ShortRun<'a> {
-    /// How many were read.
+    /// How many numbers were read.
     pub count: usize,
-    /// The greatest of them, 0 of none.
+    /// The greatest of them, or 0 if there are none.
     pub greatest: u64,
-    /// The text behind them.
+    /// The text after them.
     pub after: &'a [u8],
 }
 
-/// Writes the short numbers that a text begins with into `cells`, up to its end. It stops before
-/// what is no short number between two spaces, and some bytes before the end of the text.
+/// Writes the short numbers that a text begins with into `cells`, until `cells` is full. It stops
+/// before anything that is not a short number between two spaces, and a few bytes before the end of
+/// the text.
 pub fn short_run<'a>(cells: &mut [u64], text: &'a [u8]) -> ShortRun<'a>
     ensures size { length cells.new ≡ length cells.old }
     ensures count { result.count ≤ length cells.old }
@@ -53,8 +54,8 @@ pub fn short_run<'a>(cells: &mut [u64], text: &'a [u8]) -> ShortRun<'a>
     }
 }
 
-/// The short number behind the one space that a text begins with, and what stands behind that
-/// number; `None` where the text begins otherwise, and near its end.
+/// The short number after the one space that a text begins with, and the text after that number;
+/// `None` if the text begins otherwise or is near its end.
 fn short_behind_space(text: &[u8]) -> Option<(u64, &[u8])>
     ensures { IfSome result (λ r.
         (numbers_of (words text.now) ≡ onto (Some r.0) (numbers_of (words r.1.now)))
@@ -68,8 +69,8 @@ fn short_behind_space(text: &[u8]) -> Option<(u64, &[u8])>
     Some((number, from_word.split_at(length).1))
 }
 
-/// The short number with a space behind it at the head of a text, and how many digits it has; `None`
-/// where none stands there.
+/// The short number at the start of a text that a space follows, and how many digits it has; `None`
+/// if there is none.
 fn short_at(text: &[u8]) -> Option<(u64, usize)>
     requires { SHORT < length text.now }
     ensures some { IfSome result (λ r. 1 ≤ r.1) }
@@ -91,7 +92,7 @@ fn short_at(text: &[u8]) -> Option<(u64, usize)>
     None
 }
 
-/// The value of a digit; `None` exactly where the byte is none.
+/// The value of a digit; `None` exactly when the byte is not a digit.
 fn digit_of(byte: u8) -> Option<u64>
     ensures { MatchOption result (is_ascii_digit byte ≡ false)
         (λ d. (is_ascii_digit byte ≡ true) × (d ≡ byte - 48) × (d ≤ 9)) }

@@ -17,7 +17,7 @@ use crate::scope_words::{most_names, past_colon, scope_of};
 use dcop_base::{CellList, MAX_CELLS, Table, VarList, product_of, repeats, sizes_of};
 use std::alloc::Global;
 
-/// The table that the words behind `table` declare, and what is told of its cells.
+/// The table that the words after `table` declare, and the summary of its cells.
 pub fn table_of(
     alloc: Global,
     draft: &Draft,
@@ -69,7 +69,7 @@ fn table_with(
     Ok((table, summary))
 }
 
-/// The most cells that are kept of a table of these sizes: with more it has a fault.
+/// The most cells that are kept of a table of these sizes. A table with more cells has a fault.
 fn most_cells(sizes: &[u16]) -> usize
     ensures { result ≡ min (product sizes.now) cell_limit }
 {

@@ -23,7 +23,7 @@ pub struct Variable<'a> {
     pub size: u16,
 }
 
-/// The variable that the words behind `var` declare, in a draft to which it is new.
+/// The variable that the words after `var` declare. Its name is new to the draft.
 pub fn variable_of<'a>(
     alloc: Global,
     draft: &Draft,
@@ -104,7 +104,7 @@ fn sized<'a>(
     })
 }
 
-/// A further variable's size, behind so many variables.
+/// The size of one more variable, after `many` variables.
 fn size_of(many: usize, size: u64) -> Result<u16, LineEnd<TextKind>>
     ensures { (d : Declared) → (name : List ℕ) → (values : List (List ℕ)) → length d.sizes ≡ many
         → Gives (λ s. Declares (with_variable d name values s)) result (lines.variable d name values size) }

@@ -5,7 +5,7 @@ ghost use Rattle.std.specs.List.{position, position_or_len};
 ghost use Rattle.std.specs.Str.{bytes_eq};
 ghost use Rattle.problem_text.specs.Lines.{is_blank, words};
 
-/// The first word of a text and what stands behind it; `None` exactly where there is no word.
+/// The first word of a text and the text after it; `None` exactly when there is no word.
 pub fn next_word(text: &[u8]) -> Option<(&[u8], &[u8])>
     ensures { MatchOption result (words text.now ≡ [])
         (λ r. words text.now ≡ r.0.now ∷ words r.1.now) }
@@ -37,7 +37,7 @@ fn first_word_byte(text: &[u8]) -> Option<usize>
     text.iter().position(|byte| !is_blank_byte(*byte))
 }
 
-/// How many bytes a text begins with that are no blanks.
+/// How many bytes that are not blanks a text begins with.
 fn run_of(text: &[u8]) -> usize
     ensures { result ≡ position_or_len is_blank text.now }
 {
@@ -50,7 +50,7 @@ fn first_blank(text: &[u8]) -> Option<usize>
     text.iter().position(|byte| is_blank_byte(*byte))
 }
 
-/// Whether a byte divides words.
+/// Whether a byte separates words.
 pub fn is_blank_byte(byte: u8) -> bool
     ensures { result ≡ is_blank byte }
 {

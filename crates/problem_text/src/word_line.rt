@@ -12,16 +12,16 @@ use crate::word::next_word;
 pub struct WordLine<'a> {
     /// Its number, counted from 1.
     pub number: u64,
-    /// What it says.
+    /// Its content.
     pub text: &'a [u8],
-    /// How many bytes the text has up to and with it.
+    /// How many bytes the text has up to and including it.
     pub used: usize,
-    /// The text behind it.
+    /// The text after it.
     pub after: &'a [u8],
 }
 
-/// The first line with words of a text whose first line has this number and stands behind so many
-/// bytes; `None` exactly where no line has words.
+/// The first line with words of a text; `None` exactly when no line has words. `number` is the
+/// number of the text's first line, and `used` is how many bytes precede the text.
 pub fn next_line(text: &[u8], number: u64, used: usize) -> Option<WordLine<'_>>
     requires bytes { used + length text.now < 2 ^ 64 }
     requires lines { number + length text.now < 2 ^ 64 }

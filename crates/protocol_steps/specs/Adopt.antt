@@ -8,7 +8,7 @@ use Rattle.adopt_context.specs.Context.{Context}
 use Rattle.adopt_context.specs.Bounds.{Entry, blank}
 use Rattle.protocol_steps.specs.Agent.{Phase, not_started}
 
--- an ADOPT agent: what it was made from, what it knows of the values of its path, its value, its threshold and the last one received, whether TERMINATE was taken, and for each own value a row of entries, one for each child
+-- an ADOPT agent: what it was made from, what it knows of the values of its path, its value, its threshold and the last one received, whether it has taken TERMINATE, and for each own value a row with one entry for each child
 pub record AdoptView : Type 0 where
   pub own : Private
   pub place : Place
@@ -21,7 +21,7 @@ pub record AdoptView : Type 0 where
   pub told : Bool
   pub rows : List (List Entry)
 
--- an ADOPT agent as it is made
+-- an ADOPT agent as it is made, before its start
 abbrev pub new_adopt : Private → Place → ℕ → AdoptView
 new_adopt own place error = record {
   own = own;
@@ -40,6 +40,6 @@ new_adopt own place error = record {
 abbrev pub is_root : AdoptView → Bool
 is_root v = length v.place.path == 0
 
--- the higher neighbours: those that stand in the path
+-- the higher neighbours: those that are in the path
 abbrev pub higher : AdoptView → List ℕ
 higher v = filter (has v.place.path) v.own.neighbours

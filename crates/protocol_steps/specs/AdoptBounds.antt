@@ -9,7 +9,7 @@ use Rattle.dcop_base.specs.Values.{with_own, cost_with}
 use Rattle.protocol_steps.specs.Values.{valued}
 use Rattle.protocol_steps.specs.Adopt.{AdoptView, is_root, higher}
 
--- whether a table counts: besides the agent it names only variables of the path that are known
+-- whether a table counts: besides the agent itself it names only variables of the path whose values are known
 abbrev pub counts : AdoptView → CostTable → Bool
 counts v t = list_all (λ u. u == v.own.me || (has v.place.path u && is_some (value_in v.known u))) t.scope
 
@@ -17,7 +17,7 @@ counts v t = list_all (λ u. u == v.own.me || (has v.place.path u && is_some (va
 abbrev pub delta : AdoptView → ℕ → ℕ
 delta v d = cap (cost_with (filter (counts v) v.own.tables) (with_own v.own.me d (valued v.known)))
 
--- δ(d), where all higher neighbours are known
+-- δ(d), if the values of all higher neighbours are known
 abbrev pub whole_delta : AdoptView → ℕ → Option ℕ
 whole_delta v d = if names_all v.known (higher v) then Some (delta v d) else None
 
@@ -29,11 +29,11 @@ lower_of v d = lower_at (delta v) v.rows d
 abbrev pub upper_of : AdoptView → ℕ → Option ℕ
 upper_of v d = upper_at (whole_delta v) v.rows d
 
--- the lowest minimiser of LB(d)
+-- the lowest value d with the least LB(d)
 abbrev pub best_lower : AdoptView → ℕ
 best_lower v = lowest nat_lt (lower_of v) (v.own.size - 1)
 
--- the lowest minimiser of UB(d)
+-- the lowest value d with the least UB(d)
 abbrev pub best_upper : AdoptView → ℕ
 best_upper v = lowest is_below (upper_of v) (v.own.size - 1)
 
@@ -41,16 +41,16 @@ best_upper v = lowest is_below (upper_of v) (v.own.size - 1)
 abbrev pub lower_bound : AdoptView → ℕ
 lower_bound v = lower_of v (best_lower v)
 
--- UB: the least UB(d), where one is there
+-- UB: the least UB(d), if there is one
 abbrev pub upper_bound : AdoptView → Option ℕ
 upper_bound v = upper_of v (best_upper v)
 
--- restore: the threshold comes between the bounds; the root's is the lesser of LB plus the error and UB
+-- restore: moves the threshold between the bounds; the root's becomes the lesser of LB plus the error and UB
 abbrev pub restore : AdoptView → AdoptView
 restore v = record v {
   threshold = lower_to (if is_root v then cap (lower_bound v + v.error) else max v.threshold (lower_bound v)) (upper_bound v);
 }
 
--- the context becomes x, and entries that do not rest on a part of it are reset
+-- the known context becomes x, and the entries whose context is not part of x are reset
 abbrev pub at_context : AdoptView → Context → AdoptView
 at_context v x = record v { known = x; rows = reset x v.rows }

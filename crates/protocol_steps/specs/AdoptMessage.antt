@@ -10,24 +10,24 @@ use Rattle.protocol_steps.specs.AdoptBounds.{restore, at_context}
 use Rattle.protocol_steps.specs.AdoptRange.{in_range, fits, is_parent}
 use Rattle.protocol_steps.specs.AdoptCost.{take_cost, without}
 
--- a threshold that was received counts where its context is compatible with what is known
+-- a received threshold becomes the threshold if its context is compatible with what is known; it is stored as the last one received in any case
 abbrev pub take_threshold : AdoptView → ℕ → Context → AdoptView
 take_threshold v t c =
     if compatible c v.known then restore (record v { last = t; threshold = t }) else record v { last = t }
 
--- TERMINATE: what is known becomes its context, and the threshold the last one received
+-- TERMINATE: its context becomes what is known, and the last threshold received becomes the threshold
 abbrev pub take_end : AdoptView → Context → AdoptView
 take_end v c = restore (record (at_context v c) { threshold = v.last; told = true })
 
--- whether VALUE(d) is taken: before TERMINATE, from a higher neighbour, where d is below its size
+-- whether VALUE(d) is taken: before TERMINATE, from a higher neighbour, with d below its size
 abbrev pub takes_value : AdoptView → ℕ → ℕ → Bool
 takes_value v j d = not v.told && has v.own.neighbours j && in_range v j d
 
--- whether THRESHOLD or TERMINATE with this context is taken: before TERMINATE, from the parent, where the context fits
+-- whether THRESHOLD or TERMINATE with this context is taken: before TERMINATE, from the parent, with a context that fits
 abbrev pub takes_from_parent : AdoptView → ℕ → Context → Bool
 takes_from_parent v j c = not v.told && is_parent v j && fits v c
 
--- one message
+-- how one message is handled
 abbrev pub adopt_message : AdoptView → ℕ → Message → AdoptView
 adopt_message v j (Value d) = if takes_value v j d then restore (at_context v (put v.known j d)) else v
 adopt_message v j (Threshold t c) = if takes_from_parent v j c then take_threshold v t c else v

@@ -1,4 +1,4 @@
--- Deeds: which activations an agent's own account allows.
+-- Deeds are activations; these are the ones that an agent's own account allows.
 use Rattle.std.specs.Prelude.{◌≡◌, ℕ, ◌+◌, ◌<◌, List, [], ◌∷◌, map, length, None, ◌==◌, if◌then◌else◌, max}
 use Rattle.std.specs.List.{flat_map, fold}
 use Rattle.protocol_steps.specs.declared.message.Message.{Message}
@@ -8,7 +8,7 @@ use Rattle.protocol_steps.specs.View.{ended_of}
 use Rattle.protocol_steps.specs.Run.{form_fault}
 use Rattle.protocol_steps.specs.Stamps.{Gain, Deed, Posted, Account, do_one}
 
--- the takes of an activation
+-- the takes of an activation: for each sender the number of messages
 abbrev pub takes_of : List Gain → List Take
 takes_of gains = map (λ g. record { from = g.from; count = length g.envelopes }) gains
 
@@ -24,21 +24,22 @@ greatest_from m es = fold (λ k e. max k e.0) m es
 abbrev pub greatest_of : List Gain → ℕ
 greatest_of gains = fold (λ m g. greatest_from m g.envelopes) 0 gains
 
--- an activation that an agent's account allows: its form is that of a lawful event, and its stamp is right, 1 plus the greatest of the agent's last one and those of what it takes
+-- an activation that an agent's account allows: it has the form of a lawful event, and its stamp is 1 plus the greatest of the agent's last stamp and the stamps of what it takes
 pub record IsDeed (n : ℕ) (x : Account) (d : Deed) : Type 0 where
   pub known : d.agent < n
   pub form : form_fault n (ended_of x.view) (takes_of d.gains) ≡ None
   pub right : d.stamp ≡ max x.stamp (greatest_of d.gains) + 1
 
--- the same of several activations of one agent, one after another
+-- the same for several activations of one agent, one after another
 abbrev pub AreDeeds : ℕ → Account → List Deed → Type 0
 AreDeeds n x [] = Unit {0}
 AreDeeds n x (d ∷ ds) = IsDeed n x d × AreDeeds n (do_one x d) ds
 
--- the activations of one agent, in order
+-- an activation as a list, if it is one of agent i
 abbrev pub own_deed : ℕ → Deed → List Deed
 own_deed i d = if d.agent == i then d ∷ [] else []
 
+-- the activations of agent i, in order
 abbrev pub deeds_of : ℕ → List Deed → List Deed
 deeds_of i ds = flat_map (λ d. own_deed i d) ds
 
@@ -46,16 +47,18 @@ deeds_of i ds = flat_map (λ d. own_deed i d) ds
 abbrev pub after_all : (ℕ → Account) → List Deed → ℕ → Account
 after_all now ds i = fold do_one (now i) (deeds_of i ds)
 
--- what was sent to agent i
+-- a sent message as a list, if it was sent to agent i
 abbrev pub envelope_to : ℕ → Posted → List (ℕ × Message)
 envelope_to i p = if p.to == i then p.envelope ∷ [] else []
 
+-- the messages that were sent to agent i, with their stamps
 abbrev pub posted_to : ℕ → List Posted → List (ℕ × Message)
 posted_to i posted = flat_map (λ p. envelope_to i p) posted
 
--- what was taken of agent j
+-- the messages that one activation took from agent j, or none if it took from another
 abbrev pub gain_from : ℕ → Gain → List (ℕ × Message)
 gain_from j g = if g.from == j then g.envelopes else []
 
+-- all messages that were taken from agent j, with their stamps
 abbrev pub gained_from : ℕ → List Gain → List (ℕ × Message)
 gained_from j gains = flat_map (λ g. gain_from j g) gains

@@ -4,7 +4,7 @@ use Rattle.std.specs.List.{flat_map, range_with_len}
 use Rattle.protocol_steps.specs.declared.message.Message.{Message}
 use Rattle.protocol_steps.specs.Network.{Desk, Network, taken_from, takes_at, link}
 
--- the messages of agent j that agent i has taken: the first ones of the link
+-- the messages of agent j that agent i has taken: the first ones on the link
 abbrev pub taken_on : List Desk → ℕ → ℕ → List Message
 taken_on ds i j = take (taken_from j (takes_at (slice_get ds i))) (link ds j i)
 

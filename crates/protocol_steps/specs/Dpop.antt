@@ -10,7 +10,7 @@ use Rattle.protocol_steps.specs.Agent.{Phase, not_started}
 use Rattle.dcop_base.specs.Values.{with_own, cost_with}
 use Rattle.protocol_steps.specs.Values.{valued, choices}
 
--- a DPOP agent: what it knows of the problem and its place, the children's tables that it keeps, in their order, the UTIL table that it made, and its value
+-- a DPOP agent: what it knows of the problem, its place, its phase, the tables of its children that it keeps, in the children's order, the UTIL table that it made, and its value
 pub record DpopView : Type 0 where
   pub own : Private
   pub place : Place
@@ -19,16 +19,16 @@ pub record DpopView : Type 0 where
   pub made : Option CostTable
   pub value : ℕ
 
--- a DPOP agent as it is made
+-- a DPOP agent as it is made, before its start
 abbrev pub new_dpop : Private → Place → DpopView
 new_dpop own place = record { own = own; place = place; phase = not_started; kept = replicate (length place.children) None; made = None; value = 0 }
 
--- the table that is there, as a list
+-- an optional table as a list
 abbrev pub there : Option CostTable → List CostTable
 there None = []
 there (Some t) = t ∷ []
 
--- the children's tables that are kept
+-- the tables of children that are kept
 abbrev pub kept_tables : DpopView → List CostTable
 kept_tables v = flat_map there v.kept
 
@@ -40,11 +40,11 @@ kept_scopes v = map (λ t. t.scope) (kept_tables v)
 abbrev pub own_tables : DpopView → List CostTable
 own_tables v = filter (λ t. list_all (λ u. u == v.own.me || has v.place.path u) t.scope) v.own.tables
 
--- how many values the agent's variable or a variable of its path has
+-- the number of values of the agent's variable or of a variable of its path
 abbrev pub size_of : DpopView → ℕ → ℕ
 size_of v u = if u == v.own.me then v.own.size else or_zero (value_in (zip v.place.path v.place.path_sizes) u)
 
--- the separator where these scopes count as kept, from the root down: the variables of the path that are neighbours or stand in such a scope
+-- the separator if the kept tables have these scopes, from the root down: the variables of the path that are neighbours or are in such a scope
 abbrev pub separator_with : DpopView → List (List ℕ) → List ℕ
 separator_with v scopes = filter (λ u. has v.own.neighbours u || list_any (λ scope. has scope u) scopes) v.place.path
 
@@ -52,16 +52,16 @@ separator_with v scopes = filter (λ u. has v.own.neighbours u || list_any (λ s
 abbrev pub separator : DpopView → List ℕ
 separator v = separator_with v (kept_scopes v)
 
--- how many cells the joined table has where these scopes count as kept
+-- the number of cells of the joined table if the kept tables have these scopes
 abbrev pub joined_cells_with : DpopView → List (List ℕ) → ℕ
 joined_cells_with v scopes = v.own.size * product (map (size_of v) (separator_with v scopes))
 
--- the joined cost where the agent has value d and the separator these values
+-- the joined cost when the agent has the value d and the separator has these values
 abbrev pub joined_cost : DpopView → (ℕ → ℕ) → ℕ → ℕ
 joined_cost v value d =
     cap (cost_with (own_tables v) (with_own v.own.me d value) + cost_with (kept_tables v) (with_own v.own.me d value))
 
--- the lowest own value of least joined cost
+-- the lowest own value with the least joined cost
 abbrev pub best_value : DpopView → (ℕ → ℕ) → ℕ
 best_value v value = lowest nat_lt (joined_cost v value) (v.own.size - 1)
 
@@ -71,7 +71,7 @@ util_cell v values =
     let value : ℕ → ℕ = valued (zip (separator v) values) in
     joined_cost v value (best_value v value)
 
--- the UTIL table: all joined, and the agent's own variable projected out
+-- the UTIL table: the sum of all own and kept tables, with the agent's own variable projected out
 abbrev pub util_table : DpopView → CostTable
 util_table v = record {
   scope = separator v;

@@ -1,4 +1,4 @@
--- What an event does to a network, and what is pending in it.
+-- The effect of an event on a network, and the messages that are pending.
 use Rattle.std.specs.Prelude.{◌≡◌, ℕ, ◌<◌, Bool, List, [], ◌++◌, length, Option, Some, None, if◌then◌else◌, slice_get}
 use Rattle.std.specs.List.{list_all, sum_by, slice_set}
 use Rattle.protocol_steps.specs.declared.message.Message.{Message}
@@ -12,14 +12,14 @@ use Rattle.protocol_steps.specs.Network.{Desk, Network, waiting, batch}
 abbrev pub desk_after : Desk → List (ℕ × Message) → List Take → Desk
 desk_after x sends ts = record { sent = x.sent ++ sends; takes = x.takes ++ ts }
 
--- a network after an activation of an agent with this view and desk on these letters
+-- a network after an activation of an agent with this view and this desk on these letters
 abbrev pub network_after : Network → Event → View → Desk → List (ℕ × Message) → Network
 network_after net e v x ls = record {
   views = slice_set net.views e.agent (step_of v ls).view;
   desks = slice_set net.desks e.agent (desk_after x (step_of v ls).sends e.takes);
 }
 
--- the effect of an event, where its agent is there
+-- the effect of an event whose agent has this view and this desk; nothing changes if there is no such agent
 abbrev pub effect_at : Network → Event → Option View → Option Desk → Network
 effect_at net e (Some v) (Some x) = network_after net e v x (batch net.desks e.agent e.takes)
 effect_at net e None x = net
@@ -29,6 +29,7 @@ effect_at net e (Some v) None = net
 abbrev pub effect : Network → Event → Network
 effect net e = effect_at net e (slice_get net.views e.agent) (slice_get net.desks e.agent)
 
+-- what an agent with this view sends in an event; nothing if there is no such agent
 abbrev pub sends_by : Network → Event → Option View → List (ℕ × Message)
 sends_by net e None = []
 sends_by net e (Some v) = (step_of v (batch net.desks e.agent e.takes)).sends
@@ -37,7 +38,7 @@ sends_by net e (Some v) = (step_of v (batch net.desks e.agent e.takes)).sends
 abbrev pub event_sends : Network → Event → List (ℕ × Message)
 event_sends net e = sends_by net e (slice_get net.views e.agent)
 
--- a message is pending where it was sent to an agent that has not ended, and was not taken
+-- the messages pending at agent i, which has this view, from agent j: those waiting, unless agent i has ended
 abbrev pub pending_at : Network → ℕ → ℕ → Option View → List Message
 pending_at net i j None = []
 pending_at net i j (Some v) = if ended_of v then [] else waiting net.desks i j
@@ -46,7 +47,7 @@ pending_at net i j (Some v) = if ended_of v then [] else waiting net.desks i j
 abbrev pub pending : Network → ℕ → ℕ → List Message
 pending net i j = pending_at net i j (slice_get net.views i)
 
--- a message is pending at some agent
+-- some message is pending at some agent
 pub record SomePending (net : Network) : Type 0 where
   pub to : ℕ
   pub from : ℕ
@@ -54,10 +55,10 @@ pub record SomePending (net : Network) : Type 0 where
   pub from_agent : from < length net.views
   pub some : pending net to from ≡ [] → ⊥
 
--- ended: every view says so
+-- whether a network has ended: all its agents have
 abbrev pub has_ended : Network → Bool
 has_ended net = list_all ended_of net.views
 
--- the deliveries: all messages that were taken
+-- the deliveries: the number of all messages that were taken
 abbrev pub deliveries : Network → ℕ
 deliveries net = sum_by (λ x. sum_by (λ t. t.count) x.takes) net.desks

@@ -10,31 +10,31 @@ use Rattle.protocol_steps.specs.Machine.{IsToNeighbour}
 use Rattle.protocol_steps.specs.Network.{Network}
 use Rattle.protocol_steps.specs.Run.{run, SameJournals}
 
--- what an agent was made from never changes
+-- what an agent was made from never changes, neither by its start nor by a step
 pub record OriginsStay : Type 0 where
   pub started : (v : View) → made_of (start_of v).view ≡ made_of v
   pub stepped : (v : View) (ls : List (ℕ × Message)) → made_of (step_of v ls).view ≡ made_of v
 
--- the parent on this path, where there is one, is one of these neighbours
+-- the parent on this path, if there is one, is one of these neighbours
 abbrev pub IsParentBeside : List ℕ → List ℕ → Type 0
 IsParentBeside neighbours path = (parent : ℕ) → last_of path ≡ Some parent → Contains neighbours parent
 
--- an agent stands beside its parent and its children: they are neighbours
+-- the parent and the children of an agent are among its neighbours; nothing is asked of an ADOPT agent
 abbrev pub IsBeside : View → Type 0
 IsBeside (TokenKind v) = IsParentBeside v.own.neighbours v.path
 IsBeside (DpopKind v) = IsParentBeside v.own.neighbours v.place.path × All (Contains v.own.neighbours) v.place.children
 IsBeside (AdoptKind v) = Unit {0}
 
--- a start or a step keeps an agent beside its parent and its children, and each parcel goes to a neighbour
+-- after a start or a step the parent and the children are still among the neighbours, and each parcel goes to a neighbour
 pub record ReachesNeighbours (before : View) (s : Stepped View) : Type 0 where
   pub beside : IsBeside s.view
   pub receivers : All (IsToNeighbour before) s.sends
 
--- each parcel goes to a neighbour that the view names
+-- each parcel of a start or a step goes to a neighbour that the view names, if the parent and the children are neighbours and each letter comes from a neighbour
 pub record ParcelsGoToNeighbours : Type 0 where
   pub started : (v : View) → IsBeside v → ReachesNeighbours v (start_of v)
   pub stepped : (v : View) (ls : List (ℕ × Message)) → IsBeside v → All (IsToNeighbour v) ls → ReachesNeighbours v (step_of v ls)
 
--- the journal law: two runs that agree with the same journals end in the same network state
+-- the journal law: two runs from one network state with the same journals end in the same network state
 abbrev pub JournalsDecide : Type 0
 JournalsDecide = (net one other : Network) (es fs : List Event) → run net es ≡ Some one → run net fs ≡ Some other → SameJournals es fs → one ≡ other

@@ -1,28 +1,28 @@
--- What a machine asks for and promises, over its view before and after.
+-- What a machine requires and promises, over its view before and after a call.
 use Rattle.std.specs.Prelude.{◌≡◌, ℕ, ◌≤◌, true, false, ◌⊎◌, List, [], ◌∷◌}
 use Rattle.std.specs.List.{All, Contains}
 use Rattle.protocol_steps.specs.declared.message.Message.{Message}
 use Rattle.protocol_steps.specs.View.{View, private_of, started_of, ended_of, failed_of}
 use Rattle.protocol_steps.specs.Step.{start_of, step_of}
 
--- an agent may start where it has not started, or has failed
+-- an agent may start if it has not started, or if it has failed
 abbrev pub MayStart : View → Type 0
 MayStart v = (started_of v ≡ false) ⊎ (failed_of v ≡ true)
 
--- an agent may react where it has started and not ended, or has failed
+-- an agent may react if it has started and not ended, or if it has failed
 abbrev pub MayReact : View → Type 0
 MayReact v = ((started_of v ≡ true) × (ended_of v ≡ false)) ⊎ (failed_of v ≡ true)
 
--- whether a letter or a parcel is of a neighbour, or for one
+-- the sender of a letter, or the receiver of a parcel, is a neighbour
 abbrev pub IsToNeighbour : View → ℕ × Message → Type 0
 IsToNeighbour v p = Contains (private_of v).neighbours p.0
 
--- the senders are at least b, and none is below the one before
+-- the senders are at least b, and they do not descend
 abbrev pub SendersFrom : ℕ → List (ℕ × Message) → Type 0
 SendersFrom b [] = Unit {0}
 SendersFrom b (l ∷ ls) = (b ≤ l.0) × SendersFrom l.0 ls
 
--- a batch: some letters of neighbours, sender by sender in ascending order
+-- a batch: at least one letter, all from neighbours, in ascending order of the senders
 pub record IsBatch (v : View) (ls : List (ℕ × Message)) : Type 0 where
   pub some : ls ≡ [] → ⊥
   pub ascend : SendersFrom 0 ls
@@ -38,6 +38,6 @@ pub record IsStep (before : View) (ls : List (ℕ × Message)) (after : View) (s
   pub viewed : after ≡ (step_of before ls).view
   pub sent : sends ≡ (step_of before ls).sends
 
--- the agent has failed for want of memory
+-- the agent has failed because memory ran out
 abbrev pub HasFailed : View → Type 0
 HasFailed v = failed_of v ≡ true

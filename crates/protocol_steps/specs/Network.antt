@@ -1,4 +1,4 @@
--- Networks: each agent's view, what it sent and what it took, and what stands on the links.
+-- Networks: the view of each agent, what it sent and what it took, and the messages on the links.
 use Rattle.std.specs.Prelude.{ℕ, List, [], ◌∷◌, map, take, drop, Option, Some, None, ◌==◌, if◌then◌else◌, slice_get}
 use Rattle.std.specs.List.{sum_by, flat_map}
 use Rattle.protocol_steps.specs.declared.message.Message.{Message}
@@ -23,22 +23,24 @@ start_state made = record {
   desks = map (λ v. record { sent = (start_of v).sends; takes = [] }) made;
 }
 
--- the message of a parcel, where it is for agent i
+-- the message of a parcel as a list, if the parcel is for agent i
 abbrev pub message_to : ℕ → ℕ × Message → List Message
 message_to i p = if p.0 == i then p.1 ∷ [] else []
 
--- the messages of the parcels for agent i
+-- the messages of those parcels that are for agent i
 abbrev pub messages_to : ℕ → List (ℕ × Message) → List Message
 messages_to i ps = flat_map (λ p. message_to i p) ps
 
--- how many messages of agent j were taken
+-- how many messages were taken from agent j
 abbrev pub taken_from : ℕ → List Take → ℕ
 taken_from j ts = sum_by (λ t. if t.from == j then t.count else 0) ts
 
+-- all parcels of an optional desk; none if there is no desk
 abbrev pub sent_at : Option Desk → List (ℕ × Message)
 sent_at None = []
 sent_at (Some x) = x.sent
 
+-- all takes of an optional desk; none if there is no desk
 abbrev pub takes_at : Option Desk → List Take
 takes_at None = []
 takes_at (Some x) = x.takes
@@ -47,7 +49,7 @@ takes_at (Some x) = x.takes
 abbrev pub link : List Desk → ℕ → ℕ → List Message
 link ds j i = messages_to i (sent_at (slice_get ds j))
 
--- what agent j has sent to agent i, and i has not taken
+-- the messages that agent j has sent to agent i and that i has not taken
 abbrev pub waiting : List Desk → ℕ → ℕ → List Message
 waiting ds i j = drop (taken_from j (takes_at (slice_get ds i))) (link ds j i)
 

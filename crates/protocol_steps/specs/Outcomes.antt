@@ -1,4 +1,4 @@
--- How agents have run, and what they have come to, by the network in which the run ended.
+-- How agents have run, and with what outcome, by the network in which the run ended.
 use Rattle.std.specs.Prelude.{◌≡◌, ℕ, List, map, Some, slice_get}
 use Rattle.std.specs.Option.{option_map}
 use Rattle.protocol_steps.specs.declared.event.Event.{Event}
@@ -10,7 +10,7 @@ use Rattle.protocol_steps.specs.Effect.{has_ended, deliveries}
 use Rattle.protocol_steps.specs.Rounds.{AreRounds}
 use Rattle.protocol_steps.specs.RunEnds.{IsRunEnd}
 
--- an outcome tells of this network: each agent's value, the table and the place that it made, where it did, the standing of agent 0, how many messages were taken, and whether all agents have ended
+-- the outcome is that of this network: each agent's value, the tables that were made and the places that were found, the bounds and the threshold of agent 0, the number of messages taken, and whether all agents have ended
 pub record IsOutcomeOf (net : Network) (outcome : Outcome) : Type 0 where
   pub values : outcome.values ≡ map value_of net.views
   pub tables : outcome.tables ≡ map table_of net.views
@@ -19,7 +19,7 @@ pub record IsOutcomeOf (net : Network) (outcome : Outcome) : Type 0 where
   pub deliveries : outcome.deliveries ≡ deliveries net
   pub ended : outcome.ended ≡ has_ended net
 
--- agents that were made so have run, whoever ran them: rounds under this budget lead from their start to a network where all have ended, or the budget is spent, or nothing is pending; and this is what they have come to there
+-- agents made with these views have run, whoever ran them: rounds under this budget lead from their start to a network in which all have ended, or the budget is spent, or nothing is pending; and the outcome is that of this network
 pub record HaveRun (budget : ℕ) (made : List View) (outcome : Outcome) : Type 0 where
   pub rounds : List (List Event)
   pub end : Network

@@ -1,4 +1,4 @@
--- Which place an agent may be given, beside what it knows of the problem.
+-- The places that an agent may be given, in view of what it knows of the problem.
 use Rattle.std.specs.Prelude.{◌≡◌, ℕ, ◌<◌, ◌≤◌, true, false, not, List, length}
 use Rattle.std.specs.List.{All, zip}
 use Rattle.std.specs.List.Sorted.{IsStrictlyIncreasing}
@@ -16,7 +16,7 @@ use Rattle.protocol_steps.specs.TokenStep.{most_others}
 use Rattle.protocol_steps.specs.Knowledge.{IsSize}
 use Rattle.protocol_steps.specs.Laws.{IsParentBeside}
 
--- a path that an agent may have: not too long, of distinct variables without the agent, with one size each
+-- a path that an agent may have: it is not too long, its variables are distinct and do not include the agent, and each has one size
 pub record IsPathOf (me : ℕ) (path path_sizes : List ℕ) : Type 0 where
   pub few : length path ≤ most_others
   pub apart : has_repeat path ≡ false
@@ -25,7 +25,7 @@ pub record IsPathOf (me : ℕ) (path path_sizes : List ℕ) : Type 0 where
   pub sized : length path_sizes ≡ length path
   pub sizes : All IsSize path_sizes
 
--- a place that fits what an agent knows: each neighbour is in exactly one of the path, with the size that is known of it, and the lower ones; the parent is a neighbour; the children are lower neighbours
+-- a place that fits what an agent knows: each neighbour is either in the path, with the size that is known of it, or among the lower neighbours; the parent is a neighbour; and the children are lower neighbours
 pub record IsPlaceFor (own : Private) (place : Place) : Type 0 where
   pub me : place.me ≡ own.me
   pub path : IsPathOf own.me place.path place.path_sizes

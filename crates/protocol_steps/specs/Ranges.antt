@@ -1,4 +1,4 @@
--- The ranges of what stands in messages.
+-- The ranges of the numbers in messages.
 use Rattle.std.specs.Prelude.{ℕ, ◌<◌, ◌≤◌, List, length, Option, Some, None}
 use Rattle.std.specs.List.{All}
 use Rattle.dcop_base.specs.Limits.{amount_limit, variable_limit, size_limit, joined_limit}
@@ -6,17 +6,17 @@ use Rattle.adopt_context.specs.Context.{Context}
 use Rattle.protocol_steps.specs.declared.message.Message.{Message}
 use Rattle.protocol_steps.specs.declared.message.Message.TheVariants.{Token, Done, Util, ValueAll, Value, Cost, Threshold, Terminate}
 
--- variables below variable_limit, and no more of them than that
+-- a list of at most variable_limit variables, each below variable_limit
 pub record AreVariables (vs : List ℕ) : Type 0 where
   pub few : length vs ≤ variable_limit
   pub below : All (λ v. v < variable_limit) vs
 
--- amounts of at most amount_limit, and no more of them than a table may have cells
+-- a list of at most joined_limit amounts, each at most amount_limit
 pub record AreCells (cells : List ℕ) : Type 0 where
   pub few : length cells ≤ joined_limit
   pub below : All (λ c. c ≤ amount_limit) cells
 
--- variables below variable_limit with values below size_limit; that the variables ascend, and so are no more than variable_limit, holds of each context
+-- each variable is below variable_limit and each value below size_limit; the variables of an `AgentContext` ascend, so there are at most variable_limit of them
 abbrev pub IsContext : Context → Type 0
 IsContext c = All (λ p. (p.0 < variable_limit) × (p.1 < size_limit)) c
 

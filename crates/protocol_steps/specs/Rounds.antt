@@ -13,7 +13,7 @@ use Rattle.protocol_steps.specs.Run.{run, journal}
 abbrev pub most_events : ℕ
 most_events = 32
 
--- how many messages of one link are taken at a time: an event takes at most so many, and a round at least so many of each, where as many are pending
+-- how many messages are taken from one link at a time: an event takes at most this many, and a round takes at least this many from each link if as many are pending
 abbrev pub link_share : ℕ
 link_share = 64
 
@@ -25,7 +25,7 @@ taken_in i j es = taken_from j (flat_map (λ ts. ts) (journal i es))
 abbrev pub AreShares : List Take → Type 0
 AreShares ts = All (λ t. t.count ≤ link_share) ts
 
--- each of these events takes at most 64 messages of one sender
+-- each of these events takes at most 64 messages from one sender
 abbrev pub TakeShares : List Event → Type 0
 TakeShares es = All (λ e. AreShares e.takes) es
 
@@ -33,14 +33,14 @@ TakeShares es = All (λ e. AreShares e.takes) es
 abbrev pub HasNotEnded : Network → ℕ → Type 0
 HasNotEnded net i = (v : View) × (slice_get net.views i ≡ Some v) × (ended_of v ≡ false)
 
--- one round: events that lead from one network state to another, at most 32 of each agent, each of at most 64 messages of one sender, and on each link to an agent that is not ended afterwards at least the lesser of 64 and what was pending before
+-- one round: events that lead from one network state to another, at most 32 of each agent, each with at most 64 messages from one sender; on each link to an agent that has not ended afterwards, they take at least the lesser of 64 and what was pending at the beginning
 pub record IsRound (before : Network) (es : List Event) (after : Network) : Type 0 where
   pub leads : run before es ≡ Some after
   pub few : (i : ℕ) → length (journal i es) ≤ most_events
   pub bounded : TakeShares es
   pub served : (i j : ℕ) → HasNotEnded after i → min link_share (length (pending before i j)) ≤ taken_in i j es
 
--- rounds under a budget, which lead from one network state to another: each begins with fewer deliveries than the budget
+-- rounds under a budget lead from one network state to another: each begins with fewer deliveries than the budget
 abbrev pub AreRounds : ℕ → Network → List (List Event) → Network → Type 0
 AreRounds budget before [] after = before ≡ after
 AreRounds budget before (es ∷ pieces) after = (deliveries before < budget) × ((middle : Network) × IsRound before es middle × AreRounds budget middle pieces after)
@@ -49,7 +49,7 @@ AreRounds budget before (es ∷ pieces) after = (deliveries before < budget) × 
 abbrev pub AgreeWith : List (List Entry) → List Event → Type 0
 AgreeWith journals es = (i : ℕ) → map (λ entry. entry.takes) (slice_index_or journals i []) ≡ journal i es
 
--- a family of journals, one for each of the agents that were made so, in rounds under a budget from their start state to this end: a run cut into rounds with which the journals agree
+-- a family of journals, one for each agent made with these views, agrees with rounds under a budget from their start state to this end
 pub record AreInRounds (budget : ℕ) (made : List View) (journals : List (List Entry)) (end : Network) : Type 0 where
   pub sized : length journals ≡ length made
   pub pieces : List (List Event)

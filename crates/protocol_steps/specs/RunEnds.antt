@@ -9,7 +9,7 @@ use Rattle.protocol_steps.specs.Effect.{pending, has_ended, deliveries}
 abbrev pub NothingPending : Network → Type 0
 NothingPending net = (i j : ℕ) → pending net i j ≡ []
 
--- a run ended so, with so many deliveries: all agents have ended; or some agent has not, and the deliveries are at least the budget; or they are fewer, and nothing is pending. No two of these hold of one network
+-- a run ended in this way with n deliveries: all agents have ended; or some agent has not, and the deliveries are at least the budget; or some agent has not, the deliveries are below the budget, and nothing is pending. At most one of these holds of a network.
 abbrev pub IsRunEnd : ℕ → Network → RunEnd → Type 0
 IsRunEnd budget net (AllEnded n) = (n ≡ deliveries net) × (has_ended net ≡ true)
 IsRunEnd budget net (Spent n) = (n ≡ deliveries net) × (has_ended net ≡ false) × (budget ≤ deliveries net)

@@ -1,4 +1,4 @@
--- The stamp law: activations by piece, then by stamp, are a run.
+-- The stamp law: activations ordered by piece, and in each piece by stamp, are a run.
 use Rattle.std.specs.Prelude.{◌≡◌, ℕ, ◌<◌, ◌≤◌, List, [], ◌∷◌, ◌++◌, map, length, Some, slice_get}
 use Rattle.std.specs.List.{flat_map}
 use Rattle.protocol_steps.specs.declared.message.Message.{Message}
@@ -11,16 +11,16 @@ use Rattle.protocol_steps.specs.Deeds.{takes_of, event_of, AreDeeds, deeds_of, a
 abbrev pub IsPrefix : List (ℕ × Message) → List (ℕ × Message) → Type 0
 IsPrefix es all = (rest : List (ℕ × Message)) × (es ++ rest ≡ all)
 
--- on each link, what was taken is a first part of what was sent
+-- on each link, what was taken is the first part of what was sent
 abbrev pub TakenIsPrefix : (ℕ → Account) → Type 0
 TakenIsPrefix now = (i j : ℕ) → IsPrefix (gained_from j (now i).gains) (posted_to i (now j).posted)
 
--- the stamps are at least b, and none is below the one before
+-- the stamps are at least b, and they do not descend
 abbrev pub ByStampFrom : ℕ → List Deed → Type 0
 ByStampFrom b [] = Unit {0}
 ByStampFrom b (d ∷ ds) = (b ≤ d.stamp) × ByStampFrom d.stamp ds
 
--- pieces, each by stamp, at the end of each of which what was taken is a first part of what was sent
+-- pieces of activations, each in order of the stamps; at the end of each piece, what was taken on each link is the first part of what was sent
 abbrev pub ArePieces : (ℕ → Account) → List (List Deed) → Type 0
 ArePieces now [] = Unit {0}
 ArePieces now (ds ∷ pieces) = ByStampFrom 0 ds × TakenIsPrefix (after_all now ds) × ArePieces (after_all now ds) pieces
@@ -29,24 +29,24 @@ ArePieces now (ds ∷ pieces) = ByStampFrom 0 ds × TakenIsPrefix (after_all now
 abbrev pub all_of : List (List Deed) → List Deed
 all_of pieces = flat_map (λ ds. ds) pieces
 
--- the desk of an account: the same without stamps
+-- the desk of an account: the same without the stamps
 abbrev pub desk_of : Account → Desk
 desk_of x = record { sent = map (λ p. (p.to, p.envelope.1)) x.posted; takes = takes_of x.gains }
 
--- a network of n agents is that of their accounts
+-- a network of n agents is the one that these accounts show
 pub record Shows (n : ℕ) (net : Network) (now : ℕ → Account) : Type 0 where
   pub agents : length net.views ≡ n
   pub size : length net.desks ≡ n
   pub views : (i : ℕ) → i < n → slice_get net.views i ≡ Some (now i).view
   pub desks : (i : ℕ) → i < n → slice_get net.desks i ≡ Some (desk_of (now i))
 
--- these activations are a run, which ends in the network of these accounts
+-- these activations are a run, and it ends in the network that these accounts show
 pub record EndsAt (n : ℕ) (net : Network) (ds : List Deed) (now : ℕ → Account) : Type 0 where
   pub end : Network
   pub leads : run net (map event_of ds) ≡ Some end
   pub shows : Shows n end now
 
--- the stamp law: from a network of accounts, activations that each agent's account allows are, piece by piece and by stamp in each piece, a run
+-- the stamp law: from the network of some accounts, activations that each agent's account allows are a run when they are ordered by piece and in each piece by stamp
 abbrev pub StampsOrder : Type 0
 StampsOrder = (n : ℕ) (net : Network) (now : ℕ → Account) (pieces : List (List Deed)) → Shows n net now → TakenIsPrefix now
     → ((i : ℕ) → AreDeeds n (now i) (deeds_of i (all_of pieces))) → ArePieces now pieces → EndsAt n net (all_of pieces) (after_all now (all_of pieces))

@@ -5,7 +5,7 @@ use Rattle.protocol_steps.specs.declared.message.Message.{Message}
 use Rattle.protocol_steps.specs.View.{View}
 use Rattle.protocol_steps.specs.Step.{step_of, start_of}
 
--- what one activation takes of one sender: messages with their stamps
+-- what one activation takes from one sender: messages with their stamps
 pub record Gain : Type 0 where
   pub from : ℕ
   pub envelopes : List (ℕ × Message)
@@ -28,11 +28,11 @@ pub record Account : Type 0 where
   pub posted : List Posted
   pub gains : List Gain
 
--- what is sent in a step of this stamp
+-- what a step with this stamp sends
 abbrev pub post : ℕ → List (ℕ × Message) → List Posted
 post stamp sends = map (λ p. record { to = p.0; envelope = (stamp, p.1) }) sends
 
--- the letters of what is taken
+-- the letters in what is taken
 abbrev pub letters_of : List Gain → List (ℕ × Message)
 letters_of gains = flat_map (λ g. map (λ e. (g.from, e.1)) g.envelopes) gains
 

@@ -1,4 +1,4 @@
--- The start and one activation of an agent of any kind.
+-- The start and one activation of an agent, of any kind.
 use Rattle.std.specs.Prelude.{ℕ, List}
 use Rattle.protocol_steps.specs.declared.message.Message.{Message}
 use Rattle.protocol_steps.specs.Agent.{Stepped}
@@ -8,7 +8,7 @@ use Rattle.protocol_steps.specs.AdoptStep.{adopt_start, adopt_step}
 use Rattle.protocol_steps.specs.View.{View, TokenKind, DpopKind, AdoptKind}
 
 module _ {V : Type 0} where
-  -- a step of one kind of agent, as one of an agent
+  -- the result of one kind of agent as that of an agent of any kind
   abbrev pub as_kind : (V → View) → Stepped V → Stepped View
   as_kind kind s = record { view = kind s.view; sends = s.sends }
 

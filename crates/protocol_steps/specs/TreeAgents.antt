@@ -22,7 +22,7 @@ place_at p paths i = record {
   lower = lower_of p paths i;
 }
 
--- the token agents, which look at no cost
+-- the token agents, which do not know the costs
 abbrev pub token_agents : Dcop → List View
 token_agents p = map (λ i. TokenKind (new_token (acquaintance_of p i))) (range_with_len 0 (length p.sizes))
 

@@ -1,4 +1,4 @@
--- The view of an agent of any kind: the meaning of a machine.
+-- The view of an agent of any kind, which is the meaning of a machine.
 use Rattle.std.specs.Prelude.{ℕ, Bool, Option, Some, None}
 use Rattle.dcop_base.specs.Table.{CostTable}
 use Rattle.dcop_base.specs.declared.knowledge.Private.{Private}
@@ -11,6 +11,7 @@ use Rattle.protocol_steps.specs.Dpop.{DpopView}
 use Rattle.protocol_steps.specs.Adopt.{AdoptView}
 use Rattle.protocol_steps.specs.AdoptBounds.{lower_bound, upper_bound}
 
+-- the view of a token agent, of a DPOP agent or of an ADOPT agent
 pub data View : Type 0 where
   TokenKind : TokenView → View
   DpopKind : DpopView → View
@@ -34,40 +35,43 @@ private_of (TokenKind v) = v.own
 private_of (DpopKind v) = v.own
 private_of (AdoptKind v) = v.own
 
--- whether it has started, has ended, and has failed
+-- whether an agent has started, has ended, and has failed
 abbrev pub phase_of : View → Phase
 phase_of (TokenKind v) = v.phase
 phase_of (DpopKind v) = v.phase
 phase_of (AdoptKind v) = v.phase
 
+-- whether an agent has started
 abbrev pub started_of : View → Bool
 started_of v = (phase_of v).started
 
+-- whether an agent has ended
 abbrev pub ended_of : View → Bool
 ended_of v = (phase_of v).ended
 
+-- whether an agent has failed because memory ran out
 abbrev pub failed_of : View → Bool
 failed_of v = (phase_of v).failed
 
--- the value of an agent
+-- the value of an agent; 0 for a token agent
 abbrev pub value_of : View → ℕ
 value_of (TokenKind v) = 0
 value_of (DpopKind v) = v.value
 value_of (AdoptKind v) = v.value
 
--- the bounds and the threshold of an agent
+-- the bounds and the threshold of an ADOPT agent; 0, none and 0 for other kinds
 abbrev pub standing_of : View → Standing
 standing_of (TokenKind v) = record { lower = 0; upper = None; threshold = 0 }
 standing_of (DpopKind v) = record { lower = 0; upper = None; threshold = 0 }
 standing_of (AdoptKind v) = record { lower = lower_bound v; upper = upper_bound v; threshold = v.threshold }
 
--- the UTIL table that an agent made
+-- the UTIL table that a DPOP agent made, if it has made one
 abbrev pub table_of : View → Option CostTable
 table_of (TokenKind v) = None
 table_of (DpopKind v) = v.made
 table_of (AdoptKind v) = None
 
--- the place that an ended token agent found
+-- the place that a token agent found, if it has ended
 abbrev pub place_of : View → Option Place
 place_of (TokenKind v) = token_place v
 place_of (DpopKind v) = None

@@ -1,23 +1,23 @@
-//! Events: which agent takes how many messages of whom.
+//! Events: which agent takes how many messages from whom.
 
 use dcop_base::{Sequence, VarId};
 
-/// The next so many messages of one sender.
+/// The next `count` messages of one sender.
 #[derive(Clone, Copy, Debug, PartialEq, Eq)]
 pub struct Take {
     /// The sender.
     pub from: VarId,
-    /// How many of its messages are taken.
+    /// The number of its messages that are taken.
     pub count: u32,
 }
 
-/// What one activation takes, by ascending senders.
+/// What one activation takes, in ascending order of the senders.
 pub type TakeList = Sequence<Take>;
 
 /// One activation of one agent.
 #[derive(Clone, Debug, PartialEq, Eq, Drop)]
 pub struct Event {
-    /// The agent that takes.
+    /// The agent that takes messages.
     pub agent: VarId,
     /// What it takes.
     pub takes: TakeList,
@@ -29,7 +29,8 @@ pub type EventList = Sequence<Event>;
 /// One activation in an agent's own journal.
 #[derive(Clone, Debug, PartialEq, Eq, Drop)]
 pub struct Entry {
-    /// The activation's stamp: above those of the agent's earlier entries and of all that it took.
+    /// The activation's stamp. It is above those of the agent's earlier entries and of all that the
+    /// activation took.
     pub stamp: u64,
     /// What was taken.
     pub takes: TakeList,
@@ -41,24 +42,24 @@ pub type Journal = Sequence<Entry>;
 /// One journal for each agent.
 pub type JournalList = Sequence<Journal>;
 
-/// Why an event is not lawful. Where several hold, the first one counts.
+/// Why an event is not lawful. If several reasons apply, the first one counts.
 #[derive(Clone, Copy, Debug, PartialEq, Eq)]
 pub enum EventFault {
-    /// There is no agent, or no sender, of that number.
+    /// There is no agent, or no sender, with this number.
     Nobody,
     /// The agent has ended.
     Ended,
-    /// There is no take, or one of no message.
+    /// There is no take, or a take of no messages.
     Nothing,
-    /// The senders do not ascend.
+    /// The senders are not strictly ascending.
     Order,
-    /// More was asked of a sender than it has sent and the agent has not taken.
+    /// More messages were asked of a sender than it has sent and the agent has not taken.
     TooMany {
         /// The sender.
         from: VarId,
-        /// How many messages were asked.
+        /// The number of messages that were asked.
         asked: u64,
-        /// How many were there.
+        /// The number of messages that were there.
         there: u64,
     },
 }

@@ -1,5 +1,5 @@
 //! Laws that follow from the definitions alone. Each is the contract of a call that does nothing:
-//! who needs the law calls it.
+//! code that needs the law calls it.
 
 ghost use Rattle.protocol_steps.specs.Knowledge.{PrivatesAreKnowledge, AcquaintancesAreKnowledge};
 ghost use Rattle.protocol_steps.specs.Placing.{PlacesFit};
@@ -10,12 +10,13 @@ ghost use Rattle.protocol_steps.specs.RoundBounds.{RoundsAreBounded};
 ghost use Rattle.protocol_steps.specs.StampLaw.{StampsOrder};
 ghost use Rattle.protocol_steps.specs.JournalStamps.{StartsShow, JournalsOrder};
 
-/// What an agent is given of a problem is what an agent may be made from.
+/// What an agent is given of a problem is knowledge from which an agent may be made.
 pub fn private_is_knowledge()
     ensures { PrivatesAreKnowledge }
 {}
 
-/// What an agent is given of a problem that looks at no cost is what an agent may be made from too.
+/// What an agent is given of a problem without the costs is knowledge from which an agent may be
+/// made.
 pub fn acquaintance_is_knowledge()
     ensures { AcquaintancesAreKnowledge }
 {}
@@ -26,45 +27,47 @@ pub fn places_fit()
     ensures { PlacesFit }
 {}
 
-/// What an agent was made from never changes, by its start and by each step.
+/// What an agent was made from never changes, neither by its start nor by a step.
 pub fn origins_stay()
     ensures { OriginsStay }
 {}
 
-/// Each parcel of a start and of a step goes to a neighbour that the view names, where the agent's
-/// parent and children are among its neighbours and what it takes comes from neighbours. This stays
-/// so.
+/// Each parcel of a start or a step goes to a neighbour that the view names, if the agent's parent
+/// and children are among its neighbours and what it takes comes from neighbours. The parent and
+/// the children stay among the neighbours.
 pub fn parcels_go_to_neighbours()
     ensures { ParcelsGoToNeighbours }
 {}
 
-/// What stands on the links of a network: in the start state what the starts sent, and after a
-/// lawful event besides each parcel of the step, and the number taken rises by the takes.
+/// In the start state the links of a network hold what the starts sent, and nothing is taken; a
+/// lawful event appends each parcel of its step to its link, and the numbers taken rise by its
+/// takes.
 pub fn links_grow()
     ensures { LinksGrow }
 {}
 
-/// The journal law: two runs that agree with the same journals end in the same network state.
+/// The journal law: two runs from one network state with the same journals end in the same network
+/// state.
 pub fn journals_decide()
     ensures { JournalsDecide }
 {}
 
-/// The stamp law: activations that each agent's own account allows are a run, by piece and by
-/// stamp in each piece, where at the end of each piece what was taken on a link is a first part
+/// The stamp law: activations that each agent's own account allows are a run, ordered by piece and
+/// in each piece by stamp, if at the end of each piece what was taken on a link is the first part
 /// of what was sent.
 pub fn stamps_order()
     ensures { StampsOrder }
 {}
 
 /// The start state is the network of its agents' accounts, and nothing is taken in it, so the stamp
-/// law may begin there.
+/// law applies to it.
 pub fn starts_show()
     ensures { StartsShow }
 {}
 
-/// The stamp law for journals: the activations that agents' journals and the lists of the messages
-/// that they took tell are, by piece and by stamp in each piece, a run from the start state, and
-/// the journals agree with it.
+/// The stamp law for journals: the activations that are given by agents' journals and the lists of
+/// messages that they took are a run from the start state, ordered by piece and in each piece by
+/// stamp. The journals agree with this run.
 pub fn journals_order()
     ensures { JournalsOrder }
 {}
@@ -74,9 +77,9 @@ pub fn rounds_are_a_run()
     ensures { RoundsAreARun }
 {}
 
-/// The events of rounds take at most 64 messages of one sender, and so do those of every run with the
-/// same journals, so also the log of such a run. Rounds take no more messages than the budget and
-/// what one round takes at most.
+/// The events of rounds take at most 64 messages from one sender. So do those of every run with the
+/// same journals, and so does the log of such a run. Rounds take no more messages than the budget
+/// plus the most that one round takes.
 pub fn rounds_are_bounded()
     ensures { RoundsAreBounded }
 {}

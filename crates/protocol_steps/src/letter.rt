@@ -1,4 +1,4 @@
-//! Messages on their way, within their ranges.
+//! Messages in transit, with numbers within their ranges.
 
 use crate::message::Message;
 use dcop_base::{Sequence, VarId};
@@ -6,13 +6,14 @@ use std::marker::Model;
 
 /// A message on a link, with the stamp of the step that sent it. Contracts see the pair.
 ///
-/// The stamp is at most `CAP`, and the message keeps its ranges: amounts at most `CAP`, variables
-/// below 1,000, values below 1,024, lists of at most 1,000 variables or 2^20 cells.
+/// The stamp is at most `CAP`, and the message's numbers are in their ranges: amounts are at most
+/// `CAP`, variables below 1,000, values below 1,024, and lists have at most 1,000 variables or 2^20
+/// cells.
 #[derive(Debug, Drop)]
 pub struct Envelope {
     /// The stamp of the sender's step; 0 for its start.
     pub stamp: u64,
-    /// What is said.
+    /// The message.
     pub message: Message,
 }
 
@@ -29,13 +30,13 @@ impl Model for Envelope {
     ghost invariant = { λ e. (e.stamp ≤ amount_limit) × IsInRange e.message };
 }
 
-/// A message that an agent takes, with its sender. Contracts see the pair. The message keeps the
-/// ranges of [`Envelope`].
+/// A message that an agent takes, with its sender. Contracts see the pair. The message's numbers
+/// are in the ranges of [`Envelope`].
 #[derive(Debug, Drop)]
 pub struct Letter {
-    /// Who sent it.
+    /// The sender.
     pub from: VarId,
-    /// What is said.
+    /// The message.
     pub message: Message,
 }
 
@@ -51,13 +52,13 @@ impl Model for Letter {
     ghost invariant = { λ l. IsInRange l.message };
 }
 
-/// A message that an agent sends, with its receiver. Contracts see the pair. The message keeps
-/// the ranges of [`Envelope`].
+/// A message that an agent sends, with its receiver. Contracts see the pair. The message's numbers
+/// are in the ranges of [`Envelope`].
 #[derive(Debug, Drop)]
 pub struct Parcel {
-    /// Who is to get it.
+    /// The receiver.
     pub to: VarId,
-    /// What is said.
+    /// The message.
     pub message: Message,
 }
 
@@ -73,7 +74,7 @@ impl Model for Parcel {
     ghost invariant = { λ p. IsInRange p.message };
 }
 
-/// The messages that one activation takes, sender by sender.
+/// The messages that one activation takes, in ascending order of the senders.
 pub type Batch = Sequence<Letter>;
 
 /// The messages that one activation sends, in order.

@@ -1,12 +1,15 @@
-//! What agents say to each other, and what one activation of an agent does.
+//! The messages of agents, and what one activation of an agent does.
 //!
-//! A [`Message`] travels in a [`Parcel`] to a neighbour, as an [`Envelope`] with its stamp on a
-//! link, and in a [`Letter`] to the agent that takes it; these three keep its numbers in their
-//! ranges. A [`Machine`] is an agent: its meaning is a view, a plain value that holds what the
-//! agent was made from and where it stands. `start` and `react` give the view and the parcels
-//! that the definitions of the token step, the DPOP step and the ADOPT step say, and nothing else
-//! is known of an agent. Over these steps stand networks, lawful events, runs, journals, stamps
-//! and rounds, with the journal law and the stamp law.
+//! A [`Message`] is sent in a [`Parcel`] to a neighbour, is on a link as an [`Envelope`] with its
+//! stamp, and is taken by its receiver in a [`Letter`]. These three keep its numbers in their
+//! ranges. A [`Machine`] is an agent. Its meaning is a view: a plain value that holds what the
+//! agent was made from and its present state. `start` and `react` give the view and the parcels
+//! that the definitions of the token step, the DPOP step and the ADOPT step state. The crates above
+//! know nothing else of an agent. `specs/` builds networks, lawful events, runs, journals, stamps
+//! and rounds on these steps, with the journal law and the stamp law.
+//!
+//! The steps follow DPOP (Petcu, Faltings, IJCAI 2005) and ADOPT (Modi, Shen, Tambe, Yokoo,
+//! Artificial Intelligence 161, 2005).
 #![tactic(auto)]
 
 mod event;

@@ -10,14 +10,18 @@ use crate::standing::Standing;
 use dcop_base::{NoMemory, Table, Val};
 use pseudotree::Place;
 
-/// An agent. Its meaning is its view: what it was made from, and where it stands.
+/// An agent. Its meaning is its view: what it was made from, and its present state.
 ///
-/// After [`NoMemory`] an agent has failed: each later `start` and `react` answers [`NoMemory`]
-/// too, and what stands in `out` then is not to be sent.
+/// After [`NoMemory`] an agent has failed. Each later `start` and `react` returns [`NoMemory`] too,
+/// and the parcels that are then in `out` must not be sent.
 pub trait Machine: Drop {
     ghost meaning: { Self → View };
 
-    /// Starts the agent. `out` gets what it sends.
+    /// Starts the agent. Puts what it sends into `out`.
+    ///
+    /// # Errors
+    ///
+    /// [`NoMemory`] if memory runs out.
     fn start(&mut self, out: &mut Outbox) -> Result<(), NoMemory>
         requires ready { MayStart (meaning self.old) }
         requires empty { out.old ≡ [] }
@@ -27,7 +31,11 @@ pub trait Machine: Drop {
         ensures receivers { All (IsToNeighbour (meaning self.old)) out.new }
         ensures again { failed_of (meaning self.old) ≡ true → IsErr result };
 
-    /// One activation on a whole batch. `out` gets what the agent sends.
+    /// One activation on a whole batch. Puts what the agent sends into `out`.
+    ///
+    /// # Errors
+    ///
+    /// [`NoMemory`] if memory runs out.
     fn react(&mut self, batch: &Batch, out: &mut Outbox) -> Result<(), NoMemory>
         requires ready { MayReact (meaning self.old) }
         requires empty { out.old ≡ [] }
@@ -42,22 +50,22 @@ pub trait Machine: Drop {
     fn ended(&self) -> bool
         ensures { result ≡ ended_of (meaning self.now) };
 
-    /// The agent's value; 0 until it takes one.
+    /// The agent's value; 0 as long as it has taken none.
     fn value(&self) -> Val
         ensures { result ≡ value_of (meaning self.now) };
 
-    /// The bounds and the threshold of an ADOPT agent; 0, none and 0 of another kind.
+    /// The bounds and the threshold of an ADOPT agent; 0, none and 0 for other kinds.
     fn standing(&self) -> Standing
         ensures { result ≡ standing_of (meaning self.now) };
 
-    /// The UTIL table that a DPOP agent made; `None` exactly before it has joined, and for other
-    /// kinds.
+    /// The UTIL table that a DPOP agent made; `None` exactly if the agent has not joined or is of
+    /// another kind.
     fn table(&self) -> Option<&Table>
         ensures { MatchOption result (table_of (meaning self.now) ≡ None)
             (λ t. table_of (meaning self.now) ≡ Some t.now) };
 
-    /// The place of an ended token agent, without the path's sizes; `None` exactly before a token
-    /// agent has ended, and for other kinds.
+    /// The place of an ended token agent, without the path's sizes; `None` exactly if the agent has
+    /// not ended or is of another kind.
     fn place(&self) -> Option<&Place>
         ensures { MatchOption result (place_of (meaning self.now) ≡ None)
             (λ p. place_of (meaning self.now) ≡ Some p.now) };

@@ -3,18 +3,20 @@
 use adopt_context::AgentContext;
 use dcop_base::{CellList, Val, VarList};
 
-/// What one agent says to another.
+/// A message from one agent to another.
 #[derive(Clone, Debug, Drop)]
 pub enum Message {
-    /// From a parent: search on from here. The path is that of the receiver, from the root down.
+    /// From a parent: continue the search from here. The path is that of the receiver, from the
+    /// root down.
     Token {
         path: VarList,
     },
-    /// From a child: its subtree is searched. All variables of it, in preorder.
+    /// From a child: its subtree has been searched. `visited` has all variables of the subtree, in
+    /// preorder.
     Done {
         visited: VarList,
     },
-    /// From a child: the least costs of its subtree, at all values of its separator.
+    /// From a child: the least costs of its subtree, for all values of its separator.
     Util {
         scope: VarList,
         cells: CellList,
@@ -27,18 +29,19 @@ pub enum Message {
     Value {
         value: Val,
     },
-    /// From a child: bounds of its subtree's cost in a context; `None` is no upper bound yet.
+    /// From a child: bounds on the cost of its subtree in a context. `upper` is `None` as long as
+    /// there is no upper bound.
     Cost {
         context: AgentContext,
         lower: u64,
         upper: Option<u64>,
     },
-    /// From a parent: how much the child's subtree may cost in a context.
+    /// From a parent: the threshold of the child's subtree in a context.
     Threshold {
         amount: u64,
         context: AgentContext,
     },
-    /// From a parent: the last values of the path. The child may end.
+    /// From a parent: the final values of the path. The child may end.
     Terminate {
         context: AgentContext,
     },

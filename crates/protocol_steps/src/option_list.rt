@@ -1,4 +1,4 @@
-//! Lists of what may be missing.
+//! Lists whose items may be missing.
 
 ghost use Rattle.std.specs.Prelude.{◌≡◌, ◌<◌, [], ◌∷◌, ◌++◌, length, get_or, if◌then◌else◌, is_ok, MatchOption, OnOk, Some, None};
 
@@ -6,8 +6,8 @@ use dcop_base::NoMemory;
 use std::alloc::Global;
 use std::marker::Model;
 
-/// A list of items that may be missing, which contracts see as the list of its options. The missing
-/// ones before the first that is there take no memory.
+/// A list whose items may be missing, which contracts see as a list of options. Missing items
+/// before the first present one take no memory.
 #[derive(Debug, Drop)]
 pub struct OptionList<T> {
     len: usize,
@@ -26,7 +26,7 @@ impl<T> Model for OptionList<T> {
 }
 
 impl<T> OptionList<T> {
-    /// The list of no items. Once it takes memory, it takes it for so many items at first.
+    /// The empty list. When it first allocates, it reserves room for `room` items.
     pub fn new(alloc: Global, room: usize) -> Self
         ensures { result ≡ [] }
     {
@@ -37,14 +37,14 @@ impl<T> OptionList<T> {
         }
     }
 
-    /// How many items there are, with those that are missing.
+    /// The number of items, including the missing ones.
     pub fn len(&self) -> usize
         ensures { result ≡ length self.now }
     {
         self.len
     }
 
-    /// The item at a place; `None` where it is missing, and behind the last one.
+    /// The item at a place; `None` if it is missing or the place is beyond the last one.
     pub fn get(&self, place: usize) -> Option<&T>
         ensures { MatchOption result (get_or self.now place None ≡ None)
             (λ item. get_or self.now place None ≡ Some item.now) }
@@ -61,11 +61,11 @@ impl<T> OptionList<T> {
 }
 
 impl<T: Drop> OptionList<T> {
-    /// Adds an item at the end, which may be missing. There are fewer items than a `usize` can count.
+    /// Adds an item, which may be missing, at the end.
     ///
     /// # Errors
     ///
-    /// [`NoMemory`] where memory was wanted and not had.
+    /// [`NoMemory`] if memory runs out.
     pub fn push(&mut self, item: Option<T>) -> Result<(), NoMemory>
         requires { length self.old < usize.MAX }
         ensures { OnOk result (self.new ≡ self.old ++ item ∷ []) }
@@ -79,7 +79,7 @@ impl<T: Drop> OptionList<T> {
     }
 }
 
-/// Adds an item to those that are kept, where the first one takes memory for so many.
+/// Adds an item to those that are kept. The first one reserves room for `room` items.
 fn keep<T: Drop>(kept: &mut Vec<Option<T>>, room: usize, item: Option<T>) -> Result<(), NoMemory>
     ensures { kept.new.items ≡ (if is_ok result then kept.old.items ++ item ∷ [] else kept.old.items) }
 {

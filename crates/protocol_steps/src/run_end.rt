@@ -1,7 +1,7 @@
 //! How a run of agents ended.
 
-/// How a run of agents under a budget of deliveries ended. Each end has the deliveries: how many
-/// messages were taken.
+/// How a run of agents under a budget of deliveries ended. Each variant has the deliveries: the
+/// number of messages that were taken.
 #[derive(Clone, Copy, Debug, PartialEq, Eq)]
 pub enum RunEnd {
     /// Every agent has ended.

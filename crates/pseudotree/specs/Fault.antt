@@ -1,4 +1,4 @@
--- Why parents form no pseudotree of a problem: the first reason, in the order in which they are refused.
+-- Why parents do not form a pseudotree of a problem: the first reason, in the order of the checks.
 use Rattle.std.specs.Prelude.{◌≡◌, ◌≢◌, ℕ, ◌<◌, ◌≤◌, true, false, List, [], ◌∷◌, map, length, Option, Some, None, is_none, slice_index_or}
 use Rattle.std.specs.List.{count_by, range_with_len}
 use Rattle.dcop_base.specs.Problem.{Dcop}
@@ -21,11 +21,11 @@ pub record AreParents (p : Dcop) (parents : List (Option ℕ)) : Type 0 where
 abbrev pub parents_of : List (List ℕ) → List (Option ℕ)
 parents_of paths = map (parent_of paths) (range_with_len 0 (length paths))
 
--- how many variables have no parent
+-- the number of variables without a parent
 abbrev pub root_count : List (Option ℕ) → ℕ
 root_count parents = count_by is_none parents
 
--- these are the parent of v, the parent of that one, and so on up to a variable without a parent
+-- these are the parent of v, its parent, and so on up to a variable without a parent
 abbrev pub IsClimb : List (Option ℕ) → ℕ → List ℕ → Type 0
 IsClimb parents v [] = parent_at parents v ≡ None
 IsClimb parents v (u ∷ us) = (parent_at parents v ≡ Some u) × IsClimb parents u us
@@ -34,7 +34,7 @@ IsClimb parents v (u ∷ us) = (parent_at parents v ≡ Some u) × IsClimb paren
 abbrev pub ReachesRoot : List (Option ℕ) → ℕ → Type 0
 ReachesRoot parents v = (us : List ℕ) × IsClimb parents v us
 
--- the lowest variable whose parents do not reach the root
+-- the lowest variable whose parents do not reach a root
 pub record IsFirstLoop (parents : List (Option ℕ)) (var : ℕ) : Type 0 where
   pub within : var < length parents
   pub loops : ¬ ReachesRoot parents var
@@ -53,14 +53,14 @@ pub record IsLeastSplit (p : Dcop) (paths : List (List ℕ)) (one other : ℕ) :
   pub lower : (u v : ℕ) → IsSplit p paths u v → one ≤ u
   pub higher : (v : ℕ) → IsSplit p paths one v → other ≤ v
 
--- the parents are those of a tree with these paths, in which this is the least pair that is not ancestor and descendant
+-- the parents are those of a tree with these paths, and this is its least pair of neighbours that are not ancestor and descendant
 pub record SplitsAt (p : Dcop) (parents : List (Option ℕ)) (one other : ℕ) : Type 0 where
   pub paths : List (List ℕ)
   pub tree : IsTree paths
   pub parents_are : parents ≡ parents_of paths
   pub least : IsLeastSplit p paths one other
 
--- the first reason why parents form no pseudotree; want of memory is none
+-- the fault is the first reason why parents do not form a pseudotree, or that memory ran out, which says nothing of the parents
 abbrev pub IsFirstFault : Dcop → List (Option ℕ) → TreeFault → Type 0
 IsFirstFault p parents (Roots count) = (root_count parents ≡ count) × (count ≢ 1)
 IsFirstFault p parents (Loop var) = (root_count parents ≡ 1) × IsFirstLoop parents var

@@ -1,9 +1,9 @@
--- The preorder of a tree: each variable stands before its descendants, and children ascend.
+-- The preorder of a tree: each variable comes before its descendants, and children are in ascending order.
 use Rattle.std.specs.Prelude.{ℕ, zero, suc, List, [], ◌∷◌, length, ◌==◌}
 use Rattle.std.specs.List.{filter, flat_map, range_with_len}
 use Rattle.pseudotree.specs.Tree.{path_of, children_of}
 
--- a variable and then the subtrees of its children, in their order, down to so many levels below it
+-- a variable and then the subtrees of its children, in their order, down to `levels` levels below it
 abbrev pub subtree : (ℕ → List ℕ) → ℕ → ℕ → List ℕ
 subtree children zero v = v ∷ []
 subtree children (suc levels) v = v ∷ flat_map (subtree children levels) (children v)

@@ -7,11 +7,11 @@ use Rattle.dcop_base.specs.Table.{has}
 abbrev pub path_of : List (List ℕ) → ℕ → List ℕ
 path_of paths v = slice_index_or paths v []
 
--- the parent of a variable, the last one of its path; the root has none
+-- the parent of a variable: the last one of its path; a root has none
 abbrev pub parent_of : List (List ℕ) → ℕ → Option ℕ
 parent_of paths v = slice_get (path_of paths v) (length (path_of paths v) - 1)
 
--- whether this parent is variable i
+-- whether an optional variable is i
 abbrev pub is_variable : ℕ → Option ℕ → Bool
 is_variable i None = false
 is_variable i (Some u) = u == i
@@ -28,7 +28,7 @@ is_above paths a v = has (path_of paths v) a
 abbrev pub IsRoot : List (List ℕ) → ℕ → Type 0
 IsRoot paths v = (v < length paths) × (path_of paths v ≡ [])
 
--- a rooted tree: it has one root, and a path is that of the parent and then the parent
+-- a rooted tree: it has exactly one root, and the path of each other variable is the path of its parent followed by the parent
 pub record IsTree (paths : List (List ℕ)) : Type 0 where
   pub some_root : (root : ℕ) × IsRoot paths root
   pub one_root : (u v : ℕ) → IsRoot paths u → IsRoot paths v → u ≡ v

@@ -9,7 +9,7 @@ pub struct Place {
     pub me: VarId,
     /// The proper ancestors of the variable, from the root down.
     pub path: VarList,
-    /// How many values each variable of the path has.
+    /// The number of values of each variable of the path.
     pub path_sizes: SizeList,
     /// The children of the variable, ascending.
     pub children: VarList,

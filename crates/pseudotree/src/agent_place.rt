@@ -10,6 +10,10 @@ use dcop_base::{NoMemory, Problem, SizeList, VarId, VarList};
 use std::alloc::Global;
 
 /// The place of variable `me` in a tree of this problem.
+///
+/// # Errors
+///
+/// [`NoMemory`] if memory runs out.
 pub fn place(alloc: Global, tree: &Tree, problem: &Problem, me: VarId) -> Result<Place, NoMemory>
     requires pseudotree { IsPseudotreeOf problem.now tree.now }
     requires within { me < length problem.now.sizes }

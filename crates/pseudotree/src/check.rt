@@ -18,11 +18,14 @@ use crate::tree::Tree;
 use dcop_base::{MAX_VARIABLES, NoMemory, Problem, VarId, VarList, problem_is_whole};
 use std::alloc::Global;
 
-/// The tree of these parents, or the first reason why they form no pseudotree of the problem.
+/// The tree of these parents, or the first reason why they do not form a pseudotree of the problem.
 ///
-/// There is one entry for each variable, the parent of a variable or `None` for the root. The
-/// reasons are told in the order of [`TreeFault`]. The time is of the order of the tables' scopes
-/// and the square of the number of variables.
+/// `parents` has one entry for each variable: its parent, or `None` for the root. The time is
+/// proportional to the tables' scopes plus the square of the number of variables.
+///
+/// # Errors
+///
+/// The first reason, in the order of [`TreeFault`], or [`TreeFault::NoMemory`] if memory runs out.
 pub fn check_tree(
     alloc: Global,
     problem: &Problem,
@@ -42,12 +45,12 @@ pub fn check_tree(
     tree_of(alloc, problem, paths)
 }
 
-/// The tree with the paths of a pseudotree of the problem: [`check_tree`] gives the same for its
-/// parents, and makes the paths again. The time is that of `check_tree`.
+/// The tree with the paths of a pseudotree of the problem. [`check_tree`] gives the same tree for
+/// its parents, but computes the paths again. Takes the same order of time as `check_tree`.
 ///
 /// # Errors
 ///
-/// [`NoMemory`] where memory was wanted and not had. The paths are gone then too.
+/// [`NoMemory`] if memory runs out. The paths are dropped in that case.
 pub fn tree_on(alloc: Global, problem: &Problem, paths: Vec<VarList>) -> Result<Tree, NoMemory>
     requires { IsPseudotree problem.now paths.items }
     ensures tree { IfOk result (IsPseudotreeOf problem.now) }
@@ -60,7 +63,7 @@ pub fn tree_on(alloc: Global, problem: &Problem, paths: Vec<VarList>) -> Result<
     }
 }
 
-/// Want of memory, where nothing else is at fault.
+/// The fault of a tree that has no other fault than that memory ran out.
 fn only_memory(fault: TreeFault) -> NoMemory
     requires { fault ≡ TreeFault.NoMemory }
 {
@@ -70,7 +73,7 @@ fn only_memory(fault: TreeFault) -> NoMemory
     }
 }
 
-/// The tree with these paths, or the least pair that is not ancestor and descendant.
+/// The tree with these paths, or the least pair of neighbours that are not ancestor and descendant.
 fn tree_of(alloc: Global, problem: &Problem, paths: Vec<VarList>) -> Result<Tree, TreeFault>
     requires few { length paths.items ≤ variable_limit }
     requires sized { length paths.items ≡ length problem.now.sizes }

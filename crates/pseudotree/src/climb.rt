@@ -10,14 +10,14 @@ use crate::fault::TreeFault;
 use dcop_base::{MAX_VARIABLES, NoMemory, VarId, VarList};
 use std::alloc::Global;
 
-/// How many variables have no parent.
+/// The number of variables without a parent.
 pub(crate) fn root_count(parents: &[Option<VarId>]) -> u64
     ensures { result ≡ root_count parents.now }
 {
     parents.iter().filter(|parent| parent.is_none()).count() as u64
 }
 
-/// The path of each variable, or the lowest variable whose parents do not reach the root.
+/// The path of each variable, or the lowest variable whose parents do not reach a root.
 pub(crate) fn paths_of(alloc: Global, parents: &[Option<VarId>]) -> Result<Vec<VarList>, TreeFault>
     requires few { length parents.now ≤ variable_limit }
     requires known { AreKnown parents.now }
@@ -36,10 +36,10 @@ pub(crate) fn paths_of(alloc: Global, parents: &[Option<VarId>]) -> Result<Vec<V
     Ok(paths)
 }
 
-/// The path to a variable; `None` where its parents do not reach the root.
+/// The path to a variable; `None` if its parents do not reach a root.
 ///
-/// It climbs no further than to a variable whose path is known. `climb` is room for the variables
-/// on the way.
+/// The climb ends at the first variable whose path is known. `climb` is room for the variables on
+/// the way.
 fn path_to(
     alloc: Global,
     parents: &[Option<VarId>],
@@ -70,7 +70,8 @@ fn path_to(
     Ok(None)
 }
 
-/// A path that is known, and then the climb that led to its end, backwards. Turns the climb round.
+/// A known path followed by the climb that led to its end, in reverse order. Reverses `climb` in
+/// place.
 fn path_through(alloc: Global, known: &[VarId], climb: &mut [VarId]) -> Result<VarList, NoMemory>
     ensures { IfOk result (λ path. path ≡ known.now ++ reverse climb.old) }
 {

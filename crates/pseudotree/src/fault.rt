@@ -3,17 +3,17 @@
 use dcop_base::{NoMemory, VarId};
 use std::alloc::{AllocError, AllocFailed};
 
-/// Why parents form no pseudotree of a problem.
+/// Why parents do not form a pseudotree of a problem.
 #[derive(Clone, Copy, Debug, PartialEq, Eq)]
 pub enum TreeFault {
-    /// The number of variables without a parent is not 1 but `count`.
+    /// The number of variables without a parent is `count`, which is not 1.
     Roots { count: u64 },
     /// The parents of `var` do not reach the root, and it is the lowest such variable.
     Loop { var: VarId },
-    /// The two variables share a table or a joint and are not ancestor and descendant. It is the
+    /// The two variables share a table or a joint and are not ancestor and descendant. They are the
     /// least such pair: by `one`, which is the lower of the two, and then by `other`.
     Pair { one: VarId, other: VarId },
-    /// Memory was wanted and not had.
+    /// Memory ran out.
     NoMemory,
 }
 

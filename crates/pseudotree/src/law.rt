@@ -1,17 +1,18 @@
 //! Laws of trees that follow from the definitions alone. Each is the contract of a call that does
-//! nothing: who needs the law calls it.
+//! nothing: code that needs the law calls it.
 
 ghost use Rattle.pseudotree.specs.Pseudotree.{SeparatorsNest};
 ghost use Rattle.pseudotree.specs.Owner.{TablesHaveOwners};
 ghost use Rattle.pseudotree.specs.DepthFirst.{DepthFirstTreesAreLinked};
 
-/// In every tree, the separator of a child lies within its parent's separator and the parent.
+/// In every tree, each variable of a child's separator is the child's parent or is in the parent's
+/// separator.
 pub fn separators_nest()
     ensures { SeparatorsNest }
 {}
 
-/// In every pseudotree, each table belongs to exactly one of its variables: the one that has all
-/// others of the table as ancestors.
+/// In every pseudotree of a problem, each table belongs to exactly one variable: the one whose
+/// ancestors are all other variables of the table.
 pub fn tables_have_owners()
     ensures { TablesHaveOwners }
 {}

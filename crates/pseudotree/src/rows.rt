@@ -6,7 +6,7 @@ ghost use Rattle.pseudotree.specs.Rows.{pushed};
 use dcop_base::{NoMemory, VarId, VarList};
 use std::alloc::Global;
 
-/// So many rows without an item.
+/// `count` empty rows.
 pub(crate) fn empty_rows(alloc: Global, count: usize) -> Result<Vec<VarList>, NoMemory>
     ensures { IfOk result (λ rows. rows.items ≡ replicate count []) }
 {

@@ -1,4 +1,4 @@
-//! Trees and their readers.
+//! Trees and their accessors.
 
 ghost use Rattle.std.specs.Prelude.{◌≡◌, ◌<◌, length, slice_index_or, []};
 ghost use Rattle.pseudotree.specs.Tree.{path_of, parent_of, children_of};
@@ -8,8 +8,8 @@ ghost use Rattle.pseudotree.specs.Pseudotree.{separator_at};
 use dcop_base::{VarId, VarList};
 use std::marker::Model;
 
-/// A rooted tree on the variables of a problem, with what the agents need of it: its
-/// separators and the neighbours of each variable that are its descendants.
+/// A rooted tree on the variables of a problem, with what the agents need of it: the separator of
+/// each variable, and those of its neighbours that are its descendants.
 #[derive(Debug, Drop)]
 pub struct Tree {
     pub(crate) paths: Vec<VarList>,
@@ -47,7 +47,8 @@ impl Tree {
         &self.children[var.0 as usize]
     }
 
-    /// All variables in preorder: each before its descendants, and children ascending.
+    /// All variables in preorder: each comes before its descendants, and children are in ascending
+    /// order.
     pub fn preorder(&self) -> &VarList
         ensures { result.now ≡ preorder_of self.now.paths }
     {

@@ -1,5 +1,5 @@
-//! Runs pumps over wires in memory, and prints a line for each row:
-//! its name and its count, or that it went otherwise than the row says.
+//! Runs pumps over wires in memory, and prints a line for each row: its name and its count, or that
+//! the run did not go as the row says.
 #![tactic(auto)]
 
 mod rows;

@@ -1,4 +1,4 @@
-//! The rows. Each answers its count, or None where it went otherwise.
+//! The rows. Each gives its count, or `None` if the run did not go as the row says.
 
 ghost use Rattle.std.specs.Prelude.{IsSome};
 
@@ -13,10 +13,10 @@ use std::time::Clock;
 use wire_edge::{Dialer, MemoryDialer, PollFail, SteadyDialer, Wire};
 use wire_pump::{Pump, Pumped, pump_by};
 
-/// How many polls a pump may take to its end.
+/// The most polls that a pump may take to its end.
 const MOST_POLLS: u64 = 20_000;
 
-/// How often a pump that waits for good is polled.
+/// How many times a pump that waits for good is polled.
 const WAITS: u64 = 100;
 
 /// How many bytes go each way in the longest row.
@@ -40,8 +40,8 @@ where
     Some(polls)
 }
 
-// Polls until the pump is ready, and answers how often that was and what it gave; None where it
-// failed or took more than `MOST_POLLS`.
+// Polls until the pump is ready. Gives how many polls that took and what the pump gave; `None` if
+// it failed or took more than `MOST_POLLS`.
 fn poll_to_end<W: Wire>(task: &MockTask, pump: Pump<W>) -> Option<(u64, Pumped<W>)>
     requires { IsSome pump.state }
 {
@@ -85,8 +85,8 @@ fn waits_for_good<W: Wire>(task: &MockTask, pump: Pump<W>) -> bool
     true
 }
 
-/// One failing poll of this end, for each poll that a run without faults makes: how many there are.
-/// Each such run ends in the fault of the pump.
+/// How many polls of this end a run without faults makes. For each of them there is a run in which
+/// it fails, and each such run ends in the fault of the pump.
 pub(crate) fn failing_polls<R>(rt: &R, first_end: bool) -> Option<u64>
 where
     R: Threads + Wait + Clock + RandomSource + Net + AllocGlobal + Sync,
@@ -99,8 +99,8 @@ where
     None
 }
 
-// Whether the pump comes to its end where this poll of this end fails; None where memory is wanted,
-// or bytes came in that were not sent.
+// Whether the pump ends if this poll of this end fails; `None` if memory runs out, or bytes arrived
+// that were not sent.
 fn ends_with_failing<R>(rt: &R, first_end: bool, poll: u64) -> Option<bool>
 where
     R: Threads + Wait + Clock + RandomSource + Net + AllocGlobal + Sync,
@@ -124,7 +124,7 @@ where
     Some(true)
 }
 
-/// A mebibyte each way: how many bytes came in at each end, where they are those that were sent.
+/// A mebibyte each way: how many bytes arrived at each end, if they are those that were sent.
 pub(crate) fn megabyte<R>(rt: &R) -> Option<u64>
 where
     R: Threads + Wait + Clock + RandomSource + Net + AllocGlobal + Sync,

@@ -3,14 +3,14 @@
 use dcop_base::Bytes;
 use std::alloc::Global;
 
-/// So many times this byte; None where memory is wanted.
+/// This byte, `len` times; `None` if memory runs out.
 pub(crate) fn filled(alloc: Global, byte: u8, len: usize) -> Option<Bytes> {
     let bytes = vec![in alloc; byte; len].ok()?;
     Some(Bytes::from_vec(bytes))
 }
 
-/// So many bytes without a short period, by Knuth's linear congruential generator; None where memory
-/// is wanted.
+/// `len` bytes without a short period, by Knuth's linear congruential generator; `None` if memory
+/// runs out.
 pub(crate) fn mixed(alloc: Global, seed: u64, len: usize) -> Option<Bytes> {
     let mut bytes = Vec::with_capacity(alloc, len).ok()?;
     let mut state = seed;

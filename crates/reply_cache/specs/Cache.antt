@@ -1,41 +1,44 @@
--- What a cache of replies holds, and what a look and a kept reply do to it.
+-- What a cache of replies holds, and what looking up a reply and keeping one do to it.
 use Rattle.std.specs.Prelude.{ℕ, suc, Bool, true, false, List, [], ◌∷◌, ◌++◌, Option, is_some, Contains, nat_eq}
 use Rattle.std.specs.Cmp.Lexicographic.{pointwise}
 use Rattle.std.specs.Map.{lookup}
 use Rattle.lru.specs.LruCache.{LruCache, lru_cache, promoted, put_entries}
 
--- the entries, each a key and its reply, the last used one first, with how many there may be; and one truth value for each look, true where it found an entry
+-- the entries, each a key and its reply, with the last used one first, and how many there may be;
+-- and for each look whether it found an entry
 pub record CacheState : Type 0 where
   pub kept : LruCache (List ℕ) (List ℕ)
   pub finds : List Bool
 
--- a cache of at most so many entries, at which nobody has looked yet
+-- a cache of at most this many entries, which has no entry and had no look
 abbrev pub fresh_cache : ℕ → CacheState
 fresh_cache entries = record { kept = lru_cache [] entries; finds = [] }
 
--- whether two keys are the same bytes
+-- whether two keys have the same bytes
 abbrev pub same_key : List ℕ → List ℕ → Bool
 same_key = pointwise nat_eq
 
--- the reply that is kept at a key
+-- the reply that is kept for a key, if there is one
 abbrev pub reply_at : CacheState → List ℕ → Option (List ℕ)
 reply_at cache key = lookup (same_key key) cache.kept.entries
 
--- after a look at a key: its entry, where there is one, comes first, and the look is noted
+-- the cache after a look at a key: the key's entry, if there is one, comes first, and the look is
+-- noted
 abbrev pub looked_at : CacheState → List ℕ → CacheState
 looked_at cache key = record {
   kept = lru_cache (promoted (same_key key) cache.kept.entries) cache.kept.cap;
   finds = cache.finds ++ is_some (reply_at cache key) ∷ [];
 }
 
--- after a reply was kept at a key: where the key had an entry, that one comes first with this reply; else a new one comes first, and the last one goes where the cache was full
+-- the cache after a reply was kept for a key: the key's entry, old or new, comes first with this
+-- reply; a new one takes the place of the last entry if the cache was full
 abbrev pub kept_at : CacheState → List ℕ → List ℕ → CacheState
 kept_at cache key reply = record {
   kept = lru_cache (put_entries same_key cache.kept key reply) cache.kept.cap;
   finds = cache.finds;
 }
 
--- each entry is a key with its reply
+-- each entry is a key and the reply to it
 pub record AreReplies (is_reply : List ℕ → List ℕ → Type 0) (entries : List (List ℕ × List ℕ)) : Type 0 where
   pub each : (e : List ℕ × List ℕ) → Contains entries e → is_reply e.0 e.1
 

@@ -17,10 +17,12 @@ use std::marker::{Model, PhantomData};
 use std::num::NonZeroUsize;
 use std::sync::ledger::{Book, Ledger};
 
-/// A cache that keeps replies of this type of maker, those that were used last, and notes of each
-/// look whether it found one. Contracts see the record of its entries and of its looks. Each entry
-/// is a key with its reply, the total of the one book is the number of the looks, and that of the
-/// other the number of those that found nothing.
+/// A cache that keeps the last used replies of this type of maker, and notes for each look whether
+/// it found one.
+///
+/// Contracts see the record of its entries and of its looks; each entry is a key and the reply to
+/// it. The total of one book is the number of looks, and that of the other the number of looks that
+/// found nothing.
 #[derive(Drop)]
 pub struct ReplyCache<M: Maker, A: Ledger, B: Ledger> {
     entries: LruCache<Bytes, SharedBytes>,
@@ -42,13 +44,13 @@ impl<M: Maker, A: Ledger, B: Ledger> Model for ReplyCache<M, A, B> {
 }
 
 impl<M: Maker, A: Ledger, B: Ledger> ReplyCache<M, A, B> {
-    /// A cache of at most `entries` entries, 1 to [`MAX_ENTRIES`], which keeps none yet.
+    /// A cache of at most `entries` entries, 1 to [`MAX_ENTRIES`]. It keeps none yet.
     ///
     /// [`MAX_ENTRIES`]: crate::MAX_ENTRIES
     ///
     /// # Errors
     ///
-    /// [`NoMemory`] where memory was wanted and not had.
+    /// [`NoMemory`] if memory runs out.
     pub fn new(
         alloc: Global,
         entries: u32,
@@ -68,13 +70,15 @@ impl<M: Maker, A: Ledger, B: Ledger> ReplyCache<M, A, B> {
         })
     }
 
-    /// The reply that is kept at a key, with the cache as one of its owners; `None` exactly where none
-    /// is. The look is counted in the share, and the entry that was found comes first. No key and no
-    /// reply is copied, so it takes as long whatever their lengths, but for comparing the keys.
+    /// Looks up the reply to a key, of which the cache stays one of the owners; `None` exactly if
+    /// none is kept.
+    ///
+    /// The look is counted in the share, and the entry that was found comes first. No key and no
+    /// reply is copied, so only comparing the keys takes longer for longer ones.
     ///
     /// # Errors
     ///
-    /// [`NoMemory`] where memory was wanted and not had; nothing is changed.
+    /// [`NoMemory`] if memory runs out; nothing is changed.
     pub fn look(
         &mut self,
         share: &mut LookShare<A, B>,
@@ -103,15 +107,16 @@ impl<M: Maker, A: Ledger, B: Ledger> ReplyCache<M, A, B> {
         Ok(found)
     }
 
-    /// Keeps the reply to a key of at most [`MAX_KEY`] bytes. Where the key has an entry already,
-    /// that one gets this reply and comes first; else a new entry comes first, and the last one goes
-    /// where the cache was full.
+    /// Keeps the reply to a key of at most [`MAX_KEY`] bytes.
+    ///
+    /// If the key already has an entry, that entry gets this reply and comes first. Otherwise a new
+    /// entry comes first, and the last one is dropped if the cache was full.
     ///
     /// [`MAX_KEY`]: crate::MAX_KEY
     ///
     /// # Errors
     ///
-    /// [`NoMemory`] where memory was wanted and not had; nothing is changed.
+    /// [`NoMemory`] if memory runs out; nothing is changed.
     pub fn keep(&mut self, key: Bytes, value: SharedBytes) -> Result<(), NoMemory>
         requires reply { M.is_reply key value }
         requires short { length key ≤ key_limit }
@@ -129,8 +134,8 @@ impl<M: Maker, A: Ledger, B: Ledger> ReplyCache<M, A, B> {
         self.finds.len() as u64
     }
 
-    /// Nothing is done; who has all parts of both ledgers learns that the shares add up to what the
-    /// cache counted.
+    /// Does nothing. A caller that has all parts of both ledgers learns by its clauses that the
+    /// shares add up to what the cache counted.
     pub fn audit(&mut self, share: &mut LookShare<A, B>)
         requires whole { (share.old.looks.parts ≡ A.parts) × (share.old.misses.parts ≡ B.parts) }
         ensures same { self.new ≡ self.old }
@@ -144,7 +149,7 @@ impl<M: Maker, A: Ledger, B: Ledger> ReplyCache<M, A, B> {
     }
 }
 
-// The reply that is kept at a key, with one owner more.
+// The reply that is kept for a key, with one more owner.
 fn kept_reply(
     entries: &LruCache<Bytes, SharedBytes>,
     key: &Bytes,

@@ -1,11 +1,12 @@
 //! Replies that are made once and kept: what makes them, and the cache that many sessions share.
 //!
-//! A [`Maker`] makes the reply to a key; for each type of maker a key has one reply at most. A
-//! [`ReplyCache`] keeps replies, those that were used last, and is shared behind one lock; a reply is
-//! shared too ([`SharedBytes`]), so that none is copied while the lock is held. Whenever
-//! its lock is free, each of its entries is the reply to its key, and what it counted is what the
-//! shares of its users add up to: each look is counted in the [`LookShare`] of the session that
-//! looked, and each that found nothing once more.
+//! A [`Maker`] makes the reply to a key; for each type of maker a key has at most one reply. A
+//! [`ReplyCache`] keeps the last used replies. Sessions share it with one lock. A reply is shared
+//! too ([`SharedBytes`]), so that none is copied while the lock is held.
+//!
+//! Whenever the lock is free, each entry is the reply to its key, and the cache's counts are the
+//! sums of its users' shares. Each look is counted in the [`LookShare`] of the session that looked,
+//! and each look that found nothing is counted there once more.
 #![tactic(auto)]
 
 mod cache;

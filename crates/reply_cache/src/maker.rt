@@ -10,22 +10,22 @@ use std::marker::{Send, Sync};
 use std::sync::Wait;
 use std::thread::Threads;
 
-/// Makes replies to keys. Which bytes are a reply to a key is the same for all makers of a type: a
-/// key has one reply at most, of at most [`MAX_REPLY`] bytes.
+/// Makes the replies to keys. All makers of a type have the same replies: a key has at most one
+/// reply, of at most [`MAX_REPLY`] bytes.
 ///
 /// [`MAX_REPLY`]: crate::MAX_REPLY
 pub trait Maker: Send + Drop {
     /// Whether these bytes are the reply to a key.
     ghost is_reply: { List ℕ → List ℕ → Type 0 };
 
-    /// How often this maker was called.
+    /// How many times this maker was called.
     ghost calls: { Self → ℕ };
 
-    /// Makes the reply to a key. The call counts, whatever it answers.
+    /// Makes the reply to a key. The call is counted, even if it fails.
     ///
     /// # Errors
     ///
-    /// [`NoMemory`] where memory was wanted and not had.
+    /// [`NoMemory`] if memory runs out.
     fn make<R: Threads + Wait + Sync>(
         &mut self,
         rt: &R,
@@ -37,18 +37,18 @@ pub trait Maker: Send + Drop {
         ensures made { IfOk result (λ made. is_reply key.now made) }
         ensures counted { calls self.new ≡ calls self.old + 1 };
 
-    /// A key has one reply at most. The call does nothing: who needs this law calls it.
+    /// A key has at most one reply. The call does nothing: to use this law, call it.
     fn keys_have_one_reply()
         ensures { (key reply other : List ℕ) → is_reply key reply → is_reply key other → reply ≡ other };
 
-    /// No reply has more than [`MAX_REPLY`] bytes. The call does nothing: who needs this law calls it.
+    /// No reply has more than [`MAX_REPLY`] bytes. The call does nothing: to use this law, call it.
     ///
     /// [`MAX_REPLY`]: crate::MAX_REPLY
     fn replies_are_short()
         ensures { (key reply : List ℕ) → is_reply key reply → length reply ≤ reply_limit };
 }
 
-/// A maker of which fresh ones are had for the asking.
+/// A maker that can be made whenever one is needed.
 pub trait FreshMaker: Maker {
     /// A maker that was not called yet. It takes no memory.
     fn fresh() -> Self

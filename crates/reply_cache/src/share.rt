@@ -2,7 +2,8 @@
 
 use std::sync::ledger::{Ledger, Share};
 
-/// A share of all looks at a cache, and one of those of them that found nothing. It takes no memory.
+/// A share of all looks at a cache, and a share of the looks that found nothing. It takes no
+/// memory.
 #[derive(Drop)]
 pub struct LookShare<A: Ledger, B: Ledger> {
     /// The share of the looks.

@@ -7,8 +7,8 @@ use std::alloc::Global;
 use std::marker::Model;
 use std::sync::Arc;
 
-/// Bytes that many owners share, in any threads. One more owner costs the same however many bytes
-/// there are. Contracts see the bytes.
+/// Bytes that many owners share, in any threads. One more owner costs the same for any number of
+/// bytes. Contracts see the bytes.
 #[derive(Drop)]
 pub struct SharedBytes {
     bytes: Arc<Bytes, Global>,
@@ -24,11 +24,11 @@ impl Model for SharedBytes {
 }
 
 impl SharedBytes {
-    /// These bytes, which have one owner yet. They keep their memory.
+    /// These bytes, with one owner. They keep their memory.
     ///
     /// # Errors
     ///
-    /// [`NoMemory`] where memory was wanted and not had.
+    /// [`NoMemory`] if memory runs out.
     pub fn new(alloc: Global, bytes: Bytes) -> Result<Self, NoMemory>
         ensures { IfOk result (λ shared. shared ≡ bytes) }
     {
@@ -40,7 +40,7 @@ impl SharedBytes {
     ///
     /// # Errors
     ///
-    /// [`NoMemory`] where there are 2^63 owners already.
+    /// [`NoMemory`] if there are 2^63 owners already.
     pub fn share(&self) -> Result<Self, NoMemory>
         ensures { IfOk result (λ shared. shared ≡ self.now) }
     {

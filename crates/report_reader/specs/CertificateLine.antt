@@ -1,4 +1,4 @@
--- The first line of a certificate, which fits the method.
+-- The first line of a certificate, which must fit the method.
 use Rattle.std.specs.Prelude.{ℕ, List, [], ◌∷◌, Result, Ok, Err, if◌then◌else◌, codes}
 use Rattle.std.specs.Str.{bytes_eq}
 use Rattle.dcop_base.specs.Table.{has_repeat}
@@ -28,14 +28,14 @@ abbrev pub cut_form : List (List ℕ) → List (List ℕ) → Result Form Report
 cut_form names [] = Err BadLine
 cut_form names (word ∷ further) = if bytes_eq word (codes "cut") then form_with (cut_told names further) else Err BadLine
 
--- what stands behind `certificate`, as it fits the method
+-- the form that the words after `certificate` give, which must fit the method
 abbrev pub form_told : List (List ℕ) → Method → List (List ℕ) → Result Form ReportKind
 form_told names methods.Plain words = Err BadLine
 form_told names methods.Dpop words = if is_alone (codes "tables") words then Ok Tables else Err BadLine
 form_told names methods.Adopt words = if is_alone (codes "log") words then Ok Log else Err BadLine
 form_told names methods.Cut words = cut_form names words
 
--- `certificate` and a form that fits the method; `end` in its place says that there is no certificate
+-- `certificate` and a form that fits the method; `end` instead means that there is no certificate
 abbrev pub certificate_line : List (List ℕ) → Method → List (List ℕ) → Result Form ReportKind
 certificate_line names method [] = Err BadLine
 certificate_line names method (first ∷ further) =

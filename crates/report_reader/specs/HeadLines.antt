@@ -1,4 +1,4 @@
--- The lines above the values: the status, the method, the goal and the numbers.
+-- The lines before the values: the status, the method, the goal and the numbers.
 use Rattle.std.specs.Prelude.{ℕ, List, Option, Some, None, Result, Ok, Err, if◌then◌else◌, codes}
 use Rattle.std.specs.Str.{bytes_eq}
 use Rattle.problem_text.specs.declared.file.Goal.{Goal}
@@ -13,7 +13,7 @@ use Rattle.dcop_base.specs.Limits.{amount_limit}
 use Rattle.run_log.specs.EventLine.{number_within}
 use Rattle.report_reader.specs.Told.{or_fails, word_behind}
 
--- the ending that a word tells
+-- the ending that a word gives
 abbrev pub ending_told : Option (List ℕ) → Result Ending ReportKind
 ending_told None = Err BadLine
 ending_told (Some word) =
@@ -25,7 +25,7 @@ ending_told (Some word) =
 abbrev pub status_line : List (List ℕ) → Result Ending ReportKind
 status_line words = ending_told (word_behind (codes "status") words)
 
--- the method that a word tells
+-- the method that a word gives
 abbrev pub method_told : Option (List ℕ) → Result Method ReportKind
 method_told None = Err BadLine
 method_told (Some word) =
@@ -39,7 +39,7 @@ method_told (Some word) =
 abbrev pub method_line : List (List ℕ) → Result Method ReportKind
 method_line words = method_told (word_behind (codes "method") words)
 
--- the goal max, as a word tells it
+-- the goal max, if the word is `max`
 abbrev pub max_told : Option (List ℕ) → Result Goal ReportKind
 max_told None = Err BadLine
 max_told (Some word) = if bytes_eq word (codes "max") then Ok Max else Err BadLine
@@ -48,7 +48,7 @@ max_told (Some word) = if bytes_eq word (codes "max") then Ok Max else Err BadLi
 abbrev pub max_line : List (List ℕ) → Result Goal ReportKind
 max_line words = max_told (word_behind (codes "goal") words)
 
--- the number that a word tells
+-- the number that a word gives, which must be at most amount_limit
 abbrev pub number_told : Option (List ℕ) → Result ℕ ReportKind
 number_told None = Err BadLine
 number_told (Some word) = or_fails BadNumber (number_within amount_limit word)

@@ -25,12 +25,12 @@ use Rattle.report_reader.specs.UtilLine.{util_line, lacks_util}
 use Rattle.report_reader.specs.TurnReading.{cut_read}
 use Rattle.report_reader.specs.ReportLines.{Fault, Left, whole, told_at, one_line, and_then}
 
--- the goal of the file: a line `goal max` where it is max, no line where it is min
+-- the goal of the file: a line `goal max` if it is max, and no line if it is min
 abbrev pub goal_read : Goal → Left → Result (Goal × Left) Fault
 goal_read Min left = Ok (Min, left)
 goal_read Max left = one_line max_line left
 
--- the lines above the cost: the status, the method, the goal, the error and the deliveries
+-- the lines before the cost: the status, the method, the goal, the error and the deliveries
 abbrev pub head_read : Goal → Left → Result (Head × Left) Fault
 head_read file_goal left =
     and_then (one_line status_line left) (λ status left.
@@ -56,11 +56,11 @@ values_read (name ∷ names) (labels ∷ more) (size ∷ sizes) left =
     Ok (value ∷ values, left)))
 values_read _ _ _ left = Ok ([], left)
 
--- the tables behind which the line `end` stands: each variable has its table
+-- the tables before the line `end`: each variable must have its table
 abbrev pub ended : List (List ℕ) → List Util → Result (List Util) ReportKind
 ended names utils = if lacks_util utils (length names) then Err BadLine else Ok utils
 
--- lines of tables, each behind these and those before it, up to the line `end`
+-- lines of tables, each read after these tables and those before it, up to the line `end`
 abbrev pub tables_read : List (List ℕ) → List ℕ → ℕ → List Util → List Plain → Result (List Util × Left) Fault
 tables_read names sizes over utils [] = Err (record { line = over; kind = NoEnd })
 tables_read names sizes over utils (line ∷ later) =
@@ -69,7 +69,7 @@ tables_read names sizes over utils (line ∷ later) =
     else and_then (told_at line.number (util_line names sizes utils line.words) (record { lines = later; over = over })) (λ util left.
     tables_read names sizes over (utils ++ (util ∷ [])) later)
 
--- lines of events, each behind these and those before it, up to the line `end`
+-- lines of events, each read after these events and those before it, up to the line `end`
 abbrev pub events_read : List (List ℕ) → ℕ → List LogEvent → List Plain → Result (List LogEvent × Left) Fault
 events_read names over log [] = Err (record { line = over; kind = NoEnd })
 events_read names over log (line ∷ later) =
@@ -90,13 +90,14 @@ evidence_read f (forms.Cut cut) left =
     and_then (cut_read f cut left) (λ turns left.
     Ok (certificates.Cut cut turns, left))
 
--- the certificate: its first line, which fits the method, and its further ones, up to the line `end`
+-- the certificate: its first line, which must fit the method, and its further lines, up to the line
+-- `end`
 abbrev pub certificate_read : TextFile → Method → Left → Result (Certificate × Left) Fault
 certificate_read f method left =
     and_then (one_line (certificate_line f.names method) left) (λ form left.
     evidence_read f form left)
 
--- behind the line `end` no line is left
+-- after the line `end` no line may be left
 abbrev pub nothing_behind : Report → List Plain → Result Report Fault
 nothing_behind report [] = Ok report
 nothing_behind report (line ∷ later) = Err (record { line = line.number; kind = AfterEnd })
@@ -116,7 +117,8 @@ report_of head bounds values certificate = record {
   certificate = Some certificate;
 }
 
--- a report on a file: the lines above the cost, those of the cost and the bounds, the values, the certificate, and nothing behind
+-- a report on a file: the lines before the cost, those of the cost and the bounds, the values, the
+-- certificate, and nothing after it
 abbrev pub lines_read : TextFile → Left → Result Report Fault
 lines_read f left =
     and_then (head_read f.goal left) (λ head left.

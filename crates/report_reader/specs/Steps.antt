@@ -1,4 +1,5 @@
--- What is read of lines, as code gives it, beside what the lines are read as. Want of memory says nothing.
+-- How the results of reading lines agree with what the lines are read as. If memory runs out,
+-- nothing is promised.
 use Rattle.std.specs.Prelude.{◌≡◌, ℕ, [], ◌∷◌, Option, Some, None, Result, Ok, Err}
 use Rattle.problem_text.specs.Lines.{words}
 use Rattle.problem_text.specs.PlainLines.{Plain}
@@ -15,28 +16,28 @@ use Rattle.report_reader.specs.ReportLines.{Fault, Left}
 abbrev pub plain : Line → Plain
 plain line = record { number = line.number; words = words line.text.now }
 
--- the next line beside what was left, and what is left behind it
+-- the next line agrees with what was left and what is left after it
 abbrev pub IsNext : Left → Option Line → Left → Type 0
 IsNext old None new = (old.lines ≡ []) × (new ≡ old)
 IsNext old (Some line) new = old ≡ record { lines = plain line ∷ new.lines; over = new.over }
 
--- the next line, or the fault where no line is left
+-- the next line, or the fault if no line is left
 abbrev pub IsLine : Left → Result Line ReportFault → Left → Type 0
 IsLine old (Ok line) new = old ≡ record { lines = plain line ∷ new.lines; over = new.over }
 IsLine old (Err fault) new = (old.lines ≡ []) × (fault ≡ Bad old.over NoEnd)
 
--- what the line of this number tells
+-- what the line with this number gives, or its fault with the number
 abbrev pub IsTold : {A : Type 0} → ℕ → Result A (LineEnd ReportKind) → Result A ReportFault → Type 0
 IsTold number (Ok x) result = result ≡ Ok x
 IsTold number (Err ends.NoMemory) result = result ≡ Err NoMemory
 IsTold number (Err (ends.Fault kind)) result = result ≡ Err (Bad number kind)
 
--- a fault is the first
+-- a fault is the first fault of what is read
 abbrev pub IsFault : {A : Type 0} → Result A Fault → ReportFault → Type 0
 IsFault read NoMemory = Unit {0}
 IsFault read (Bad line kind) = read ≡ Err (record { line = line; kind = kind })
 
--- what code reads beside what lines are read as, with what is left
+-- a result agrees with what the lines are read as, and with what is left
 abbrev pub IsRead : {A : Type 0} → Result (A × Left) Fault → Result A ReportFault → Left → Type 0
 IsRead read (Ok x) left = read ≡ Ok (x, left)
 IsRead read (Err fault) left = IsFault read fault

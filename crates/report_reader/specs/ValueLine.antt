@@ -7,17 +7,18 @@ use Rattle.dcop_base.specs.Limits.{amount_limit}
 use Rattle.run_log.specs.EventLine.{number_within}
 use Rattle.report_reader.specs.Told.{or_fails}
 
--- a value that is written as a number, of a variable of this size
+-- a value that is given as a number, which must be below this size
 abbrev pub value_below : ℕ → Option ℕ → Result ℕ ReportKind
 value_below size None = Err BadNumber
 value_below size (Some value) = if nat_lt value size then Ok value else Err BadValue
 
--- the value that a word tells, of a variable with these value names and this size: by its name where there are value names, by its number otherwise
+-- the value that a word gives a variable with these value names and this size: by name if there are
+-- value names, and by number otherwise
 abbrev pub value_told : List (List ℕ) → ℕ → List ℕ → Result ℕ ReportKind
 value_told [] size word = value_below size (number_within amount_limit word)
 value_told (label ∷ labels) size word = or_fails UnknownName (position (bytes_eq word) (label ∷ labels))
 
--- `value NAME V`, where the variable of that name comes next
+-- `value NAME V`, which must be of the variable with this name
 abbrev pub value_line : List ℕ → List (List ℕ) → ℕ → List (List ℕ) → Result ℕ ReportKind
 value_line name labels size (first ∷ second ∷ word ∷ []) =
     if not (bytes_eq first (codes "value")) then Err BadLine

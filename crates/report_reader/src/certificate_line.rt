@@ -14,7 +14,7 @@ use dcop_base::VarList;
 use problem_text::{LineEnd, Names, ReportKind, is_word, next_word};
 use std::alloc::Global;
 
-/// What the further lines of a certificate tell.
+/// What the further lines of a certificate give.
 #[derive(Debug, Drop)]
 pub enum Form {
     /// UTIL tables.
@@ -47,7 +47,7 @@ pub fn form_of(
     fitting(alloc, names, further, method)
 }
 
-/// The form that fits the method, by the words behind `certificate`.
+/// The form that fits the method, given the words after `certificate`.
 fn fitting(
     alloc: Global,
     names: &Names,
@@ -75,7 +75,7 @@ fn fitting(
     }
 }
 
-/// The form of a cut, by the words `cut` and those of its variables.
+/// The form of a cut, given the word `cut` and the names of its variables.
 fn cut_form(alloc: Global, names: &Names, text: &[u8]) -> Result<Form, LineEnd<ReportKind>>
     requires { list_all is_name names.now ≡ true }
     ensures { Reads result (lines.cut_form names.now (words text.now)) }

@@ -1,4 +1,4 @@
-//! The lines of a report above the values.
+//! The lines of a report before the values.
 
 ghost use Rattle.std.specs.Prelude.{codes};
 ghost use Rattle.report_reader.specs.HeadLines.{status_line, method_line, max_line, number_line};
@@ -11,7 +11,7 @@ use crate::lines::{Lines, told_by};
 use certificate_text::{Ending, Method};
 use problem_text::{Goal, ReportFault};
 
-/// What the lines above the cost tell.
+/// What the lines before the cost give.
 #[derive(Clone, Copy, Debug)]
 pub struct Head {
     pub status: Ending,
@@ -29,7 +29,7 @@ pub struct Bounds {
     pub upper: u64,
 }
 
-/// Reads the lines above the cost, on a file with this goal.
+/// Reads the lines before the cost, on a file with this goal.
 pub fn read_head(lines: &mut Lines<'_>, file_goal: Goal) -> Result<Head, ReportFault>
     ensures { IsRead (head_read file_goal lines.old) result lines.new }
 {
@@ -71,7 +71,7 @@ fn read_method(lines: &mut Lines<'_>) -> Result<Method, ReportFault>
     told_by(line.number, method_of(line.text))
 }
 
-/// Reads the line `goal max`, which stands only where the file's goal is max.
+/// Reads the line `goal max`, which is present exactly if the file's goal is max.
 fn read_goal(lines: &mut Lines<'_>, file_goal: Goal) -> Result<Goal, ReportFault>
     ensures { IsRead (goal_read file_goal lines.old) result lines.new }
 {

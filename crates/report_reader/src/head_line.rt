@@ -1,4 +1,4 @@
-//! The lines above the values.
+//! The lines before the values.
 
 ghost use Rattle.std.specs.Prelude.{◌≡◌, MatchOption, None, Some};
 ghost use Rattle.problem_text.specs.Lines.{words};
@@ -13,7 +13,8 @@ use dcop_base::CAP;
 use problem_text::{Goal, LineEnd, ReportKind, is_word, next_word};
 use run_log::number_within;
 
-/// The word behind `key` in a line of the two; `None` exactly where the line is not of that form.
+/// The word after `key` in a line of these two words; `None` exactly when the line does not have
+/// that form.
 fn word_of<'a>(text: &'a [u8], key: &[u8]) -> Option<&'a [u8]>
     ensures { MatchOption result (word_behind key.now (words text.now) ≡ None)
         (λ word. word_behind key.now (words text.now) ≡ Some word.now) }
@@ -26,7 +27,7 @@ fn word_of<'a>(text: &'a [u8], key: &[u8]) -> Option<&'a [u8]>
     Some(word)
 }
 
-/// Whether a line is this word alone.
+/// Whether a line consists of this word alone.
 pub fn is_only(text: &[u8], key: &[u8]) -> bool
     ensures { result ≡ is_alone key.now (words text.now) }
 {
@@ -46,14 +47,14 @@ pub fn begins_with(text: &[u8], key: &[u8]) -> bool
     }
 }
 
-/// The number that a word writes; `None` exactly where it is no number or above [`CAP`].
+/// The number that a word writes; `None` exactly when the word is not a number or is above [`CAP`].
 pub fn amount_of(word: &[u8]) -> Option<u64>
     ensures { result ≡ number_within amount_limit word.now }
 {
     number_within(CAP, word)
 }
 
-/// The ending that a line `status` tells.
+/// The ending that a line `status` gives.
 pub fn status_of(text: &[u8]) -> Result<Ending, LineEnd<ReportKind>>
     ensures { Reads result (status_line (words text.now)) }
 {
@@ -69,7 +70,7 @@ pub fn status_of(text: &[u8]) -> Result<Ending, LineEnd<ReportKind>>
     Err(LineEnd::Fault(ReportKind::BadLine))
 }
 
-/// The method that a line `method` tells.
+/// The method that a line `method` gives.
 pub fn method_of(text: &[u8]) -> Result<Method, LineEnd<ReportKind>>
     ensures { Reads result (method_line (words text.now)) }
 {
@@ -91,7 +92,7 @@ pub fn method_of(text: &[u8]) -> Result<Method, LineEnd<ReportKind>>
     Err(LineEnd::Fault(ReportKind::BadLine))
 }
 
-/// The goal that a line `goal max` tells.
+/// The goal that a line `goal max` gives.
 pub fn max_of(text: &[u8]) -> Result<Goal, LineEnd<ReportKind>>
     ensures { Reads result (max_line (words text.now)) }
 {
@@ -104,7 +105,7 @@ pub fn max_of(text: &[u8]) -> Result<Goal, LineEnd<ReportKind>>
     Err(LineEnd::Fault(ReportKind::BadLine))
 }
 
-/// The number that a line of `key` and a number tells.
+/// The number that a line of `key` and a number gives.
 pub fn number_of(text: &[u8], key: &[u8]) -> Result<u64, LineEnd<ReportKind>>
     ensures { Reads result (number_line key.now (words text.now)) }
 {

@@ -1,4 +1,4 @@
-//! The law of what is written and read.
+//! The law that written reports are read again.
 
 ghost use Rattle.certificate_text.specs.ReportText.{report_text};
 ghost use Rattle.report_reader.specs.Again.{IsReadBack};
@@ -8,7 +8,7 @@ use problem_text::ProblemFile;
 
 /// The text of a report that has a certificate and fits the file is read as that report.
 ///
-/// It is the contract of a call that does nothing: who needs the law calls it.
+/// The law is the contract of a call that does nothing; code that needs the law calls it.
 pub fn written_reports_are_read(report: &Report, file: &ProblemFile)
     ensures { IsReadBack (report_text report.now file.now) file.now report.now }
 {

@@ -15,7 +15,7 @@ pub struct Lines<'a> {
     /// The number of the first line of `rest`.
     number: u64,
     rest: &'a [u8],
-    /// The number of the line behind the text.
+    /// The number of the line after the text, at which a missing `end` is reported.
     over: u64,
 }
 
@@ -36,7 +36,7 @@ impl<'a> Model for Lines<'a> {
 pub struct Line<'a> {
     /// Its number, counted from 1.
     pub number: u64,
-    /// What it says.
+    /// Its content.
     pub text: &'a [u8],
 }
 
@@ -52,7 +52,7 @@ impl<'a> Lines<'a> {
         }
     }
 
-    /// The next line; `None` exactly where none is left.
+    /// The next line; `None` exactly when none is left.
     pub fn next(&mut self) -> Option<Line<'a>>
         ensures { IsNext self.old result self.new }
     {
@@ -69,7 +69,7 @@ impl<'a> Lines<'a> {
     ///
     /// # Errors
     ///
-    /// [`ReportKind::NoEnd`] where no line is left.
+    /// [`ReportKind::NoEnd`] if no line is left.
     pub fn line(&mut self) -> Result<Line<'a>, ReportFault>
         ensures { IsLine self.old result self.new }
     {
@@ -79,7 +79,7 @@ impl<'a> Lines<'a> {
         }
     }
 
-    /// The fault where no line is left.
+    /// The fault that is reported if no line is left.
     pub fn no_end(&self) -> ReportFault
         ensures { result ≡ Bad self.now.over NoEnd }
     {
@@ -90,7 +90,7 @@ impl<'a> Lines<'a> {
     }
 }
 
-/// What the line of this number tells, or its fault.
+/// What the line with this number gives, or its fault.
 pub fn told_by<T: Drop>(line: u64, told: Result<T, LineEnd<ReportKind>>) -> Result<T, ReportFault>
     ensures { IsTold line told result }
 {

@@ -29,13 +29,12 @@ use problem_text::{Labels, LineEnd, Names, ProblemFile, ReportFault, ReportKind}
 use run_log::{Log, LogEvent, event_of_line};
 use std::alloc::Global;
 
-/// Reads the text of a report on a file. The report that it gives has a certificate and fits the
-/// file.
+/// Reads the text of a report on a file. The result has a certificate and fits the file.
 ///
 /// # Errors
 ///
-/// [`ReportFault::Bad`] with the line and the kind of the first fault, of all kinds but 9; lines
-/// count from 1 at the first byte. [`ReportFault::NoMemory`] where memory was wanted and not had.
+/// [`ReportFault::Bad`] with the line and the kind of the first fault, which is of any kind but 9;
+/// lines count from 1 at the first byte. [`ReportFault::NoMemory`] if memory runs out.
 pub fn read_report(alloc: Global, bytes: &[u8], file: &ProblemFile) -> Result<Report, ReportFault>
     ensures reads { ReadsReport bytes.now file.now result }
     ensures fits { IfOk result (HasFit file.now) }
@@ -44,7 +43,7 @@ pub fn read_report(alloc: Global, bytes: &[u8], file: &ProblemFile) -> Result<Re
     read_lines(alloc, bytes, file)
 }
 
-/// A law: each report as which a text is read has a certificate and fits the file.
+/// A law: if a text is read as a report, that report has a certificate and fits the file.
 fn tells_fitting(bytes: &[u8], file: &ProblemFile)
     ensures { TellsFitting bytes.now file.now }
 {
@@ -81,7 +80,7 @@ fn report_of(head: Head, bounds: Bounds, values: ValList, certificate: Certifica
     }
 }
 
-/// The report, behind which no line is left.
+/// The report, if no line is left after it.
 fn whole(report: Report, lines: &mut Lines<'_>) -> Result<Report, ReportFault>
     ensures ok { IfOk result (λ r. reading.nothing_behind report lines.old.lines ≡ Ok r) }
     ensures err { IfErr result (IsFault (reading.nothing_behind report lines.old.lines)) }
@@ -111,7 +110,7 @@ fn read_values(
     Ok(ValList::from_vec(values))
 }
 
-/// Reads the value of the variable at this place.
+/// Reads the value of the variable at this position.
 fn read_value(lines: &mut Lines<'_>, file: &ProblemFile, place: usize) -> Result<Val, ReportFault>
     requires { place < length file.now.names }
     ensures { IsRead (one_line (value_line (slice_index_or file.now.names place [])
@@ -122,7 +121,7 @@ fn read_value(lines: &mut Lines<'_>, file: &ProblemFile, place: usize) -> Result
     told_by(line.number, value_at(file, place, line.text))
 }
 
-/// The value that a line tells of the variable at this place.
+/// The value that a line gives the variable at this position.
 fn value_at(file: &ProblemFile, place: usize, text: &[u8]) -> Result<Val, LineEnd<ReportKind>>
     requires { place < length file.now.names }
     ensures { Reads result (value_line (slice_index_or file.now.names place [])
@@ -138,7 +137,8 @@ fn value_at(file: &ProblemFile, place: usize, text: &[u8]) -> Result<Val, LineEn
     )
 }
 
-/// The value that a line tells of the variable at this place, by names, value names and sizes.
+/// The value that a line gives the variable at this position, found by names, value names and
+/// sizes.
 fn value_among(
     names: &Names,
     labels: &[Labels],
@@ -245,14 +245,14 @@ fn read_events(alloc: Global, lines: &mut Lines<'_>, file: &ProblemFile) -> Resu
     Err(lines.no_end())
 }
 
-/// The event that a line tells.
+/// The event that a line gives.
 fn event_at(alloc: Global, file: &ProblemFile, text: &[u8]) -> Result<LogEvent, LineEnd<ReportKind>>
     ensures { Reads result (event_line file.now.names (words text.now)) }
 {
     event_of_line(alloc, &file.names, text)
 }
 
-/// The tables behind which the line `end` stands, where there are so many variables.
+/// The tables before the line `end`, if there are `count` variables.
 fn ended(utils: Vec<Util>, count: usize) -> Result<UtilList, LineEnd<ReportKind>>
     requires { count ≤ variable_limit }
     ensures { (names : List (List ℕ)) → length names ≡ count → Reads result (reading.ended names utils.items) }
@@ -263,7 +263,7 @@ fn ended(utils: Vec<Util>, count: usize) -> Result<UtilList, LineEnd<ReportKind>
     Ok(UtilList::from_vec(utils))
 }
 
-/// The table that a line tells, behind these tables.
+/// The table that a line gives, after these tables.
 fn util_at(
     alloc: Global,
     file: &ProblemFile,

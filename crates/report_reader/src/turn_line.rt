@@ -11,8 +11,8 @@ use dcop_base::{Val, ValList};
 use problem_text::{LineEnd, ReportKind, is_word, next_word};
 use std::alloc::Global;
 
-/// The values that a line `turn VALUES` tells of cut variables of these sizes, where the turn with
-/// this number comes next. Turns count from 0, in lexicographic order of their values.
+/// The values that a line `turn VALUES` gives cut variables of these sizes, if the turn with this
+/// number comes next. Turns count from 0, in lexicographic order of their values.
 pub fn turn_of(
     alloc: Global,
     sizes: &[u16],
@@ -48,7 +48,7 @@ fn word_count(text: &[u8]) -> usize
     count
 }
 
-/// The values that the words of a text tell, each of a variable of the size beside it.
+/// The values that the words of a text give; each is below the corresponding size.
 fn values_of(alloc: Global, sizes: &[u16], text: &[u8]) -> Result<ValList, LineEnd<ReportKind>>
     ensures { Reads result (values_told sizes.now (words text.now)) }
 {
@@ -74,7 +74,7 @@ fn is_number(number: usize, sizes: &[u16], values: &[Val]) -> bool
     number == number_of(sizes, values)
 }
 
-/// The number of the turn with these values, or [`usize::MAX`] where it is not less.
+/// The number of the turn with these values, or [`usize::MAX`] if it is not less.
 fn number_of(sizes: &[u16], values: &[Val]) -> usize
     requires { length values.now ≡ length sizes.now }
     ensures { result ≡ min (cell_place sizes.now values.now) usize.MAX }

@@ -21,16 +21,16 @@ use dcop_base::{MAX_VARIABLES, NoMemory, SizeList, ValList, VarId, product_of, s
 use problem_text::{LineEnd, Names, ReportFault, ReportKind, next_word, variable_of_word};
 use std::alloc::Global;
 
-/// The sizes by which the lines of a cut are judged.
+/// The sizes that the lines of a cut must fit.
 #[derive(Debug, Drop)]
 pub struct CutSizes {
     /// Those of the cut variables.
     pub own: SizeList,
-    /// Those of all variables in a slice, where cut variables have size 1.
+    /// Those of all variables in a slice, in which cut variables have size 1.
     pub slice: SizeList,
 }
 
-/// The sizes by which the lines of a cut are judged, of the sizes of all variables.
+/// The sizes that the lines of a cut must fit, given the sizes of all variables.
 pub fn cut_sizes_of(alloc: Global, sizes: &[u16], cut: &[VarId]) -> Result<CutSizes, NoMemory>
     requires { All (λ v. v < length sizes.now) cut.now }
     ensures { IfOk result (λ s. s ≡ reading.cut_sizes sizes.now cut.now) }
@@ -40,7 +40,7 @@ pub fn cut_sizes_of(alloc: Global, sizes: &[u16], cut: &[VarId]) -> Result<CutSi
     Ok(CutSizes { own, slice })
 }
 
-/// The sizes of all variables, where those of cut variables are 1.
+/// The sizes of all variables, with those of the cut variables replaced by 1.
 fn slice_sizes(alloc: Global, sizes: &[u16], cut: &[VarId]) -> Result<SizeList, NoMemory>
     requires { All (λ v. v < length sizes.now) cut.now }
     ensures { IfOk result (λ slice. slice ≡ ones_at cut.now sizes.now) }
@@ -83,7 +83,7 @@ fn first_turn(
     )
 }
 
-/// Reads the tables of the turn with these values and the turns behind it, and the line `end`.
+/// Reads the tables of the turn with these values, the turns after it, and the line `end`.
 fn turns_behind(
     alloc: Global,
     lines: &mut Lines<'_>,
@@ -143,7 +143,7 @@ fn turn_with(values: ValList, tables: Vec<Util>) -> Turn
     }
 }
 
-/// These turns and this one, behind which the line `end` stands.
+/// These turns and this one, which the line `end` follows.
 fn all_turns(
     names: &Names,
     sizes: &CutSizes,
@@ -163,7 +163,7 @@ fn all_turns(
     Ok(CutList::from_vec(turns))
 }
 
-/// The values that the line of a turn tells, behind these turns and one with these tables.
+/// The values that the line of a turn gives, after these turns and one with these tables.
 fn next_turn(
     alloc: Global,
     names: &Names,
@@ -181,7 +181,7 @@ fn next_turn(
     turn_of(alloc, sizes.own.as_slice(), turns.len() + 1, text)
 }
 
-/// The table that a line tells, behind these tables, in the turn behind these turns.
+/// The table that a line gives, after these tables, in the turn after these turns.
 fn next_table(
     alloc: Global,
     names: &Names,
@@ -200,7 +200,7 @@ fn next_table(
     util_of(alloc, names, sizes.slice.as_slice(), tables, text)
 }
 
-/// Whether a line `util` tells another parent than these tables.
+/// Whether a line `util` gives another parent than these tables.
 fn tells_other(names: &Names, utils: &[Util], text: &[u8]) -> bool
     requires { list_all is_name names.now ≡ true }
     ensures { result ≡ reading.tells_other names.now utils.now (words text.now) }
@@ -223,7 +223,7 @@ fn tells_other(names: &Names, utils: &[Util], text: &[u8]) -> bool
     has_other(utils, var, parent)
 }
 
-/// Whether a variable has another parent than this one by its table among these.
+/// Whether a variable's table among these has another parent than this one.
 fn has_other(utils: &[Util], var: VarId, parent: Option<VarId>) -> bool
     ensures { result ≡ reading.has_other utils.now (Some var) (Some parent) }
 {
@@ -232,7 +232,7 @@ fn has_other(utils: &[Util], var: VarId, parent: Option<VarId>) -> bool
         .any(|util| util.var == var && are_apart(util.parent, parent))
 }
 
-/// Whether two parents are not the same.
+/// Whether two parents differ.
 fn are_apart(one: Option<VarId>, other: Option<VarId>) -> bool
     ensures { result ≡ reading.are_apart one other }
 {

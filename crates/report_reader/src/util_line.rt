@@ -21,7 +21,7 @@ use dcop_base::{CellList, MAX_VARIABLES, NoMemory, VarId, VarList, product_of, r
 use problem_text::{LineEnd, Names, ReportKind, is_word, next_word, past_colon, variable_of_word};
 use std::alloc::Global;
 
-/// The table that a line `util` tells, behind these tables.
+/// The table that a line `util` gives, after these tables.
 pub fn util_of(
     alloc: Global,
     names: &Names,
@@ -44,12 +44,12 @@ pub fn util_of(
 pub struct UtilWords<'a> {
     pub name: &'a [u8],
     pub parent: &'a [u8],
-    /// The scope, with the second `:` and the cells behind it.
+    /// The scope, with the second `:` and the cells after it.
     pub scope: &'a [u8],
     pub cells: &'a [u8],
 }
 
-/// The words of a line; `None` exactly where the line is not of the form.
+/// The words of a line; `None` exactly when the line does not have the form.
 fn util_words_of(text: &[u8]) -> Option<UtilWords<'_>>
     ensures { IsLineOf (words text.now) result }
 {
@@ -69,7 +69,7 @@ fn util_words_of(text: &[u8]) -> Option<UtilWords<'_>>
     })
 }
 
-/// The table that the words of a line tell, behind these tables.
+/// The table that the words of a line give, after these tables.
 fn util_with(
     alloc: Global,
     names: &Names,
@@ -99,7 +99,7 @@ fn util_with(
     counted(alloc, sizes, var, parent, scope.known, line.cells)
 }
 
-/// Whether a variable that a word names has its table among these.
+/// Whether a word names a variable that has its table among these.
 fn is_again(utils: &[Util], var: &Option<VarId>) -> bool
     ensures { result ≡ lines.is_again utils.now var.now }
 {
@@ -116,7 +116,7 @@ fn has_util(utils: &[Util], var: VarId) -> bool
     utils.iter().any(|util| util.var == var)
 }
 
-/// Whether some variable of so many has no table among these.
+/// Whether a variable below `count` has no table among these.
 pub fn lacks_util(utils: &[Util], count: usize) -> bool
     requires { count ≤ variable_limit }
     ensures { result ≡ lines.lacks_util utils.now count }
@@ -138,7 +138,7 @@ pub struct Scope {
     pub whole: bool,
 }
 
-/// The scope that the words before the first `:` tell.
+/// The scope that the words before the first `:` give.
 fn scope_of(alloc: Global, names: &Names, text: &[u8]) -> Result<Scope, NoMemory>
     requires { list_all is_name names.now ≡ true }
     ensures known { IfOk result (λ s. s.known.items
@@ -162,7 +162,7 @@ fn scope_of(alloc: Global, names: &Names, text: &[u8]) -> Result<Scope, NoMemory
     Ok(Scope { known, whole })
 }
 
-/// The parent that a word tells; `None` exactly where it names no variable and is not `-`.
+/// The parent that a word gives; `None` exactly when the word names no variable and is not `-`.
 pub fn parent_of(names: &Names, word: &[u8]) -> Option<Option<VarId>>
     requires { list_all is_name names.now ≡ true }
     ensures { result ≡ lines.parent_told names.now word.now }
@@ -204,7 +204,7 @@ fn counted(
     })
 }
 
-/// Whether so many cells fill a table with this scope.
+/// Whether `count` cells fill a table with this scope.
 fn fill(alloc: Global, sizes: &[u16], scope: &[VarId], count: usize) -> Result<bool, NoMemory>
     requires within { All (λ v. v < length sizes.now) scope.now }
     requires few { count < 2 ^ 64 - 1 }
@@ -223,8 +223,9 @@ fn is_product(count: usize, sizes: &[u16]) -> bool
     count == product_of(sizes)
 }
 
-/// How many numbers the words of a text write; `None` exactly where a word is no number or one
-/// above the cap. It takes no memory, so that cells are kept only where they are as many as wanted.
+/// How many numbers the words of a text write; `None` exactly when a word is not a number or is
+/// above [`CAP`](dcop_base::CAP). It takes no memory, so cells are kept only if their number is
+/// right.
 fn count_of(text: &[u8]) -> Option<usize>
     ensures told { result ≡ option_map length (amounts_of (words text.now)) }
     ensures few { IfSome result (λ count. count ≤ length text.now) }
@@ -241,7 +242,7 @@ fn count_of(text: &[u8]) -> Option<usize>
     Some(count)
 }
 
-/// The cells that the words of a text write, of which there are so many.
+/// The cells that the words of a text write; there are `count` of them.
 fn cells_of(alloc: Global, text: &[u8], count: usize) -> Result<CellList, LineEnd<ReportKind>>
     ensures { Reads result (or_fails BadNumber (amounts_of (words text.now))) }
 {

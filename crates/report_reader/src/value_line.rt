@@ -15,8 +15,8 @@ use crate::head_line::amount_of;
 use dcop_base::{MAX_SIZE, Val};
 use problem_text::{Labels, LineEnd, ReportKind, is_word, name_of, next_word};
 
-/// The value that a line `value NAME V` tells of the variable with this name, these value names
-/// and this size.
+/// The value that a line `value NAME V` gives the variable with this name, these value names and
+/// this size.
 pub fn value_of(
     text: &[u8],
     name: &str,
@@ -45,7 +45,7 @@ pub fn value_of(
     value_of_word(word, labels, size)
 }
 
-/// The value that a word tells: by its name where there are value names, by its number otherwise.
+/// The value that a word gives: by name if there are value names, and by number otherwise.
 fn value_of_word(word: &[u8], labels: &Labels, size: u16) -> Result<Val, LineEnd<ReportKind>>
     requires few { length labels.now ≤ size_limit }
     requires named { list_all is_name labels.now ≡ true }
@@ -73,7 +73,7 @@ pub fn numbered(word: &[u8], size: u16) -> Result<Val, LineEnd<ReportKind>>
     Ok(Val(number as u16))
 }
 
-/// The value that a word names; `None` exactly where no value has that name.
+/// The value that a word names; `None` exactly when no value has that name.
 fn labelled(word: &[u8], labels: &Labels) -> Option<Val>
     requires few { length labels.now ≤ size_limit }
     requires named { list_all is_name labels.now ≡ true }

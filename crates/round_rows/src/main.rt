@@ -1,5 +1,5 @@
-//! Plays one round of the token agents of a small problem in their cells, and prints how many messages
-//! they took in it, or that it went otherwise.
+//! Plays one round of the token agents of a small problem in their cells, and prints how many
+//! messages they took in it, or that it did not go as expected.
 #![tactic(auto)]
 
 ghost use Rattle.std.specs.Prelude.{◌≡◌, false, OnOk, IfOk};
@@ -33,8 +33,8 @@ fn main(rt: HostRuntime) -> io::Result<()> {
     }
 }
 
-/// How many messages the token agents of the problem take in their first round, with one node and one
-/// worker, once all have begun.
+/// How many messages the token agents of the problem take in their first round, in one node with
+/// one worker, after all have started.
 fn one_round<R: Threads + AllocGlobal + Sync>(
     rt: &R,
     problem: &Problem,

@@ -1,4 +1,4 @@
--- The law on the stamps of merged journals.
+-- The law about the stamps of merged journals.
 use Rattle.std.specs.Prelude.{◌≡◌, ℕ, List, Some}
 use Rattle.protocol_steps.specs.View.{View}
 use Rattle.protocol_steps.specs.Network.{Network, start_state}
@@ -10,7 +10,8 @@ use Rattle.run_log.specs.declared.log.LogEvent.{LogEvent}
 use Rattle.run_log.specs.Logs.{entries_of, events_of}
 use Rattle.run_log.specs.LogStamps.{HasRightStamps}
 
--- a log is a run of agents that were made so, which ends in this network, and its stamps are right
+-- a log is a run of the agents with these start views; it leads to this network, and its stamps are
+-- right
 pub record IsStampedRun (made : List View) (log : List LogEvent) (end : Network) : Type 0 where
   pub leads : run (start_state made) (events_of log) ≡ Some end
   pub right : HasRightStamps made log

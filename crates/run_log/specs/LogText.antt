@@ -1,4 +1,4 @@
--- The text of a log: a line for each event, of the words of that line.
+-- The text of a log: a line of words for each event.
 use Rattle.std.specs.Prelude.{ℕ, ◌<◌, ◌≤◌, List, [], ◌∷◌, map, codes, slice_index_or}
 use Rattle.std.specs.List.{All, flat_map}
 use Rattle.std.specs.Fmt.{decimal}
@@ -20,12 +20,12 @@ event_words names e = codes "event" ∷ slice_index_or names e.agent [] ∷ deci
 abbrev pub log_text : List (List ℕ) → List LogEvent → List ℕ
 log_text names log = flat_map line (map (event_words names) log)
 
--- an event all of whose agents are among so many
+-- an event whose agent and senders are below `count`
 pub record IsNamedEvent (count : ℕ) (e : LogEvent) : Type 0 where
   pub agent : e.agent < count
   pub senders : All (λ t. t.from < count) e.takes
 
--- an event of so many agents, with a stamp and counts that can be read
+-- an event whose agent and senders are below `count`, with a stamp and counts that can be read
 pub record FitsEvent (count : ℕ) (e : LogEvent) : Type 0 where
   pub named : IsNamedEvent count e
   pub stamp : e.stamp ≤ amount_limit

@@ -21,10 +21,11 @@ event_of e = record { agent = e.agent; takes = e.takes }
 abbrev pub events_of : List LogEvent → List Event
 events_of log = map event_of log
 
--- an event does not come after another: its stamp is lower, or it is the same and the agent is no higher
+-- an event is no later than another: its stamp is lower, or the stamps are equal and its agent is
+-- not higher
 abbrev pub IsNoLater : LogEvent → LogEvent → Type 0
 IsNoLater a b = (a.stamp < b.stamp) ⊎ ((a.stamp ≡ b.stamp) × (a.agent ≤ b.agent))
 
--- events by stamp and then agent; two may have both in common
+-- events are in order of stamp and then agent; two events may agree in both
 abbrev pub AreByStamp : List LogEvent → Type 0
 AreByStamp log = AllAdjacentBelow IsNoLater log (length log)

@@ -15,13 +15,14 @@ use problem_text::{LineEnd, Names, ReportKind, is_word, next_word, variable_of_w
 use protocol_steps::{Take, TakeList};
 use std::alloc::Global;
 
-/// The event that a line `event AGENT STAMP`, followed by pairs `SENDER COUNT`, tells.
+/// The event that a line `event AGENT STAMP`, followed by pairs `SENDER COUNT`, gives.
 ///
 /// # Errors
 ///
-/// [`ReportKind::BadLine`] where the line is not of that form; else the first fault among its
-/// words: [`ReportKind::UnknownName`] of a name that is not there, and [`ReportKind::BadNumber`] of
-/// a word that is no number, a stamp above [`CAP`] or a count above [`u32::MAX`].
+/// [`ReportKind::BadLine`] if the line does not have that form. Otherwise the first fault among its
+/// words: [`ReportKind::UnknownName`] for a name that is not among `names`, and
+/// [`ReportKind::BadNumber`] for a word that is not a number, a stamp above [`CAP`] or a count
+/// above [`u32::MAX`].
 pub fn event_of_line(
     alloc: Global,
     names: &Names,
@@ -44,7 +45,7 @@ pub struct EventWords<'a> {
     pub pairs: &'a [u8],
 }
 
-/// The words of a line; `None` exactly where the line is not of the form.
+/// The words of a line; `None` exactly when the line does not have the form.
 fn event_words_of(text: &[u8]) -> Option<EventWords<'_>>
     ensures { IsEventOf (words text.now) result }
 {
@@ -75,7 +76,7 @@ fn are_pairs(text: &[u8]) -> bool
     true
 }
 
-/// The event that the words of a line tell.
+/// The event that the words of a line give.
 fn event_with(
     alloc: Global,
     names: &Names,
@@ -98,7 +99,7 @@ fn event_with(
     })
 }
 
-/// The takes that pairs of words tell.
+/// The takes that pairs of words give.
 fn takes_of(alloc: Global, names: &Names, text: &[u8]) -> Result<TakeList, LineEnd<ReportKind>>
     requires named { list_all is_name names.now ≡ true }
     ensures { Reads result (lines.takes_told names.now (words text.now)) }
@@ -115,7 +116,7 @@ fn takes_of(alloc: Global, names: &Names, text: &[u8]) -> Result<TakeList, LineE
     Ok(TakeList::from_vec(takes))
 }
 
-/// The take that a sender's name and a count tell.
+/// The take that a sender's name and a count give.
 fn take_of(names: &Names, sender: &[u8], count: &[u8]) -> Result<Take, LineEnd<ReportKind>>
     requires named { list_all is_name names.now ≡ true }
     ensures { Reads result (lines.take_told (position (bytes_eq sender.now) names.now) (lines.number_within lines.take_limit count.now)) }
@@ -132,7 +133,7 @@ fn take_of(names: &Names, sender: &[u8], count: &[u8]) -> Result<Take, LineEnd<R
     }
 }
 
-/// The number that a word writes; `None` exactly where it is no number or above `most`.
+/// The number that a word writes; `None` exactly when the word is not a number or is above `most`.
 pub fn number_within(most: u64, word: &[u8]) -> Option<u64>
     ensures { result ≡ lines.number_within most word.now }
 {

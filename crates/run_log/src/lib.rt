@@ -1,14 +1,18 @@
-//! Logs: what all agents of a run did, as one list of events in the order of their stamps.
+//! Logs: everything that the agents of a run did, as one list of events in the order of their
+//! stamps.
 //!
-//! Each agent keeps a journal of its own. [`merge`] puts the journals of a run together, by stamp
-//! and then agent (`specs/Logs.antt`). The stamps of a log are right where each is 1 plus the
-//! greatest of its agent's last stamp and the stamps of the messages taken
-//! (`specs/LogStamps.antt`); [`merged_stamps_are_right`] is the law that the merged journals of a
-//! run of cells are a log of that run with right stamps.
+//! Each agent keeps its own journal. [`merge`] merges the journals of a run, by stamp and then
+//! agent (`specs/Logs.antt`). The stamps of a log are right if each is 1 plus the greatest of its
+//! agent's last stamp and the stamps of the messages taken (`specs/LogStamps.antt`). The law
+//! [`merged_stamps_are_right`] says that the merged journals of a run of cells are a log of that
+//! run with right stamps.
 //!
-//! A log has a text of one line for each event (`specs/LogText.antt`): [`write_log`] writes exactly
-//! that, and [`read_log`] reads exactly such lines, or tells the line and the kind of the first
-//! fault (`specs/LogReading.antt`).
+//! The text of a log has one line for each event (`specs/LogText.antt`). [`write_log`] writes
+//! exactly that text. [`read_log`] accepts exactly such lines, or returns the line and the kind of
+//! the first fault (`specs/LogReading.antt`).
+//!
+//! It builds on `protocol_steps` and `worker_runs` for journals and runs of cells, and on
+//! `problem_text` for names, lines and faults.
 #![tactic(auto)]
 
 mod event_line;

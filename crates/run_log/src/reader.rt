@@ -11,12 +11,12 @@ use problem_text::{LineEnd, Names, ReportFault, ReportKind, next_plain_line};
 use std::alloc::Global;
 
 /// Reads a text of lines `event AGENT STAMP`, each followed by pairs `SENDER COUNT`, up to its end.
-/// The names must be names by the rule of problem texts.
+/// The names must obey the rule of problem texts.
 ///
 /// # Errors
 ///
-/// [`ReportFault::Bad`] with the line and the kind of the first fault, of kinds 1 to 3; lines count
-/// from 1. [`ReportFault::NoMemory`] where memory was wanted and not had.
+/// [`ReportFault::Bad`] with the line and the kind of the first fault, which is of kind 1 to 3;
+/// lines count from 1. [`ReportFault::NoMemory`] if memory runs out.
 pub fn read_log(alloc: Global, bytes: &[u8], names: &Names) -> Result<Log, ReportFault>
     requires named { list_all is_name names.now ≡ true }
     ensures { ReadsLog result (log_read names.now bytes.now) }
@@ -33,7 +33,7 @@ pub fn read_log(alloc: Global, bytes: &[u8], names: &Names) -> Result<Log, Repor
     Ok(Log::from_vec(events))
 }
 
-/// The event that the line of this number tells, or its fault.
+/// The event that the line with this number gives, or its fault.
 fn told_by(line: u64, event: Result<LogEvent, LineEnd<ReportKind>>) -> Result<LogEvent, ReportFault>
     ensures { IsTold line event result }
 {

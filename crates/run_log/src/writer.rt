@@ -16,20 +16,20 @@ use protocol_steps::Take;
 use std::alloc::Global;
 
 /// The text of a log: for each event a line `event AGENT STAMP`, followed by a pair `SENDER COUNT`
-/// for each of its takes. The names must be names by the rule of problem texts, and each agent and
-/// sender have one. [`read_log`](crate::read_log) of the text gives the log again, where no stamp is
-/// above [`CAP`](dcop_base::CAP).
+/// for each of its takes. The names must obey the rule of problem texts, and each agent and sender
+/// must have one. [`read_log`](crate::read_log) reads the text as the same log if no stamp is above
+/// [`CAP`](dcop_base::CAP).
 ///
 /// # Errors
 ///
-/// [`NoMemory`] where memory was wanted and not had.
+/// [`NoMemory`] if memory runs out.
 pub fn write_log(alloc: Global, log: &Log, names: &Names) -> Result<Bytes, NoMemory>
     requires named { All (IsNamedEvent (length names.now)) log.now }
     requires words { list_all is_name names.now ≡ true }
     ensures text { IfOk result (λ bytes. bytes ≡ log_text names.now log.now) }
     ensures again { IfOk result (λ bytes. IsReadBack names.now bytes log.now) }
 {
-    // What `len` says of the names, that they are distinct, lets each be found again.
+    // The clause of `len` that the names are distinct lets each name be found again.
     let _count = names.len();
     let mut text = String::new(alloc);
     write_events(&mut text, names, log.as_slice())?;
@@ -38,6 +38,10 @@ pub fn write_log(alloc: Global, log: &Log, names: &Names) -> Result<Bytes, NoMem
 
 /// Writes a line `event AGENT STAMP` for each event, followed by a pair `SENDER COUNT` for each of
 /// its takes. Each agent and sender must have a name.
+///
+/// # Errors
+///
+/// [`NoMemory`] if memory runs out. No clause then says what the text holds.
 pub fn write_events(text: &mut String, names: &Names, log: &[LogEvent]) -> Result<(), NoMemory>
     requires { All (IsNamedEvent (length names.now)) log.now }
     ensures text { OnOk result (string_bytes text.new ≡ string_bytes text.old ++ log_text names.now log.now) }

@@ -1,4 +1,4 @@
-//! A cut that agents play.
+//! A cut that agents solve.
 
 ghost use Rattle.std.specs.Prelude.{◌≡◌, ◌≤◌, true};
 ghost use Rattle.std.specs.List.{All};
@@ -19,7 +19,7 @@ struct CountingGate {
 }
 
 impl CountingGate {
-    // No visit of so many agents was made.
+    // A gate at which none of this many agents was visited.
     fn new(alloc: Global, count: usize) -> Result<Self, Fail> {
         let mut visits = Vec::new(alloc);
         for _ in 0..count {
@@ -28,7 +28,7 @@ impl CountingGate {
         Ok(CountingGate { visits })
     }
 
-    // Whether each agent was visited so often or more.
+    // Whether each agent was visited this many times or more.
     fn each_has(&self, visits: u64) -> bool {
         for own in &self.visits {
             if own.load(Ordering::SeqCst) < visits {
@@ -59,7 +59,7 @@ fn are_within(sizes: &[u16], limit: u16) -> bool
     true
 }
 
-// Whether the turn with this number has these values, and its tables this one cell at the root.
+// Whether the turn with this number has these values, and its root's table has only this cell.
 fn tells(turns: &[Turn], number: usize, values: &[Val], least: u64) -> bool {
     let Some(turn) = turns.get(number) else {
         return false;

@@ -1,5 +1,5 @@
-//! Calls that the program does not make, with ample memory: a run that is replayed, a table and a problem that are sliced,
-//! and a cut that is played.
+//! Calls that the program does not make, with ample memory: a run that is replayed, a table and a
+//! problem that are sliced, and a cut that agents solve.
 #![tactic(auto)]
 
 #[cfg(test)]

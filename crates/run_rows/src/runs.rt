@@ -15,7 +15,8 @@ use std::alloc::Global;
 use std::process::Abort;
 use std::test::Fail;
 
-// The triangle of 0, 1 and 2 with the tail 3 at 1, where two variables that are both 1 cost nothing.
+// The triangle of 0, 1 and 2 with the tail 3 at 1, in which two variables that are both 1 cost
+// nothing.
 pub(crate) fn paw(alloc: Global) -> Result<Problem, Fail> {
     let mut tables = Vec::new(alloc);
     for (one, other) in [(0, 1), (0, 2), (1, 2), (1, 3)] {
@@ -42,7 +43,7 @@ fn is_tied(alloc: Global, problem: &Problem, tree: &Tree, var: VarId) -> Result<
     }
 }
 
-// These parents, where a number that is no variable stands for none.
+// These parents; a number that is no variable means none.
 fn parents_of(alloc: Global, above: &[u32]) -> Result<Vec<Option<VarId>>, Fail>
     ensures sized { IfOk result (λ parents. length parents.items ≡ length above.now) }
     ensures known { IfOk result (λ parents.
@@ -56,7 +57,7 @@ fn parents_of(alloc: Global, above: &[u32]) -> Result<Vec<Option<VarId>>, Fail>
     Ok(parents)
 }
 
-// Sees that each variable but the root is a neighbour of its parent.
+// Checks that each variable but the root is a neighbour of its parent.
 fn see_links(rt: &impl Abort, alloc: Global, problem: &Problem, tree: &Tree) -> Result<(), Fail>
     requires { IsPseudotreeOf problem.now tree.now }
     ensures { OnOk result (IsLinked problem.now tree.now.paths) }
@@ -91,7 +92,7 @@ fn event(alloc: Global, agent: u32, takes: &[Take]) -> Result<Event, Fail> {
     })
 }
 
-// So many messages of a sender.
+// This many messages of a sender.
 fn take(from: u32, count: u32) -> Take {
     Take {
         from: VarId(from),
@@ -99,7 +100,8 @@ fn take(from: u32, count: u32) -> Take {
     }
 }
 
-// Sees the COST that 2 has sent to 1 in the paw after so many messages of each of these senders.
+// Checks the COST that 2 has sent to 1 in this graph after this many messages of each of these
+// senders.
 fn see_cost(
     rt: &impl Abort,
     alloc: Global,

@@ -1,4 +1,4 @@
-//! The calls that take memory, where there is enough.
+//! The calls that take memory, when there is enough.
 
 ghost use Rattle.std.specs.Prelude.{◌≡◌, [], ◌∷◌, IfOk};
 
@@ -7,7 +7,7 @@ use dcop_base::{CellList, Problem, SizeList, Table, TableList, Val, ValList, Var
 use std::alloc::Global;
 use std::test::Fail;
 
-// The table of one variable with two values, of which the second costs 3.
+// The table of one variable with two values, the second of which costs 3.
 fn single(alloc: Global) -> Result<Table, Fail>
     ensures scope { IfOk result (λ table. table.scope ≡ 0 ∷ []) }
     ensures sizes { IfOk result (λ table. table.sizes ≡ 2 ∷ []) }

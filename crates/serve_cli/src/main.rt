@@ -1,8 +1,9 @@
-//! The program `dcop_serve`: solves problems for clients over sockets on 127.0.0.1, and prints how
-//! their sessions went.
+//! The program `dcop_serve`: it solves problems for clients over sockets on 127.0.0.1, and prints
+//! how their sessions ended.
 //!
-//! All of its work is [`serve_all`], with a [`SolveMaker`] for each session. It ends with the code of
-//! the status, or with 12 and nothing printed where it is refused its arguments.
+//! [`serve_all`] does all of its work, with a [`SolveMaker`] for each session. It ends with the
+//! code of the status. If the system refuses to give it its arguments, it prints nothing and ends
+//! with code 12.
 #![tactic(auto)]
 
 use dcop_edge::{OpenGate, StdSink};
@@ -13,7 +14,7 @@ use std::process::ExitCode;
 use std::rt::Env;
 use std::{env, io};
 
-/// The code with which the program ends where it is refused its arguments, which no status has.
+/// The exit code if the system refuses to give the arguments; no status has it.
 const REFUSED_ARGUMENTS: u8 = 12;
 
 fn main(rt: HostRuntime) -> ExitCode {

@@ -1,4 +1,4 @@
--- Peers that are accepted one after another, and given back so.
+-- Peers that are accepted one after another, and given back in the same order.
 use Rattle.std.proofs.Common.{◌≡◌, ℕ, ◌+◌, List, [], ◌∷◌, ◌++◌, map, length, drop, All, Option, IsSome, refl, sym, ap, subst, ◌∙◌, append_assoc, arith, length-append}
 use Rattle.std.proofs.lemmas.List.{map-append}
 use Rattle.std.proofs.lemmas.List.Elements.{All-nil, All-push, All-head, All-tail}
@@ -10,14 +10,15 @@ use Rattle.serve_clients.specs.Sessions.{total, all_before, all_behind}
 use Rattle.serve_clients.specs.Clients.{connection, end_of, looks_of, look_parts_of, miss_parts_of, IsNew}
 use Rattle.serve_clients.proofs.ConnectionLaws.{all_before_none, all_before_more, all_behind_more}
 
--- how a listener stands: its faults, and the connections that wait, were given back and are out
+-- the state of a listener: its faults, the connections that wait and those that were given back,
+-- and how many are out
 pub record Standing (S K : Type 0) : Type 0 where
   pub faults : ℕ
   pub waiting : Option (List (S × K))
   pub closed : Option (List (S × K))
   pub lent : ℕ
 
--- the listener that stands so
+-- the listener in this state
 abbrev pub standing : {S K : Type 0} → ℕ → Option (List (S × K)) → Option (List (S × K)) → ℕ → Standing S K
 standing faults waiting closed lent = record { faults = faults; waiting = waiting; closed = closed; lent = lent }
 
@@ -26,14 +27,15 @@ pub nothing_left : {X : Type 0} (xs : List X) → xs ≡ drop 1 xs → xs ≡ []
 nothing_left [] e = refl
 nothing_left (x ∷ xs) e = absurd (omega (arith, ap length e))
 
--- what is counted where peers are given back: the ends that were noted, and the looks and the parts of the whole share
+-- what is counted when peers are given back: the ends that were noted, and the looks and the parts
+-- of the whole share
 pub record Counted : Type 0 where
   pub ends : List SessionEnd
   pub looks : ℕ
   pub look_parts : ℕ
   pub miss_parts : ℕ
 
--- what is counted so
+-- these counts
 abbrev pub counted : List SessionEnd → ℕ → ℕ → ℕ → Counted
 counted ends looks look_parts miss_parts = record { ends = ends; looks = looks; look_parts = look_parts; miss_parts = miss_parts }
 
@@ -61,7 +63,7 @@ module _ {S K M A B : Type 0} where
     out = omega (arith, out, h.out, length-append peers (p ∷ []));
   }
 
-  -- one was given back, and those behind it will be
+  -- one was given back, and those after it will be
   pub one_back : (all : Option (List (S × K))) (p : Peer S K M A B) (old rest : List (Peer S K M A B)) (closed closed' : Option (List (S × K))) → all ≡ all_behind closed (map (λ q. connection q) old) → old ≡ p ∷ rest
       → closed' ≡ last_of closed (connection p) → all ≡ all_behind closed' (map (λ q. connection q) rest)
   one_back all p old rest closed closed' h first back =

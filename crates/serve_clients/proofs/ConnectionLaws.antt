@@ -19,7 +19,7 @@ pub all_behind_more : {C : Type 0} (w : Option (List C)) (c : C) (cs : List C) �
 all_behind_more None c cs = refl
 all_behind_more (Some xs) c cs = ap Some (append_assoc xs (c ∷ []) cs)
 
--- where nothing was accepted, nothing is given back
+-- if nothing was accepted, nothing is given back
 pub none_returned : {C X E : Type 0} (result : Result X E) (waiting closed : Option (List C)) → OnErr result (AreReturned waiting waiting closed closed)
 none_returned (Ok x) waiting closed = tt
 none_returned (Err e) waiting closed = record { connections = []; taken = sym (all_before_none waiting); given = sym (all_behind_none closed) }

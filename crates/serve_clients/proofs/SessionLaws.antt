@@ -19,7 +19,7 @@ some_end None P h = absurd h
 some_end (Some end) P h = refl
 
 module _ {S K M A B : Type 0} (made : M → ℕ) where
-  -- the session of a peer, before and afterwards
+  -- the session of a peer, from before and after it
   abbrev pub session_of : Peer S K M A B → Peer S K M A B → Session S K
   session_of p q = record { taken = connection p; given = connection q; end = end_of q; tally = tally q.share.looks.amount q.share.misses.amount (made q.maker) }
 

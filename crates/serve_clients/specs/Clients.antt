@@ -9,18 +9,19 @@ use Rattle.serve_edge.specs.declared.fault.ListenFault.TheVariants as listens
 use Rattle.serve_clients.specs.declared.fault.ServeFault.{ServeFault}
 use Rattle.serve_clients.specs.declared.fault.ServeFault.TheVariants as faults
 
--- a server failed only where its listener's count rose, and left the count as it was where the listener did not fail
+-- serving clients fails by the listener only if the listener's count of faults rose; otherwise that
+-- count is unchanged
 abbrev pub HasServeCause : {T : Type 0} → ℕ → ℕ → Result T ServeFault → Type 0
 HasServeCause old new (Ok value) = new ≡ old
 HasServeCause old new (Err faults.Link) = (old ≤ new) × Rose old new
 HasServeCause old new (Err faults.NoMemory) = new ≡ old
 
--- why clients are not served, where a listener gave no connection
+-- why clients are not served if a listener gave no connection for this reason
 abbrev pub serve_fault : ListenFault → ServeFault
 serve_fault listens.Failed = faults.Link
 serve_fault listens.NoMemory = faults.NoMemory
 
--- the end that is there
+-- the end that is given; Memory 0 if none is
 abbrev pub end_in : Option SessionEnd → SessionEnd
 end_in (Some end) = end
 end_in None = Memory 0

@@ -1,4 +1,5 @@
--- The sessions of a server, each from the connection that was accepted to the one that was given back.
+-- The sessions of a server, each from the connection that was accepted to the one that was given
+-- back.
 use Rattle.std.specs.Prelude.{◌≡◌, ℕ, ◌+◌, List, [], ◌∷◌, ◌++◌, map, length, Option, option_map}
 use Rattle.solve_serve.specs.Answers.{Tally, tally, answering}
 use Rattle.solve_serve.specs.Session.{Outside, outside, HasServed}
@@ -9,21 +10,22 @@ abbrev pub total : {X : Type 0} → (X → ℕ) → List X → ℕ
 total f [] = 0
 total f (x ∷ xs) = f x + total f xs
 
--- these connections in front of those that are told
+-- known connections with these before them
 abbrev pub all_before : {C : Type 0} → List C → Option (List C) → Option (List C)
 all_before cs known = option_map (λ xs. cs ++ xs) known
 
--- these connections behind those that are told
+-- known connections with these after them
 abbrev pub all_behind : {C : Type 0} → Option (List C) → List C → Option (List C)
 all_behind known cs = option_map (λ xs. xs ++ cs) known
 
--- the connections that were accepted, some or none, were given back as they were, in order
+-- the connections that were accepted, if any, were given back unchanged and in order
 pub record AreReturned {C : Type 0} (waiting waiting' closed closed' : Option (List C)) : Type 0 where
   pub connections : List C
   pub taken : waiting ≡ all_before connections waiting'
   pub given : closed' ≡ all_behind closed connections
 
--- a session: the connection that was accepted and the same one given back, how it ended, and its looks, misses and calls
+-- a session: the connection as it was accepted and as it was given back, how the session ended, and
+-- its looks, misses and calls
 pub record Session (S K : Type 0) : Type 0 where
   pub taken : S × K
   pub given : S × K
@@ -44,7 +46,8 @@ module _ {S K : Type 0} (left : S → Option (List ℕ)) (reads : S → ℕ) (he
   WereServed is_reply [] = Unit {0}
   WereServed is_reply (s ∷ ss) = WasServed is_reply s × WereServed is_reply ss
 
-  -- a server has served its clients: of so many sessions these are the ends, with so many looks together, and each connection, in the order in which it waited, was given back behind those before
+  -- a server served `clients` clients: these are the ends of their sessions, with this many looks
+  -- together, and the connections that waited first were given back, in the same order
   pub record HaveServed (is_reply : List ℕ → List ℕ → Type 0) (clients : ℕ) (ends : List SessionEnd) (looks : ℕ) (waiting waiting' closed closed' : Option (List (S × K))) : Type 0 where
     pub sessions : List (Session S K)
     pub each : WereServed is_reply sessions

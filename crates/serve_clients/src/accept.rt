@@ -13,8 +13,8 @@ use solve_serve::{Peer, PeerList};
 use std::alloc::Global;
 use std::sync::ledger::Ledger;
 
-/// Accepts so many connections, and gives each a fresh maker and one part of each ledger. Where one
-/// cannot be had, those before it are given back.
+/// Accepts `clients` connections, and gives each a fresh maker and one part of each ledger. If one
+/// cannot be had, those accepted before it are given back.
 pub(crate) fn accept_all<L: Listener, M: FreshMaker, A: Ledger, B: Ledger>(
     alloc: Global,
     listener: &mut L,
@@ -47,7 +47,7 @@ pub(crate) fn accept_all<L: Listener, M: FreshMaker, A: Ledger, B: Ledger>(
     Ok(peers)
 }
 
-/// Accepts one connection, and splits one part off of each ledger for it.
+/// Accepts one connection, and splits off one part of each ledger for it.
 fn accept_one<L: Listener, M: FreshMaker, A: Ledger, B: Ledger>(
     listener: &mut L,
     whole: &mut LookShare<A, B>,

@@ -22,15 +22,15 @@ use std::thread::Threads;
 /// What a server is asked for.
 #[derive(Clone, Copy, Debug, PartialEq, Eq)]
 pub struct Plan {
-    /// How many connections it accepts, 1 to 64.
+    /// How many connections it accepts: 1 to 64.
     pub clients: u32,
-    /// How many replies its cache keeps, 1 to 1,024.
+    /// How many replies its cache keeps: 1 to 1,024.
     pub entries: u32,
-    /// How many sessions it serves beside each other, 1 to 16.
+    /// How many sessions it serves concurrently: 1 to 16.
     pub workers: u32,
 }
 
-/// How the sessions of a server went.
+/// How the sessions of a server ended.
 #[derive(Debug, Drop)]
 pub struct Outcome {
     /// How each session ended, in the order in which the connections were accepted.
@@ -39,15 +39,15 @@ pub struct Outcome {
     pub looks: u64,
 }
 
-/// Accepts as many connections as the plan says from a listener that is open, serves them beside
-/// each other over one cache of replies, each with a fresh maker, and gives them back in order. It
-/// takes memory, and may wait.
+/// Accepts as many connections as the plan says from a listener that is open, serves them
+/// concurrently over one cache of replies, each with a fresh maker, and gives them back in the
+/// order in which they were accepted. The call may wait.
 ///
 /// # Errors
 ///
-/// [`ServeFault::Link`] where the listener failed in this call, [`ServeFault::NoMemory`] where memory
-/// was wanted and not had. Either way no session was begun, and each connection that was accepted
-/// was given back.
+/// [`ServeFault::Link`] if the listener failed in this call, and [`ServeFault::NoMemory`] if memory
+/// runs out. In both cases no session was begun, and each connection that was accepted was given
+/// back.
 pub fn serve_clients<R: Threads + Wait + Sync, L: Listener, M: FreshMaker, G: Gate>(
     rt: &R,
     alloc: Global,
@@ -69,7 +69,7 @@ pub fn serve_clients<R: Threads + Wait + Sync, L: Listener, M: FreshMaker, G: Ga
     serve_with::<R, L, M, Brand, Brand, G>(rt, alloc, listener, looks, misses, plan, gate)
 }
 
-/// [`serve_clients`], with a ledger of the looks and one of the misses.
+/// [`serve_clients`] with a ledger of the looks and one of the misses.
 fn serve_with<
     R: Threads + Wait + Sync,
     L: Listener,
@@ -113,7 +113,7 @@ fn serve_with<
     Ok(Outcome { ends, looks })
 }
 
-/// How many looks a cache counted, which are those of the whole share.
+/// How many looks a cache counted; the whole share has as many.
 fn counted<M: FreshMaker, A: Ledger, B: Ledger>(
     cache: ReplyCache<M, A, B>,
     whole: LookShare<A, B>,

@@ -8,9 +8,9 @@ use std::alloc::AllocError;
 /// Why clients are not served.
 #[derive(Clone, Copy, Debug, PartialEq, Eq)]
 pub enum ServeFault {
-    /// The listener failed: its count of faults rose in the call that answers this.
+    /// The listener failed: its count of faults rose in the call that gives this error.
     Link,
-    /// Memory was wanted and not had. No clause says when it comes.
+    /// Memory ran out. No clause says when this happens.
     NoMemory,
 }
 

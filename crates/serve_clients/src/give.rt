@@ -11,8 +11,8 @@ use solve_serve::{Peer, PeerList, SessionEnd};
 use std::collections::VecDeque;
 use std::sync::ledger::Ledger;
 
-/// Gives all connections back, in order, and notes how each session ended. The parts of both ledgers
-/// are put together again.
+/// Gives all connections back, in order, and notes how each session ended. It joins the parts of
+/// both ledgers again.
 pub(crate) fn give_all<L: Listener, M: Drop, A: Ledger, B: Ledger>(
     listener: &mut L,
     peers: PeerList<L::S, L::K, M, A, B>,
@@ -71,7 +71,7 @@ fn give_one<L: Listener, M: Drop, A: Ledger, B: Ledger>(
     ends.push_reserved(end.unwrap());
 }
 
-/// Gives all connections back, in order, whose sessions were not begun.
+/// Gives back, in order, all connections whose sessions were not begun.
 pub(crate) fn return_all<L: Listener, M: Drop, A: Ledger, B: Ledger>(
     listener: &mut L,
     peers: PeerList<L::S, L::K, M, A, B>,
@@ -88,7 +88,7 @@ pub(crate) fn return_all<L: Listener, M: Drop, A: Ledger, B: Ledger>(
     }
 }
 
-/// Gives one connection back, whose session was not begun.
+/// Gives back one connection whose session was not begun.
 fn return_one<L: Listener, M: Drop, A: Ledger, B: Ledger>(
     listener: &mut L,
     peer: Peer<L::S, L::K, M, A, B>,

@@ -1,8 +1,8 @@
-//! Clients of a server, from the listener and back: so many connections are accepted, served beside
-//! each other over one cache of replies, and given back.
+//! The clients of a server, from the listener and back: connections are accepted, served
+//! concurrently over one cache of replies, and given back.
 //!
-//! [`serve_clients`] does it all. Its clause says of each connection how its session ended, and that
-//! the looks that the cache counted are those of all sessions together.
+//! [`serve_clients`] does all of it. Its clause says for each connection how its session ended. It
+//! also says that the looks that the cache counted are those of all sessions together.
 #![tactic(auto)]
 
 mod accept;

@@ -4,16 +4,16 @@ use Rattle.dcop_edge.specs.Faults.{Rose}
 use Rattle.serve_edge.specs.declared.fault.ListenFault.{ListenFault}
 use Rattle.serve_edge.specs.declared.fault.ListenFault.TheVariants as faults
 
--- a listener failed only where its count rose, and left the count as it was where it did not fail
+-- a listener failed only if its count of faults rose, and the count is unchanged otherwise
 abbrev pub HasListenCause : {T : Type 0} → ℕ → ℕ → Result T ListenFault → Type 0
 HasListenCause old new (Ok value) = new ≡ old
 HasListenCause old new (Err faults.Failed) = (old ≤ new) × Rose old new
 HasListenCause old new (Err faults.NoMemory) = new ≡ old
 
--- connections with this one in front, where they are told
+-- known connections with this one before them
 abbrev pub first_of : {C : Type 0} → C → Option (List C) → Option (List C)
 first_of c told = option_map (λ cs. c ∷ cs) told
 
--- connections with this one behind, where they are told
+-- known connections with this one after them
 abbrev pub last_of : {C : Type 0} → Option (List C) → C → Option (List C)
 last_of told c = option_map (λ cs. cs ++ c ∷ []) told

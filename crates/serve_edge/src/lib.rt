@@ -1,10 +1,12 @@
 //! Where a server's connections come from.
 //!
-//! A [`Listener`] gives connections, each a source and a sink, and takes each back. It tells, for
-//! proofs alone, which wait and which were given back, where that is known, and counts its faults.
-//! [`MemoryListener`] is the one in memory, which fails at chosen calls; [`StdListener`] is the real
-//! one over sockets, the trusted edge, of which nothing is told but counts, and whose connections
-//! wait for so long alone.
+//! A [`Listener`] gives connections, each a source and a sink, and takes each back. It counts its
+//! faults. For proofs alone it says, if that is known, which connections wait and which were given
+//! back.
+//!
+//! [`MemoryListener`] is the listener in memory; it fails at chosen calls. [`StdListener`] is the
+//! real one over sockets: the trusted edge. Of it only counts are known, and its connections wait
+//! for a limited time.
 #![tactic(auto)]
 
 mod fault;

@@ -5,15 +5,15 @@ ghost use Rattle.dcop_edge.specs.Faults.{HasCause};
 ghost use Rattle.dcop_edge.specs.Memory.{no_calls, fails_next, after_call};
 ghost use Rattle.serve_edge.specs.Listener.{HasListenCause, first_of, last_of};
 
-use crate::fault::{FailingCalls, ListenFault};
+use crate::fault::ListenFault;
 use crate::listener::Listener;
 use dcop_base::NoMemory;
-use dcop_edge::{Failed, MemorySink, MemorySource};
+use dcop_edge::{Failed, FailingCalls, MemorySink, MemorySource};
 use std::alloc::Global;
 use std::collections::VecDeque;
 
-/// A listener over connections in memory that fails at chosen calls of `open` and `accept`. Where
-/// no connection waits, `accept` fails.
+/// A listener over connections in memory that fails at chosen calls of `open` and `accept`.
+/// `accept` also fails if no connection waits.
 #[derive(Drop)]
 pub struct MemoryListener {
     waiting: VecDeque<(MemorySource, MemorySink)>,
@@ -24,13 +24,13 @@ pub struct MemoryListener {
 }
 
 impl MemoryListener {
-    /// A listener that gives these connections, in order, and of whose calls of `open` and
-    /// `accept`, counted together from 0, those with the numbers in `fails` fail. It makes room at
-    /// once for all that will be given back.
+    /// A listener that gives these connections, in order. Its calls of `open` and `accept` are
+    /// counted together from 0, and those with the numbers in `fails` fail. It makes room at once
+    /// for all connections that will be given back.
     ///
     /// # Errors
     ///
-    /// [`NoMemory`] where memory was wanted and not had.
+    /// [`NoMemory`] if memory runs out.
     pub fn new(
         alloc: Global,
         connections: Vec<(MemorySource, MemorySink)>,

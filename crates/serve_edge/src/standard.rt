@@ -11,14 +11,16 @@ use std::io::{Error, ErrorKind};
 use std::net::{Net, TcpListener, TcpStream};
 use std::time::Duration;
 
-/// For how many seconds a read waits for a first byte, and a write for room for one, before it
+/// For how many seconds a read waits for a first byte, and a write for room for one byte, before it
 /// fails.
 pub const MAX_SILENCE: u64 = 30;
 
-/// Listens on 127.0.0.1. Nothing is told of its connections; a call that the system refuses is a
-/// fault, want of memory and of descriptors included. A connection that its client gave up before it
-/// was accepted is none: the next one is given. On a connection a read that brings nothing for so
-/// long, and a write that takes nothing for so long, is a fault of its source or of its sink.
+/// Listens on 127.0.0.1. No clause says anything about its connections.
+///
+/// A call that the system refuses is a fault, also if memory or descriptors run out. A connection
+/// that its client gave up before it was accepted is skipped, and the next one is given. On a
+/// connection, a read that brings nothing for the time limit is a fault of its source, and a write
+/// that takes nothing for that time is a fault of its sink.
 #[derive(Drop)]
 pub struct StdListener<'a, R> {
     net: &'a R,
@@ -29,14 +31,14 @@ pub struct StdListener<'a, R> {
 }
 
 impl<'a, R: Net<Listener = TcpListener, Stream = TcpStream>> StdListener<'a, R> {
-    /// A listener that is not open yet, whose connections wait for [`MAX_SILENCE`]. It takes no
-    /// memory.
+    /// A listener that is not open yet, whose connections wait for [`MAX_SILENCE`] seconds. It
+    /// takes no memory.
     pub fn new(net: &'a R) -> Self {
         StdListener::with_silence(net, MAX_SILENCE)
     }
 
-    /// A listener that is not open yet, whose connections wait for so many seconds, at least one. It
-    /// takes no memory.
+    /// A listener that is not open yet, whose connections wait for this many seconds, and at least
+    /// one. It takes no memory.
     pub fn with_silence(net: &'a R, seconds: u64) -> Self {
         StdListener {
             net,
@@ -100,7 +102,8 @@ impl<'a, R: Net<Listener = TcpListener, Stream = TcpStream>> Listener for StdLis
     }
 }
 
-// The next connection that is not given up, as two handles of it; `None` where it is refused.
+// The next connection that its client did not give up, as two handles; `None` if the system refuses
+// it.
 fn accepted(socket: &Option<TcpListener>, silence: u64) -> Option<(TcpStream, TcpStream)> {
     let socket = socket.as_ref()?;
     for _ in 0..u64::MAX {
@@ -116,8 +119,8 @@ fn accepted(socket: &Option<TcpListener>, silence: u64) -> Option<(TcpStream, Tc
     None
 }
 
-// The next connection, as two handles of it. What is sent goes out at once, and neither handle waits
-// for more than so many seconds.
+// The next connection, as two handles. What is sent leaves at once, and neither handle waits for
+// more than this many seconds.
 fn both_handles(socket: &TcpListener, silence: u64) -> io::Result<(TcpStream, TcpStream)> {
     let (stream, _address) = socket.accept()?;
     stream.set_nodelay(true)?;

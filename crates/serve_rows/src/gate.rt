@@ -5,11 +5,11 @@ use dcop_edge::Gate;
 use std::sync::atomic::{AtomicU64, Ordering};
 use std::thread::yield_now;
 
-/// How often a session looks for the other one.
+/// How many times a session looks for the other one.
 const MOST_LOOKS: u32 = 100_000_000;
 
-/// Holds each of the first two sessions until the other one has come too, or it was looked for so
-/// often. Others pass.
+/// Holds each of the first two sessions until the other one has arrived too, or for `MOST_LOOKS`
+/// looks. Others pass.
 #[derive(Drop)]
 pub(crate) struct MeetingGate {
     first: AtomicU64,
@@ -18,7 +18,7 @@ pub(crate) struct MeetingGate {
 }
 
 impl MeetingGate {
-    /// No session has come.
+    /// A gate at which no session has arrived.
     pub(crate) fn new() -> Self {
         MeetingGate {
             first: AtomicU64::new(0),

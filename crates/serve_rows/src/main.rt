@@ -1,5 +1,5 @@
-//! Serves clients in memory and one over a socket with the maker of the server's program, and prints
-//! what came of each row.
+//! Serves clients in memory and one over a socket with the maker of the server's program, and
+//! prints the outcome of each row.
 #![tactic(auto)]
 
 mod gate;
@@ -32,7 +32,7 @@ fn main(rt: HostRuntime) -> io::Result<()> {
     print_over_socket(&rt, "serve-silent", true)
 }
 
-// What comes of one session on these bytes.
+// Prints the outcome of one session on these bytes.
 fn print_session<R>(rt: &R, row: &str, bytes: &[u8]) -> io::Result<()>
 where
     R: Print + Threads + Wait + AllocGlobal + Sync,
@@ -52,7 +52,7 @@ where
     println!(rt; "{row}: {end} {served}, looks {looks}, calls {calls}, replies {replies}")
 }
 
-// What comes of words that are refused.
+// Prints the outcome of words that are refused.
 fn print_refused<R>(rt: &R, words: &str) -> io::Result<()>
 where
     R: Print + Threads + Wait + AllocGlobal + Sync,
@@ -63,7 +63,7 @@ where
     }
 }
 
-// What comes of two clients.
+// Prints the outcome of two clients.
 fn print_both<R>(rt: &R) -> io::Result<()>
 where
     R: Print + Threads + Wait + AllocGlobal + Sync,
@@ -79,7 +79,7 @@ where
     print!(rt; "serve-all-two, exit {code}:\n{text}")
 }
 
-// What comes of three clients and two workers.
+// Prints the outcome of three clients and two workers.
 fn print_three<R>(rt: &R) -> io::Result<()>
 where
     R: Print + Threads + Wait + AllocGlobal + Sync,
@@ -101,7 +101,7 @@ where
     print!(rt; "serve-three, exit {code}:\n{text}")
 }
 
-// What comes of fewer clients than are awaited.
+// Prints the outcome when fewer clients connect than are awaited.
 fn print_few<R>(rt: &R) -> io::Result<()>
 where
     R: Print + Threads + Wait + AllocGlobal + Sync,
@@ -114,7 +114,7 @@ where
     print!(rt; "serve-few, exit {code}: {text}")
 }
 
-// What comes of a client over a socket, which may fall silent.
+// Prints the outcome of a client over a socket, which may fall silent.
 fn print_over_socket<R>(rt: &R, row: &str, is_silent: bool) -> io::Result<()>
 where
     R: Print

@@ -16,7 +16,7 @@ const REPLY: &[u8] =
 const REPLIES: &[u8] =
     b"\x00\x00\x00\x5estatus solved\nmethod dpop\nerror 0\ndeliveries 2\ncost 2\nlower 2\nupper 2\nvalue x 1\nvalue y 0\nend\n\x00\x00\x00\x5estatus solved\nmethod dpop\nerror 0\ndeliveries 2\ncost 2\nlower 2\nupper 2\nvalue x 1\nvalue y 0\nend\n";
 
-/// How many replies these bytes are, none, one or two; `None` where they are something else.
+/// How many replies these bytes are: none, one or two; `None` if they are something else.
 pub(crate) fn replies_in(written: &[u8]) -> Option<u64> {
     if written.is_empty() {
         Some(0)

@@ -28,16 +28,17 @@ pub(crate) struct AnsweredBoth {
     pub(crate) missed: u64,
     /// How many replies to the pair of agents were written to the first client, and nothing else.
     pub(crate) first: u64,
-    /// The same of the second client.
+    /// The same for the second client.
     pub(crate) second: u64,
 }
 
-/// What it answered to more clients than came, and what became of those that came.
+/// What it answered when fewer clients connected than were awaited, and what happened to those that
+/// did.
 #[derive(Drop)]
 pub(crate) struct AnsweredFew {
     /// What it answered.
     pub(crate) answered: Answered,
-    /// How many connections were given back to which nothing was written.
+    /// How many connections were given back with nothing written to them.
     pub(crate) unserved: u64,
 }
 
@@ -46,13 +47,13 @@ pub(crate) struct AnsweredFew {
 pub(crate) struct AnsweredThree {
     /// What it answered.
     pub(crate) answered: Answered,
-    /// How many sessions of the first two saw no other one.
+    /// How many of the first two sessions saw no other one.
     pub(crate) missed: u64,
     /// How many clients got one reply to the pair of agents, and nothing else.
     pub(crate) served: u64,
 }
 
-/// What is answered to these words where nobody connects.
+/// What is answered to these words if nobody connects.
 pub(crate) fn answer_to<R>(rt: &R, words: &str) -> Option<Answered>
 where
     R: Threads + Wait + AllocGlobal + Sync,
@@ -62,7 +63,7 @@ where
     answered_by(rt, words, &mut listener, &OpenGate)
 }
 
-/// What is answered to two clients that each ask once, where each session waits for the other one.
+/// What is answered to two clients that each ask once, if each session waits for the other one.
 pub(crate) fn answer_to_both<R>(rt: &R) -> Option<AnsweredBoth>
 where
     R: Threads + Wait + AllocGlobal + Sync,
@@ -80,8 +81,8 @@ where
     })
 }
 
-/// What is answered to three clients that each ask once, by two workers, where the first two sessions
-/// wait for each other: so the second one begins before the first has ended.
+/// What is answered to three clients that each ask once, by two workers, if the first two sessions
+/// wait for each other. So the second session begins before the first has ended.
 pub(crate) fn answer_to_three<R>(rt: &R) -> Option<AnsweredThree>
 where
     R: Threads + Wait + AllocGlobal + Sync,
@@ -102,7 +103,7 @@ where
     })
 }
 
-/// What is answered where three clients are awaited and two come.
+/// What is answered if three clients are awaited and two connect.
 pub(crate) fn answer_to_few<R>(rt: &R) -> Option<AnsweredFew>
 where
     R: Threads + Wait + AllocGlobal + Sync,
@@ -152,14 +153,14 @@ fn connection(alloc: Global) -> Option<(MemorySource, MemorySink)> {
     Some((source, MemorySink::new(alloc, Vec::new(alloc))))
 }
 
-// How many replies were written to the connection that was given back at this place; `None` where
+// How many replies were written to the connection that was given back at this place; `None` if
 // something else was.
 fn replies_at(listener: &MemoryListener, place: usize) -> Option<u64> {
     let (_source, sink) = listener.closed().get(place)?;
     replies_in(sink.bytes())
 }
 
-// How many connections were given back to which so many replies were written, and nothing else.
+// How many connections were given back with exactly this many replies written to them.
 fn given_back(listener: &MemoryListener, replies: u64) -> u64 {
     let mut count: u64 = 0;
     for (_source, sink) in listener.closed() {

@@ -12,23 +12,23 @@ use std::sync::ledger::{Blank, Ledger};
 use std::sync::{Mutex, Wait};
 use std::thread::Threads;
 
-/// How a session went.
+/// The outcome of a session.
 #[derive(Drop)]
 pub(crate) struct Ended {
-    /// The word of its end.
+    /// The word for its end.
     pub(crate) end: &'static str,
     /// How many requests it answered.
     pub(crate) served: u64,
     /// How many looks at the cache there were.
     pub(crate) looks: u64,
-    /// How often its maker was called.
+    /// How many times its maker was called.
     pub(crate) calls: u64,
     /// How many replies to the pair of agents were written, and nothing else.
     pub(crate) replies: u64,
 }
 
-/// How a session on these bytes goes, with a cache of four entries. `None` where it ends otherwise
-/// than closed or cut, or writes something else than replies to the pair of agents.
+/// The outcome of a session on these bytes, with a cache of four entries. `None` if its end is
+/// neither closed nor cut, or if it writes something other than replies to the pair of agents.
 pub(crate) fn session_on<R: Threads + Wait + AllocGlobal + Sync>(
     rt: &R,
     bytes: &[u8],

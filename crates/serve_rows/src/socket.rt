@@ -19,22 +19,23 @@ use std::{io, thread};
 /// The least port that is tried.
 const FIRST_PORT: u16 = 1_024;
 
-/// How many ports from the first are tried: those below the ones that a system gives to clients.
+/// How many ports from the first on are tried: those below the ports that a system gives to
+/// clients.
 const PORTS: u16 = 31_744;
 
-/// How many ports are tried where others listen.
+/// How many ports are tried if others listen there.
 const MOST_TRIES: u32 = 16;
 
-/// How often the client looks for the server's port.
+/// How many times the client looks for the server's port.
 const MOST_LOOKS: u32 = 100_000_000;
 
-/// Stands for no port yet.
+/// The mark for no port yet.
 const UNKNOWN: u64 = 0;
 
-/// Stands for no port, for ever.
+/// The mark for no port at all.
 const NEVER: u64 = u64::MAX;
 
-/// For how many seconds a connection waits whose client falls silent.
+/// For how many seconds a connection whose client falls silent waits.
 const SHORT_SILENCE: u64 = 3;
 
 /// What the top call answered to a client, and what the client got.
@@ -42,12 +43,12 @@ const SHORT_SILENCE: u64 = 3;
 pub(crate) struct AnsweredOver {
     /// What it answered.
     pub(crate) answered: Answered,
-    /// How many replies to the pair of agents came to the client, and nothing else.
+    /// How many replies to the pair of agents the client received, and nothing else.
     pub(crate) replies: u64,
 }
 
-/// What is answered at a free port of 127.0.0.1 to one client that asks twice for the same and says
-/// that it is done, or, where it falls silent, asks once and says nothing more.
+/// What is answered at a free port of 127.0.0.1 to one client that asks twice for the same and then
+/// says that it is done. If `is_silent`, it asks once and then says nothing.
 pub(crate) fn answer_over_socket<R>(rt: &R, is_silent: bool) -> Option<AnsweredOver>
 where
     R: Threads
@@ -71,7 +72,7 @@ where
     })
 }
 
-// Serves one client, and says so where there will be no port any more.
+// Serves one client, and sets the mark for no port if there will be none.
 fn serve_once<R>(rt: &R, told: &AtomicU64, is_silent: bool) -> Option<Answered>
 where
     R: Threads
@@ -92,7 +93,7 @@ where
     answered
 }
 
-// Serves one client at the first of some ports at which nobody else listens.
+// Serves one client at the first port tried at which nobody else listens.
 fn serve_somewhere<R>(rt: &R, told: &AtomicU64, silence: u64) -> Option<Answered>
 where
     R: Threads
@@ -119,14 +120,14 @@ where
     None
 }
 
-// A port, by chance.
+// A random port.
 fn some_port<R: RandomSource>(rt: &R) -> Option<u16> {
     let mut bytes = [0; 2];
     rt.fill_bytes(&mut bytes).ok()?;
     Some(FIRST_PORT + u16::from_be_bytes(bytes) % PORTS)
 }
 
-/// A listener that tells its port once it is open.
+/// A listener that announces its port once it is open.
 #[derive(Drop)]
 struct Announced<'a, L> {
     listener: L,
@@ -161,7 +162,7 @@ impl<'a, L: Listener + Drop> Listener for Announced<'a, L> {
     }
 }
 
-// How many replies come to a client, once the server has told its port.
+// How many replies a client receives, once the server has announced its port.
 fn replies_from<R: Net<Stream = TcpStream> + AllocGlobal>(
     rt: &R,
     told: &AtomicU64,
@@ -172,7 +173,7 @@ fn replies_from<R: Net<Stream = TcpStream> + AllocGlobal>(
     replies_in(&bytes)
 }
 
-// The port that is told; `None` where there will be none.
+// The port that is announced; `None` if there will be none.
 fn port_in(told: &AtomicU64) -> Option<u16> {
     for _ in 0..MOST_LOOKS {
         let port = told.load(Ordering::SeqCst);
@@ -184,7 +185,7 @@ fn port_in(told: &AtomicU64) -> Option<u16> {
     None
 }
 
-// Sends the requests of a client, and reads all that comes back.
+// Sends the requests of a client, and reads everything that it receives.
 fn exchange<R: Net<Stream = TcpStream> + AllocGlobal>(
     rt: &R,
     port: u16,

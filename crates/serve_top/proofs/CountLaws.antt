@@ -1,4 +1,4 @@
--- What all sessions of a server served together.
+-- How many requests all sessions of a server served together.
 use Rattle.std.proofs.Common.{◌≡◌, ℕ, ◌*◌, ◌<◌, ◌≤◌, ◌^◌, List, [], ◌∷◌, map, length, Option, sym, ap, subst, ◌∙◌, arith}
 use Rattle.std.proofs.lemmas.List.{length-map}
 use Rattle.solve_serve.specs.Limits.{session_limit}
@@ -26,7 +26,7 @@ module _ {S K : Type 0} (left : S → Option (List ℕ)) (reads : S → ℕ) (he
       let others = served_by_all ss h.1 in
       omega (arith, first, others)
 
-  -- sixty-four sessions serve a number of requests that can be told
+  -- sixty-four sessions serve fewer than 2^64 requests
   pub served_told : (clients : ℕ) (ends : List SessionEnd) (looks : ℕ) (waiting waiting' closed closed' : Option (List (S × K))) → clients ≤ 64 → HaveServed left reads held writes is_reply clients ends looks waiting waiting' closed closed'
       → served_in ends < 2 ^ 64
   served_told clients ends looks waiting waiting' closed closed' few h =
@@ -35,7 +35,7 @@ module _ {S K : Type 0} (left : S → Option (List ℕ)) (reads : S → ℕ) (he
       let most : served_in (map (λ s. s.end) h.sessions) ≤ 64000 = omega (arith, all, count, few) in
       subst (λ (es : List SessionEnd). served_in es < 2 ^ 64) (sym h.told) (omega (arith, most))
 
-  -- a listener that was opened first waits with the same connections
+  -- opening a listener does not change which connections wait
   pub opened_first : (clients : ℕ) (ends : List SessionEnd) (looks : ℕ) (waiting waiting₀ waiting' closed closed₀ closed' : Option (List (S × K))) → waiting ≡ waiting₀ → closed ≡ closed₀
       → HaveServed left reads held writes is_reply clients ends looks waiting waiting' closed closed' → HaveServed left reads held writes is_reply clients ends looks waiting₀ waiting' closed₀ closed'
   opened_first clients ends looks waiting waiting₀ waiting' closed closed₀ closed' same_waiting same_closed h =

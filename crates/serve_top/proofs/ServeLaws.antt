@@ -10,7 +10,7 @@ use Rattle.serve_top.specs.Serving.{status_of, Listening, Sinking, IsServeAnswer
 use Rattle.serve_top.specs.declared.status.ServeStatus.{ServeStatus}
 use Rattle.serve_top.specs.declared.status.ServeStatus.TheVariants.{Solved, BadWords, WriteFault, NoMemory, LinkFault}
 
--- no answer has the status of a failed sink, or of want of memory
+-- no answer has the status of a failed sink or of running out of memory
 not_write : (answer : ServeAnswer) → status_of answer ≡ WriteFault → ⊥
 not_write (answers.Words at kind) e = cc
 not_write answers.Link e = cc
@@ -20,7 +20,7 @@ pub write_so : (answer : ServeAnswer) (sink sink' : Sinking) (status : ServeStat
 write_so answer sink sink' status (inl shown) e = absurd (not_write answer (sym shown.0 ∙ e))
 write_so answer sink sink' status (inr cut) e = cut.3
 
--- a sink of which nothing is said stays as it is where an answer is shown
+-- if the sink's count of faults rose while an answer was shown, the status is a failed writing
 pub sink_so : (answer : ServeAnswer) (sink sink' : Sinking) (status : ServeStatus) → Shows answer sink sink' status → sink.faults < sink'.faults → status ≡ WriteFault
 sink_so answer sink sink' status (inl shown) lt = absurd (let same = shown.3 in omega (arith, lt, same))
 sink_so answer sink sink' status (inr cut) lt = cut.0
@@ -70,7 +70,7 @@ module _ {S K : Type 0} (left : S → Option (List ℕ)) (reads : S → ℕ) (he
   well_so words l l' sink sink' status (answer, belongs, inl shown) accepted quiet still = inl (shown.0 ∙ solved_by (words_read words) l l' answer belongs accepted quiet)
   well_so words l l' sink sink' status (answer, belongs, inr cut) accepted quiet still = absurd (still cut.3)
 
-  -- whether memory was wanted
+  -- whether memory ran out
   wanted : (status : ServeStatus) → (status ≡ NoMemory) ⊎ (status ≢ NoMemory)
   wanted Solved = inr (λ e. cc)
   wanted BadWords = inr (λ e. cc)

@@ -1,8 +1,9 @@
-//! The server's top call: words, a listener and a sink to a status.
+//! The server's top call: words, a listener and a sink in, and a status out.
 //!
-//! [`serve_all`] does all the work of a server over any listener and any maker of replies. Its
+//! [`serve_all`] does all the work of a server, over any listener and any maker of replies. Its
 //! clauses say which answer belongs to which words, how each session ended and what was written to
-//! it, that the looks that are told are those of all sessions together, and when each fault may come.
+//! it. They also say that the number of looks in the answer is that of all sessions together, and
+//! when each fault may come.
 #![tactic(auto)]
 
 mod serving;

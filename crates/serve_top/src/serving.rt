@@ -20,13 +20,14 @@ use std::sync::Wait;
 use std::thread::Threads;
 
 /// Answers these words, which are the arguments of the program: opens the listener, accepts as many
-/// clients as they say, serves them beside each other over one cache of replies, each with a fresh
-/// maker, gives them back, and writes to the sink how their sessions went. It may wait.
+/// clients as they say, serves them concurrently over one cache of replies, each with a fresh
+/// maker, gives the connections back, and writes to the sink how the sessions ended. The call may
+/// wait.
 ///
-/// [`ServeStatus::LinkFault`] and [`ServeStatus::WriteFault`] come only where the listener or the
-/// sink failed in this call. With `WriteFault` a prefix of the answer is written, with
-/// [`ServeStatus::NoMemory`], where memory was wanted and not had, nothing, and otherwise the whole
-/// answer, and the sink is finished. Whatever comes of it, each connection that was accepted was given
+/// [`ServeStatus::LinkFault`] and [`ServeStatus::WriteFault`] come only if the listener or the sink
+/// failed in this call. With `WriteFault` a prefix of the answer is written. With
+/// [`ServeStatus::NoMemory`], when memory runs out, nothing is written. Otherwise the whole answer
+/// is written, and the sink is finished. In all cases each connection that was accepted was given
 /// back.
 pub fn serve_all<R: Threads + Wait + Sync, L: Listener, K: Sink, M: FreshMaker, G: Gate>(
     rt: &R,
@@ -55,7 +56,7 @@ pub fn serve_all<R: Threads + Wait + Sync, L: Listener, K: Sink, M: FreshMaker, 
     answer_all::<R, L, K, M, G>(rt, alloc, words, listener, sink, gate)
 }
 
-/// [`serve_all`], with the clauses from which its others follow.
+/// [`serve_all`], with the clauses from which its other clauses follow.
 fn answer_all<R: Threads + Wait + Sync, L: Listener, K: Sink, M: FreshMaker, G: Gate>(
     rt: &R,
     alloc: Global,
@@ -134,7 +135,7 @@ fn served<R: Threads + Wait + Sync, L: Listener, M: FreshMaker, G: Gate>(
     }
 }
 
-/// Writes the whole text of an answer, finishes the sink, and says how it went.
+/// Writes the whole text of an answer, finishes the sink, and gives the status.
 fn show<K: Sink>(alloc: Global, answer: &ServeAnswer, sink: &mut K) -> ServeStatus
     requires { HasText answer.now }
     ensures shows { result ≢ ServeStatus.NoMemory → Shows answer.now (sinking (K.held sink.old) (K.finished sink.old) (K.faults sink.old)) (sinking (K.held sink.new) (K.finished sink.new) (K.faults sink.new)) result }

@@ -1,4 +1,4 @@
-//! Statuses of the server, and the codes with which its program ends.
+//! Statuses of the server, and the exit codes of its program.
 
 ghost use Rattle.std.specs.Prelude.{◌≡◌};
 ghost use Rattle.serve_top.specs.Serving.{status_of, code_of};
@@ -14,14 +14,14 @@ pub enum ServeStatus {
     BadWords,
     /// The sink failed. What is written is a prefix of the answer's text.
     WriteFault,
-    /// Memory was wanted and not had. Nothing is written.
+    /// Memory ran out. Nothing is written.
     NoMemory,
     /// The listener failed.
     LinkFault,
 }
 
 impl ServeStatus {
-    /// The code with which the program ends: 0 for solved, and one of its own for each other status.
+    /// The exit code of the program: 0 for solved, and a different one for each other status.
     pub fn code(&self) -> u8
         ensures { result ≡ code_of self.now }
     {
@@ -34,7 +34,7 @@ impl ServeStatus {
         }
     }
 
-    /// The status that goes with an answer.
+    /// The status of an answer.
     pub(crate) fn of(answer: &ServeAnswer) -> ServeStatus
         ensures { result ≡ status_of answer.now }
     {

@@ -8,7 +8,7 @@ use Rattle.solve_serve.specs.declared.end.SessionEnd.TheVariants.{Closed, Cut, L
 use Rattle.serve_words.specs.declared.answer.ServeAnswer.{ServeAnswer}
 use Rattle.serve_words.specs.declared.answer.ServeAnswer.TheVariants as answers
 
--- the word of an end
+-- the word for an end
 abbrev pub end_word : SessionEnd → List ℕ
 end_word (Closed served) = codes "closed"
 end_word (Cut served) = codes "cut"
@@ -22,7 +22,7 @@ end_word (Memory served) = codes "memory"
 abbrev pub session_line : ℕ → SessionEnd → List ℕ
 session_line number end = line (codes "session" ∷ decimal number ∷ end_word end ∷ decimal (served_by end) ∷ [])
 
--- the lines of sessions, numbered from here
+-- the lines of sessions, numbered from `number` on
 abbrev pub session_lines : ℕ → List SessionEnd → List ℕ
 session_lines number [] = []
 session_lines number (end ∷ ends) = session_line number end ++ session_lines (number + 1) ends

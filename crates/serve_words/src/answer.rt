@@ -14,7 +14,7 @@ use std::alloc::Global;
 pub enum ServeAnswer {
     /// Its words are refused.
     Words {
-        /// The place of the word that is refused, from 1.
+        /// The place of the word that is refused, counted from 1.
         at: u64,
         /// The kind of the refusal.
         kind: u8,
@@ -30,11 +30,11 @@ pub enum ServeAnswer {
     },
 }
 
-/// The text of an answer. All sessions of a summary served fewer than 2^64 requests together.
+/// The text of an answer. All sessions of a summary together served fewer than 2^64 requests.
 ///
 /// # Errors
 ///
-/// [`NoMemory`] where memory was wanted and not had.
+/// [`NoMemory`] if memory runs out.
 pub fn text_of(alloc: Global, answer: &ServeAnswer) -> Result<Bytes, NoMemory>
     requires { HasText answer.now }
     ensures { IfOk result (λ text. text ≡ answer_text answer.now) }

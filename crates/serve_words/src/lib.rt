@@ -1,4 +1,8 @@
 //! The words of the server's program, and the text of each of its answers.
+//!
+//! [`read_words`] reads the four numbers that the words give, or refuses the words by their first
+//! fault. [`text_of`] gives the text of an answer. Both are exact: their clauses say which numbers
+//! and which text.
 #![tactic(auto)]
 
 mod answer;

@@ -8,7 +8,7 @@ ghost use Rattle.serve_words.specs.Text.{end_word, session_line, session_lines, 
 use dcop_base::NoMemory;
 use solve_serve::SessionEnd;
 
-/// Writes the summary of sessions that ended so, with so many looks.
+/// Writes the summary of sessions with these ends and this many looks.
 pub(crate) fn write_summary(
     text: &mut String,
     ends: &[SessionEnd],
@@ -23,7 +23,7 @@ pub(crate) fn write_summary(
     Ok(())
 }
 
-/// Writes the lines of sessions, numbered from here.
+/// Writes the lines of sessions, numbered from `number` on.
 fn write_sessions(text: &mut String, number: u64, ends: &[SessionEnd]) -> Result<(), NoMemory>
     requires { number + length ends.now < 2 ^ 64 }
     ensures { OnOk result (string_bytes text.new ≡ string_bytes text.old ++ session_lines number ends.now) }
@@ -45,7 +45,7 @@ fn write_session(text: &mut String, number: u64, end: SessionEnd) -> Result<(), 
     Ok(())
 }
 
-/// The word of an end.
+/// The word for an end.
 fn end_word(end: SessionEnd) -> &'static str
     ensures { result.now ≡ end_word end }
 {

@@ -11,31 +11,31 @@ use dcop_base::number_of_word;
 /// What the server is asked for.
 #[derive(Clone, Copy, Debug, PartialEq, Eq)]
 pub struct ServeWords {
-    /// The port at which it listens, 1,024 to 65,535.
+    /// The port at which it listens: 1,024 to 65,535.
     pub port: u64,
-    /// How many connections it accepts, 1 to 64.
+    /// How many connections it accepts: 1 to 64.
     pub clients: u64,
-    /// How many replies its cache keeps, 1 to 1,024.
+    /// How many replies its cache keeps: 1 to 1,024.
     pub entries: u64,
-    /// How many sessions it serves beside each other, 1 to 16.
+    /// How many sessions it serves concurrently: 1 to 16.
     pub workers: u64,
 }
 
-/// Words are refused.
+/// Why words are refused.
 #[derive(Clone, Copy, Debug, PartialEq, Eq)]
 pub struct Refused {
-    /// The place of the word that is refused, from 1.
+    /// The place of the word that is refused, counted from 1.
     pub at: u64,
-    /// Why: 3 for a fifth word, 4 where one is missing, 6 where a word writes no number, 7 where
-    /// the number is outside its range.
+    /// The kind: 3 for a fifth word, 4 if one is missing, 6 if a word is no number, 7 if the number
+    /// is outside its range.
     pub kind: u8,
 }
 
-/// What words ask for. They are taken from left to right.
+/// Reads what words ask for, from left to right.
 ///
 /// # Errors
 ///
-/// The first refusal: the number of words is tested before each word.
+/// The first refusal. The number of words is tested before each word is.
 pub fn read_words(words: &[String]) -> Result<ServeWords, Refused>
     ensures asked { result ≡ words_read (map string_bytes words.now) }
     ensures range { IfOk result IsInRange }
@@ -51,7 +51,7 @@ pub fn read_words(words: &[String]) -> Result<ServeWords, Refused>
     }
 }
 
-/// What four words ask for.
+/// What four words ask for, or their first refusal.
 fn read_four(port: &str, clients: &str, entries: &str, workers: &str) -> Result<ServeWords, Refused>
     ensures range { IfOk result IsInRange }
     ensures asked { result ≡ all_four (number_within 1 least_port most_port (number_of port.now)) (number_within 2 1 peer_limit (number_of clients.now)) (number_within 3 1 entry_limit (number_of entries.now)) (number_within 4 1 server_limit (number_of workers.now)) }
@@ -68,7 +68,7 @@ fn read_four(port: &str, clients: &str, entries: &str, workers: &str) -> Result<
     })
 }
 
-/// The number that the word at this place writes, in this range.
+/// The number that the word at this place gives, if it is in this range; otherwise its refusal.
 fn number_within(at: u64, word: &str, least: u64, most: u64) -> Result<u64, Refused>
     ensures asked { result ≡ number_within at least most (number_of word.now) }
     ensures range { IfOk result (λ n. (least ≤ n) × (n ≤ most)) }
@@ -80,7 +80,7 @@ fn number_within(at: u64, word: &str, least: u64, most: u64) -> Result<u64, Refu
     }
 }
 
-/// Why so many words are not four.
+/// Why this many words are refused.
 fn wrong_count(count: usize) -> Refused
     ensures { result ≡ wrong_count count }
 {

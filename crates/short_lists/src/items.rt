@@ -1,4 +1,4 @@
-//! Where the items of a list lie.
+//! Where a list holds its items.
 
 ghost use Rattle.std.specs.Prelude.{◌≡◌, ◌≤◌, length, IfOk};
 
@@ -7,11 +7,11 @@ use std::alloc::{AllocError, Global};
 use std::default::MadeWith;
 use std::sync::Arc;
 
-/// The most items that lie in a list itself.
+/// The most items that a list holds in itself.
 pub(crate) const FEW: usize = 4;
 
-/// Where the items of a list lie: in the list itself, in memory of its own, or in memory that it
-/// shares with its clones.
+/// Where a list holds its items: in itself, in memory of its own, or in memory that it shares with
+/// its clones.
 #[derive(Debug, Drop)]
 pub(crate) enum Items<T> {
     Few(ArrayVec<T, FEW, Global>),
@@ -19,7 +19,7 @@ pub(crate) enum Items<T> {
     Shared(Arc<Vec<T>, Global>),
 }
 
-/// A few items, which then lie in the list itself.
+/// At most [`FEW`] items, copied for a list that holds them in itself.
 pub(crate) fn few_of<T: MadeWith<Global> + Copy>(
     alloc: Global,
     items: &[T],
@@ -28,11 +28,12 @@ pub(crate) fn few_of<T: MadeWith<Global> + Copy>(
     ensures { result.items ≡ items.now }
 {
     let mut few = ArrayVec::new_in(alloc);
+    // The items fit, so none is refused.
     let _ = few.try_extend_from_slice(items);
     few
 }
 
-/// The same items in memory of their own, with room for so many more.
+/// The same items in memory of their own, with room for `room` more.
 pub(crate) fn own_of<T: Copy>(alloc: Global, items: &[T], room: usize) -> Result<Vec<T>, AllocError>
     ensures { IfOk result (λ own. own.items ≡ items.now) }
 {

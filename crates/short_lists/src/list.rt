@@ -14,8 +14,9 @@ use std::hash::{Hash, Hasher};
 use std::marker::Model;
 use std::sync::Arc;
 
-/// A list of plain values, which contracts see as the list of its items. Up to four items lie in the
-/// list itself, and more of them in memory, of the list's own or shared with its clones.
+/// A list of plain values, which contracts see as the list of its items. It holds up to four items
+/// in itself. More items are in allocated memory, which is the list's own or shared with its
+/// clones.
 #[derive(Debug, Drop)]
 pub struct ShortList<T> {
     items: Items<T>,
@@ -44,7 +45,7 @@ impl<T> ShortList<T> {
 }
 
 impl<T: MadeWith<Global> + Copy> ShortList<T> {
-    /// The list of no items.
+    /// The empty list. Allocates nothing.
     pub fn new(alloc: Global) -> Self
         ensures { result ≡ [] }
     {
@@ -53,8 +54,8 @@ impl<T: MadeWith<Global> + Copy> ShortList<T> {
         }
     }
 
-    /// The list of these items. It takes no memory: it keeps that of the items, or gives it back where
-    /// they fit into the list itself.
+    /// The list of these items. Allocates nothing: it keeps the memory of the items, or frees it if
+    /// the list can hold them in itself.
     pub fn from_vec(items: Vec<T>) -> Self
         ensures { result ≡ items.items }
     {
@@ -69,11 +70,11 @@ impl<T: MadeWith<Global> + Copy> ShortList<T> {
         }
     }
 
-    /// The list of these items, whose clones share their memory.
+    /// The list of these items. Its clones share its memory.
     ///
     /// # Errors
     ///
-    /// [`AllocError`] where memory was wanted and not had. The items are gone then too.
+    /// [`AllocError`] if memory runs out. The items are dropped in that case.
     pub fn shared(alloc: Global, items: Vec<T>) -> Result<Self, AllocError>
         ensures { IfOk result (λ list. list ≡ items.items) }
     {
@@ -85,11 +86,11 @@ impl<T: MadeWith<Global> + Copy> ShortList<T> {
         })
     }
 
-    /// A list of the same items.
+    /// A list of the same items, copied.
     ///
     /// # Errors
     ///
-    /// [`AllocError`] where memory was wanted and not had.
+    /// [`AllocError`] if memory runs out.
     pub fn from_slice(alloc: Global, items: &[T]) -> Result<Self, AllocError>
         ensures { IfOk result (λ list. list ≡ items.now) }
     {
@@ -107,7 +108,7 @@ impl<T: MadeWith<Global> + Copy> ShortList<T> {
     ///
     /// # Errors
     ///
-    /// [`AllocError`] where memory was wanted and not had.
+    /// [`AllocError`] if memory runs out.
     pub fn push(&mut self, item: T) -> Result<(), AllocError>
         ensures { OnOk result (self.new ≡ self.old ++ item ∷ []) }
     {
@@ -131,11 +132,11 @@ impl<T: MadeWith<Global> + Copy> ShortList<T> {
         Ok(())
     }
 
-    /// Puts an item at a place, before those that stood from there on.
+    /// Inserts an item at `place`. The items from there on move up by one place.
     ///
     /// # Errors
     ///
-    /// [`AllocError`] where memory was wanted and not had.
+    /// [`AllocError`] if memory runs out.
     pub fn insert(&mut self, place: usize, item: T) -> Result<(), AllocError>
         requires { place ≤ length self.old }
         ensures { OnOk result (self.new ≡ insert self.old place item) }
@@ -164,7 +165,7 @@ impl<T: MadeWith<Global> + Copy> ShortList<T> {
 impl<T: MadeWith<Global> + Copy> Clone for ShortList<T> {
     ghost is_clone = { λ list copy. copy ≡ list };
 
-    /// The same items, in the same memory where it is shared.
+    /// A list of the same items. If their memory is shared, the clone shares it too.
     fn clone(&self) -> Result<Self, AllocError> {
         let items = match &self.items {
             Items::Few(items) => Items::Few(few_of(*items.allocator(), items.as_slice())),

@@ -1,5 +1,5 @@
-//! Pumps a mebibyte each way over a connection on 127.0.0.1, and prints how many bytes came in at each
-//! end, or that it went otherwise.
+//! Pumps a mebibyte each way over a connection on 127.0.0.1, and prints how many bytes arrived at
+//! each end, or that the run failed.
 #![tactic(auto)]
 
 use dcop_base::Bytes;
@@ -24,7 +24,7 @@ fn main(rt: HostRuntime) -> io::Result<()> {
     }
 }
 
-/// How many bytes came in at each end, where they are those that were sent.
+/// How many bytes arrived at each end, if they are those that were sent.
 fn both_ways<R>(rt: &R) -> Option<usize>
 where
     R: Threads + Wait + Clock + RandomSource + Net + AllocGlobal + Sync,
@@ -42,7 +42,8 @@ where
     Some(BYTES)
 }
 
-/// Bytes without a short period, by Knuth's linear congruential generator; None where memory is wanted.
+/// Bytes without a short period, by Knuth's linear congruential generator; `None` if memory runs
+/// out.
 fn mixed(alloc: Global, seed: u64) -> Option<Bytes> {
     let mut bytes = Vec::with_capacity(alloc, BYTES).ok()?;
     let mut state = seed;

@@ -1,4 +1,4 @@
--- What agents in several nodes were sent and took over the links between these.
+-- A difference between what was sent and what was taken over the links between nodes.
 use Rattle.std.specs.Prelude.{◌≡◌, ℕ, List, [], length}
 use Rattle.std.specs.List.{All}
 use Rattle.dcop_base.specs.Problem.{Dcop}
@@ -15,7 +15,10 @@ use Rattle.tcp_links.specs.Plans.{IsBetween, AreOrdered}
 use Rattle.tcp_links.specs.Ends.{IsDifference}
 use Rattle.node_seats.specs.Links.{KeepsPairs}
 
--- in a phase of this kind, agents of a problem were run in so many nodes, over links that had passed nothing, one from each agent to each of its neighbours in another node and no other, by sender and then receiver; and they came to this difference between what was sent and what was taken
+-- in a phase of this kind, agents of a problem were run in this number of nodes and found this
+-- difference between what was sent and what was taken. Their links between nodes had passed nothing
+-- before: one from each agent to each of its neighbours in another node, and no other, by sender
+-- and then receiver
 pub record HaveDiffered (p : Dcop) (is_phase : Start → ℕ → Type 0) (nodes : ℕ) (d : Difference) : Type 0 where
   pub start : Start
   pub fits : IsStartFor p start

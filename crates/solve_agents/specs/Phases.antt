@@ -1,4 +1,4 @@
--- The phases in which agents are run: from which start, and with how many deliveries at most.
+-- The phases in which agents are run: their start, and their most deliveries.
 use Rattle.std.specs.Prelude.{◌≡◌, ℕ, ◌⊎◌, None}
 use Rattle.dcop_base.specs.Problem.{Dcop}
 use Rattle.pseudotree.specs.DepthFirst.{dfs}
@@ -9,11 +9,11 @@ use Rattle.tree_search.specs.Found.{token_deliveries}
 use Rattle.solve_methods.specs.Auto.{IsWide}
 use Rattle.solve_methods.specs.Dpop.{dpop_deliveries, wide_in}
 
--- agents are run from this start, with so many deliveries at most
+-- a phase in which agents are run from this start, with at most this number of deliveries
 abbrev pub IsPhase : Start → ℕ → Start → ℕ → Type 0
 IsPhase start most start' most' = (start' ≡ start) × (most' ≡ most)
 
--- none are run
+-- no phase: no agents are run
 abbrev pub IsNoPhase : Start → ℕ → Type 0
 IsNoPhase start most = ⊥
 
@@ -29,14 +29,15 @@ IsDpopPhase p start most = (tree : RootedTree) × (start ≡ Dpop tree) × (tree
 abbrev pub IsAdoptPhase : Dcop → ℕ → ℕ → Start → ℕ → Type 0
 IsAdoptPhase p error budget start most = (tree : RootedTree) × (start ≡ Adopt tree error) × (tree.paths ≡ dfs p) × (most ≡ budget)
 
--- a phase by DPOP: the search for the tree, and then DPOP where nothing is too wide in it
+-- a phase of the method DPOP: the search for the tree, or DPOP on it if nothing is too wide in it
 abbrev pub IsPhaseByDpop : Dcop → Start → ℕ → Type 0
 IsPhaseByDpop p start most = IsSearchPhase p start most ⊎ ((wide_in p ≡ None) × IsDpopPhase p start most)
 
--- a phase by ADOPT: the search for the tree, and then ADOPT
+-- a phase of the method ADOPT: the search for the tree, or ADOPT on it
 abbrev pub IsPhaseByAdopt : Dcop → ℕ → ℕ → Start → ℕ → Type 0
 IsPhaseByAdopt p error budget start most = IsSearchPhase p start most ⊎ IsAdoptPhase p error budget start most
 
--- a phase by auto: the search for the tree, and then DPOP where it fits, and else ADOPT
+-- a phase of the method auto: the search for the tree, DPOP on it if nothing is too wide in it, or
+-- ADOPT otherwise
 abbrev pub IsPhaseByAuto : Dcop → ℕ → ℕ → Start → ℕ → Type 0
 IsPhaseByAuto p error budget start most = IsSearchPhase p start most ⊎ ((wide_in p ≡ None) × IsDpopPhase p start most) ⊎ (IsWide p × IsAdoptPhase p error budget start most)

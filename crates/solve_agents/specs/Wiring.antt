@@ -1,4 +1,5 @@
--- How the agents of a problem are joined, and what a call on them says of the links between nodes.
+-- How the agents of a problem are connected, and what a call on them says about the links between
+-- nodes.
 use Rattle.std.specs.Prelude.{◌≡◌, ℕ, ◌<◌, ◌≤◌, Result, Ok, Err}
 use Rattle.dcop_edge.specs.Faults.{Rose}
 use Rattle.dcop_base.specs.Problem.{Dcop}
@@ -12,12 +13,13 @@ use Rattle.solve_agents.specs.declared.nodes.Wiring.TheVariants.{Rings, Nodes}
 use Rattle.solve_agents.specs.Differing.{HaveDiffered}
 
 module _ {W : Type 0} where
-  -- in how many nodes the agents are
+  -- the number of nodes of a wiring
   abbrev pub nodes_in : Wiring W → ℕ
   nodes_in Rings = 1
   nodes_in (Nodes plan) = plan.nodes
 
-  -- so many agents are joined: by rings, or by a plan for them that has no link yet, of more nodes than one
+  -- a wiring for this number of agents: rings, or a plan for them of more than one node that has no
+  -- link yet
   abbrev pub IsWiringFor : ℕ → Wiring W → Type 0
   IsWiringFor agents Rings = Unit {0}
   IsWiringFor agents (Nodes plan) = IsNewPlan agents plan.nodes plan × (1 < plan.nodes)
@@ -28,13 +30,17 @@ module _ {W : Type 0} (told : W → Told) (is_joined : W → W → Type 0) where
   IsHonestWiring Rings = Unit {0}
   IsHonestWiring (Nodes plan) = IsHonest told is_joined plan
 
--- a fault of a problem's agents in so many nodes, in a phase of this kind, where this is that the links between them are honest: the dialer's count rose where they failed, and in no other case; a difference was come to by agents of the problem, and not over honest links; and neither comes with one node
+-- a fault of a problem's agents in this number of nodes, in a phase of this kind; `honest` says
+-- that the links between the nodes are honest. The dialer's count of faults rose exactly if the
+-- links failed. A difference was found by agents of the problem, and not over honest links. Neither
+-- fault happens with one node
 abbrev pub IsFaultOf : Dcop → (Start → ℕ → Type 0) → ℕ → Type 0 → ℕ → ℕ → NodeFault → Type 0
 IsFaultOf p is_phase nodes honest old new Failed = (1 < nodes) × (old ≤ new) × Rose old new
 IsFaultOf p is_phase nodes honest old new (Differs d) = (1 < nodes) × (new ≡ old) × (¬ honest) × HaveDiffered p is_phase nodes d
 IsFaultOf p is_phase nodes honest old new NoMemory = new ≡ old
 
--- a call on a problem's agents leaves the dialer's count as it was, or ends in such a fault
+-- a call on a problem's agents leaves the dialer's count of faults unchanged, or ends in such a
+-- fault
 abbrev pub MayFail : {T : Type 0} → Dcop → (Start → ℕ → Type 0) → ℕ → Type 0 → ℕ → ℕ → Result T NodeFault → Type 0
 MayFail p is_phase nodes honest old new (Ok value) = new ≡ old
 MayFail p is_phase nodes honest old new (Err fault) = IsFaultOf p is_phase nodes honest old new fault

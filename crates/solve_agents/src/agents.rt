@@ -39,8 +39,8 @@ use std::thread::Threads;
 use tree_search::{Found, search_deliveries, tree_found};
 use worker_runs::{cells_tell_outcomes, journals_merge};
 
-/// What the agents of a problem come to that are run from this start, by workers in rounds until all
-/// have ended or so many messages are delivered.
+/// Runs the agents of a problem from this start, by workers, in rounds, until all have ended or
+/// `budget` messages are delivered.
 fn run_agents<R: Threads + Sync, G: Gate>(
     crew: &Crew<R, G>,
     alloc: Global,
@@ -56,8 +56,8 @@ fn run_agents<R: Threads + Sync, G: Gate>(
     Ok(ran.outcome)
 }
 
-/// The same, with the log of the run where it is asked for. Where one worker runs the agents and no log is
-/// asked for, they are played on this thread, without cells and links.
+/// The same, with the log of the run if it is requested. If one worker runs the agents and no log
+/// is requested, they are played on this thread, without cells and links.
 pub(crate) fn run_logged<R: Threads + Sync, G: Gate>(
     crew: &Crew<R, G>,
     alloc: Global,
@@ -76,7 +76,7 @@ pub(crate) fn run_logged<R: Threads + Sync, G: Gate>(
     play_alone(crew.gate, alloc, problem, start, budget, certified)
 }
 
-/// What agents come to that one thread plays, without a log.
+/// The outcome of agents that one thread plays, without a log.
 fn play_alone<G: Gate>(
     gate: &G,
     alloc: Global,
@@ -94,8 +94,8 @@ fn play_alone<G: Gate>(
     Ok(Logged { outcome, log: None })
 }
 
-/// What agents come to that workers run in cells, with the log of the run where it is asked for. Agents
-/// are boxed where they are run, since no call may hand boxes out.
+/// The outcome of agents that workers run in cells, with the log of the run if it is requested.
+/// Agents are boxed where they are run, since no call may hand boxes out.
 fn run_cells<R: Threads + Sync, G: Gate>(
     crew: &Crew<R, G>,
     alloc: Global,
@@ -148,8 +148,8 @@ fn run_cells<R: Threads + Sync, G: Gate>(
     logged_of(alloc, cells.as_slice(), end, certified)
 }
 
-/// What the agents of cells have come to that have run to this end, with the log of the run where it
-/// is asked for.
+/// The outcome of the agents of cells that have run to this end, with the log of the run if it is
+/// requested.
 pub(crate) fn logged_of(
     alloc: Global,
     cells: &[Cell],
@@ -173,7 +173,7 @@ pub(crate) fn logged_of(
 ///
 /// # Errors
 ///
-/// [`NoMemory`] where memory was wanted and not had.
+/// [`NoMemory`] if memory runs out.
 pub fn find_tree<R: Threads + Sync, G: Gate>(
     crew: &Crew<R, G>,
     alloc: Global,
@@ -190,7 +190,7 @@ pub fn find_tree<R: Threads + Sync, G: Gate>(
 ///
 /// # Errors
 ///
-/// [`NoMemory`] where memory was wanted and not had.
+/// [`NoMemory`] if memory runs out.
 pub fn tree_for<R: Threads + Sync, G: Gate>(
     crew: &Crew<R, G>,
     alloc: Global,

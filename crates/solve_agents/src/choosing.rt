@@ -27,15 +27,15 @@ use tcp_links::NodeFault;
 use tree_search::Found;
 use wire_edge::Dialer;
 
-/// What the agents of the problem solved for a file choose by DPOP: they search its depth-first tree
-/// first. Where what they choose is to be certified, their tables go with it.
+/// The choice by DPOP of the agents of the problem solved for a file. They first search for its
+/// depth-first tree. If a certificate is requested, the choice includes their tables.
 ///
 /// # Errors
 ///
-/// With one node [`NodeFault::NoMemory`] alone, where memory was wanted and not had. With more,
-/// [`NodeFault::Failed`] where the dialer gave no wires or one failed, which its count tells, and
-/// [`NodeFault::Differs`] where what one node received is not what another one sent, over a dialer
-/// that is not honest alone.
+/// With any number of nodes [`NodeFault::NoMemory`] if memory runs out; with one node there is no
+/// other fault. With more, [`NodeFault::Failed`] if the dialer gave no wires or a wire failed,
+/// which its count of faults shows; and [`NodeFault::Differs`] if what a node received differs from
+/// what another one sent, which happens only with a dialer that is not honest.
 pub fn choose_for<R, D, G>(
     crew: &Crew<R, G>,
     alloc: Global,
@@ -56,7 +56,7 @@ where
     choose(crew, alloc, dialer, &mut wiring, problem, certified)
 }
 
-/// What the agents of a problem choose. They search its depth-first tree first; where it is too
+/// The choice of the agents of a problem. They first search for its depth-first tree; if it is too
 /// wide for their tables, they choose nothing.
 fn choose<R, D, G>(
     crew: &Crew<R, G>,
@@ -83,8 +83,8 @@ where
     }
 }
 
-/// The values that the agents of a problem choose on its depth-first tree. The nodes of the tree are
-/// kept from them only where the values are to be certified.
+/// The values that the agents of a problem choose on its depth-first tree. The nodes of the tree
+/// are kept for the certificate only if one is requested.
 pub(crate) fn choose_on<R, D, G>(
     crew: &Crew<R, G>,
     alloc: Global,

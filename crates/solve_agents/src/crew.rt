@@ -1,18 +1,18 @@
-//! What agents are run by.
+//! The resources that run agents.
 
 ghost use Rattle.std.specs.Prelude.{◌<◌, ◌≤◌};
 ghost use Rattle.dcop_base.specs.Limits.{node_limit};
 
-/// What agents are run by.
+/// The resources that run agents.
 #[derive(Drop)]
 pub struct Crew<'a, R, G> {
-    /// What threads are started with.
+    /// The source of threads.
     pub rt: &'a R,
-    /// What each visit of an agent passes.
+    /// The gate that each visit of an agent passes.
     pub gate: &'a G,
-    /// How many threads the agents share, above 0.
+    /// How many threads the agents share, at least 1.
     pub workers: u32,
-    /// Over how many nodes the agents are spread, where what is asked lets them be: 1 to 8.
+    /// Over how many nodes the agents are distributed, if the request allows several: 1 to 8.
     pub nodes: u32,
     ghost some: { 0 < workers },
     ghost few: { (0 < nodes) × (nodes ≤ node_limit) },

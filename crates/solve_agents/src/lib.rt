@@ -1,8 +1,12 @@
 //! Running the agents of a problem, by workers and in one node or several.
 //!
-//! [`choose_for`], [`reach_for`] and [`settle_for`] run them for DPOP, ADOPT and auto, behind the search
-//! for the depth-first tree, which [`find_tree`] and [`tree_for`] make alone. Where one worker runs them
-//! in one node and no log is asked for, they are played on the calling thread, without cells and links.
+//! [`choose_for`], [`reach_for`] and [`settle_for`] run the agents for DPOP, ADOPT and auto, after
+//! the search for the depth-first tree. [`find_tree`] and [`tree_for`] make that search alone. If
+//! one worker runs the agents in one node and no log is requested, they are played on the calling
+//! thread, without cells and links.
+//!
+//! It builds on `agent_seats` and `agent_workers` for one node, on `node_seats` and `tcp_links` for
+//! several, on `delivery_turns` for one thread, and on `solve_methods` for the results.
 #![tactic(auto)]
 
 mod agents;

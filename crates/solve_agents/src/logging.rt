@@ -15,7 +15,7 @@ use protocol_steps::{Journal, JournalList};
 use run_log::{Log, merge};
 use std::alloc::Global;
 
-/// The merged journals of some cells, by stamp and then agent, exactly where a log is asked for.
+/// The merged journals of these cells, by stamp and then agent, exactly when a log is requested.
 pub(crate) fn log_if(
     alloc: Global,
     certified: bool,
@@ -33,7 +33,7 @@ pub(crate) fn log_if(
     Ok(Some(merge(alloc, &journals)?))
 }
 
-/// The journals of some cells, copied.
+/// A copy of the journals of these cells.
 fn journals_in(alloc: Global, cells: &[Cell]) -> Result<JournalList, NoMemory>
     ensures { IfOk result (λ journals. journals ≡ map (λ c. (state_of (λ b. meaning (b.vtable, b.value)) c).journal) cells.now) }
 {
@@ -44,7 +44,7 @@ fn journals_in(alloc: Global, cells: &[Cell]) -> Result<JournalList, NoMemory>
     Ok(JournalList::from_vec(journals))
 }
 
-/// The journal of a cell, copied.
+/// A copy of the journal of a cell.
 fn journal_in(cell: &Cell) -> Result<Journal, NoMemory>
     ensures { IfOk result (λ journal. journal ≡ (state_of (λ b. meaning (b.vtable, b.value)) cell.now).journal) }
 {

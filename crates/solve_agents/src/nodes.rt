@@ -1,4 +1,4 @@
-//! Agents over one node or more.
+//! Agents in one node or several.
 
 ghost use Rattle.std.specs.Prelude.{◌≡◌, ◌<◌, ◌≤◌, length, IfOk, OnOk};
 ghost use Rattle.dcop_base.specs.Limits.{budget_limit};
@@ -33,22 +33,22 @@ use tree_search::{Found, search_deliveries, tree_found};
 use wire_edge::{DialFault, Dialer, Wire};
 use worker_runs::{cells_tell_outcomes, journals_merge};
 
-/// How the agents of a problem are joined.
+/// How the agents of a problem are connected.
 #[derive(Drop)]
 pub(crate) enum Wiring<W: Wire> {
     /// By rings, in one node.
     Rings,
-    /// By rings inside each node, and by the wires of a plan between two.
+    /// By rings inside each node, and by the wires of a plan between nodes.
     Nodes(NodePlan<W>),
 }
 
 impl<W: Wire> Wiring<W> {
-    /// The wiring of a problem's agents in as many nodes as the crew is spread over. Where these are
-    /// more than one, each pair of them is dialled. It may wait.
+    /// The wiring of a problem's agents in the crew's number of nodes. If there is more than one
+    /// node, each pair of nodes is dialled. The call may wait.
     ///
     /// # Errors
     ///
-    /// [`NodeFault::Failed`] only where the dialer's count of faults rose.
+    /// [`NodeFault::Failed`] only if the dialer's count of faults rose.
     pub(crate) fn between<R, D, G>(
         crew: &Crew<R, G>,
         alloc: Global,
@@ -76,13 +76,13 @@ impl<W: Wire> Wiring<W> {
     }
 }
 
-/// What the agents of a problem come to that are run from this start, in the nodes of a wiring, by
-/// workers in rounds until all have ended or so many messages are delivered, with the log of the run
-/// where it is asked for.
+/// Runs the agents of a problem from this start, in the nodes of a wiring, by workers, in rounds,
+/// until all have ended or `budget` messages are delivered. The log of the run is included if it is
+/// requested.
 ///
 /// # Errors
 ///
-/// Where the agents are in one node, [`NodeFault::NoMemory`] alone; otherwise those of [`run_nodes`].
+/// If the agents are in one node, only [`NodeFault::NoMemory`]; otherwise those of [`run_nodes`].
 pub(crate) fn run_over<R, D, G>(
     crew: &Crew<R, G>,
     alloc: Global,

@@ -26,15 +26,16 @@ use tcp_links::NodeFault;
 use tree_search::Found;
 use wire_edge::Dialer;
 
-/// What the agents of the problem solved for a file reach by ADOPT on its depth-first tree, which they
-/// search first. Where it is to be certified, the log of their run goes with it.
+/// What the agents of the problem solved for a file reach by ADOPT on its depth-first tree. They
+/// first search for that tree. If a certificate is requested, the result includes the log of their
+/// run.
 ///
 /// # Errors
 ///
-/// With one node [`NodeFault::NoMemory`] alone, where memory was wanted and not had. With more,
-/// [`NodeFault::Failed`] where the dialer gave no wires or one failed, which its count tells, and
-/// [`NodeFault::Differs`] where what one node received is not what another one sent, over a dialer
-/// that is not honest alone.
+/// With any number of nodes [`NodeFault::NoMemory`] if memory runs out; with one node there is no
+/// other fault. With more, [`NodeFault::Failed`] if the dialer gave no wires or a wire failed,
+/// which its count of faults shows; and [`NodeFault::Differs`] if what a node received differs from
+/// what another one sent, which happens only with a dialer that is not honest.
 pub fn reach_for<R, D, G>(
     crew: &Crew<R, G>,
     alloc: Global,

@@ -1,4 +1,4 @@
-//! What agents come to by auto: DPOP where its tables fit, and ADOPT otherwise.
+//! What agents reach by auto: by DPOP if its tables fit, and by ADOPT otherwise.
 
 ghost use Rattle.std.specs.Prelude.{◌≤◌, length, IfOk};
 ghost use Rattle.dcop_base.specs.Limits.{amount_limit, budget_limit};
@@ -26,15 +26,15 @@ use std::time::Clock;
 use tcp_links::NodeFault;
 use wire_edge::Dialer;
 
-/// What the agents of the problem solved for a file come to by auto: they search its depth-first tree
-/// first; by DPOP they go on where nothing is too wide there, and else by ADOPT.
+/// What the agents of the problem solved for a file reach by auto. They first search for its
+/// depth-first tree. They continue by DPOP if nothing is too wide in it, and by ADOPT otherwise.
 ///
 /// # Errors
 ///
-/// With one node [`NodeFault::NoMemory`] alone, where memory was wanted and not had. With more,
-/// [`NodeFault::Failed`] where the dialer gave no wires or one failed, which its count tells, and
-/// [`NodeFault::Differs`] where what one node received is not what another one sent, over a dialer
-/// that is not honest alone.
+/// With any number of nodes [`NodeFault::NoMemory`] if memory runs out; with one node there is no
+/// other fault. With more, [`NodeFault::Failed`] if the dialer gave no wires or a wire failed,
+/// which its count of faults shows; and [`NodeFault::Differs`] if what a node received differs from
+/// what another one sent, which happens only with a dialer that is not honest.
 pub fn settle_for<R, D, G>(
     crew: &Crew<R, G>,
     alloc: Global,
@@ -57,8 +57,8 @@ where
     settle(crew, alloc, dialer, &mut wiring, problem, asked)
 }
 
-/// What the agents of a problem come to. They search its depth-first tree first; by DPOP they go on
-/// where nothing is too wide there.
+/// What the agents of a problem reach. They first search for its depth-first tree; they continue by
+/// DPOP if nothing is too wide in it.
 fn settle<R, D, G>(
     crew: &Crew<R, G>,
     alloc: Global,

@@ -18,13 +18,14 @@ use report_reader::read_report;
 use solve_report::Answer;
 use std::alloc::Global;
 
-/// The answer to the text of a report on a file, which stands behind so many lines: the verdict on
-/// the report, or the first fault of its text. Lines count on from the beginning of the input. Lines
-/// and bytes together are at most an input has bytes, 2^28.
+/// The answer to the text of a report on a file: the verdict on the report, or the first fault of
+/// its text. `before` lines precede the text, and lines count from the beginning of the input. The
+/// lines before the text and the bytes of the text are together at most 2^28, the most bytes of an
+/// input.
 ///
 /// # Errors
 ///
-/// [`NoMemory`] where memory was wanted and not had.
+/// [`NoMemory`] if memory runs out.
 pub fn check_answer(
     alloc: Global,
     file: ProblemFile,
@@ -52,7 +53,7 @@ pub fn check_answer(
     }
 }
 
-/// The verdict on a report. Each variable of which it speaks has a name.
+/// The verdict on a report. Each variable in it has a name.
 fn verdict_on(alloc: Global, file: &ProblemFile, report: &Report) -> Result<Verdict, NoMemory>
     requires { HasFit file.now report.now }
     ensures verdict { IfOk result (IsVerdict file.now report.now) }

@@ -1,7 +1,10 @@
-//! What comes of checking the text of a report.
+//! The answer to checking the text of a report.
 //!
-//! [`check_answer`] reads a report on a file and checks its certificate. It trusts neither who made
-//! the report nor how: a yes means that the certificate holds.
+//! [`check_answer`] reads a report on a file and checks its certificate. It trusts neither the
+//! report nor its maker: the verdict yes means that the report holds with its certificate.
+//!
+//! It builds on `report_reader` to read reports, on `certificate_check` to check them, and on
+//! `solve_report` for answers.
 #![tactic(auto)]
 
 mod checking;

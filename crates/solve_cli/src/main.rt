@@ -1,7 +1,9 @@
-//! The program `dcop`: answers the words that it is given, from standard input to standard output.
+//! The program `dcop`: it answers the words of its command line, from standard input to standard
+//! output.
 //!
-//! All of its work is [`solve`]; between the nodes of agents it dials sockets on 127.0.0.1. It ends with the code of the status, or with 12 and nothing
-//! printed where it is refused its arguments.
+//! [`solve`] does all of its work. Between the nodes of agents it dials sockets on 127.0.0.1. It
+//! ends with the code of the status. If the system refuses to give it its arguments, it prints
+//! nothing and ends with code 12.
 #![tactic(auto)]
 
 use dcop_edge::{OpenGate, StdSink, StdSource};
@@ -12,7 +14,7 @@ use std::rt::Env;
 use std::{env, io};
 use tcp_wire::TcpDialer;
 
-/// The code with which the program ends where it is refused its arguments, which no status has.
+/// The exit code if the system refuses to give the arguments; no status has it.
 const REFUSED_ARGUMENTS: u8 = 12;
 
 /// The most bytes of a block that the allocator keeps when it is given back.
@@ -38,12 +40,12 @@ fn main(rt: HostRuntime) -> ExitCode {
     ExitCode::from(status.code())
 }
 
-/// Has the allocator keep what is given back, the text's memory too, for what is asked for next: by
-/// asking for a block of [`KEPT_BLOCK`] bytes and giving it back.
+/// Makes the allocator keep freed memory for later requests: asks for a block of [`KEPT_BLOCK`]
+/// bytes and gives it back.
 ///
-/// The C library takes a large block from the system and gives it back to it, and then each page of
-/// the next one is new and is cleared; but from then on that a block was given back, blocks up to its
-/// size are taken from what is there (mallopt(3), at `M_MMAP_THRESHOLD`).
+/// The C library takes a large block from the system and returns it there, so each page of the next
+/// one is new and must be cleared. After one block was given back, later blocks up to its size come
+/// from freed memory (mallopt(3), at `M_MMAP_THRESHOLD`).
 fn keep_freed_memory(alloc: Global) {
     let _ = Vec::<u8>::with_capacity(alloc, KEPT_BLOCK);
 }

@@ -12,7 +12,8 @@ use Rattle.solve_report.specs.declared.answer.Answer.{Answer}
 use Rattle.solve_report.specs.declared.answer.Answer.TheVariants as answers
 use Rattle.solve_cut.specs.Cut.{IsCutOf, refusal_of, AnswersCut}
 
--- nothing refuses the cut, with this limit of cells and with or without a certificate, of the file of a text that declares this
+-- nothing refuses the cut of the file of a text that declares this, with this limit of cells, and
+-- with or without a certificate
 pub record HasAllowedCut (d : Declared) (limit : ℕ) (keeps : Bool) : Type 0 where
   pub file : TextFile
   pub whole : IsProblem file.problem
@@ -28,6 +29,6 @@ pub record IsSolvedReport (answer : Answer) : Type 0 where
   pub is : answer ≡ answers.Report report file
   pub solved : report.status ≡ Solved
 
--- where nothing refuses the cut, the answer of the method cut is a solved report
+-- if nothing refuses the cut, an answer of the method cut is a solved report
 abbrev pub AllowedCutsAreSolved : Type 0
 AllowedCutsAreSolved = (d : Declared) (limit : ℕ) (keeps : Bool) (answer : Answer) → size_limit ≤ limit → HasAllowedCut d limit keeps → AnswersCut d limit keeps answer → IsSolvedReport answer

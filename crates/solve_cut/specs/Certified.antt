@@ -14,28 +14,30 @@ use Rattle.certificate_text.specs.declared.report.Report.{Report}
 use Rattle.problem_solved.specs.Goal.{problem_solved}
 use Rattle.problem_solved.specs.Holds.{HoldsCut}
 
--- the tables of all turns of a cut of the problem solved for a file: they fit the file, and they show that the report holds
+-- these are the tables of all turns of a cut of the problem solved for a file, they fit the file,
+-- and the report holds with them
 pub record AreTurnsFor (file : TextFile) (cut : List ℕ) (report : Report) (turns : List Turn) : Type 0 where
   pub tables : AreTurns (problem_solved file) (dfs (problem_solved file)) cut (turn_count (problem_solved file) cut) turns
   pub fits : FitsCut file.problem.sizes cut turns
   pub holds : HoldsCut file report cut turns
 
--- a report has a certificate of the cut and its turns where one is asked for, and none otherwise
+-- a report has a certificate of the cut and its turns if one is requested, and none otherwise
 abbrev pub IsCutCertified : Bool → TextFile → List ℕ → Report → Type 0
 IsCutCertified false file cut report = report.certificate ≡ None
 IsCutCertified true file cut report = (turns : List Turn) × (report.certificate ≡ Some (Cut cut turns)) × AreTurnsFor file cut report turns
 
--- the certificate of a cut and its turns, where one is asked for
+-- the certificate of a cut and its turns, if one is requested
 abbrev pub certificate_if : Bool → List ℕ → List Turn → Option Certificate
 certificate_if false cut turns = None
 certificate_if true cut turns = Some (Cut cut turns)
 
--- at the end of a cut of the problem solved for a file stand the tables of all its turns, which are a certificate
+-- the end of a cut of the problem solved for a file has the tables of all its turns, and they form
+-- a certificate
 pub record HasTurns (file : TextFile) (end : CutEnd) : Type 0 where
   pub tables : AreTurns (problem_solved file) (dfs (problem_solved file)) end.cut (turn_count (problem_solved file) end.cut) end.tables
   pub certified : IsCertifiedEnd (problem_solved file) end
 
--- so they do where a certificate is asked for
+-- the end of a cut has such tables if a certificate is requested
 abbrev pub HasTurnsIf : Bool → TextFile → CutEnd → Type 0
 HasTurnsIf false file end = Unit {0}
 HasTurnsIf true file end = HasTurns file end

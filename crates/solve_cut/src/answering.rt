@@ -1,4 +1,4 @@
-//! The answer of the method cut, from what a cut came to.
+//! The answer of the method cut, from the result of a cut.
 
 ghost use Rattle.std.specs.Prelude.{◌≡◌, ◌<◌, ◌≤◌, IfOk};
 ghost use Rattle.dcop_base.specs.Limits.{joined_limit, size_limit};
@@ -24,15 +24,15 @@ use solve_report::Answer;
 use std::alloc::Global;
 use std::thread::Threads;
 
-/// The answer of the method cut on a file, from the depth-first tree of the problem solved for it: a
-/// report, or that the cut has too many turns or sends too many cells. No joined table of any turn has
-/// more than `limit` cells. So many workers run the agents, and each visit of an agent passes the gate.
-/// `keeps` says whether a certificate is asked for: then the tables of all turns are kept, and counted
-/// among the cells that are sent.
+/// The answer of the method cut on a file, from the depth-first tree of the problem solved for it:
+/// a report, or that the cut has too many turns or sends too many cells. No joined table of any
+/// turn has more than `limit` cells. `workers` workers run the agents, and each visit of an agent
+/// passes the gate. `keeps` says whether a certificate is requested: the tables of all turns are
+/// then kept and count as cells that are sent.
 ///
 /// # Errors
 ///
-/// [`NoMemory`] where memory was wanted and not had.
+/// [`NoMemory`] if memory runs out.
 pub fn cut_answer<R: Threads + Sync, G: Gate>(
     rt: &R,
     alloc: Global,
@@ -56,7 +56,7 @@ pub fn cut_answer<R: Threads + Sync, G: Gate>(
     answer_of(file, limit, keeps, cut)
 }
 
-/// The answer that tells what a cut of the problem solved for a file came to.
+/// The answer from the result of a cut of the problem solved for a file.
 fn answer_of(
     file: ProblemFile,
     limit: u64,
@@ -83,7 +83,7 @@ fn answer_of(
     }
 }
 
-/// The answer where a cut is refused.
+/// The answer if a cut is refused.
 fn refusal_answer(fault: CutFault) -> Result<Answer, NoMemory>
     ensures belongs { IfOk result (IsRefusalAnswer fault) }
     ensures right { IfOk result TellsRight }
@@ -96,7 +96,7 @@ fn refusal_answer(fault: CutFault) -> Result<Answer, NoMemory>
     }
 }
 
-/// The report of what a cut came to, with a certificate where one is asked for.
+/// The report of the end of a cut, with a certificate if one is requested.
 fn cut_report(file: &ProblemFile, keeps: bool, end: CutEnd) -> Report
     requires { IsBestCut file.now keeps end }
     ensures form { IsCutReport file.now end.cut keeps result }
@@ -118,7 +118,7 @@ fn cut_report(file: &ProblemFile, keeps: bool, end: CutEnd) -> Report
     }
 }
 
-/// The certificate of a cut and its turns, where one is asked for.
+/// The certificate of a cut and its turns, if one is requested.
 fn certificate_if(keeps: bool, cut: VarList, turns: CutList) -> Option<Certificate>
     ensures { result ≡ certificate_if keeps cut turns }
 {

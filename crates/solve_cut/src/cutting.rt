@@ -16,8 +16,8 @@ use pseudotree::{Tree, depth_first_trees_are_linked};
 use std::alloc::Global;
 use std::thread::Threads;
 
-/// What a cut of the problem solved for a file comes to on its depth-first tree. `keeps` says whether
-/// the tables of all turns are kept.
+/// The result of a cut of the problem solved for a file on its depth-first tree. `keeps` says
+/// whether the tables of all turns are kept.
 pub(crate) fn cut_for<R: Threads + Sync, G: Gate>(
     rt: &R,
     alloc: Global,
@@ -48,7 +48,8 @@ pub(crate) fn cut_for<R: Threads + Sync, G: Gate>(
     )
 }
 
-/// What a cut of a problem comes to on its depth-first tree, with the tables of all turns or not.
+/// The result of a cut of a problem on its depth-first tree. `keeps` says whether the tables of all
+/// turns are kept.
 fn cut_on<R: Threads + Sync, G: Gate>(
     rt: &R,
     alloc: Global,

@@ -1,4 +1,4 @@
--- What comes of the lines of an edit session.
+-- The result of the lines of an edit session.
 use Rattle.std.specs.Prelude.{◌≡◌, ℕ, List, [], ◌∷◌, ◌++◌, Option, Some, None, Result, Ok, Err}
 use Rattle.problem_text.specs.File.{TextFile}
 use Rattle.problem_text.specs.PlainLines.{Plain}
@@ -13,7 +13,7 @@ use Rattle.edit_text.specs.declared.kind.EditKind.TheVariants as kinds
 use Rattle.edit_text.specs.declared.line.EditLine.{EditLine}
 use Rattle.edit_text.specs.declared.line.EditLine.TheVariants as lines
 
--- the optima that were answered, and the file as it is at the end
+-- the optima that were found, and the file at the end
 pub record Told : Type 0 where
   pub answers : List Edited
   pub file : TextFile
@@ -23,16 +23,16 @@ pub record Refused : Type 0 where
   pub line : ℕ
   pub kind : EditKind
 
--- this line is refused
+-- the result if this line is refused
 abbrev pub refused : ℕ → EditKind → Result Told Refused
 refused line kind = Err (record { line = line; kind = kind })
 
--- these optima before what comes of later lines; a fault stands alone
+-- these optima put before the result of later lines; a fault is the only result
 abbrev pub behind : List Edited → Result Told Refused → Result Told Refused
 behind answers (Ok told) = Ok (record { answers = answers ++ told.answers; file = told.file })
 behind answers (Err fault) = Err fault
 
--- an edit is refused by this fault; want of memory is none
+-- the result if an edit is refused for this fault; there is none if memory runs out
 abbrev pub IsRefusedBy : ℕ → SetFault → Result Told Refused → Type 0
 IsRefusedBy line faults.NoTable told = told ≡ refused line kinds.NoTable
 IsRefusedBy line faults.NoCell told = told ≡ refused line kinds.NoCell
@@ -40,12 +40,13 @@ IsRefusedBy line faults.CostTooLarge told = told ≡ refused line kinds.CostTooL
 IsRefusedBy line faults.SumTooLarge told = told ≡ refused line kinds.SumTooLarge
 IsRefusedBy line faults.NoMemory told = ⊥
 
--- what comes of an edit and of the later lines: it is refused, or they go on from the state after it
+-- the result of an edit and of the later lines: the edit is refused, or the lines continue from the
+-- state after it
 abbrev pub IsEditTold : ℕ → Option SetFault → SessionState → (SessionState → Result Told Refused → Type 0) → Result Told Refused → Type 0
 IsEditTold line (Some fault) next later told = IsRefusedBy line fault told
 IsEditTold line None next later told = later next told
 
--- what comes of an optimum and of the later lines
+-- the result of a request for the optimum and of the later lines
 pub record IsAnswerTold (s : SessionState) (later : SessionState → Result Told Refused → Type 0) (told : Result Told Refused) : Type 0 where
   pub answer : Edited
   pub is : IsAnswerNow s answer
@@ -53,12 +54,12 @@ pub record IsAnswerTold (s : SessionState) (later : SessionState → Result Told
   pub goes : later (answered s) rest
   pub told_is : told ≡ behind (answer ∷ []) rest
 
--- behind `end` no line has words
+-- the result of the line `end`, after which no line may have words
 abbrev pub ended : SessionState → List Plain → Result Told Refused
 ended s [] = Ok (record { answers = []; file = s.file })
 ended s (line ∷ lines) = refused line.number kinds.BadLine
 
--- what comes of a line that says this and of the later lines, in a session that stands so
+-- the result of a line that says this and of the later lines, in a session with this state
 abbrev pub IsLineTold : SessionState → ℕ → Result EditLine EditKind → List Plain → (SessionState → Result Told Refused → Type 0) → Result Told Refused → Type 0
 IsLineTold s line (Ok (lines.Set k cell cost)) ls later told = IsEditTold line (set_fault s.file.problem k cell cost) (edited s k (cells_set s.file.problem.tables k cell cost)) later told
 IsLineTold s line (Ok (lines.Fill k cells)) ls later told = IsEditTold line (fill_fault s.file.problem k cells) (edited s k cells) later told
@@ -66,7 +67,7 @@ IsLineTold s line (Ok lines.Answer) ls later told = IsAnswerTold s later told
 IsLineTold s line (Ok lines.End) ls later told = told ≡ ended s ls
 IsLineTold s line (Err kind) ls later told = told ≡ refused line kind
 
--- what comes of these lines, in order, where the line behind the input has this number
+-- the result of these lines, in order; the line after the input has the number `last`
 abbrev pub AreLinesTold : SessionState → ℕ → List Plain → Result Told Refused → Type 0
 AreLinesTold s last [] told = told ≡ refused last kinds.NoEnd
 AreLinesTold s last (l ∷ ls) told = IsLineTold s l.number (line_said l.words) ls (λ next rest. AreLinesTold next last ls rest) told

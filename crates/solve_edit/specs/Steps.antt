@@ -1,4 +1,4 @@
--- What is done at one line of an edit session, as code gives it.
+-- The effect of one line of an edit session, and how it agrees with the result of the lines.
 use Rattle.std.specs.Prelude.{◌≡◌, ℕ, Bool, true, false, List, ◌∷◌, ◌++◌, Option, Some, None, Result, Ok, Err}
 use Rattle.problem_text.specs.PlainLines.{Plain}
 use Rattle.problem_text.specs.declared.edited.Edited.{Edited}
@@ -26,7 +26,7 @@ IsKind faults.CostTooLarge kind = kind ≡ kinds.CostTooLarge
 IsKind faults.SumTooLarge kind = kind ≡ kinds.SumTooLarge
 IsKind faults.NoMemory kind = ⊥
 
--- what came of an edit, as what was done at its line
+-- the result of an edit, as the effect of its line
 abbrev pub IsKindOf : {A : Type 0} → Result A SetFault → Result Played (LineEnd EditKind) → Type 0
 IsKindOf (Ok done) result = result ≡ Ok played.Edit
 IsKindOf (Err faults.NoTable) result = result ≡ Err (ends.Fault kinds.NoTable)
@@ -35,14 +35,14 @@ IsKindOf (Err faults.CostTooLarge) result = result ≡ Err (ends.Fault kinds.Cos
 IsKindOf (Err faults.SumTooLarge) result = result ≡ Err (ends.Fault kinds.SumTooLarge)
 IsKindOf (Err faults.NoMemory) result = result ≡ Err ends.NoMemory
 
--- an edit with this fault, or none, that leads to this state
+-- the effect of an edit that has this fault, or none and leads to this state
 abbrev pub IsEditPlayed : Option SetFault → SessionState → Result Played (LineEnd EditKind) → SessionState → Type 0
 IsEditPlayed (Some fault) next (Err (ends.Fault kind)) after = IsKind fault kind
 IsEditPlayed None next (Ok played.Edit) after = after ≡ next
 IsEditPlayed fault next (Err ends.NoMemory) after = Unit {0}
 IsEditPlayed fault next result after = ⊥
 
--- what was done at a line
+-- the effect of a line in a session with this state, and the state after it
 abbrev pub IsPlayed : SessionState → EditLine → Result Played (LineEnd EditKind) → SessionState → Type 0
 IsPlayed s (lines.Set k cell cost) result after = IsEditPlayed (set_fault s.file.problem k cell cost) (edited s k (cells_set s.file.problem.tables k cell cost)) result after
 IsPlayed s (lines.Fill k cells) result after = IsEditPlayed (fill_fault s.file.problem k cells) (edited s k cells) result after
@@ -51,26 +51,27 @@ IsPlayed s lines.End (Ok played.End) after = after ≡ s
 IsPlayed s line (Err ends.NoMemory) after = Unit {0}
 IsPlayed s line result after = ⊥
 
--- the session goes from one state to another at a line: what comes of the later lines comes of all, behind the optima that it kept
+-- a line leads a session from one state to another: the result of the later lines, after the optima
+-- that the line kept, is the result of all
 pub record GoesOn (l : Plain) (s after : SessionState) (old new : List Edited) : Type 0 where
   pub part : List Edited
   pub kept : new ≡ old ++ part
   pub goes : (last : ℕ) (ls : List Plain) (told : Result Told Refused) → AreLinesTold after last ls told → AreLinesTold s last (l ∷ ls) (behind part told)
 
--- the session ends at a line
+-- the session ends at a line, and its state is unchanged
 pub record EndsAt (l : Plain) (s after : SessionState) (old new : List Edited) : Type 0 where
   pub kept : new ≡ old
   pub same : after ≡ s
   pub ends_so : (last : ℕ) (ls : List Plain) → AreLinesTold s last (l ∷ ls) (ended s ls)
 
--- what a line did to a session and to the optima that are kept
+-- the effect of a line on a session and on the optima that are kept
 abbrev pub IsStep : Plain → SessionState → SessionState → List Edited → List Edited → Result Bool Stop → Type 0
 IsStep l s after old new (Ok false) = GoesOn l s after old new
 IsStep l s after old new (Ok true) = EndsAt l s after old new
 IsStep l s after old new (Err (stops.Refused line kind)) = (last : ℕ) (ls : List Plain) → AreLinesTold s last (l ∷ ls) (refused line kind)
 IsStep l s after old new (Err stops.NoMemory) = Unit {0}
 
--- what came of lines in a session
+-- the result of lines in a session
 abbrev pub IsRun : SessionState → ℕ → List Plain → Result (List Edited) Stop → SessionState → Type 0
 IsRun s last ls (Ok answers) after = AreLinesTold s last ls (Ok (record { answers = answers; file = after.file }))
 IsRun s last ls (Err (stops.Refused line kind)) after = AreLinesTold s last ls (refused line kind)

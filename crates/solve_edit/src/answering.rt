@@ -26,14 +26,15 @@ use std::alloc::Global;
 use std::marker::Brand;
 use std::sync::ledger::{Blank, Ledger};
 
-/// The answer to edit lines on a file, which stand behind so many lines: what is too wide in its
-/// tree, else all optima that were asked for, or the first fault alone. The tree is the depth-first
-/// tree of the problem solved for the file. Lines count on from the beginning of the input. Lines
-/// and bytes together are at most an input has bytes, 2^28.
+/// The answer to edit lines on a file: what is too wide in its tree, or otherwise all optima that
+/// were requested, or only the first fault. The tree is the depth-first tree of the problem solved
+/// for the file. `before` lines precede the text, and lines count from the beginning of the input.
+/// The lines before the text and the bytes of the text are together at most 2^28, the most bytes of
+/// an input.
 ///
 /// # Errors
 ///
-/// [`NoMemory`] where memory was wanted and not had.
+/// [`NoMemory`] if memory runs out.
 pub fn edit_answer(
     alloc: Global,
     file: ProblemFile,
@@ -84,7 +85,7 @@ fn counted_answer<L: Ledger>(
     lines_answer(alloc, session, text, before, &mut steps)
 }
 
-/// A file is whole. One that is read is known to be, so this does no more.
+/// Every file is well formed. Reading a field of the file shows this; the call does no more.
 fn file_is_whole(file: &ProblemFile)
     ensures { IsFile file.now }
 {
@@ -100,7 +101,7 @@ fn wide_in(alloc: Global, file: &ProblemFile, tree: &Tree) -> Result<Option<Wide
     Ok(widths(tree, solved.problem()))
 }
 
-/// The answer to lines in a session that is opened.
+/// The answer to lines in an open session.
 fn lines_answer<L: Ledger>(
     alloc: Global,
     session: Session,
@@ -128,7 +129,7 @@ fn lines_answer<L: Ledger>(
     }
 }
 
-/// The answer where this is too wide in a tree of the variables with these names.
+/// The answer if this is too wide in a tree of the variables with these names.
 fn too_wide(wide: Wide, names: Names) -> Answer
     ensures told { result ≡ wide_answer names wide }
     ensures right { TellsRight result }

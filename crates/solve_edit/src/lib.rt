@@ -1,7 +1,10 @@
-//! What comes of the lines of an edit session.
+//! The answer to the lines of an edit session.
 //!
-//! [`edit_answer`] opens a session on a file, reads its lines one after the other, and answers with
-//! all optima that were asked for, or with the first fault alone.
+//! [`edit_answer`] opens a session on a file and reads its lines one after the other. The answer is
+//! all optima that were requested, or only the first fault.
+//!
+//! It builds on `edit_text` for the lines, on `edit_session` for sessions, and on `solve_report`
+//! for answers.
 #![tactic(auto)]
 
 mod answering;

@@ -1,4 +1,4 @@
-//! What is done at one line.
+//! The effect of one line.
 
 ghost use Rattle.solve_edit.specs.Steps.{IsKindOf, IsPlayed};
 
@@ -8,18 +8,18 @@ use edit_text::{EditKind, EditLine};
 use problem_text::{Edited, LineEnd};
 use std::sync::ledger::Ledger;
 
-/// What was done at a line.
+/// The effect of a line.
 #[derive(Debug, Drop)]
 pub(crate) enum Played {
-    /// A table got other cells.
+    /// The cells of a table were changed.
     Edit,
     /// An optimum was found.
     Answer(Edited),
-    /// The lines are over.
+    /// It was the last line.
     End,
 }
 
-/// Does what a line says.
+/// Performs what a line says.
 pub(crate) fn play<L: Ledger>(
     session: &mut Session,
     line: EditLine,
@@ -38,7 +38,7 @@ pub(crate) fn play<L: Ledger>(
     }
 }
 
-/// What came of an edit.
+/// The result of an edit, as the effect of its line.
 fn edited(set: Result<(), SetFault>) -> Result<Played, LineEnd<EditKind>>
     ensures { IsKindOf set result }
 {

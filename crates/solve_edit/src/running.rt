@@ -16,8 +16,8 @@ use problem_text::{Edited, EditedList, LineEnd, line_behind, next_plain_line};
 use std::alloc::Global;
 use std::sync::ledger::Ledger;
 
-/// Does what a line of this number says, and keeps an optimum that is found. The answer is `true`
-/// where it is the last line.
+/// Performs what the line with this number says, and keeps an optimum that is found. Returns `true`
+/// if it is the last line.
 fn step<L: Ledger>(
     alloc: Global,
     session: &mut Session,
@@ -46,8 +46,8 @@ fn step<L: Ledger>(
     }
 }
 
-/// The optima that were asked for by the lines of a text, or why the lines end early. The text
-/// stands behind so many lines.
+/// The optima that the lines of a text request, or why the lines end early. `before` lines precede
+/// the text.
 pub(crate) fn run_lines<L: Ledger>(
     alloc: Global,
     session: &mut Session,

@@ -6,9 +6,9 @@ use std::alloc::AllocFailed;
 /// Why the lines of a session end early.
 #[derive(Clone, Copy, Debug)]
 pub(crate) enum Stop {
-    /// A line is refused, for the fault of this kind.
+    /// A line is refused for a fault of this kind.
     Refused { line: u64, kind: EditKind },
-    /// Memory was wanted and not had.
+    /// Memory ran out.
     NoMemory,
 }
 

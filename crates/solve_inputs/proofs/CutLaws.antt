@@ -1,4 +1,4 @@
--- The words of a text that ends with line_feed, and of what stands behind it.
+-- The words of a text that ends with line_feed, and of a text that follows it.
 use Rattle.std.proofs.Common.{◌≡◌, ℕ, ◌+◌, ◌≤◌, Bool, true, false, cond, List, [], ◌∷◌, ◌++◌, length, map, refl, sym, ap, subst, ◌∙◌, arith}
 use Rattle.std.specs.List.{filter}
 use Rattle.std.proofs.lemmas.List.{length-append, append-nil}
@@ -7,16 +7,16 @@ use Rattle.problem_text.specs.Bytes.{line_feed}
 use Rattle.problem_text.specs.Lines.{has_some}
 use Rattle.wcsp_text.specs.Words.{Word, is_separator, onto_first, pieces, words}
 
--- a word with so many more bytes behind it
+-- a word with `n` more bytes after it
 abbrev pub moved_word : ℕ → Word → Word
 moved_word n w = record { text = w.text; after = w.after + n }
 
--- each of these words has a byte behind it
+-- each of these words has a byte after it
 abbrev pub AllBefore : List Word → Type 0
 AllBefore [] = Unit {0}
 AllBefore (w ∷ ws) = (1 ≤ w.after) × AllBefore ws
 
--- each of these words has at most so many bytes behind it
+-- each of these words has at most `most` bytes after it
 abbrev pub AllWithin : ℕ → List Word → Type 0
 AllWithin most [] = Unit {0}
 AllWithin most (w ∷ ws) = (w.after ≤ most) × AllWithin most ws
@@ -28,7 +28,7 @@ HasSome (w ∷ ws) = Unit {0}
 abbrev has_bytes : Word → Bool
 has_bytes w = has_some w.text
 
--- the pieces of a text in front of its line_feed, which ends the last of them
+-- the pieces of a text before the line_feed that ends the last of them
 abbrev front : List ℕ → List Word
 front [] = record { text = []; after = 1 } ∷ []
 front (b ∷ bs) =
@@ -79,7 +79,7 @@ filter_within : (most : ℕ) (ps : List Word) → AllWithin most ps → AllWithi
 filter_within most [] all = tt
 filter_within most (p ∷ ps) all = kept_within (has_bytes p) most p (filter has_bytes ps) all.0 (filter_within most ps all.1)
 
--- no more bytes stand behind a word than the text has
+-- each word of a text has at most as many bytes after it as the text has
 pub words_within : (bytes : List ℕ) → AllWithin (length bytes) (words bytes)
 words_within bytes = filter_within (length bytes) (pieces bytes) (pieces_within (length bytes) bytes (omega arith))
 
@@ -113,11 +113,11 @@ step_join true n b v w ps all more some same is =
 step_join false n b v w ps all more some same is =
     ap (onto_first b) is ∙ onto_join b (map (moved_word n) ps) more (some_moved n ps some) ∙ ap (λ (ws : List Word). ws ++ more) (onto_moved n b ps)
 
--- a piece without bytes, by how many stand behind it
+-- an empty piece, given how many bytes follow it
 blank_same : (m n : ℕ) → m ≡ n → ◌≡◌ {A = Word} (record { text = []; after = m }) (record { text = []; after = n })
 blank_same m n same = ap (λ (k : ℕ). record { text = []; after = k }) same
 
--- the pieces of a text that ends with line_feed, and of what stands behind it
+-- the pieces of a text that ends with line_feed, and of a text that follows it
 pieces_join : (bytes rest : List ℕ) → pieces ((bytes ++ line_feed ∷ []) ++ rest) ≡ map (moved_word (length rest)) (front bytes) ++ pieces rest
 pieces_join [] rest =
     ap (λ (w : Word). w ∷ pieces rest) (blank_same (length (line_feed ∷ rest)) (1 + length rest) (omega arith))
@@ -137,17 +137,17 @@ filter_moved n [] = refl
 filter_moved n (p ∷ ps) =
     ap (λ (ws : List Word). cond (has_bytes p) (moved_word n p ∷ ws) ws) (filter_moved n ps) ∙ kept_moved (has_bytes p) n p (filter has_bytes ps)
 
--- the words of a text that ends with line_feed are those of its pieces in front of it
+-- the words of a text that ends with line_feed are those of its pieces before it
 words_alone : (bytes : List ℕ) → words (bytes ++ line_feed ∷ []) ≡ filter has_bytes (front bytes)
 words_alone bytes =
     ap (filter has_bytes) (pieces_alone bytes) ∙ filter-append has_bytes (front bytes) (record { text = []; after = 0 } ∷ [])
     ∙ append-nil (filter has_bytes (front bytes))
 
--- each has a byte behind it
+-- each of these words has a byte after it
 pub alone_before : (bytes : List ℕ) → AllBefore (words (bytes ++ line_feed ∷ []))
 alone_before bytes = subst AllBefore (sym (words_alone bytes)) (words_before (front bytes) (front_before bytes))
 
--- the words of a text that ends with line_feed, and those of what stands behind it
+-- the words of a text that ends with line_feed, and those of a text that follows it
 pub words_join : (bytes rest : List ℕ) → words ((bytes ++ line_feed ∷ []) ++ rest) ≡ map (moved_word (length rest)) (words (bytes ++ line_feed ∷ [])) ++ words rest
 words_join bytes rest =
     ap (filter has_bytes) (pieces_join bytes rest)

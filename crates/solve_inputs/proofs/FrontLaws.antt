@@ -1,4 +1,4 @@
--- The problem that an input begins with, whatever stands behind it.
+-- The problem that an input begins with, whatever follows it.
 use Rattle.std.proofs.Common.{◌≡◌, ℕ, ◌≤◌, List, [], ◌∷◌, ◌++◌, length, replicate, Some, Result, Ok, Err, sym, ap, ap₂, subst, ◌∙◌}
 use Rattle.dcop_base.specs.Table.{CostTable}
 use Rattle.problem_text.specs.Bytes.{line_feed}
@@ -22,7 +22,7 @@ use Rattle.solve_inputs.proofs.PrefixLaws.{text_kept}
 use Rattle.solve_inputs.proofs.MovedLaws.{moved_network}
 use Rattle.solve_inputs.proofs.NetworkLaws.{tables_same, network_kept, network_used}
 
--- what sizes and tables declare that are read of a WCSP text
+-- what is declared by sizes and tables that are read from a WCSP text
 abbrev declared_with : List ℕ → List CostTable → Declared
 declared_with sizes tables = record {
   version = 2;
@@ -33,7 +33,7 @@ declared_with sizes tables = record {
   tables = tables;
 }
 
--- a file that is read of a network declares what the network does
+-- a file that is read from a network declares what the network does
 pub declared_same : (w : Network) (r : ReadWcsp) → IsOf w r → declared_by r.file ≡ declared_of w
 declared_same w r of = ap declared_by of.file ∙ ap₂ declared_with of.sizes of.tables
 
@@ -47,7 +47,7 @@ own_parts : (r : Result Parts Fault) (parts : Parts) → own_front r ≡ Ok part
 own_parts (Ok same) parts e = let one : same ≡ parts = cc in ap Ok one
 own_parts (Err fault) parts e = absurd (cc)
 
--- what is read of a WCSP text, taken apart
+-- the parts of what is read from a WCSP text
 parts_in : (bytes : List ℕ) (r : Result (Network × ℕ) WcspFault) (parts : Parts) → wcsp_front bytes r ≡ Ok parts
     → (w : Network) × (r ≡ Ok (w, parts.used)) × (declared_of w ≡ parts.declared)
 parts_in bytes (Ok (w, used)) parts e =
@@ -55,7 +55,7 @@ parts_in bytes (Ok (w, used)) parts e =
     (w, ap (λ (p : Parts). Ok (w, p.used)) same, ap (λ (p : Parts). p.declared) same)
 parts_in bytes (Err fault) parts e = absurd (cc)
 
--- an input whose problem ends with line_feed begins with that problem, whatever stands behind it
+-- an input whose problem ends with line_feed begins with that problem, whatever follows it
 pub front_kept : (format : Format) (problem before rest : List ℕ) (parts : Parts) → problem ≡ before ++ line_feed ∷ [] → front_read format problem ≡ Ok parts → front_read format (problem ++ rest) ≡ Ok parts
 front_kept Own problem before rest parts ends is =
     ap own_front (text_kept problem before rest parts ends (own_parts (text_read problem) parts is))
@@ -68,7 +68,7 @@ front_kept Wcsp problem before rest parts ends is =
     ap (wcsp_front (problem ++ rest)) here
     ∙ ap (λ (d : Declared). Ok (record { declared = d; used = parts.used })) (declared_moved (length rest) told.0 ∙ told.2)
 
--- no more bytes are used than the input has
+-- the problem uses at most as many bytes as the input has
 pub front_used : (format : Format) (bytes : List ℕ) (parts : Parts) → front_read format bytes ≡ Ok parts → parts.used ≤ length bytes
 front_used Own bytes parts is = text_used bytes parts (own_parts (text_read bytes) parts is)
 front_used Wcsp bytes parts is =

@@ -1,4 +1,4 @@
--- The lines of a text that ends with line_feed, and of what stands behind it.
+-- The lines of a text that ends with line_feed, and of a text that follows it.
 use Rattle.std.proofs.Common.{◌≡◌, ℕ, ◌+◌, ◌-◌, ◌<◌, ◌≤◌, Bool, true, false, cond, nat_eq, List, [], ◌∷◌, ◌++◌, length, take, refl, ap, ◌∙◌, arith}
 use Rattle.std.specs.List.{sum_by}
 use Rattle.std.specs.Prelude.{count_by}
@@ -35,7 +35,7 @@ lines_count (b ∷ bs) =
     let here = sum_by-cons (λ (b : ℕ). cond (nat_eq b line_feed) 1 0) b bs in
     omega (arith, step, rest, here)
 
--- the line of a word that stands in front of the last line_feed is one of the lines
+-- the line of a word that ends before the last line_feed is one of the lines
 pub line_within : (bytes : List ℕ) (after : ℕ) → 1 ≤ after → line_at (bytes ++ line_feed ∷ []) after ≤ feeds bytes + 1
 line_within bytes after before =
     let size = length-append bytes (line_feed ∷ []) in
@@ -48,7 +48,7 @@ module _ (bytes rest : List ℕ) where
   abbrev text : List ℕ
   text = bytes ++ line_feed ∷ []
 
-  -- a word stands on the same line where further bytes stand behind it
+  -- a word is on the same line if further bytes follow the text
   pub line_same : (after : ℕ) → line_at (text ++ rest) (after + length rest) ≡ line_at text after
   line_same after =
       let size = length-append text rest in
@@ -57,7 +57,7 @@ module _ (bytes rest : List ℕ) where
       ap (λ (k : ℕ). 1 + feeds (take k (text ++ rest))) at
       ∙ ap (λ (xs : List ℕ). 1 + feeds xs) (take-append-le (length text - after) text rest within)
 
-  -- a word that stands behind the text stands on a later line than one in it
+  -- a word after the text is on a later line than a word in it
   pub line_later : (after behind : ℕ) → 1 ≤ after → behind ≤ length rest → line_at text after < line_at (text ++ rest) behind
   line_later after behind before within =
       let size = length-append text rest in
@@ -68,7 +68,7 @@ module _ (bytes rest : List ℕ) where
       let here = line_within bytes after before in
       omega (arith, there, end, one, here)
 
-  -- the first lines of the text have as many bytes where further ones stand behind it
+  -- the first lines of the text have as many bytes if further ones follow it
   pub bytes_same : (line : ℕ) → line ≤ feeds bytes + 1 → bytes_to (text ++ rest) line ≡ bytes_to text line
   bytes_same line within =
       let count = lines_count bytes in
@@ -76,7 +76,7 @@ module _ (bytes rest : List ℕ) where
       ap (λ (ls : List (List ℕ)). sum_by (λ l. length l) (take line ls)) (lines_join bytes rest)
       ∙ ap (λ (ls : List (List ℕ)). sum_by (λ l. length l) ls) (take-append-le line (lines text) (lines rest) few)
 
--- the first lines of a text have no more bytes than it has
+-- the first lines of a text have at most as many bytes as the text
 step_total : (t : Bool) (b : ℕ) (ls : List (List ℕ)) → sum_by (λ l. length l) (cond t ((b ∷ []) ∷ ls) (onto_first b ls)) ≡ 1 + sum_by (λ l. length l) ls
 step_total true b ls = let one = sum_by-cons (λ (l : List ℕ). length l) (b ∷ []) ls in omega (arith, one)
 step_total false b [] = let one = sum_by-cons (λ (l : List ℕ). length l) (b ∷ []) [] in omega (arith, one)

@@ -1,4 +1,4 @@
--- What the words of a WCSP text are read as, where further bytes stand behind them.
+-- What the words of a WCSP text are read as if further bytes follow them.
 use Rattle.std.proofs.Common.{◌≡◌, ℕ, zero, suc, ◌+◌, ◌≤◌, Bool, true, false, ◌||◌, cond, List, [], ◌∷◌, ◌++◌, length, map, nat_le, nat_lt, Option, Some, None, Result, Ok, Err, refl, sym, ap, subst, ◌∙◌}
 use Rattle.std.proofs.lemmas.List.{map-append}
 use Rattle.std.proofs.lemmas.List.Sums.{sum_by-cons}
@@ -15,14 +15,14 @@ use Rattle.wcsp_text.specs.Functions.{Function, scope_read, over_scope, function
 use Rattle.wcsp_text.specs.Networks.{Network, count_fault, unless, sizes_read, body_read, named_read, network_read}
 use Rattle.solve_inputs.proofs.CutLaws.{moved_word, AllBefore}
 
--- a function and a network, with so many more bytes behind them
+-- a function and a network, with `n` more bytes after them
 abbrev pub moved_function : ℕ → Function → Function
 moved_function n f = record { after = f.after + n; table = f.table }
 
 abbrev pub moved_network : ℕ → Network → Network
 moved_network n w = record { top = w.top; sizes = w.sizes; functions = map (moved_function n) w.functions }
 
--- a place that has a byte behind it, as have the words that come
+-- a place with a byte after it, as the words to come have
 pub record IsBefore (p : Place) : Type 0 where
   pub here : 1 ≤ p.after
   pub later : AllBefore p.words
@@ -36,7 +36,7 @@ cells_same n (f ∷ fs) =
     ∙ sym (sum_by-cons (λ (f : Function). length f.table.cells) f fs)
 
 module _ (n : ℕ) (more : List Word) where
-  -- a place, with so many more bytes behind it, which have these words
+  -- a place, with `n` more bytes after it, which have these words
   abbrev pub moved : Place → Place
   moved p = record { after = p.after + n; words = map (moved_word n) p.words ++ more }
 
@@ -158,7 +158,7 @@ module _ (n : ℕ) (more : List Word) where
       keeps_on (λ k. k) (moved_network n) _ _ _ _ (keeps_number s.words next.later) (λ top t last.
       body_keeps top variables functions t last)))))
 
-  -- the network that words tell is told too where further words stand behind them
+  -- the network that words give is the same if further words follow them
   pub network_keeps : (ws : List Word) → AllBefore ws → Keeps (moved_network n) (network_read ws) (network_read (map (moved_word n) ws ++ more))
   network_keeps [] all = keeps_err (moved_network n) _ _
   network_keeps (w ∷ ws) all = named_keeps (record { after = w.after; words = ws }) (record { here = all.0; later = all.1 })

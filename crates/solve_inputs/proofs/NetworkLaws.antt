@@ -1,4 +1,4 @@
--- A WCSP text that ends with line_feed is read as it is, whatever stands behind it.
+-- A WCSP text that ends with line_feed is read as it is alone, whatever follows it.
 use Rattle.std.proofs.Common.{◌≡◌, ℕ, ◌+◌, ◌<◌, ◌≤◌, Bool, true, false, cond, nat_eq, List, [], ◌∷◌, ◌++◌, length, map, Option, Some, None, Result, Ok, Err, refl, sym, ap, subst, ◌∙◌, arith}
 use Rattle.std.proofs.lemmas.Bool.Decides.{nat_tests}
 use Rattle.std.proofs.lemmas.List.Sums.{sum_by-cons}
@@ -38,7 +38,7 @@ tables_same n w =
     ap (λ k. map (λ (f : Function). raised_table w.top k f.table) (map (moved_function n) w.functions)) (hard_same n w)
     ∙ raised_same n w.top (hard w) w.functions
 
--- what becomes of a network behind which no word stands, or one on another line
+-- what a network is read as if no word follows it, or one on another line
 ended_so : (t : Bool) (w : Network) (used : ℕ) (fault : Fault) → t ≡ false → ◌≡◌ {A = Result (Network × ℕ) Fault} (cond t (Err fault) (Ok (w, used))) (Ok (w, used))
 ended_so true w used fault is = cc
 ended_so false w used fault is = refl
@@ -70,7 +70,7 @@ module _ (bytes rest : List ℕ) where
   abbrev size : ℕ
   size = length rest
 
-  -- how many bytes tell the network
+  -- how many bytes the network takes
   used_same : (after : ℕ) → 1 ≤ after → bytes_to (text ++ rest) (line_at (text ++ rest) (after + size)) ≡ bytes_to text (line_at text after)
   used_same after before =
       ap (bytes_to (text ++ rest)) (line_same bytes rest after) ∙ bytes_same bytes rest (line_at text after) (line_within bytes after before)
@@ -103,7 +103,7 @@ module _ (bytes rest : List ℕ) where
       (sym (tables_same size v)) here)
   whole_keeps w used (Err fault) r' keeps e = absurd (cc)
 
-  -- the network of the text, moved, is that of the text with what stands behind it
+  -- the network of the text, moved, is that of the text with what follows it
   pub network_kept : (w : Network) (used : ℕ) → text_read text ≡ Ok (w, used) → text_read (text ++ rest) ≡ Ok (moved_network size w, used)
   network_kept w used e =
       whole_keeps w used (network_read (words text)) (network_read (words (text ++ rest)))

@@ -1,4 +1,4 @@
--- What stands behind the line `end` of a problem text changes nothing in what is read before it.
+-- What follows the line `end` of a problem text changes nothing in what is read before it.
 use Rattle.std.proofs.Common.{◌≡◌, ℕ, ◌+◌, Bool, true, false, cond, nat_eq, List, [], ◌∷◌, ◌++◌, length, count_by, Result, Ok, refl, sym, ap, ap₂, subst, ◌∙◌, arith}
 use Rattle.problem_text.specs.Bytes.{line_feed}
 use Rattle.problem_text.specs.Declarations.{Declared, Outcome, Declares, Ends, Fails, version_alone}
@@ -25,7 +25,7 @@ step_join true b ls more some = refl
 step_join false b [] more some = elim some [ ]
 step_join false b (l ∷ ls) more some = refl
 
--- the lines of a text that ends with line_feed, and of what stands behind it
+-- the lines of a text that ends with line_feed, and of a text that follows it
 pub lines_join : (bytes rest : List ℕ) → lines ((bytes ++ line_feed ∷ []) ++ rest) ≡ lines (bytes ++ line_feed ∷ []) ++ lines rest
 lines_join [] rest = refl
 lines_join (b ∷ bs) rest =
@@ -55,7 +55,7 @@ worded_join (line ∷ ls) more =
     ap (λ (xs : List Line). cond (has_some line.words) (line ∷ xs) xs) (worded_join ls more)
     ∙ kept_join (has_some line.words) line (with_words ls) (with_words more)
 
--- reading that ends within some lines ends there, whatever stands behind them
+-- a reading that ends within some lines ends there, whatever follows them
 step_kept : (line : Line) (d : Declared) (o : Outcome) (later later' : Declared → Result Parts Fault) (parts : Parts)
     → ((more : Declared) → later more ≡ Ok parts → later' more ≡ Ok parts) → read_on line d o later ≡ Ok parts → read_on line d o later' ≡ Ok parts
 step_kept line d (Declares more) later later' parts on is = on more is
@@ -69,7 +69,7 @@ read_kept over over' before d (line ∷ ls) more parts is =
     step_kept line d (line_outcome before d line.words) (λ m. lines_read over (before + 1) m ls) (λ m. lines_read over' (before + 1) m (ls ++ more)) parts
     (λ m on. read_kept over over' (before + 1) m ls more parts on) is
 
--- a problem text that ends with line_feed is read as it is, whatever stands behind it
+-- a problem text that ends with line_feed is read as it is alone, whatever follows it
 pub text_kept : (problem before rest : List ℕ) (parts : Parts) → problem ≡ before ++ line_feed ∷ [] → text_read problem ≡ Ok parts → text_read (problem ++ rest) ≡ Ok parts
 text_kept problem before rest parts ends is =
     let moved : text_read (before ++ line_feed ∷ []) ≡ Ok parts = subst (λ (t : List ℕ). text_read t ≡ Ok parts) ends is in

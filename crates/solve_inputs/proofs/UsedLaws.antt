@@ -1,11 +1,11 @@
--- A text that is read has no more bytes used than it has.
+-- A text that is read as a problem has at least as many bytes as its problem uses.
 use Rattle.std.proofs.Common.{◌≡◌, ℕ, ◌+◌, ◌≤◌, Bool, true, false, cond, nat_eq, List, [], ◌∷◌, length, Result, Ok, refl, ap, ◌∙◌, arith}
 use Rattle.problem_text.specs.Declarations.{Declared, Outcome, Declares, Ends, Fails}
 use Rattle.problem_text.specs.Bytes.{line_feed}
 use Rattle.problem_text.specs.Lines.{Line, has_some, lines, onto_first, numbered, with_words}
 use Rattle.problem_text.specs.Reading.{Fault, Parts, line_outcome, read_on, lines_read, text_read}
 
--- how many bytes lines have together
+-- how many bytes these lines have together
 abbrev pub total : List (List ℕ) → ℕ
 total [] = 0
 total (line ∷ later) = length line + total later
@@ -23,7 +23,7 @@ lines_total : (bytes : List ℕ) → total (lines bytes) ≡ length bytes
 lines_total [] = refl
 lines_total (b ∷ bs) = step_total (nat_eq b line_feed) b (lines bs) ∙ ap (λ n. 1 + n) (lines_total bs) ∙ omega arith
 
--- each of these lines ends within so many bytes
+-- each of these lines ends after at most `most` bytes
 abbrev AllUsed : ℕ → List Line → Type 0
 AllUsed most [] = Unit {0}
 AllUsed most (line ∷ later) = (line.used ≤ most) × AllUsed most later
@@ -44,7 +44,7 @@ worded_used most (line ∷ later) all = kept_used (has_some line.words) most lin
 used_same : (d : Declared) (used : ℕ) (p : Parts) → ◌≡◌ {A = Result Parts Fault} (Ok (record { declared = d; used = used })) (Ok p) → used ≡ p.used
 used_same d used p e = cc
 
--- reading ends behind a line, or in those that come later
+-- the reading ends at this line, or at one of the later ones
 step_used : (most : ℕ) (d : Declared) (line : Line) (o : Outcome) (later : Declared → Result Parts Fault) (parts : Parts) → line.used ≤ most
     → ((more : Declared) → later more ≡ Ok parts → parts.used ≤ most) → read_on line d o later ≡ Ok parts → parts.used ≤ most
 step_used most d line (Declares more) later parts within on is = on more is

@@ -1,4 +1,4 @@
--- What a whole input is read as: the problem that it tells, behind which no further word stands.
+-- What a whole input is read as: its problem, if no further word follows it.
 use Rattle.std.specs.Prelude.{ℕ, List, [], ◌∷◌, drop, Option, Some, None, Result, Ok, Err}
 use Rattle.problem_text.specs.Declarations.{Declared}
 use Rattle.problem_text.specs.Reading.{Fault}
@@ -16,36 +16,37 @@ use Rattle.answer_edge.specs.Showing.{refused_by}
 use Rattle.answer_edge.specs.Whole.{whole_read}
 use Rattle.solve_inputs.specs.Told.{Told, told_by, wcsp_refused_by}
 
--- a whole problem text that is read as this
+-- what a whole input is read as, given what its problem text is read as
 abbrev pub own_input : Result Declared Fault → Result Told Answer
 own_input (Ok declared) = Ok (record { declared = declared; bar = None })
 own_input (Err fault) = Err (refused_by fault)
 
--- the line of the first of these words of a text
+-- the line of the first of these words of a text; None if there are none
 abbrev pub line_of_first : List ℕ → List Word → Option ℕ
 line_of_first bytes [] = None
 line_of_first bytes (word ∷ later) = Some (line_at bytes word.after)
 
--- the line of the first word behind so many bytes of a text
+-- the line of the first word after the first `used` bytes of a text; None if there is none
 abbrev pub further_line : List ℕ → ℕ → Option ℕ
 further_line bytes used = line_of_first bytes (words (drop used bytes))
 
--- what a network tells, unless a further word stands on this line of its text
+-- what a network declares; or, if a further word is on this line, the answer that refuses the text
 abbrev pub unless_further : Network → Option ℕ → Result Told Answer
 unless_further w None = Ok (told_by w)
 unless_further w (Some line) = Err (WcspText line (number_of_kind AfterEnd) (number_of_problem AfterEnd))
 
--- a whole WCSP text that is read as this, up to and with the line of its last word
+-- what a whole input is read as, given what its WCSP text is read as up to the line of its last
+-- word
 abbrev pub wcsp_input : List ℕ → Result (Network × ℕ) WcspFault → Result Told Answer
 wcsp_input bytes (Ok read) = unless_further read.0 (further_line bytes read.1)
 wcsp_input bytes (Err fault) = Err (wcsp_refused_by bytes fault)
 
--- the problem that a whole input in this format tells; else the answer that refuses it
+-- the problem of a whole input in this format, or the answer that refuses it
 abbrev pub input_read : Format → List ℕ → Result Told Answer
 input_read Own bytes = own_input (whole_read bytes)
 input_read Wcsp bytes = wcsp_input bytes (wcsp_read bytes)
 
--- what an input declares, by what it is read as
+-- what an input declares, given what it is read as
 abbrev pub declared_in : Result Told Answer → Result Declared Answer
 declared_in (Ok told) = Ok told.declared
 declared_in (Err refusal) = Err refusal

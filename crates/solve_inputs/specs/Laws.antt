@@ -1,4 +1,4 @@
--- The law of the files that WCSP texts tell.
+-- The law of the files made from WCSP texts.
 use Rattle.std.specs.Prelude.{◌≡◌}
 use Rattle.dcop_base.specs.Whole.{IsProblem}
 use Rattle.problem_text.specs.File.{TextFile}
@@ -8,7 +8,8 @@ use Rattle.wcsp_text.specs.Problems.{bar}
 use Rattle.wcsp_text.specs.Values.{IsValued, HasLeastValue}
 use Rattle.solve_inputs.specs.Told.{declared_of}
 
--- the costs of a file that declares what a network does tell the WCSP values by the bar, and its optimum has the least value
+-- in a file that declares what a network does, costs give the WCSP values by the bar, and an
+-- optimum has the least value
 abbrev pub WcspFilesHaveValues : Type 0
 WcspFilesHaveValues = (w : Network) (file : TextFile) → IsProblem file.problem → declared_by file ≡ declared_of w
     → IsValued w file.problem (bar w) × HasLeastValue w file.problem

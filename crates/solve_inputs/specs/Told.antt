@@ -1,4 +1,4 @@
--- A problem as an input tells it, and how an input is refused.
+-- A problem as read from an input, and the answer to a WCSP text that is refused.
 use Rattle.std.specs.Prelude.{ℕ, List, [], Option, Some, length, replicate}
 use Rattle.problem_text.specs.Declarations.{Declared}
 use Rattle.problem_text.specs.File.{TextFile}
@@ -13,16 +13,17 @@ use Rattle.wcsp_text.specs.Words.{line_at}
 use Rattle.solve_report.specs.declared.answer.Answer.{Answer}
 use Rattle.solve_report.specs.declared.answer.Answer.TheVariants.{WcspText}
 
--- a problem as it is told: what is declared, and the bar where the text is a WCSP text
+-- a problem as read: what is declared, and the bar of a WCSP text
 pub record Told : Type 0 where
   pub declared : Declared
   pub bar : Option ℕ
 
--- a file and a bar, as what they tell
+-- what was read if it is this file with this bar
 abbrev pub told_of : TextFile → Option ℕ → Told
 told_of file bar = record { declared = declared_by file; bar = bar }
 
--- what a network declares: its sizes and its raised tables, with variables named by their numbers, in version 2, with goal min
+-- what a network declares: its sizes and raised tables, variables named by their numbers, version 2
+-- and goal min
 abbrev pub declared_of : Network → Declared
 declared_of w = record {
   version = 2;
@@ -33,11 +34,11 @@ declared_of w = record {
   tables = tables w;
 }
 
--- a network, as what it tells
+-- what was read if it is this network
 abbrev pub told_by : Network → Told
 told_by w = record { declared = declared_of w; bar = Some (bar w) }
 
--- the answer to a WCSP text with this first fault
+-- the answer to a WCSP text whose first fault is this
 abbrev pub wcsp_refused_by : List ℕ → Fault → Answer
 wcsp_refused_by bytes fault =
     WcspText (line_at bytes fault.after) (number_of_kind fault.kind) (number_of_problem fault.kind)

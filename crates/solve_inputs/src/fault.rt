@@ -1,4 +1,4 @@
-//! Why an input tells no problem.
+//! Why an input is not a problem.
 
 ghost use Rattle.std.specs.Prelude.{◌≡◌};
 ghost use Rattle.wcsp_text.specs.Kinds.{number_of_kind, number_of_problem};
@@ -7,14 +7,14 @@ use problem_text::{TextFault, TextKind};
 use solve_report::Answer;
 use wcsp_text::{WcspFault, WcspKind};
 
-/// Why an input tells no problem.
+/// Why an input is not a problem.
 #[derive(Clone, Copy, Debug, PartialEq, Eq)]
 pub enum InputFault {
-    /// The first fault of a problem text, with its line, which counts from 1.
+    /// The first fault of a problem text, and its line. Lines count from 1.
     Text { line: u64, kind: TextKind },
-    /// The first fault of a WCSP text, with its line, which counts from 1.
+    /// The first fault of a WCSP text, and its line. Lines count from 1.
     Wcsp { line: u64, kind: WcspKind },
-    /// Memory was wanted and not had.
+    /// Memory ran out.
     NoMemory,
 }
 
@@ -46,7 +46,7 @@ impl From<WcspFault> for InputFault {
     }
 }
 
-/// The answer to a WCSP text that is refused.
+/// The answer to a WCSP text that is refused with this line and kind.
 pub fn wcsp_answer(line: u64, kind: WcspKind) -> Answer
     ensures { result ≡ Answer.WcspText line (number_of_kind kind) (number_of_problem kind) }
 {

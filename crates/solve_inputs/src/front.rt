@@ -10,13 +10,12 @@ use solve_words::Format;
 use std::alloc::Global;
 use wcsp_text::read_wcsp;
 
-/// The problem that an input in this format begins with, and how many bytes the input has up to and
-/// with its last line. What stands behind that line is not looked at.
+/// Reads the problem that an input in this format begins with, and counts the bytes up to the end
+/// of its last line. What follows that line is not read.
 ///
 /// # Errors
 ///
-/// The first fault of the text with its line; [`InputFault::NoMemory`] where memory was wanted and
-/// not had.
+/// The first fault of the text with its line; [`InputFault::NoMemory`] if memory runs out.
 pub fn read_front(alloc: Global, format: Format, bytes: &[u8]) -> Result<ReadFile, InputFault>
     ensures read { IsFront (front_read format bytes.now) result }
     ensures within { IfOk result (λ read. read.used ≤ length bytes.now) }
@@ -27,7 +26,7 @@ pub fn read_front(alloc: Global, format: Format, bytes: &[u8]) -> Result<ReadFil
     }
 }
 
-/// How many lines end in a text.
+/// How many line feeds a text has.
 pub fn lines_in(text: &[u8]) -> u64
     ensures { result ≡ lines_in text.now }
 {

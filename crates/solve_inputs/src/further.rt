@@ -1,4 +1,4 @@
-//! A further word behind a WCSP text.
+//! A further word after a WCSP text.
 
 ghost use Rattle.std.specs.Prelude.{◌≡◌, ◌≤◌, length};
 ghost use Rattle.solve_inputs.specs.Inputs.{further_line};
@@ -6,8 +6,8 @@ ghost use Rattle.solve_inputs.specs.Inputs.{further_line};
 use problem_text::line_behind;
 use wcsp_text::next_word;
 
-/// The line of the first word that stands behind so many bytes of a text; `None` exactly where there
-/// is none.
+/// The line of the first word after the first `used` bytes of a text; `None` exactly when there is
+/// none.
 pub(crate) fn further_line(bytes: &[u8], used: usize) -> Option<u64>
     requires { used ≤ length bytes.now }
     ensures { result ≡ further_line bytes.now used }

@@ -1,12 +1,12 @@
-//! The law of the files that WCSP texts tell.
+//! The law of the files made from WCSP texts.
 
 ghost use Rattle.solve_inputs.specs.Laws.{WcspFilesHaveValues};
 
-/// Whatever file declares what the network of a WCSP text does: the WCSP value of an assignment is
-/// its cost where that is below the bar, and top otherwise, so an assignment of the least cost has
-/// the least WCSP value.
+/// In any file that declares what the network of a WCSP text does, the cost of an assignment gives
+/// its WCSP value: the cost itself below the bar, and top otherwise. So an assignment of least cost
+/// has the least WCSP value.
 ///
-/// It is the contract of a call that does nothing: who needs the law calls it.
+/// The law is the contract of a call that does nothing: to use the law, call it.
 pub fn wcsp_files_have_values()
     ensures { WcspFilesHaveValues }
 {}

@@ -1,8 +1,8 @@
-//! What an input is read as, by the format of its problem: problem text or WCSP text.
+//! Reads an input as a problem, in either format: a problem text or a WCSP text.
 //!
-//! [`read_input`] reads a whole input as a problem, and [`read_front`] the problem that an input
-//! begins with, behind which a report may stand. Both are exact: the file is the one that the text
-//! tells, and a refusal is that of the text's first fault.
+//! [`read_input`] reads a whole input as one problem. [`read_front`] reads the problem that an
+//! input begins with; a report may follow it. Both are exact: the file is the one that the text
+//! declares, and a refusal is that of the text's first fault.
 #![tactic(auto)]
 
 mod fault;

@@ -11,22 +11,22 @@ use solve_words::Format;
 use std::alloc::Global;
 use wcsp_text::{WcspKind, read_wcsp};
 
-/// A problem that was read of a whole input.
+/// A problem, read from a whole input.
 #[derive(Debug, Drop)]
 pub struct ReadInput {
     pub file: ProblemFile,
-    /// The bar of a WCSP text: the WCSP value of an assignment is its cost where that is below the
-    /// bar, and top otherwise. A problem text has none.
+    /// The bar of a WCSP text: the WCSP value of an assignment is its cost if that is below the
+    /// bar, and top otherwise. `None` for a problem text.
     pub bar: Option<u64>,
 }
 
-/// The problem that a whole input in this format tells.
+/// Reads a whole input in this format as a problem.
 ///
 /// # Errors
 ///
-/// The first fault of the text with its line; where there is none, kind 8 at the first line of a
-/// problem text with words behind its line `end`, or at the first word behind a WCSP text;
-/// [`InputFault::NoMemory`] where memory was wanted and not had.
+/// The first fault of the text with its line. If there is none, kind 8 at the first line of a
+/// problem text with words after its line `end`, or at the first word after a WCSP text.
+/// [`InputFault::NoMemory`] if memory runs out.
 pub fn read_input(alloc: Global, format: Format, bytes: &[u8]) -> Result<ReadInput, InputFault>
     ensures { IsInput (input_read format bytes.now) result }
 {

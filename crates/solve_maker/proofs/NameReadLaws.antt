@@ -1,4 +1,4 @@
--- What a text declares has names, and its first fault is told by small numbers.
+-- What a text declares has names, and its first fault has small numbers.
 use Rattle.std.proofs.Common.{◌≡◌, ℕ, suc, ◌+◌, ◌≤◌, Bool, true, false, not, ◌||◌, ◌&&◌, ◌==◌, List, [], ◌∷◌, ◌++◌, length, All, Option, Some, None, Result, Ok, Err, refl, arith, codes, if◌then◌else◌, count_by, find, nat_lt, nat_le, map, slice_index}
 use Rattle.std.proofs.lemmas.List.Elements.{All-nil, All-cons, All-head, All-tail}
 use Rattle.std.proofs.lemmas.List.Folds.{list_all-append}
@@ -26,7 +26,7 @@ pub record IsNamed (d : Declared) : Type 0 where
   pub names : list_all is_name d.names ≡ true
   pub labels : list_all (λ ls. list_all is_name ls) d.labels ≡ true
 
--- what a line comes to has names, or is a fault with a small number
+-- what a line declares has names, or the line is refused with a small number
 abbrev pub IsKept : Outcome → Type 0
 IsKept (Declares d) = IsNamed d
 IsKept Ends = Unit {0}
@@ -150,12 +150,12 @@ later_kept second d (first ∷ further) named =
 outcome_kept : (before : ℕ) (d : Declared) (ws : List (List ℕ)) → IsNamed d → IsKept (line_outcome before d ws)
 outcome_kept before d ws named = pick (before == 0) (header ws) (later_line (before == 1) d ws) (header_kept ws) (later_kept (before == 1) d ws named)
 
--- a fault in one of so many lines
+-- a fault in one of the first `most` lines
 pub record IsTold (most : ℕ) (fault : Fault) : Type 0 where
   pub line : fault.line ≤ most
   pub problem : number_of_problem fault.kind ≤ 10
 
--- what a text is read as has names, or a fault in one of so many lines
+-- what a text is read as has names, or is a fault in one of the first `most` lines
 abbrev pub IsReadSo : ℕ → Result Parts Fault → Type 0
 IsReadSo most (Ok parts) = IsNamed parts.declared
 IsReadSo most (Err fault) = IsTold most fault
@@ -222,6 +222,6 @@ last_so bytes (Ok parts) named =
     after_so (1 + length bytes) parts.declared (λ line. nat_lt parts.used line.used) (with_words (numbered 1 0 (lines bytes))) (numbers_so (1 + length bytes) 1 0 (lines bytes) (omega (arith, few))) named
 last_so bytes (Err fault) told = told
 
--- what a whole input declares has names, and the first fault of one is in one of its lines
+-- what a whole input declares has names, and its first fault is in one of its lines
 pub read_so : (bytes : List ℕ) → IsWholeSo (1 + length bytes) (whole_read bytes)
 read_so bytes = last_so bytes (text_read bytes) (text_so bytes)

@@ -33,7 +33,8 @@ long_input key lt = rw (lt-ltb input_limit (length key) lt) refl
 whole_input : (key : List ℕ) → length key ≤ input_limit → input_of key ≡ Whole key
 whole_input key le = rw (le-ltb input_limit (length key) le) refl
 
--- the answer of DPOP to what a call reads of a source that never fails and has a key left is that to the key's input
+-- what a call reads from a source that never fails and has a key left has the same answer of DPOP
+-- as the key's input
 belongs_so : (key : List ℕ) (left : Option (List ℕ)) (input : Input) (answer : Answer) → IsReadFrom input (source_state (Some key) 0) (source_state left 0)
     → IsInputAnswer (File Own (tasks.Dpop false)) input answer → IsInputAnswer (File Own (tasks.Dpop false)) (input_of key) answer
 belongs_so key left Unread answer read belongs = absurd belongs

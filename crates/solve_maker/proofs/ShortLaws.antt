@@ -44,7 +44,7 @@ use Rattle.solve_maker.proofs.WordLaws.{of_words}
 use Rattle.solve_maker.proofs.NameReadLaws.{IsNamed, IsWholeSo, read_so}
 use Rattle.solve_maker.proofs.TextLaws.{named_short, head_short, bounds_short, values_short, lines_short, five_parts, end_short, text_refusal_short, wide_refusal_short, total_refusal_short}
 
--- the values of a report of DPOP are below the sizes of the file's problem
+-- the values of a report of DPOP are below the domain sizes of the file's problem
 within_of : (goal : Goal) (p : Dcop) (values : List ℕ) → IsFirstOfTree (solved goal p) values → AreWithin p.sizes values
 within_of Min p values first = first.assignment
 within_of Max p values first = first.assignment
@@ -90,7 +90,7 @@ solved_short file answers.Link is named whole = absurd is
 solved_short file (answers.LinkDiffers from to at sent taken links) is named whole = absurd is
 solved_short file (answers.LinkBytes round from_node to_node place sent taken) is named whole = absurd is
 
--- a count of cells that is told
+-- a count of cells within the greatest count
 abbrev IsLow : Option Wide → Type 0
 IsLow None = Unit {0}
 IsLow (Some (Agent var cells)) = cells ≤ count_limit

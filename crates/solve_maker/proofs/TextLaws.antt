@@ -20,7 +20,7 @@ use Rattle.certificate_text.specs.declared.report.Report.{Report}
 use Rattle.certificate_text.specs.declared.report.Ending.TheVariants.{Solved}
 use Rattle.certificate_text.specs.declared.report.Method.TheVariants.{Dpop}
 
--- how many bytes words have, with one behind each and one more
+-- how many bytes words have, each with one byte after it, and one more
 abbrev width : List (List ℕ) → ℕ
 width [] = 1
 width (w ∷ ws) = length w + 1 + width ws
@@ -159,7 +159,7 @@ five_parts a b c d e =
 pub end_short : length (flat_map line ((codes "end" ∷ []) ∷ [])) ≤ 80
 end_short = omega arith
 
--- the words behind a kind
+-- the words after a kind
 problem_width : (b : Bool) (problem : ℕ) → problem ≤ count_limit → width (if b then codes "problem" ∷ decimal problem ∷ [] else []) ≤ 40
 problem_width true problem le = let digits = number_short problem le in omega (arith, digits)
 problem_width false problem le = omega arith

@@ -41,7 +41,7 @@ one_node : (command : Command) → answer_to dpop_words ≡ Ok command → nodes
 unfolding dpop_command
 one_node command is = subst (λ (r : Result Command WordFault). IfOk r (λ c. nodes_of c ≡ 1)) (sym asked ∙ is) refl
 
--- so no answer that these words are given is one of links
+-- so no answer that these words may get is one about links
 pub own_answer : (input : Input) (answer : Answer) → IsGiven dpop_words input answer → IsAnswer dpop_words input answer
 own_answer input answer (inl belongs) = belongs
 own_answer input answer (inr links) =

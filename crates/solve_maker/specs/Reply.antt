@@ -10,11 +10,12 @@ use Rattle.solve_top.specs.Answering.{IsAnswer}
 abbrev pub dpop_words : List (List ℕ)
 dpop_words = codes "solve" ∷ codes "--method" ∷ codes "dpop" ∷ []
 
--- the input of a call to which these bytes come, and no more
+-- the input of a call whose source has exactly these bytes
 abbrev pub input_of : List ℕ → Input
 input_of bytes = if nat_lt input_limit (length bytes) then TooLong else Whole bytes
 
--- a text is the reply to a key: that of the answer of `solve --method dpop` where the key is the whole input, a refusal included
+-- a text is the reply to a key: the text of the answer of `solve --method dpop`, which may be a
+-- refusal, if the key is the whole input
 pub record IsReply (key text : List ℕ) : Type 0 where
   pub answer : Answer
   pub belongs : IsAnswer dpop_words (input_of key) answer

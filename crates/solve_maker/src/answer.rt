@@ -16,12 +16,12 @@ use std::thread::Threads;
 use std::time::Clock;
 use wire_edge::SteadyDialer;
 
-/// The text that `solve --method dpop` writes where these bytes are its whole input, a refusal
-/// included. One worker runs the agents, but the text is the same for any number of them.
+/// The text that `solve --method dpop` writes if these bytes are its whole input; this may be a
+/// refusal. One worker runs the agents, but any number of them gives the same text.
 ///
 /// # Errors
 ///
-/// [`NoMemory`] where memory was wanted and not had.
+/// [`NoMemory`] if memory runs out.
 pub fn answer_bytes<R: Threads + Wait + Clock + RandomSource + Net + AllocGlobal + Sync>(
     rt: &R,
     alloc: Global,

@@ -8,9 +8,9 @@ use std::sync::Wait;
 use std::thread::Threads;
 use std::time::{Clock, Duration};
 
-/// The threads of a runtime, and none of its other handles: each call of these is answered
-/// [`Unsupported`](io::ErrorKind::Unsupported), but for `sleep`, which returns at once. Agents in one
-/// node dial nobody and ask for no time.
+/// The threads of a runtime, and none of its other handles. Agents in one node dial nobody and do
+/// not ask for the time. Each call of the other handles fails with
+/// [`Unsupported`](io::ErrorKind::Unsupported), except `sleep`, which returns at once.
 #[derive(Drop)]
 pub(crate) struct ThreadsAlone<'a, R>(pub(crate) &'a R, pub(crate) Global);
 

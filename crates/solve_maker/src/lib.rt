@@ -1,8 +1,8 @@
 //! The maker of a server's replies: what `solve --method dpop` writes for the bytes of a request.
 //!
-//! [`answer_bytes`] answers bytes with the text that the program `dcop` would write for them, a
-//! refusal included. [`SolveMaker`] makes the replies of a server by it: by the law that answers of
-//! DPOP are one, a key has one reply.
+//! [`answer_bytes`] answers bytes with the text that the program `dcop` would write for them; this
+//! may be a refusal. [`SolveMaker`] uses it to make the replies of a server. The law that answers
+//! of DPOP are one gives each key one reply.
 #![tactic(auto)]
 
 mod answer;

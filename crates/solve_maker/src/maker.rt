@@ -12,14 +12,14 @@ use std::marker::Sync;
 use std::sync::Wait;
 use std::thread::Threads;
 
-/// Replies to a key with what `solve --method dpop` writes for it.
+/// A maker whose reply to a key is what `solve --method dpop` writes for it.
 #[derive(Debug, Drop)]
 pub struct SolveMaker {
     calls: u64,
 }
 
 impl SolveMaker {
-    /// How often it was called.
+    /// How many times it was called.
     pub fn calls(&self) -> u64
         ensures { result ≡ self.now.calls }
     {

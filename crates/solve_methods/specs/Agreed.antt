@@ -11,13 +11,14 @@ use Rattle.util_tables.specs.Utils.{HaveMade, cells_on}
 use Rattle.solve_report.specs.declared.tree.NodeRow.{NodeRow}
 use Rattle.solve_methods.specs.Dpop.{dpop_deliveries, IsFirstOfTree}
 
--- the agents of a problem have the values of the first optimum of its depth-first tree, they have made their tables, and they took so many messages as DPOP takes
+-- the agents of a problem have the values of the first optimum of its depth-first tree, they have
+-- made their tables, and they took as many messages as DPOP takes
 pub record HaveValues (p : Dcop) (outcome : Outcome) : Type 0 where
   pub first : IsFirstOfTree p outcome.values
   pub deliveries : outcome.deliveries ≡ dpop_deliveries p
   pub tables : HaveMade p (dfs p) outcome.tables
 
--- the table of the agent of a node, as a certificate tells it
+-- the table of the agent of a node, in the form of a certificate
 abbrev pub node_util : List (Option CostTable) → NodeRow → Util
 node_util tables node = record { var = node.var; parent = node.parent; scope = node.separator; cells = cells_on (slice_get tables node.var) }
 

@@ -1,4 +1,4 @@
--- The certificates that DPOP and ADOPT print.
+-- The certificates of reports of DPOP and ADOPT.
 use Rattle.std.specs.Prelude.{◌≡◌, Bool, true, false, List, None, Some, Option}
 use Rattle.dcop_base.specs.Problem.{Dcop}
 use Rattle.pseudotree.specs.DepthFirst.{dfs}
@@ -23,7 +23,8 @@ HasUtilsOf p (Tables utils) = AreUtilsOf p (dfs p) utils
 HasUtilsOf p (Log log) = ⊥
 HasUtilsOf p (Cut cut turns) = ⊥
 
--- these tables are those of the problem solved for a file, they fit it, and they show that the report holds
+-- these tables are those of the problem solved for a file, they fit the file, and the report holds
+-- with them
 pub record AreTablesOf (file : TextFile) (report : Report) (utils : List Util) : Type 0 where
   pub tables : AreUtilsOf (problem_solved file) (dfs (problem_solved file)) utils
   pub fits : FitsTables file.problem.sizes utils
@@ -36,29 +37,31 @@ IsCertifiedBy file report (Some (Log log)) = ⊥
 IsCertifiedBy file report (Some (Cut cut turns)) = ⊥
 IsCertifiedBy file report None = ⊥
 
--- a report has such a certificate where one is asked for, and none otherwise
+-- a report has a certificate of tables of its problem if one is requested, and none otherwise
 abbrev pub IsCertified : Bool → TextFile → Report → Type 0
 IsCertified false file report = report.certificate ≡ None
 IsCertified true file report = IsCertifiedBy file report report.certificate
 
--- this is the log of the run that the ADOPT agents of the problem solved for a file made in these rounds, which ends in this network, and the report holds with it
+-- this is the log of the run that the ADOPT agents of the problem solved for a file made in these
+-- rounds and that ends in this network, and the report holds with it
 pub record IsLogFor (file : TextFile) (rounds : List (List Event)) (end : Network) (report : Report) (log : List LogEvent) : Type 0 where
   pub run : IsLogOf (agents_for file report.error) rounds end log
   pub holds : HoldsLog file report log
 
--- a report has a certificate of such a log
+-- a report has a certificate of the log of that run
 abbrev pub IsLoggedBy : TextFile → List (List Event) → Network → Report → Option Certificate → Type 0
 IsLoggedBy file rounds end report (Some (Log log)) = IsLogFor file rounds end report log
 IsLoggedBy file rounds end report (Some (Tables utils)) = ⊥
 IsLoggedBy file rounds end report (Some (Cut cut turns)) = ⊥
 IsLoggedBy file rounds end report None = ⊥
 
--- a report has the log of the run in these rounds, which ends in this network, where one is asked for, and no certificate otherwise
+-- a report has a certificate of the log of that run if one is requested, and no certificate
+-- otherwise
 abbrev pub IsLogged : Bool → TextFile → List (List Event) → Network → Report → Type 0
 IsLogged false file rounds end report = report.certificate ≡ None
 IsLogged true file rounds end report = IsLoggedBy file rounds end report report.certificate
 
--- the certificate of a log, where there is one
+-- the certificate of a log, if there is one
 abbrev pub certificate_of_log : Option (List LogEvent) → Option Certificate
 certificate_of_log None = None
 certificate_of_log (Some log) = Some (Log log)

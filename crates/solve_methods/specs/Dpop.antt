@@ -1,4 +1,4 @@
--- What DPOP gives on a file.
+-- The answer of DPOP on a file.
 use Rattle.std.specs.Prelude.{◌≡◌, ℕ, Bool, ◌-◌, ◌*◌, List, length, Option, Some, None, IfSome, is_some}
 use Rattle.dcop_base.specs.Problem.{Dcop, IsAssignment, cost}
 use Rattle.dcop_base.specs.Whole.{IsProblem}
@@ -22,11 +22,12 @@ use Rattle.solve_methods.specs.declared.dpop.Chosen.{Chosen}
 use Rattle.solve_methods.specs.declared.dpop.Choice.{Choice}
 use Rattle.solve_methods.specs.declared.dpop.Choice.TheVariants as choices
 
--- how many messages DPOP takes: one UTIL of each variable but the root, and one VALUE to it
+-- how many messages DPOP takes: one UTIL from each variable but the root, and one VALUE to it
 abbrev pub dpop_deliveries : Dcop → ℕ
 dpop_deliveries p = 2 * (length p.sizes - 1)
 
--- what is too wide in the depth-first tree of a problem, if anything: its first agent whose joined table is, else all that is sent
+-- what is too wide in the depth-first tree of a problem, if anything: the first agent whose joined
+-- table is too wide, or otherwise all that is sent
 abbrev pub wide_in : Dcop → Option Wide
 wide_in p = wide_of p (dfs p)
 
@@ -34,7 +35,9 @@ wide_in p = wide_of p (dfs p)
 abbrev pub IsFirstOfTree : Dcop → List ℕ → Type 0
 IsFirstOfTree p values = IsFirstOptimumOf p (dfs p) values
 
--- a report of DPOP on a file, with a certificate where one is asked for: its values are the first optimum of the depth-first tree of the problem solved, and its cost is theirs in the file's problem, and is lower and upper too
+-- a report of DPOP on a file, with a certificate if one is requested: its values are the first
+-- optimum of the depth-first tree of the problem solved; its cost is that of its values in the
+-- file's problem; and both bounds are the cost
 pub record IsDpopReport (file : TextFile) (certified : Bool) (report : Report) : Type 0 where
   pub status : report.status ≡ Solved
   pub method : report.method ≡ Dpop
@@ -47,44 +50,49 @@ pub record IsDpopReport (file : TextFile) (certified : Bool) (report : Report) :
   pub upper : report.upper ≡ report.cost
   pub certificate : IsCertified certified file report
 
--- an answer with such a report, beside its file
+-- an answer that has such a report and its file
 abbrev pub IsDpopSolved : TextFile → Bool → Answer → Type 0
 IsDpopSolved file certified (answers.Report report same) = (same ≡ file) × IsDpopReport file certified report
 IsDpopSolved file certified answer = ⊥
 
--- the answer where this is too wide
+-- the answer if this is too wide
 abbrev pub wide_answer : List (List ℕ) → Wide → Answer
 wide_answer names (Agent var cells) = answers.WideAgent var cells names
 wide_answer names (Total cells) = answers.WideTotal cells
 
--- the answer of DPOP on a file in whose tree this is too wide, or nothing
+-- the answer of DPOP on a file, given what is too wide in its tree
 abbrev pub IsAnswerBy : TextFile → Bool → Option Wide → Answer → Type 0
 IsAnswerBy file certified (Some wide) answer = answer ≡ wide_answer file.names wide
 IsAnswerBy file certified None answer = IsDpopSolved file certified answer
 
--- the answer of DPOP on a file: what is too wide in the depth-first tree of the problem solved, else a report
+-- the answer of DPOP on a file: what is too wide in the depth-first tree of the problem solved, or
+-- otherwise a report
 abbrev pub IsDpopAnswer : TextFile → Bool → Answer → Type 0
 IsDpopAnswer file certified answer = IsAnswerBy file certified (wide_in (solved file.goal file.problem)) answer
 
--- the answer of DPOP on a text that declares this: that on its file, whose joints follow from the tables
+-- the answer of DPOP on a text that declares this: it is the answer on the file of the text, whose
+-- joints follow from the tables
 pub record AnswersDpop (d : Declared) (certified : Bool) (answer : Answer) : Type 0 where
   pub file : TextFile
   pub whole : IsProblem file.problem
   pub declared : declared_by file ≡ d
   pub is : IsDpopAnswer file certified answer
 
--- what the agents of a problem chose: the first optimum of its depth-first tree, with as many messages as DPOP takes; a certificate, where there is one, has the tables of all variables
+-- the choice of the agents of a problem: the first optimum of its depth-first tree, with as many
+-- messages as DPOP takes; a certificate, if there is one, has the tables of all variables
 pub record HaveAgreed (p : Dcop) (chosen : Chosen) : Type 0 where
   pub first : IsFirstOfTree p chosen.values
   pub deliveries : chosen.deliveries ≡ dpop_deliveries p
   pub certificate : IfSome chosen.certificate (HasUtilsOf p)
 
--- what the agents of a problem chose, with a certificate exactly where one is asked for, or what is too wide in its tree
+-- the choice of the agents of a problem, with a certificate exactly when one is requested, or what
+-- is too wide in its tree
 abbrev pub GivesChosen : Dcop → Bool → Choice → Type 0
 GivesChosen p certified (choices.Values chosen) = (wide_in p ≡ None) × (is_some chosen.certificate ≡ certified) × HaveAgreed p chosen
 GivesChosen p certified (choices.TooWide wide) = wide_in p ≡ Some wide
 
--- values that the agents of the problem solved chose, seen from the problem itself: an assignment whose cost is the best sum
+-- the choice of the agents of the problem solved, as a choice for the problem itself: its values
+-- are an assignment whose cost is the best sum
 pub record AreBestChosen (goal : Goal) (p : Dcop) (chosen : Chosen) : Type 0 where
   pub whole : IsProblem p
   pub fits : wide_in (solved goal p) ≡ None

@@ -1,4 +1,4 @@
--- What `drill` tells of the answer on the problem that it made.
+-- The answer of `drill` from the answer on the problem that it made.
 use Rattle.std.specs.Prelude.{ℕ, ◌+◌, ◌*◌, List, [], ◌∷◌, length}
 use Rattle.dcop_base.specs.Faults.{cell_count}
 use Rattle.problem_text.specs.File.{TextFile}
@@ -7,7 +7,7 @@ use Rattle.solve_report.specs.declared.summary.Summary.{Summary}
 use Rattle.solve_report.specs.declared.answer.Answer.{Answer}
 use Rattle.solve_report.specs.declared.answer.Answer.TheVariants as answers
 
--- the sum of values, each as often as its place tells, where the first place is this
+-- the sum of values, each multiplied by its position; the first one has this position
 abbrev pub mark_from : ℕ → List ℕ → ℕ
 mark_from place [] = 0
 mark_from place (value ∷ values) = place * value + mark_from (place + 1) values
@@ -32,7 +32,8 @@ summary_of seed file report = record {
   mark = mark_of report.values;
 }
 
--- the answer of `drill` where this is the answer of `solve` on the file that it made: the summary of a report, and every refusal as it is
+-- the answer of `drill`, given the answer of `solve` on the file that it made: the summary of a
+-- report, and any other answer unchanged
 abbrev pub drilled : ℕ → Answer → Answer
 drilled seed (answers.Report report file) = answers.Drill (summary_of seed file report)
 drilled seed answer = answer

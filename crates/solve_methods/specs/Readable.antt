@@ -10,11 +10,13 @@ use Rattle.certificate_text.specs.declared.certificate.Certificate.TheVariants.{
 use Rattle.certificate_text.specs.declared.report.Report.{Report}
 use Rattle.solve_methods.specs.Adopt.{IsAdoptReport}
 
--- an event of a log has a stamp of at most amount_limit, and takes at most 64 messages of one sender
+-- an event of a log has a stamp of at most amount_limit, and takes at most 64 messages of one
+-- sender
 abbrev pub IsSmallEvent : LogEvent → Type 0
 IsSmallEvent e = (e.stamp ≤ amount_limit) × AreShares e.takes
 
--- a report of ADOPT under a budget of at most budget_limit tells at most amount_limit deliveries, and the events of its log are small
+-- a report of ADOPT under a budget of at most budget_limit has at most amount_limit deliveries, and
+-- the events of its log are small
 abbrev pub AdoptReportsAreSmall : Type 0
 AdoptReportsAreSmall = (file : TextFile) (error budget : ℕ) (certified : Bool) (report : Report) → IsProblem file.problem → budget ≤ budget_limit → IsAdoptReport file error budget certified report
     → (report.deliveries ≤ amount_limit) × ((log : List LogEvent) → report.certificate ≡ Some (Log log) → All IsSmallEvent log)

@@ -28,21 +28,21 @@ use run_log::Log;
 use solve_report::Answer;
 use token_runs::token_runs;
 
-/// What is asked of ADOPT agents.
+/// The request to ADOPT agents.
 #[derive(Clone, Copy, Debug, PartialEq, Eq)]
 pub struct Asked {
     /// How far the cost of their values may be from the optimum, at most 2^62.
     pub error: u64,
-    /// How many deliveries are enough to stop before they have ended, at most 10,000,000.
+    /// After how many deliveries they are stopped before they have ended, at most 10,000,000.
     pub budget: u64,
-    /// Whether the log of their run is asked for, as a certificate.
+    /// Whether the log of their run is requested, as a certificate.
     pub certified: bool,
 }
 
-/// What agents have come to, and the log of their run where one was kept.
+/// The outcome of agents, and the log of their run if one was kept.
 #[derive(Debug, Drop)]
 pub struct Logged {
-    /// What they have come to.
+    /// The outcome of their run.
     pub outcome: Outcome,
     /// The merged journals of all agents.
     pub log: Option<Log>,
@@ -54,17 +54,17 @@ pub struct Reached {
     ending: Ending,
     deliveries: u64,
     values: ValList,
-    /// The optimum is not lower.
+    /// A lower bound of the optimum.
     lower: u64,
-    /// The optimum is not higher.
+    /// An upper bound of the optimum.
     upper: u64,
-    /// What all agents did, where that was kept.
+    /// The log of all agents, if it was kept.
     log: Option<Log>,
 }
 
 /// What the ADOPT agents of a problem have reached on its depth-first tree, whose root is variable
 /// 0: the ending, the deliveries and the values of their run, the bounds of the root's agent and of
-/// the values' cost, and the log of the run where one was kept.
+/// the values' cost, and the log of the run if one was kept.
 pub fn reached_by(problem: &Problem, asked: Asked, ran: Logged) -> Reached
     requires { HaveLogged asked.budget (adopt_agents problem.now (dfs problem.now) asked.error) asked.certified ran }
     ensures { HaveReached problem.now asked.error asked.budget asked.certified result }
@@ -88,7 +88,7 @@ pub fn reached_by(problem: &Problem, asked: Asked, ran: Logged) -> Reached
 }
 
 /// The answer of ADOPT on a file: the report of what the agents of the problem solved have reached,
-/// with the log of their run where one is asked for. It is spent where an agent has not ended.
+/// with the log of their run if it is requested. The report is spent if an agent has not ended.
 pub fn adopt_answer(file: ProblemFile, asked: Asked, reached: Reached) -> Answer
     requires { HaveReached (problem_solved file) asked.error asked.budget asked.certified reached }
     ensures belongs { AnswersAdopt (declared_by file) asked.error asked.budget asked.certified result }
@@ -157,7 +157,7 @@ fn upper_for(goal: Goal, problem: &Problem, lower: u64, upper: u64) -> u64
     }
 }
 
-/// The certificate of a log, where there is one.
+/// The certificate of a log, if there is one.
 fn certificate_of_log(log: Option<Log>) -> Option<Certificate>
     ensures { result ≡ certificate_of_log log }
 {
@@ -167,14 +167,14 @@ fn certificate_of_log(log: Option<Log>) -> Option<Certificate>
     }
 }
 
-/// How a report ends, by whether all agents have ended.
+/// How a report ends: solved if all agents have ended, and spent otherwise.
 fn ending_by(ended: bool) -> Ending
     ensures { result ≡ (if ended then solved_end else spent_end) }
 {
     if ended { Ending::Solved } else { Ending::Spent }
 }
 
-/// The lesser of a sum and a bound, where the bound is there.
+/// The lesser of a sum and a bound, or the sum if there is no bound.
 fn least_known(sum: u64, bound: Option<u64>) -> u64
     ensures { result ≡ least_known sum bound }
 {

@@ -12,17 +12,17 @@ use dcop_base::problem_is_whole;
 use problem_text::ProblemFile;
 use solve_report::Answer;
 
-/// What the agents of a problem come to: by DPOP where its tables fit, and by ADOPT otherwise.
+/// The result of the agents of a problem: by DPOP if its tables fit, and by ADOPT otherwise.
 #[derive(Debug, Drop)]
 pub enum Settled {
     /// The values that DPOP agents chose.
     ByDpop(Chosen),
-    /// What ADOPT agents reached, where the tables of DPOP would be too wide.
+    /// What ADOPT agents reached, if the tables of DPOP would be too wide.
     ByAdopt(Reached),
 }
 
-/// The answer of auto on a file: the report of what the agents of the problem solved came to. Where
-/// they chose by DPOP its error is 0, and else the one that is asked for.
+/// The answer of auto on a file: the report of what the agents of the problem solved reached. Its
+/// error is 0 if they chose by DPOP, and the requested error otherwise.
 pub fn auto_answer(file: ProblemFile, asked: Asked, settled: Settled) -> Answer
     requires { GivesSettled (problem_solved file) asked.error asked.budget asked.certified settled }
     ensures belongs { AnswersAuto (declared_by file) asked.error asked.budget asked.certified result }

@@ -26,8 +26,8 @@ use solve_report::{Answer, NodeRowList};
 use std::alloc::Global;
 use token_runs::token_runs;
 
-/// The values that agents chose, and how many messages they took to do so; and the tables that show
-/// the values to be optimal, where these are asked for.
+/// The values that agents chose, how many messages they took to choose them, and the tables that
+/// show the values to be optimal, if these are requested.
 #[derive(Debug, Drop)]
 pub struct Chosen {
     values: ValList,
@@ -35,17 +35,17 @@ pub struct Chosen {
     certificate: Option<Certificate>,
 }
 
-/// What the agents of a problem choose.
+/// The choice of the agents of a problem.
 #[derive(Debug, Drop)]
 pub enum Choice {
     /// These values.
     Values(Chosen),
-    /// None, since this is too wide in their tree.
+    /// No values, since this is too wide in their tree.
     TooWide(Wide),
 }
 
-/// The messages that the DPOP agents of a problem take: one UTIL of each variable but the root, and
-/// one VALUE to it. So many are budget enough for them.
+/// How many messages the DPOP agents of a problem take: one UTIL from each variable but the root,
+/// and one VALUE to it. This is also a sufficient budget for them.
 pub fn choice_deliveries(problem: &Problem) -> u64
     ensures all { result ≡ dpop_deliveries problem.now }
     ensures few { result ≤ budget_limit }
@@ -54,11 +54,11 @@ pub fn choice_deliveries(problem: &Problem) -> u64
 }
 
 /// The values that the DPOP agents of a problem chose on its depth-first tree, with their tables as
-/// a certificate where the nodes of the tree are given.
+/// a certificate if the nodes of the tree are given.
 ///
 /// # Errors
 ///
-/// [`NoMemory`] where memory was wanted and not had.
+/// [`NoMemory`] if memory runs out.
 pub fn chosen_by(
     alloc: Global,
     problem: &Problem,
@@ -83,7 +83,7 @@ pub fn chosen_by(
     })
 }
 
-/// The answer of DPOP on a file, from what the agents of the problem solved chose: their report, or
+/// The answer of DPOP on a file, from the choice of the agents of the problem solved: a report, or
 /// what is too wide in their tree.
 pub fn dpop_answer(file: ProblemFile, choice: Choice) -> Answer
     requires { (certified : Bool) × GivesChosen (problem_solved file) certified choice }
@@ -102,7 +102,7 @@ pub fn dpop_answer(file: ProblemFile, choice: Choice) -> Answer
     }
 }
 
-/// The answer where this is too wide in a tree of the variables with these names.
+/// The answer if this is too wide in a tree of the variables with these names.
 fn too_wide(wide: Wide, names: Names) -> Answer
     ensures { result ≡ wide_answer names wide }
 {
@@ -112,7 +112,7 @@ fn too_wide(wide: Wide, names: Names) -> Answer
     }
 }
 
-/// The report of these values, with their certificate where there is one.
+/// The report of these values, with their certificate if there is one.
 pub(crate) fn dpop_report(file: &ProblemFile, chosen: Chosen) -> Report
     requires { AreBestChosen file.now.goal file.now.problem chosen }
     ensures form { IsDpopReport file.now (is_some chosen.certificate) result }

@@ -14,7 +14,7 @@ use problem_text::ProblemFile;
 use solve_report::{Answer, Summary};
 
 /// The answer of `drill`, from the answer of `solve` on the file that was made from a seed: the
-/// summary of a report, and every refusal as it is.
+/// summary of a report, or a refusal unchanged.
 pub fn drill_answer(seed: u64, answer: Answer) -> Answer
     requires right { TellsRight answer }
     requires told { HasText answer }
@@ -52,7 +52,7 @@ fn summary_of(seed: u64, file: &ProblemFile, report: &Report) -> Summary
     }
 }
 
-/// How many cells tables have together.
+/// How many cells these tables have in total.
 fn count_cells(tables: &[Table]) -> u64
     requires { cell_count tables.now ≤ cell_limit }
     ensures { result ≡ cell_count tables.now }
@@ -63,7 +63,7 @@ fn count_cells(tables: &[Table]) -> u64
         .sum()
 }
 
-/// The sum over all variables i, counted from 0, of i + 1 times the value.
+/// The sum, over all variables i counted from 0, of i + 1 times the value of variable i.
 fn mark_of(values: &[Val]) -> u64
     requires { mark_of values.now < 2 ^ 64 }
     ensures { result ≡ mark_of values.now }

@@ -1,4 +1,4 @@
-//! The laws on reports of ADOPT with a log.
+//! The laws about reports of ADOPT with a log.
 
 ghost use Rattle.solve_methods.specs.Logged.{AdoptReportsHold};
 ghost use Rattle.solve_methods.specs.Readable.{AdoptReportsAreSmall};
@@ -6,7 +6,7 @@ ghost use Rattle.solve_methods.specs.Readable.{AdoptReportsAreSmall};
 use log_holds::merged_logs_hold;
 use protocol_steps::rounds_are_bounded;
 
-/// Where cells have made the run of a report of ADOPT, the report holds with the merged journals of
+/// If cells have made the run of a report of ADOPT, the report holds with the merged journals of
 /// the cells as its log.
 pub fn adopt_reports_hold()
     ensures { AdoptReportsHold }
@@ -14,9 +14,9 @@ pub fn adopt_reports_hold()
     merged_logs_hold();
 }
 
-/// Under a budget within its limit a report of ADOPT tells at most 2^62 deliveries, and each event of
-/// its log has a stamp of at most 2^62 and takes at most 64 messages of one sender. So every number of
-/// the report can be read again.
+/// Under a budget within its limit, a report of ADOPT has at most 2^62 deliveries, and each event
+/// of its log has a stamp of at most 2^62 and takes at most 64 messages of one sender. These
+/// numbers can therefore be read again.
 pub fn adopt_reports_are_small()
     ensures { AdoptReportsAreSmall }
 {

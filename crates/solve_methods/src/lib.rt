@@ -1,12 +1,15 @@
-//! What each method answers on a file: plain search, the tree, DPOP, ADOPT, and auto,
-//! which is DPOP where its tables fit and ADOPT otherwise; and what `drill` tells of such an answer.
+//! The answer of each method on a file: plain search, the tree, DPOP, ADOPT, and auto, which is
+//! DPOP if its tables fit and ADOPT otherwise; and the answer of `drill`.
 //!
-//! The plain method is run here. The others are run by agents, and whoever runs those: this crate
-//! says what follows from how their run ended, which is told by an
-//! [`Outcome`](protocol_steps::Outcome) of the network. The [`Answer`](solve_report::Answer)s have
-//! clauses that say which answer that is, and that what a report says of the file is right.
-//! [`adopt_reports_hold`] is the law that a report of ADOPT holds with the log of its run, and
-//! [`adopt_reports_are_small`] that its numbers are small enough to be read again.
+//! This crate runs plain search itself. The other methods are run by agents: this crate derives the
+//! answer from the end of their run, an [`Outcome`](protocol_steps::Outcome) of the network,
+//! whoever ran them. The clauses of each call say which [`Answer`](solve_report::Answer) it gives,
+//! and that what a report says about the file is right. The law [`adopt_reports_hold`] says that a
+//! report of ADOPT holds with the log of its run. The law [`adopt_reports_are_small`] says that its
+//! numbers are small enough to be read again.
+//!
+//! It builds on `dcop_optimum` for plain search, on `dpop_runs`, `adopt_runs` and `adopt_ends` for
+//! what holds of the runs, on `log_holds` for logs, and on `solve_report` for answers.
 #![tactic(auto)]
 
 mod adopt;

@@ -1,4 +1,4 @@
-//! The answer of the plain method.
+//! The answer of plain search.
 
 ghost use Rattle.std.specs.Prelude.{◌≡◌, IfOk};
 ghost use Rattle.dcop_base.specs.Problem.{IsAssignment};
@@ -13,7 +13,12 @@ use problem_text::ProblemFile;
 use solve_report::Answer;
 use std::alloc::Global;
 
-/// The report of the plain method on a file, or that it has too many assignments to try.
+/// The answer of plain search on a file: a report, or that the file has too many assignments to
+/// try.
+///
+/// # Errors
+///
+/// [`NoMemory`] if memory runs out.
 pub fn plain_answer(alloc: Global, file: ProblemFile) -> Result<Answer, NoMemory>
     ensures { IfOk result (λ answer. IsPlainAnswer file answer) }
 {

@@ -10,7 +10,7 @@ use solve_report::{NodeRow, NodeRowList};
 use std::alloc::Global;
 use util_tables::cells_of;
 
-/// The certificate of the tables that the agents of these nodes made, where there are nodes.
+/// The certificate of the tables that the agents of these nodes made, if nodes are given.
 pub(crate) fn certificate_of(
     alloc: Global,
     nodes: Option<NodeRowList>,

@@ -18,11 +18,11 @@ use tree_search::Found;
 
 /// The answer of `tree` on a file, from the depth-first tree of its problem.
 ///
-/// Token agents look at no cost, so the tree is the same for both goals.
+/// Token agents do not use costs, so the tree is the same for both goals.
 ///
 /// # Errors
 ///
-/// [`NoMemory`] where memory was wanted and not had.
+/// [`NoMemory`] if memory runs out.
 pub fn tree_answer(alloc: Global, file: ProblemFile, found: Found) -> Result<Answer, NoMemory>
     requires { IsFound file.problem found }
     ensures belongs { IfOk result (AnswersTree (declared_by file)) }
@@ -38,11 +38,11 @@ pub fn tree_answer(alloc: Global, file: ProblemFile, found: Found) -> Result<Ans
     })
 }
 
-/// The nodes of a tree in preorder, each with its parent and its separator, where they are wanted.
+/// The nodes of a tree in preorder, each with its parent and its separator, if they are requested.
 ///
 /// # Errors
 ///
-/// [`NoMemory`] where memory was wanted and not had.
+/// [`NoMemory`] if memory runs out.
 pub fn node_rows_if(
     alloc: Global,
     wanted: bool,

@@ -1,4 +1,4 @@
--- The law on the bounds that a replay tells.
+-- The law about the bounds in the answer of a replay.
 use Rattle.std.specs.Prelude.{◌≡◌, ℕ, List, Some, slice_get}
 use Rattle.std.specs.List.{All}
 use Rattle.dcop_base.specs.Problem.{Dcop}
@@ -17,13 +17,16 @@ use Rattle.solve_report.specs.declared.answer.Answer.TheVariants as answers
 use Rattle.solve_report.specs.declared.replay.AgentRow.{AgentRow}
 use Rattle.solve_replay.specs.Replaying.{IsReplay}
 
--- the bounds that a row tells enclose its agent's subtree, under the values that the agent knows in this network state
+-- the bounds in a row enclose the cost of its agent's subtree, under the values that the agent
+-- knows in this network state
 pub record TellsBounds (p : Dcop) (state : Network) (row : AgentRow) : Type 0 where
   pub view : AdoptView
   pub is : slice_get state.views row.agent ≡ Some (AdoptKind view)
   pub enclose : Encloses p (dfs p) row.agent (value_in view.known) row.standing.lower row.standing.upper
 
--- whatever events are replayed: where the proper ancestors of an agent's variable have the values that the agent knows, the least cost of its subtree is at least its row's lower bound, and at most its upper bound, where there is one
+-- whatever events are replayed: if the proper ancestors of an agent's variable have the values that
+-- the agent knows, the least cost of its subtree is at least its row's lower bound, and at most its
+-- row's upper bound, if there is one
 abbrev pub ReplayedBoundsEnclose : Type 0
 ReplayedBoundsEnclose = (file : TextFile) (error : ℕ) (es : List Event) (events : ℕ) (agents : List AgentRow) (names : List (List ℕ)) → IsProblem file.problem
     → (told : IsReplay file (start_state (agents_for file error)) es (answers.Replay events agents names))

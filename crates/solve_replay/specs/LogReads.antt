@@ -1,4 +1,4 @@
--- What the text of a report gives to be played: its log, or the answer that refuses it.
+-- The result of reading the log of a report: the log, or the answer that refuses it.
 use Rattle.std.specs.Prelude.{◌≡◌, ℕ, ◌+◌, ◌≤◌, List, Option, Some, Result, Ok, Err}
 use Rattle.std.specs.List.{All}
 use Rattle.dcop_base.specs.Limits.{amount_limit}
@@ -15,17 +15,20 @@ use Rattle.solve_replay.specs.CertificateLine.{certificate_line}
 use Rattle.solve_replay.specs.declared.reading.LogRead.{LogRead}
 use Rattle.solve_replay.specs.declared.reading.LogRead.TheVariants.{Log as Given, Refused}
 
--- what a report with this error and this certificate gives, whose text stands behind so many lines: its log, with the error; or that there is none
+-- the result for a report with this error and this certificate, whose text comes after `before`
+-- lines: its log, with the error; or the refusal of a report without a log
 abbrev pub IsLogOf : ℕ → List ℕ → ℕ → Option Certificate → LogRead → Type 0
 IsLogOf before text error (Some (Log log)) read = read ≡ Given error log
 IsLogOf before text error certificate read = read ≡ Refused (ReportText (before + certificate_line text) (number_of_report NoLog))
 
--- what the text of a report gives that is read as this: what the report does, or the first fault of the text, with lines that count on
+-- the result for the text of a report, given what it is read as: that of the report, or the first
+-- fault of the text, whose line counts from the beginning of the input
 abbrev pub IsLogRead : ℕ → List ℕ → Result Report Fault → LogRead → Type 0
 IsLogRead before text (Ok report) read = IsLogOf before text report.error report.certificate read
 IsLogRead before text (Err fault) read = read ≡ Refused (ReportText (before + fault.line) (number_of_report fault.kind))
 
--- the error is an amount, and the events of the log are of so many agents; or the answer has a text
+-- the error is at most amount_limit, and the events of the log fit `count` agents; or the answer
+-- has a text
 abbrev pub IsPlayable : ℕ → LogRead → Type 0
 IsPlayable count (Given error log) = (error ≤ amount_limit) × All (FitsEvent count) log
 IsPlayable count (Refused answer) = HasText answer

@@ -1,4 +1,4 @@
--- What comes of replaying the text of a report on a file.
+-- The answer to replaying the text of a report on a file.
 use Rattle.std.specs.Prelude.{◌≡◌, ℕ, ◌+◌, List, length, take, Option, Some, None, Result, Ok, Err}
 use Rattle.dcop_base.specs.Whole.{IsProblem}
 use Rattle.protocol_steps.specs.declared.event.Event.{Event}
@@ -29,44 +29,51 @@ use Rattle.solve_report.specs.declared.replay.AgentRow.{AgentRow}
 use Rattle.solve_replay.specs.CertificateLine.{certificate_line}
 use Rattle.solve_replay.specs.Rows.{rows_from}
 
--- the events of a log that are replayed: the first so many, or all
+-- the events of a log that are replayed: the first `after`, or all if no number is given
 abbrev pub log_up_to : Option ℕ → List LogEvent → List LogEvent
 log_up_to None log = log
 log_up_to (Some after) log = take after log
 
--- these events are a run from this network: so many, and in the network state behind them the agents have come to this
+-- these events are a run from this network; `events` is their number, and `agents` are the states
+-- of the agents after them
 pub record TellsState (net : Network) (es : List Event) (events : ℕ) (agents : List AgentRow) : Type 0 where
   pub state : Network
   pub ran : run net es ≡ Some state
   pub count : events ≡ length es
   pub rows : agents ≡ rows_from 0 state.views
 
--- the event of this number, counted from 1, is the first of these that is not lawful, and this is wrong with it
+-- the event with this number, counted from 1, is the first of these that is not lawful, and this is
+-- its fault
 abbrev pub TellsFault : Network → List Event → ℕ → EventFault → Type 0
 TellsFault net es at fault = (place : ℕ) × (at ≡ place + 1) × FirstFault net es place fault
 
--- the answer that tells why events are no run, beside these names; want of memory has none
+-- the answer that says why events are not a run, with these names; there is none if memory runs out
 abbrev pub IsFaultAnswer : List (List ℕ) → ReplayFault → Answer → Type 0
 IsFaultAnswer names (BadEvent at fault) answer = answer ≡ answers.Verdict (No (Unlawful at fault)) names
 IsFaultAnswer names NoMemory answer = ⊥
 
--- the answer to a replay of these events from a network of a file's agents: what they lead to, or the first of them that is not lawful
+-- the answer to a replay of these events from a network of a file's agents: the states that they
+-- lead to, or the first of them that is not lawful
 abbrev pub IsReplay : TextFile → Network → List Event → Answer → Type 0
 IsReplay file net es (answers.Replay events agents names) = (names ≡ file.names) × TellsState net es events agents
 IsReplay file net es (answers.Verdict (No (Unlawful at fault)) names) = (names ≡ file.names) × TellsFault net es at fault
 IsReplay file net es answer = ⊥
 
--- the answer to a report with this error and this certificate, whose text stands behind so many lines: a replay of its log by the ADOPT agents of the problem solved, or that there is none
+-- the answer to a report with this error and this certificate, whose text comes after `before`
+-- lines: a replay of its log by the ADOPT agents of the problem solved, or the refusal of a report
+-- without a log
 abbrev pub IsReplayOf : TextFile → ℕ → List ℕ → Option ℕ → ℕ → Option Certificate → Answer → Type 0
 IsReplayOf file before text after error (Some (Log log)) answer = IsReplay file (start_state (agents_for file error)) (events_of (log_up_to after log)) answer
 IsReplayOf file before text after error certificate answer = answer ≡ answers.ReportText (before + certificate_line text) (number_of_report NoLog)
 
--- the answer to what the text of a report was read as: a replay of the report's log, or the first fault of the text, with lines that count on
+-- the answer given what the text of a report was read as: a replay of the report's log, or the
+-- first fault of the text, whose line counts from the beginning of the input
 abbrev pub IsReadReplay : TextFile → ℕ → List ℕ → Option ℕ → Result Report Fault → Answer → Type 0
 IsReadReplay file before text after (Ok report) answer = IsReplayOf file before text after report.error report.certificate answer
 IsReadReplay file before text after (Err fault) answer = answer ≡ answers.ReportText (before + fault.line) (number_of_report fault.kind)
 
--- the answer to the text of a report, behind the text of a problem that has so many lines and declares this
+-- the answer to the text of a report, after the text of a problem that has `before` lines and
+-- declares this
 pub record AnswersReplay (d : Declared) (before : ℕ) (text : List ℕ) (after : Option ℕ) (answer : Answer) : Type 0 where
   pub file : TextFile
   pub is_file : IsFile file

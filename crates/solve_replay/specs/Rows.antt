@@ -1,13 +1,13 @@
--- What agents have come to, as an answer tells it.
+-- The states of agents, in the form of an answer.
 use Rattle.std.specs.Prelude.{ℕ, ◌+◌, List, [], ◌∷◌}
 use Rattle.protocol_steps.specs.View.{View, value_of, standing_of, ended_of}
 use Rattle.solve_report.specs.declared.replay.AgentRow.{AgentRow}
 
--- what the agent of this variable has come to
+-- the state of the agent of this variable
 abbrev pub row_of : ℕ → View → AgentRow
 row_of i v = record { agent = i; value = value_of v; standing = standing_of v; ended = ended_of v }
 
--- what each of these agents has come to, of which the first is that of this variable
+-- the states of these agents; the first one is that of this variable
 abbrev pub rows_from : ℕ → List View → List AgentRow
 rows_from i [] = []
 rows_from i (v ∷ vs) = row_of i v ∷ rows_from (i + 1) vs

@@ -8,8 +8,8 @@ ghost use Rattle.solve_replay.specs.CertificateLine.{certificate_line, certifica
 
 use problem_text::{is_word, next_plain_line, next_word};
 
-/// The number of the line that begins a certificate in the text of a report, which is the first line
-/// that begins with the word `certificate`; 0 where there is none. Lines count from 1.
+/// The number of the line that begins a certificate in the text of a report, which is the first
+/// line that begins with the word `certificate`; 0 if there is none. Lines count from 1.
 pub(crate) fn certificate_line(text: &[u8]) -> u64
     requires { length text.now ≤ input_limit }
     ensures line { result ≡ certificate_line text.now }

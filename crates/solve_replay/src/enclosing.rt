@@ -1,14 +1,14 @@
-//! The law on the bounds that a replay tells.
+//! The law about the bounds in the answer of a replay.
 
 ghost use Rattle.solve_replay.specs.Enclosing.{ReplayedBoundsEnclose};
 
 use adopt_runs::adopt_bounds_enclose;
 use token_runs::token_runs;
 
-/// Whatever events of a run are replayed, the bounds that are told of an agent enclose its subtree:
-/// where the proper ancestors of its variable have the values that the agent knows, the least cost
-/// of the subtree is at least the lower bound, and at most the upper bound, where there is one. Costs
-/// are those of the problem solved.
+/// Whatever events of a run are replayed, the reported bounds of an agent enclose the cost of its
+/// subtree: if the proper ancestors of its variable have the values that the agent knows, the least
+/// cost of the subtree is at least the lower bound, and at most the upper bound, if there is one.
+/// Costs are those of the problem solved.
 pub fn replayed_bounds_enclose()
     ensures { ReplayedBoundsEnclose }
 {

@@ -9,7 +9,7 @@ use protocol_steps::{Event, EventList, TakeList};
 use run_log::LogEvent;
 use std::alloc::Global;
 
-/// The first so many events of a log: all where it has no more, or where no number is given.
+/// The first `after` events of a log; all events if it has no more, or if no number is given.
 pub fn log_up_to(log: &[LogEvent], after: Option<u64>) -> &[LogEvent]
     ensures { result.now ≡ log_up_to after log.now }
 {
@@ -19,7 +19,7 @@ pub fn log_up_to(log: &[LogEvent], after: Option<u64>) -> &[LogEvent]
     }
 }
 
-/// The events of a log as those of a run.
+/// The events of a log as events of a run.
 pub(crate) fn events_of(alloc: Global, log: &[LogEvent]) -> Result<EventList, NoMemory>
     ensures { IfOk result (λ events. events ≡ events_of log.now) }
 {
@@ -30,7 +30,7 @@ pub(crate) fn events_of(alloc: Global, log: &[LogEvent]) -> Result<EventList, No
     Ok(EventList::from_vec(events))
 }
 
-/// An event of a log as one of a run.
+/// An event of a log as an event of a run.
 fn event_of(alloc: Global, event: &LogEvent) -> Result<Event, NoMemory>
     ensures { IfOk result (λ plain. plain ≡ event_of event.now) }
 {

@@ -19,7 +19,7 @@ use run_log::Log;
 use solve_report::Answer;
 use std::alloc::Global;
 
-/// What the text of a report gives to be played.
+/// The result of reading the log of a report.
 #[derive(Debug, Drop)]
 pub enum LogRead {
     /// The log of the report, and the error that was requested of its run.
@@ -28,15 +28,16 @@ pub enum LogRead {
     Refused(Answer),
 }
 
-/// The log of a report on a file, whose text stands behind so many lines.
+/// Reads the log of a report on a file. `before` lines precede the text of the report.
 ///
-/// A report that has no log is refused by report kind 9 at the first line of its certificate, and
-/// any other text by its first fault. Lines count on from the beginning of the input. Lines and bytes
-/// together are at most an input has bytes, 2^28.
+/// A report that has no log is refused with report kind 9 at the first line of its certificate. A
+/// text that is not a report is refused with its first fault. Lines count from the beginning of the
+/// input. The lines before the text and the bytes of the text are together at most 2^28, the most
+/// bytes of an input.
 ///
 /// # Errors
 ///
-/// [`NoMemory`] where memory was wanted and not had.
+/// [`NoMemory`] if memory runs out.
 pub fn read_log(
     alloc: Global,
     file: &ProblemFile,

@@ -28,17 +28,18 @@ use run_log::LogEvent;
 use solve_report::Answer;
 use std::alloc::Global;
 
-/// The answer to the text of a report on a file, which stands behind so many lines, where the first
-/// `after` events of its log are replayed, or all.
+/// The answer to the text of a report on a file: the first `after` events of its log are replayed,
+/// or all if no number is given. `before` lines precede the text.
 ///
-/// It is how many events were replayed and what each agent has come to behind them, or the first of
-/// them that is not lawful; where the report has no log, report kind 9 at the first line of its
-/// certificate; or the first fault of its text. Lines count on from the beginning of the input. Lines
-/// and bytes together are at most an input has bytes, 2^28.
+/// The answer has the number of replayed events and the state of each agent after them, or the
+/// first of them that is not lawful. If the report has no log, the answer is report kind 9 at the
+/// first line of its certificate. If the text is not a report, it is the first fault of the text.
+/// Lines count from the beginning of the input. The lines before the text and the bytes of the text
+/// are together at most 2^28, the most bytes of an input.
 ///
 /// # Errors
 ///
-/// [`NoMemory`] where memory was wanted and not had.
+/// [`NoMemory`] if memory runs out.
 pub fn replay_answer(
     alloc: Global,
     file: ProblemFile,
@@ -59,8 +60,8 @@ pub fn replay_answer(
     }
 }
 
-/// The problem of every file is whole. One that is read is known to have such a problem, so this does
-/// no more.
+/// The problem of every file is whole. Reading a field of the file shows this; the call does no
+/// more.
 fn whole_problem(file: &ProblemFile)
     ensures { IsProblem file.now.problem }
 {
@@ -93,11 +94,11 @@ fn replayed(
     }
 }
 
-/// The answer that tells why events are no run, with the names of the problem's variables.
+/// The answer that says why events are not a run, with the names of the problem's variables.
 ///
 /// # Errors
 ///
-/// [`NoMemory`] where memory was wanted and not had.
+/// [`NoMemory`] if memory runs out.
 pub fn fault_answer(names: Names, fault: ReplayFault) -> Result<Answer, NoMemory>
     ensures { IfOk result (IsFaultAnswer names fault) }
 {
@@ -110,8 +111,8 @@ pub fn fault_answer(names: Names, fault: ReplayFault) -> Result<Answer, NoMemory
     }
 }
 
-/// The end of the run that these events are, from the start of the ADOPT agents of the problem solved
-/// for a file on its depth-first tree, for a requested error.
+/// The end of the run of these events, from the start of the ADOPT agents of the problem solved for
+/// a file on its depth-first tree, for a requested error.
 fn played(
     alloc: Global,
     file: &ProblemFile,
@@ -126,7 +127,7 @@ fn played(
     played_on(alloc, solved.problem(), error, log)
 }
 
-/// The same of the agents of this problem.
+/// The same, for the agents of this problem.
 fn played_on(
     alloc: Global,
     problem: &Problem,

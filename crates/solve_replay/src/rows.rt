@@ -1,4 +1,4 @@
-//! What the agents of a core state have come to.
+//! The states of the agents of a core state.
 
 ghost use Rattle.std.specs.Prelude.{◌≡◌, ◌<◌, ◌≤◌, length, Some, IfOk};
 ghost use Rattle.std.specs.Option.{option_map};
@@ -11,7 +11,7 @@ use delivery_core::CoreState;
 use solve_report::{AgentRow, AgentRowList};
 use std::alloc::Global;
 
-/// What each of so many agents has come to, in the order of the variables.
+/// The state of each of the first `count` agents, in the order of the variables.
 pub(crate) fn rows_of(
     alloc: Global,
     core: &CoreState,
@@ -28,7 +28,7 @@ pub(crate) fn rows_of(
     Ok(AgentRowList::from_vec(rows))
 }
 
-/// What an agent has come to.
+/// The state of an agent.
 fn row_of(core: &CoreState, agent: VarId) -> AgentRow
     requires { agent < length core.now.seats }
     ensures { option_map (row_of agent) (view_at core.now agent) ≡ Some result }

@@ -17,7 +17,9 @@ use Rattle.solve_report.specs.declared.answer.Answer.{Answer}
 use Rattle.solve_report.specs.declared.answer.Answer.TheVariants.{Report, Tree, Verdict, Replay, Drill, Upgraded, UpgradedWcsp, Edits}
 use Rattle.solve_report.specs.declared.answer.Answer.TheVariants.{Words, ProblemText, WcspText, ReportText, EditText, Many, ManyTurns, WideAgent, WideTotal, Read, Link, LinkDiffers, LinkBytes}
 
--- an answer that has a text: the file beside a report or beside optima can tell them, and each variable of a tree or of a replay has its name, as has an agent whose table is too wide, one of which a verdict speaks, or one at an end of a link
+-- an answer has a text: a report or optima can be written with the names of their file, and the
+-- names include every variable of a tree, of a replay, of a verdict's difference, of a table that
+-- is too wide, and of the ends of a link
 abbrev pub HasText : Answer → Type 0
 HasText (Report report file) = CanTell report file
 HasText (Tree deliveries nodes names) = All (IsNamedRow (length names)) nodes

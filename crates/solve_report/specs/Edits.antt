@@ -1,4 +1,4 @@
--- The lines that an edit session answers, each as its words.
+-- The lines of an edit session's answers, each as its words.
 use Rattle.std.specs.Prelude.{◌≡◌, ℕ, ◌+◌, List, [], ◌∷◌, ◌++◌, length, codes}
 use Rattle.std.specs.List.{AllZip, flat_map}
 use Rattle.std.specs.Fmt.{decimal}
@@ -8,18 +8,20 @@ use Rattle.problem_text.specs.declared.edited.Edited.{Edited}
 use Rattle.certificate_text.specs.Named.{HasWord}
 use Rattle.certificate_text.specs.ReportText.{value_lines}
 
--- an optimum that the names of a file can tell: one value for each name, each with its name where its variable has value names
+-- an optimum can be written with the names of a file: it has one value for each name, each with a
+-- name if its variable has value names
 pub record IsNamedOptimum (file : TextFile) (edited : Edited) : Type 0 where
   pub many : length edited.values ≡ length file.names
   pub worded : AllZip HasWord file.labels edited.values
 
--- the words of each line of an answer with this number: how many agents' tables were made anew, the cost and the values
+-- the words of each line of the answer with this number: how many agents' tables were recomputed,
+-- the cost and the values
 abbrev pub optimum_lines : TextFile → ℕ → Edited → List (List (List ℕ))
 optimum_lines file number edited =
     ((codes "answer" ∷ decimal number ∷ []) ∷ (codes "remade" ∷ decimal edited.remade ∷ []) ∷ (codes "cost" ∷ decimal edited.cost ∷ []) ∷ [])
     ++ value_lines file.names file.labels edited.values
 
--- the words of each line of these answers, numbered from this number on
+-- the words of each line of these answers; the first has this number
 abbrev pub optima_lines : TextFile → ℕ → List Edited → List (List (List ℕ))
 optima_lines file number [] = []
 optima_lines file number (edited ∷ more) = optimum_lines file number edited ++ optima_lines file (number + 1) more

@@ -7,12 +7,12 @@ use Rattle.std.specs.Fmt.{decimal, digit_glyph}
 abbrev pub two_digits : ℕ → List ℕ
 two_digits byte = digit_glyph false (byte / 16) ∷ digit_glyph false (byte % 16) ∷ []
 
--- the word of some bytes, two digits for each; `-` where there are none
+-- the word for bytes: two digits for each, or `-` if there are none
 abbrev pub hex_word : Option (List ℕ) → List ℕ
 hex_word None = codes "-"
 hex_word (Some bytes) = flat_map two_digits bytes
 
--- the word of a byte; `-` where there is none
+-- the word for a byte, or `-` if there is none
 abbrev pub byte_word : Option ℕ → List ℕ
 byte_word None = codes "-"
 byte_word (Some byte) = two_digits byte

@@ -8,20 +8,20 @@ use Rattle.problem_text.specs.Kinds.{problem_kind}
 abbrev pub words_refusal : ℕ → ℕ → List (List ℕ)
 words_refusal at kind = codes "refused" ∷ codes "words" ∷ codes "at" ∷ decimal at ∷ codes "kind" ∷ decimal kind ∷ []
 
--- `problem P` behind kind 7, nothing behind another kind
+-- `problem P` after kind 7, and nothing after any other kind
 abbrev pub problem_words : ℕ → ℕ → List (List ℕ)
 problem_words kind problem = if kind == problem_kind then codes "problem" ∷ decimal problem ∷ [] else []
 
--- `refused WORD line L kind K`, and `problem P` behind kind 7
+-- `refused WORD line L kind K`, and `problem P` after kind 7
 abbrev pub problem_refusal : List ℕ → ℕ → ℕ → ℕ → List (List ℕ)
 problem_refusal word at kind problem =
     codes "refused" ∷ word ∷ codes "line" ∷ decimal at ∷ codes "kind" ∷ decimal kind ∷ problem_words kind problem
 
--- `refused text line L kind K`, and `problem P` behind kind 7
+-- `refused text line L kind K`, and `problem P` after kind 7
 abbrev pub text_refusal : ℕ → ℕ → ℕ → List (List ℕ)
 text_refusal at kind problem = problem_refusal (codes "text") at kind problem
 
--- `refused wcsp line L kind K`, and `problem P` behind kind 7
+-- `refused wcsp line L kind K`, and `problem P` after kind 7
 abbrev pub wcsp_refusal : ℕ → ℕ → ℕ → List (List ℕ)
 wcsp_refusal at kind problem = problem_refusal (codes "wcsp") at kind problem
 

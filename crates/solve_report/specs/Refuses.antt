@@ -1,10 +1,10 @@
--- Which answers refuse.
+-- Which answers are refusals.
 use Rattle.std.specs.Prelude.{⊤}
 use Rattle.solve_report.specs.declared.answer.Answer.{Answer}
 use Rattle.solve_report.specs.declared.answer.Answer.TheVariants.{Report, Tree, Verdict, Replay, Drill, Upgraded, UpgradedWcsp, Edits}
 use Rattle.solve_report.specs.declared.answer.Answer.TheVariants.{Link, LinkDiffers, LinkBytes}
 
--- an answer that refuses, by one line
+-- an answer is a refusal, which is one line
 abbrev pub IsRefusal : Answer → Type 0
 IsRefusal (Report report file) = ⊥
 IsRefusal (Tree deliveries nodes names) = ⊥
@@ -16,7 +16,8 @@ IsRefusal (UpgradedWcsp bar file) = ⊥
 IsRefusal (Edits answers file) = ⊥
 IsRefusal _ = ⊤
 
--- an answer that refuses for a link between nodes: there is none, or it did not hand on what was sent
+-- an answer is a refusal because of a link between nodes: there is no link, or it did not deliver
+-- what was sent
 abbrev pub IsLinkRefusal : Answer → Type 0
 IsLinkRefusal Link = ⊤
 IsLinkRefusal (LinkDiffers from to at sent taken names) = ⊤

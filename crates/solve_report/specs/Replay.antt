@@ -6,16 +6,16 @@ use Rattle.protocol_steps.specs.declared.standing.Standing.{Standing}
 use Rattle.problem_text.specs.Canonical.{line}
 use Rattle.solve_report.specs.declared.replay.AgentRow.{AgentRow}
 
--- an agent whose variable is among so many
+-- an agent whose variable is below `count`
 abbrev pub IsNamedAgent : ℕ → AgentRow → Type 0
 IsNamedAgent count row = row.agent < count
 
--- the word of an upper bound, `-` where it is not there
+-- the word for an upper bound, or `-` if there is none
 abbrev pub bound_word : Option ℕ → List ℕ
 bound_word None = codes "-"
 bound_word (Some bound) = decimal bound
 
--- the word that tells whether an agent has ended
+-- the word for whether an agent has ended
 abbrev pub ended_word : Bool → List ℕ
 ended_word ended = if ended then codes "yes" else codes "no"
 
@@ -25,11 +25,11 @@ standing_words value standing ended =
     codes "value" ∷ decimal value ∷ codes "lower" ∷ decimal standing.lower ∷ codes "upper" ∷ bound_word standing.upper
     ∷ codes "threshold" ∷ decimal standing.threshold ∷ codes "ended" ∷ ended_word ended ∷ []
 
--- `agent NAME` and what the agent has come to
+-- `agent NAME` and the state of the agent
 abbrev pub state_words : List ℕ → ℕ → Standing → Bool → List (List ℕ)
 state_words name value standing ended = codes "agent" ∷ name ∷ standing_words value standing ended
 
--- what an agent has come to, behind the name of its variable
+-- the state of an agent, after the name of its variable
 abbrev pub agent_words : List (List ℕ) → AgentRow → List (List ℕ)
 agent_words names row = state_words (slice_index_or names row.agent []) row.value row.standing row.ended
 

@@ -11,12 +11,12 @@ use Rattle.certificate_text.specs.declared.verdict.Differs.TheVariants.{TreeRoot
 use Rattle.protocol_steps.specs.declared.event.EventFault.{EventFault}
 use Rattle.protocol_steps.specs.declared.event.EventFault.TheVariants.{Nobody, Ended, Nothing, Order, TooMany}
 
--- what is wrong with an event, where its sender, if one is told, is among so many
+-- an event's fault whose sender, if it has one, is below `count`
 abbrev pub IsNamedFault : ℕ → EventFault → Type 0
 IsNamedFault count (TooMany from asked there) = from < count
 IsNamedFault count _ = ⊤
 
--- a difference all of whose variables are among so many
+-- a difference all of whose variables are below `count`
 abbrev pub IsNamedDifference : ℕ → Differs → Type 0
 IsNamedDifference count (TreeLoop var) = var < count
 IsNamedDifference count (TreePair one other) = (one < count) × (other < count)
@@ -28,7 +28,7 @@ IsNamedDifference count (Event at fault) = IsNamedFault count fault
 IsNamedDifference count (Value var) = var < count
 IsNamedDifference count _ = ⊤
 
--- a verdict all of whose variables are among so many
+-- a verdict all of whose variables are below `count`
 abbrev pub IsNamedVerdict : ℕ → Verdict → Type 0
 IsNamedVerdict count (Yes cost error) = ⊤
 IsNamedVerdict count (No differs) = IsNamedDifference count differs
@@ -41,7 +41,7 @@ name_in names var = slice_index_or names var []
 abbrev pub left_right : List ℕ → ℕ → ℕ → List (List ℕ)
 left_right word left right = word ∷ codes "left" ∷ decimal left ∷ codes "right" ∷ decimal right ∷ []
 
--- what is wrong with an event, behind its number
+-- the words for what is wrong with an event, after its number
 abbrev pub fault_words : List (List ℕ) → EventFault → List (List ℕ)
 fault_words names Nobody = codes "nobody" ∷ []
 fault_words names Ended = codes "ended" ∷ []
@@ -57,7 +57,7 @@ scope_words name = codes "scope" ∷ name ∷ []
 abbrev pub cell_words : List ℕ → ℕ → ℕ → ℕ → ℕ → List (List ℕ)
 cell_words name cell value left right = codes "cell" ∷ name ∷ decimal cell ∷ left_right (decimal value) left right
 
--- what differs, behind the word `differs`
+-- the words for what differs, after the word `differs`
 abbrev pub difference_words : List (List ℕ) → Differs → List (List ℕ)
 difference_words names (TreeRoots count) = codes "tree" ∷ codes "roots" ∷ decimal count ∷ []
 difference_words names (TreeLoop var) = codes "tree" ∷ codes "loop" ∷ name_in names var ∷ []

@@ -20,7 +20,7 @@ use dcop_base::{Bytes, NoMemory, VarId};
 use problem_text::{EditedList, Names, ProblemFile, write_problem};
 use std::alloc::Global;
 
-/// What a command answers.
+/// The answer of a command.
 #[derive(Debug, Drop)]
 pub enum Answer {
     /// A report on a file.
@@ -35,99 +35,100 @@ pub enum Answer {
         nodes: NodeRowList,
         names: Names,
     },
-    /// What came of checking a report, and the names of the problem's variables. It tells an
-    /// unlawful replay too.
+    /// The result of checking a report, and the names of the problem's variables. An unlawful
+    /// replay has this answer too.
     Verdict {
         verdict: Verdict,
         names: Names,
     },
-    /// How many events were replayed, what each agent has come to behind them, in the order of the
+    /// How many events were replayed, the state of each agent after them, in the order of the
     /// variables, and the names of the variables.
     Replay {
         events: u64,
         agents: AgentRowList,
         names: Names,
     },
-    /// What came of solving a problem that was made from a number.
+    /// The result of solving a problem that was made from a seed.
     Drill {
         summary: Summary,
     },
-    /// A file, told by its canonical text; `upgrade` gives it version 2.
+    /// A file, written as its canonical text; `upgrade` gives it version 2.
     Upgraded {
         file: ProblemFile,
     },
-    /// The file that a WCSP text tells, by its canonical text behind a line with its bar: a cost of
-    /// the file below the bar is the WCSP value, and any other stands for the top of the WCSP text.
+    /// The file that a WCSP text gives, written as a line with its bar and its canonical text. A
+    /// cost of the file below the bar is the WCSP value; any other cost means the top of the WCSP
+    /// text.
     UpgradedWcsp {
         bar: u64,
         file: ProblemFile,
     },
-    /// The optima that an edit session answers, in order, and the file that was edited.
+    /// The optima of an edit session, in order, and the file that was edited.
     Edits {
         answers: EditedList,
         file: ProblemFile,
     },
-    /// The words are refused, for the fault of this kind at this word. Words count from 1.
+    /// The words are refused for a fault of this kind at this word. Words count from 1.
     Words {
         at: u64,
         kind: u8,
     },
-    /// The problem text is refused, for the fault of this kind at this line. Lines count from 1.
-    /// `problem` is the number of the problem's fault where the kind is 7, and 0 otherwise.
+    /// The problem text is refused for a fault of this kind at this line. Lines count from 1.
+    /// `problem` is the number of the problem's fault if the kind is 7, and 0 otherwise.
     ProblemText {
         line: u64,
         kind: u8,
         problem: u8,
     },
-    /// The WCSP text is refused, for the fault of this kind at this line. Lines count from 1.
-    /// `problem` is the number of the problem's fault where the kind is 7, and 0 otherwise.
+    /// The WCSP text is refused for a fault of this kind at this line. Lines count from 1.
+    /// `problem` is the number of the problem's fault if the kind is 7, and 0 otherwise.
     WcspText {
         line: u64,
         kind: u8,
         problem: u8,
     },
-    /// The text of a report is refused, for the fault of this kind at this line. Lines count from 1,
-    /// at the beginning of the problem text before it.
+    /// The text of a report is refused for a fault of this kind at this line. Lines count from 1,
+    /// from the beginning of the problem text that precedes the report.
     ReportText {
         line: u64,
         kind: u8,
     },
-    /// The lines of an edit session are refused, for the fault of this kind at this line. Lines
-    /// count from 1, at the beginning of the problem text before them.
+    /// The lines of an edit session are refused for a fault of this kind at this line. Lines count
+    /// from 1, from the beginning of the problem text that precedes them.
     EditText {
         line: u64,
         kind: u8,
     },
-    /// There are more assignments than plain search goes through: so many, or [`u64::MAX`] where
-    /// there are more than that.
+    /// There are more assignments than plain search tries. `assignments` is their number, or
+    /// [`u64::MAX`] if that is less.
     Many {
         assignments: u64,
     },
-    /// A cut has more than [`MAX_TURNS`](dcop_base::MAX_TURNS) turns: so many, or [`u64::MAX`] where
-    /// there are more than that.
+    /// A cut has more than [`MAX_TURNS`](dcop_base::MAX_TURNS) turns. `turns` is their number, or
+    /// [`u64::MAX`] if that is less.
     ManyTurns {
         turns: u64,
     },
-    /// The joined table of an agent would have too many cells: so many, or [`u64::MAX`] where there
-    /// are more than that. `names` are those of all variables.
+    /// The joined table of an agent would have too many cells. `cells` is their number, or
+    /// [`u64::MAX`] if that is less. `names` are the names of all variables.
     WideAgent {
         var: VarId,
         cells: u64,
         names: Names,
     },
-    /// The tables that all agents send would have too many cells together: so many, or [`u64::MAX`]
-    /// where there are more than that.
+    /// The tables that all agents send would have too many cells in total. `cells` is their number,
+    /// or [`u64::MAX`] if that is less.
     WideTotal {
         cells: u64,
     },
     /// The input could not be read.
     Read,
-    /// The nodes could not talk: no wires were to be had between them, or one failed.
+    /// The nodes could not communicate: the wires between them could not be made, or one failed.
     Link,
-    /// On the link between two agents of different nodes arrived, at this place, another envelope
-    /// than was sent there. Places count from 0 within a phase. `sent` and `taken` are the codes of
-    /// the two envelopes; where no envelope was sent or none arrived, its code is `None`. `names` are
-    /// those of all variables.
+    /// On the link between two agents of different nodes, the envelope that arrived at this
+    /// position differs from the one that was sent. Positions count from 0 within a phase. `sent`
+    /// and `taken` are the codes of the two envelopes; a code is `None` if no envelope was sent or
+    /// none arrived. `names` are the names of all variables.
     LinkDiffers {
         from: VarId,
         to: VarId,
@@ -136,9 +137,10 @@ pub enum Answer {
         taken: Option<Bytes>,
         names: Names,
     },
-    /// What one node received of another is not what was sent: in the exchange behind so many rounds
-    /// this is the first byte that differs. Places count from 0 within the bytes of the exchange from
-    /// the one node to the other. Where no byte was sent or none arrived, it is `None`.
+    /// A node received other bytes from a node than were sent. In the exchange after `round`
+    /// rounds, this is the first byte that differs. Positions count from 0 within the bytes of the
+    /// exchange from the one node to the other. A byte is `None` if no byte was sent or none
+    /// arrived.
     LinkBytes {
         round: u64,
         from_node: u32,
@@ -151,8 +153,12 @@ pub enum Answer {
 
 /// The exact text of an answer.
 ///
-/// It is the text of the report, of the tree, of the verdict, of the replay, of the summary, of the
-/// file or of the edits' optima, or the one line of a refusal.
+/// It is the text of the report, the tree, the verdict, the replay, the summary, the file or the
+/// optima of the edits, or the one line of a refusal.
+///
+/// # Errors
+///
+/// [`NoMemory`] if memory runs out.
 pub fn text_of(alloc: Global, answer: &Answer) -> Result<Bytes, NoMemory>
     requires { HasText answer.now }
     ensures { IfOk result (λ text. text ≡ answer_text answer.now) }
@@ -178,7 +184,7 @@ pub fn text_of(alloc: Global, answer: &Answer) -> Result<Bytes, NoMemory>
     }
 }
 
-/// The one line of an answer that refuses.
+/// The one line of a refusal.
 fn refusal_text(alloc: Global, refusal: &Answer) -> Result<Bytes, NoMemory>
     requires named { HasText refusal.now }
     requires refuses { IsRefusal refusal.now }
@@ -207,7 +213,7 @@ fn refusal_text(alloc: Global, refusal: &Answer) -> Result<Bytes, NoMemory>
     }
 }
 
-/// The one line of an answer that refuses for a link between nodes.
+/// The one line of a refusal because of a link between nodes.
 fn link_refusal_text(alloc: Global, refusal: &Answer) -> Result<Bytes, NoMemory>
     requires named { HasText refusal.now }
     requires link { IsLinkRefusal refusal.now }

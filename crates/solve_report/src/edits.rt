@@ -1,4 +1,4 @@
-//! The text of what an edit session answers.
+//! The text of the answers of an edit session.
 
 ghost use Rattle.std.specs.Prelude.{◌≡◌, ◌++◌, OnOk, IfOk};
 ghost use Rattle.std.specs.List.{flat_map, All};
@@ -12,9 +12,10 @@ use dcop_base::{Bytes, NoMemory};
 use problem_text::{Edited, ProblemFile};
 use std::alloc::Global;
 
-/// The text of a session: for each answer a line with its number, which counts from 1, the number
-/// of tables that were made anew, the cost and a line `value NAME V` for each variable; then `end`.
-/// V is the value's name where the variable has value names, and the value as a number otherwise.
+/// The text of a session. For each answer it has a line with the answer's number, counted from 1,
+/// the number of agents' tables that were recomputed, the cost, and a line `value NAME V` for each
+/// variable; then `end`. V is the value's name if the variable has value names, and the value as a
+/// number otherwise.
 pub(crate) fn write_edits(
     alloc: Global,
     answers: &[Edited],

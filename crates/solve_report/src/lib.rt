@@ -1,7 +1,9 @@
-//! What a command answers, and the exact text of each answer.
+//! The answers of the commands, and the exact text of each answer.
 //!
-//! An [`Answer`] holds plain values, so this crate stands on none of those that found them.
+//! An [`Answer`] holds plain values, so this crate does not depend on the crates that compute them.
 //! [`text_of`] is the only writer of answers.
+//!
+//! It builds on `problem_text` and `certificate_text` for the texts of problem files and reports.
 #![tactic(auto)]
 
 mod answer;

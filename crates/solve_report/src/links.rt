@@ -70,7 +70,7 @@ fn write_bytes(text: &mut String, sent: Option<u8>, taken: Option<u8>) -> Result
     write_byte(text, taken)
 }
 
-/// The code of an envelope in hexadecimal, or `-` where there is none.
+/// The code of an envelope in hexadecimal, or `-` if there is none.
 fn write_code(text: &mut String, code: &Option<Bytes>) -> Result<(), NoMemory>
     ensures { OnOk result (string_bytes text.new ≡ string_bytes text.old ++ hex_word code.now) }
 {
@@ -90,7 +90,7 @@ fn write_hex(text: &mut String, bytes: &[u8]) -> Result<(), NoMemory>
     Ok(())
 }
 
-/// A byte as two hexadecimal digits, or `-` where there is none.
+/// A byte as two hexadecimal digits, or `-` if there is none.
 fn write_byte(text: &mut String, byte: Option<u8>) -> Result<(), NoMemory>
     ensures { OnOk result (string_bytes text.new ≡ string_bytes text.old ++ byte_word byte) }
 {

@@ -1,4 +1,4 @@
-//! Replayed agents, and the text that tells them.
+//! Replayed agents, and their text.
 
 ghost use Rattle.std.specs.Prelude.{◌≡◌, ◌<◌, ◌∷◌, ◌++◌, length, map, OnOk, IfOk};
 ghost use Rattle.std.specs.List.{flat_map, All};
@@ -12,7 +12,7 @@ use problem_text::Names;
 use protocol_steps::Standing;
 use std::alloc::Global;
 
-/// What an agent has come to.
+/// The state that an agent has reached.
 #[derive(Clone, Copy, Debug, PartialEq, Eq)]
 pub struct AgentRow {
     /// Its variable.
@@ -25,7 +25,7 @@ pub struct AgentRow {
     pub ended: bool,
 }
 
-/// What agents have come to.
+/// The states that agents have reached.
 pub type AgentRowList = Sequence<AgentRow>;
 
 /// The text of a replay: a line `status replay`, how many events were replayed, a line
@@ -67,7 +67,7 @@ fn write_agent(text: &mut String, names: &Names, row: &AgentRow) -> Result<(), N
     write_state(text, name, row.value, row.standing, row.ended)
 }
 
-/// What the agent of the variable with this name has come to.
+/// The state of the agent of the variable with this name.
 fn write_state(
     text: &mut String,
     name: &str,
@@ -83,12 +83,12 @@ fn write_state(
     Ok(text.push_str("\n")?)
 }
 
-/// Writes what an agent has come to: the words `value V lower L upper U threshold T ended E`, each
-/// behind a space.
+/// Writes the state of an agent: the words `value V lower L upper U threshold T ended E`, each
+/// after a space.
 ///
 /// # Errors
 ///
-/// [`NoMemory`] where memory was wanted and not had.
+/// [`NoMemory`] if memory runs out.
 pub fn write_standing(
     text: &mut String,
     value: Val,
@@ -110,18 +110,18 @@ pub fn write_standing(
     Ok(write!(text, " threshold {threshold} ended {ended}")?)
 }
 
-/// The word that tells whether an agent has ended.
+/// The word for whether an agent has ended.
 fn ended_word(ended: bool) -> &'static str
     ensures { result.now ≡ ended_word ended }
 {
     if ended { "yes" } else { "no" }
 }
 
-/// Writes an upper bound, or `-` where it is not there.
+/// Writes an upper bound, or `-` if there is none.
 ///
 /// # Errors
 ///
-/// [`NoMemory`] where memory was wanted and not had.
+/// [`NoMemory`] if memory runs out.
 pub fn write_bound(text: &mut String, bound: Option<u64>) -> Result<(), NoMemory>
     ensures { OnOk result (string_bytes text.new ≡ string_bytes text.old ++ bound_word bound) }
 {

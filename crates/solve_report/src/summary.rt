@@ -1,4 +1,4 @@
-//! Summaries of made problems that were solved, and the text that tells one.
+//! Summaries of solved problems that were made from seeds, and their text.
 
 ghost use Rattle.std.specs.Prelude.{◌≡◌, ◌++◌, OnOk, IfOk};
 ghost use Rattle.std.specs.List.{flat_map};
@@ -11,14 +11,14 @@ use certificate_text::{Ending, Method, write_number};
 use dcop_base::{Bytes, NoMemory};
 use std::alloc::Global;
 
-/// What came of solving a problem that was made from a number.
+/// The result of solving a problem that was made from a seed.
 #[derive(Clone, Copy, Debug, PartialEq, Eq)]
 pub struct Summary {
     /// How the run ended.
     pub status: Ending,
     /// The method that was run.
     pub method: Method,
-    /// The number that the problem was made from.
+    /// The seed that the problem was made from.
     pub seed: u64,
     /// How many variables the problem has.
     pub vars: u32,
@@ -26,15 +26,15 @@ pub struct Summary {
     pub tables: u64,
     /// How many cells its tables have together.
     pub cells: u64,
-    /// The deliveries of the method's run alone. 0 for plain.
+    /// The deliveries of the method's run alone. It is 0 for plain search.
     pub deliveries: u64,
     /// The cost of the values.
     pub cost: u64,
-    /// The least cost is not lower.
+    /// A lower bound of the least cost.
     pub lower: u64,
-    /// The least cost is not higher.
+    /// An upper bound of the least cost.
     pub upper: u64,
-    /// The sum over all variables i, counted from 0, of i + 1 times the value.
+    /// The sum, over all variables i counted from 0, of i + 1 times the value of variable i.
     pub mark: u64,
 }
 

@@ -1,4 +1,4 @@
-//! Trees, and the text that tells one.
+//! Trees, and their text.
 
 ghost use Rattle.std.specs.Prelude.{◌≡◌, ◌++◌, length, map, OnOk, IfOk};
 ghost use Rattle.std.specs.List.{flat_map, All};

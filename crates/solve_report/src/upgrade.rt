@@ -7,7 +7,7 @@ use dcop_base::{Bytes, NoMemory};
 use problem_text::{ProblemFile, write_problem};
 use std::alloc::Global;
 
-/// The bar in a comment of its own line, and the canonical text of the file.
+/// The bar as a comment on a line of its own, then the canonical text of the file.
 pub(crate) fn write_barred(alloc: Global, bar: u64, file: &ProblemFile) -> Result<Bytes, NoMemory>
     ensures { IfOk result (λ text. text ≡ barred_text bar file.now) }
 {

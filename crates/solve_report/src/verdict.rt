@@ -51,7 +51,7 @@ fn write_no(alloc: Global, names: &Names, differs: &Differs) -> Result<Bytes, No
     Ok(bytes_of(text))
 }
 
-/// The words of what differs, each behind a space.
+/// The words for what differs, each after a space.
 fn write_difference(text: &mut String, names: &Names, differs: &Differs) -> Result<(), NoMemory>
     requires { IsNamedDifference (length names.now) differs.now }
     ensures { OnOk result (string_bytes text.new
@@ -126,7 +126,7 @@ fn write_turn_scope(text: &mut String, turn: u64, name: &str) -> Result<(), NoMe
     Ok(write!(text, " turn {turn} scope {name}")?)
 }
 
-/// The number of an event, and the words of what is wrong with it.
+/// The number of an event, and the words for what is wrong with it.
 fn write_event(
     text: &mut String,
     names: &Names,
@@ -141,7 +141,7 @@ fn write_event(
     write_fault(text, names, fault)
 }
 
-/// The words of what is wrong with an event, each behind a space.
+/// The words for what is wrong with an event, each after a space.
 fn write_fault(text: &mut String, names: &Names, fault: &EventFault) -> Result<(), NoMemory>
     requires { IsNamedFault (length names.now) fault.now }
     ensures { OnOk result (string_bytes text.new
@@ -175,7 +175,8 @@ fn name_of(names: &Names, var: VarId) -> &str
     names.name(var)
 }
 
-/// The name of a table's variable, a cell and a value, and the number on the left and the one on the right.
+/// The name of a table's variable, a cell and a value, and the number on the left and the one on
+/// the right.
 fn write_cell(
     text: &mut String,
     name: &str,
@@ -194,7 +195,7 @@ fn write_cell(
     )?)
 }
 
-/// A word, and the name behind it.
+/// A word, and the name after it.
 fn write_named(text: &mut String, word: &str, name: &str) -> Result<(), NoMemory>
     ensures { OnOk result (string_bytes text.new
         ≡ string_bytes text.old ++ flat_map (λ word. 32 ∷ word) (word.now ∷ name.now ∷ [])) }

@@ -29,7 +29,7 @@ field_of payload rest le =
     ap length_field (append_assoc (to_be_bytes w32 (length payload)) payload rest) ∙ front_field (to_be_bytes w32 (length payload)) (payload ++ rest) refl
     ∙ ap Some (from_be_bytes-to_be_bytes_4 (length payload) (omega arith))
 
--- where bytes end, no whole frame within the limit stands
+-- a whole frame within the limit is not at the place where whole frames end
 no_frame : (limit : ℕ) (payload rest : List ℕ) (stuck : Bool) → limit ≤ payload_limit → length payload ≤ limit → EndsAt limit (framed payload ++ rest) stuck → ⊥
 no_frame limit payload rest true most le ends =
     let over : limit < length payload = subst (λ (o : Option ℕ). MatchOption o ⊥ (λ n. limit < n)) (field_of payload rest (omega arith)) ends in
@@ -66,7 +66,7 @@ front_of limit (q ∷ qs) (p ∷ ps) more rest stuck most a b ends e =
     let on = front_of limit qs ps more rest stuck most (All-tail (λ p. length p ≤ limit) q qs a) (All-tail (λ p. length p ≤ limit) p ps b) ends first.1 in
     (on.0, λ i. sym first.0 i ∷ on.1 i)
 
--- what a source that tells its bytes has left afterwards
+-- what a source whose bytes are known has left afterwards
 told : (stream front : List ℕ) (after : Option (List ℕ)) → Some stream ≡ prepend_known front after → (left : List ℕ) × (after ≡ Some left) × (stream ≡ front ++ left)
 told stream front None e = absurd cc
 told stream front (Some left) e = (left, refl, cc)
@@ -74,7 +74,7 @@ told stream front (Some left) e = (left, refl, cc)
 at_end : (after : Option (List ℕ)) (left : List ℕ) → after ≡ Some left → IsAtEnd after → left ≡ []
 at_end after left e at = subst (λ (o : Option (List ℕ)). IsAtEnd o) e at
 
--- too long a length field stays one, whatever stands behind
+-- a length field that is too long stays so, whatever follows
 long_on : (limit : ℕ) (behind left : List ℕ) → IsTooLong limit behind → IsTooLong limit (behind ++ left)
 long_on limit behind left long = by (ltb (length behind) 4) refl
   where
@@ -85,7 +85,7 @@ long_on limit behind left long = by (ltb (length behind) 4) refl
         let test : ltb (length (behind ++ left)) 4 ≡ false = le-ltb _ _ (omega (arith, length-append behind left, four)) in
         rw (test, take-append-le 4 behind left four) (rw e at long)
 
--- the end of the whole input, of what is the same
+-- the end of the whole input, given equal parts
 same_end : (end : SessionEnd) (qs ps : List (List ℕ)) (r s : List ℕ) (a b : Bool) → end ≡ end_for qs r a → (qs ≡ ps) × (r ≡ s) × (a ≡ b) → end ≡ end_for ps s b
 same_end end qs ps r s a b is same = is ∙ (λ i. end_for (same.0 i) (same.1 i) (same.2 i))
 
@@ -105,7 +105,7 @@ long_for qs served place rest is lt at = rw (few_test (length qs) (omega (arith,
 limit_for : (ps : List (List ℕ)) (rest : List ℕ) (stuck : Bool) → session_limit ≤ length ps → ends.Limit session_limit ≡ end_for ps rest stuck
 limit_for ps rest stuck many = rw (le-leb session_limit (length ps) many) refl
 
--- the whole input, where a session read it to these bytes behind its requests
+-- the whole input, if a session read it as far as these bytes after its requests
 whole_input : (is_reply : List ℕ → List ℕ → Type 0) (end : SessionEnd) (before after : Outside) (stream : List ℕ) → before.left ≡ Some stream → (h : HasServed is_reply end before after)
     → (left : List ℕ) × (after.left ≡ Some left) × (stream ≡ framed_all h.requests ++ (h.behind ++ left))
 whole_input is_reply end before after stream is h =

@@ -21,7 +21,7 @@ Adds-none (Some text) = sym (append-nil text)
 pub framed_all-append : (ps qs : List (List ℕ)) → framed_all (ps ++ qs) ≡ framed_all ps ++ framed_all qs
 framed_all-append ps qs = flat_map-append framed ps qs
 
--- the frames of payloads, of which some stand in front
+-- the frames of two lists of payloads, one after the other
 pub framed_front : (ps qs : List (List ℕ)) (rest : List ℕ) → framed_all (ps ++ qs) ++ rest ≡ framed_all ps ++ (framed_all qs ++ rest)
 framed_front ps qs rest = ap (λ (x : List ℕ). x ++ rest) (framed_all-append ps qs) ∙ append_assoc (framed_all ps) (framed_all qs) rest
 
@@ -34,7 +34,7 @@ pub All-front : (P : List ℕ → Type 0) (xs ys : List (List ℕ)) → All P (x
 All-front P [] ys all = All-nil P
 All-front P (x ∷ xs) ys all = All-cons P x xs (All-head P x (xs ++ ys) all) (All-front P xs ys (All-tail P x (xs ++ ys) all))
 
--- and of its back
+-- and what holds of a whole list holds of its back
 pub All-back : (P : List ℕ → Type 0) (xs ys : List (List ℕ)) → All P (xs ++ ys) → All P ys
 All-back P [] ys all = all
 All-back P (x ∷ xs) ys all = All-back P xs ys (All-tail P x (xs ++ ys) all)

@@ -10,7 +10,7 @@ use Rattle.solve_serve.specs.declared.stop.Stop.{Stop}
 use Rattle.solve_serve.specs.declared.stop.Stop.TheVariants as stops
 use Rattle.solve_serve.proofs.ListLaws.{prepend_twice, framed_front, All-front}
 
--- behind the requests that were handed out stand the frames of those that are held, and the rest
+-- after the requests that were handed out come the frames of those that are held, and then the rest
 pub ahead_behind : (start : Option (List ℕ)) (requests : List (List ℕ)) (r : Reader) (left : Option (List ℕ)) → IsAhead start requests r left
     → start ≡ prepend_known (framed_all requests ++ (framed_all r.ready ++ r.rest)) left
 ahead_behind start requests r left h = h.read ∙ ap (λ (x : List ℕ). prepend_known x left) (h.stands.splits.whole ∙ framed_front requests r.ready r.rest)
@@ -33,7 +33,7 @@ no_first : (ready : List (List ℕ)) → None ≡ first_of ready → ready ≡ [
 no_first [] e = refl
 no_first (p ∷ ps) e = cc
 
--- a reader that hands out nothing holds nothing, and stays as it is
+-- a reader that hands out nothing holds nothing, and is unchanged
 pub hands_nothing : (before after : Reader) → Hands before None after → (before.ready ≡ []) × (after ≡ before)
 hands_nothing before after hands =
     let none = no_first before.ready hands.first in
@@ -65,7 +65,7 @@ loses_piece piece r left left' faults faults' given = λ start requests h. (
       ∙ ap (λ (x : List ℕ). prepend_known x left') (append_assoc (framed_all requests) (framed_all r.ready ++ r.rest) piece),
 )
 
--- nothing is left, or a read failed, and the reading goes on as it was
+-- if nothing is left or a read failed, the reading is as it was
 pub stays : (r : Reader) (left left' : Option (List ℕ)) (faults faults' : ℕ) → left' ≡ left → GoesOn (reading r left faults) (reading r left' faults')
 stays r left left' faults faults' same = λ start requests h. subst (λ (x : Option (List ℕ)). IsAhead start requests r x) (sym same) h
 
@@ -138,7 +138,7 @@ gone_on_empty before now place r h hands =
 pub empty_after : (before after : Reader) → Hands before None after → after.ready ≡ []
 empty_after before after hands = let h = hands_nothing before after hands in ap (λ (r : Reader). r.ready) h.1 ∙ h.0
 
--- a reader that holds nothing stands at too long a length field
+-- a reader that holds nothing is at a length field that is too long
 pub stands_long : (place : ℕ) (now : Reading) → IsPlace (Some place) now.reader → now.reader.ready ≡ [] → IsStopped (stops.Long place) now now
 stands_long place now at none = (record { on = λ start requests h. h; none = none }, at.0, at.1, refl)
 

@@ -21,7 +21,7 @@ use Rattle.solve_serve.specs.declared.end.SessionEnd.TheVariants as ends
 use Rattle.solve_serve.proofs.ListLaws.{prepend_none, Adds-none, framed_front, framed_push, All-back}
 use Rattle.solve_serve.proofs.RequestLaws.{ahead_behind, ahead_within, loses_given}
 
--- so many turns of a session were played, each with its reply
+-- this many turns of a session were played, each with its reply
 pub record SoFar (is_reply : List ℕ → List ℕ → Type 0) (before : Outside) (r : Reader) (now : Outside) (served : ℕ) : Type 0 where
   pub requests : List (List ℕ)
   pub replies : List (List ℕ)
@@ -63,7 +63,7 @@ so_far_none is_reply before = record {
   tally = Tallies-none before.answering.tally;
 }
 
--- one turn more
+-- one more turn
 pub so_far_more : (is_reply : List ℕ → List ℕ → Type 0) (before : Outside) (r : Reader) (now : Outside) (served : ℕ) (r' : Reader) (after : Outside) → SoFar is_reply before r now served → IsTurn is_reply (Ok tt) r now r' after
     → SoFar is_reply before r' after (served + 1)
 so_far_more is_reply before r now served r' after s t = record {
@@ -79,11 +79,11 @@ so_far_more is_reply before r now served r' after s t = record {
   tally = Tallies-then served 1 before.answering.tally now.answering.tally after.answering.tally s.tally t.3.2;
 }
 
--- what a session has written where it stops without a write
+-- what a session has written if it stops without a write
 quiet_written : (before now after : Option (List ℕ)) (text : List ℕ) → Adds before text now → after ≡ now → Adds before (text ++ []) after
 quiet_written before now after text adds same = subst (λ (x : Option (List ℕ)). Adds before (text ++ []) x) (sym same) (subst (λ (x : List ℕ). Adds before x now) (sym (append-nil text)) adds)
 
--- where a session stops with nothing held, what stands behind the requests is the reader's rest
+-- if a session stops with nothing held, the reader's rest follows the requests
 dry_read : (start : Option (List ℕ)) (requests : List (List ℕ)) (r : Reader) (left : Option (List ℕ)) → IsAhead start requests r left → r.ready ≡ [] → start ≡ prepend_known (framed_all requests ++ r.rest) left
 dry_read start requests r left h none = ahead_behind start requests r left h ∙ ap (λ (x : List (List ℕ)). prepend_known (framed_all requests ++ (framed_all x ++ r.rest)) left) none
 
@@ -93,7 +93,7 @@ dry_place start requests r left h none = h.stands.place ∙ ap (λ (x : List (Li
 dry_ends : (start : Option (List ℕ)) (requests : List (List ℕ)) (r : Reader) (left : Option (List ℕ)) (stuck : Bool) → IsAhead start requests r left → r.stuck ≡ stuck → EndsAt request_limit r.rest stuck
 dry_ends start requests r left stuck h is = subst (λ (b : Bool). EndsAt request_limit r.rest b) is (subst (λ (n : ℕ). EndsAt n r.rest r.stuck) h.limit h.stands.splits.ends)
 
--- a session that stops at the reading, with nothing held
+-- a session that stops while reading, with nothing held
 dry_end : (is_reply : List ℕ → List ℕ → Type 0) (end : SessionEnd) (before : Outside) (r : Reader) (now : Outside) (served : ℕ) (r' : Reader) (after : Outside) → served_by end ≡ served → SoFar is_reply before r now served
     → RunsDry (reading r now.left now.faults) (reading r' after.left after.faults) → after.answering ≡ now.answering
     → ((requests : List (List ℕ)) → IsAhead before.left requests r' after.left → IsQuiet [] 0 before after → IsCause is_reply end requests r'.rest [] 0 before after)
@@ -117,7 +117,7 @@ dry_end is_reply end before r now served r' after is s dry same cause =
       cause = cause s.requests ahead (record { none = refl; as_many = refl; same = ap (λ (a : Answering). a.faults) same ∙ s.writes });
     }
 
--- a session that stops by the sink
+-- a session that stops because its sink failed
 write_end : (is_reply : List ℕ → List ℕ → Type 0) (before : Outside) (r : Reader) (now : Outside) (served : ℕ) (r' : Reader) (after : Outside) → served < session_limit → SoFar is_reply before r now served
     → IsTurn is_reply (Err stops.Write) r now r' after → HasServed is_reply (ends.Write served) before after
 write_end is_reply before r now served r' after lt s t =
@@ -155,7 +155,7 @@ write_end is_reply before r now served r' after lt s t =
       );
     }
 
--- a session that stops by want of memory
+-- a session that stops because memory ran out
 memory_end : (is_reply : List ℕ → List ℕ → Type 0) (before : Outside) (r : Reader) (now : Outside) (served : ℕ) (r' : Reader) (after : Outside) → served < session_limit → SoFar is_reply before r now served
     → IsTurn is_reply (Err stops.Memory) r now r' after → HasServed is_reply (ends.Memory served) before after
 memory_end is_reply before r now served r' after lt s t =
@@ -209,7 +209,7 @@ so_far_limit is_reply before r after s = record {
   cause = (refl, record { none = refl; as_many = refl; same = s.writes }, s.reads);
 }
 
--- a turn that stops at the reading
+-- a turn that stops while reading
 turn_stopped : (is_reply : List ℕ → List ℕ → Type 0) (stop : Stop) (r : Reader) (now : Outside) (r' : Reader) (left : Option (List ℕ)) (faults : ℕ) → IsStopped stop (reading r now.left now.faults) (reading r' left faults)
     → IsTurn is_reply (Err stop) r now r' (outside left faults now.answering)
 turn_stopped is_reply stops.Closed r now r' left faults s = (s, refl)

@@ -1,4 +1,4 @@
--- Calls with the first element and with those behind it are calls with all.
+-- Calls with the first element and with those after it are calls with all.
 use Rattle.std.proofs.Common.{◌≡◌, ℕ, zero, suc, ◌+◌, ◌<◌, List, [], ◌∷◌, ◌++◌, length, refl, sym, ap, subst, arith}
 use Rattle.std.specs.Prelude.{slice_index_or}
 use Rattle.std.specs.Fork.{AcceptsAt, ChangesAt, AcceptsEach, ChangesEach}
@@ -7,7 +7,7 @@ use denote.Ref.{MutBor}
 use denote.Param.Members.{Shared}
 
 module _ {F T : Type 0} (g : Shared F (ℕ × (MutBor T × Unit {0})) ((Unit {0}) × (MutBor T × Unit {0}))) (f : F) where
-  -- what may be called at each place may be called from the first place on
+  -- calls that are allowed at each place are allowed from the first place on
   pub accepts_all : (xs : List T) → AcceptsEach g f xs → AcceptsFrom g f 0 xs
   accepts_all xs h = record { each = λ i k p at lt now. let same : i ≡ k = omega (arith, at) in subst (λ (n : ℕ). g.pre f (n, (p, tt))) (sym same) (h k p lt now) }
 
@@ -19,7 +19,8 @@ module _ {F T : Type 0} (g : Shared F (ℕ × (MutBor T × Unit {0})) ((Unit {0}
   accepts_one place x h i zero p at lt now = let same : i ≡ place = omega (arith, at) in subst (λ (n : ℕ). g.pre f (n, (p, tt))) (sym same) (h p now)
   accepts_one place x h i (suc k) p at lt now = absurd (omega (arith, lt))
 
-  -- what may be called with all may be called with the first alone, and with those behind it
+  -- calls that are allowed with all elements are allowed with the first alone, and with those after
+  -- it
   pub accepts_own : (place : ℕ) (all own rest : List T) → all ≡ own ++ rest → length own ≡ 1 → AcceptsFrom g f place all → AcceptsFrom g f place own
   accepts_own place all [] rest is one h = absurd (omega (arith, one))
   accepts_own place all (x ∷ []) rest is one h = record { each = accepts_one place x (accepts_first place all x rest is h) }
@@ -47,7 +48,7 @@ module _ {F T : Type 0} (g : Shared F (ℕ × (MutBor T × Unit {0})) ((Unit {0}
   changes_one place old new x y xs was is one h = changes_both place old new x y xs xs was is h
       (record { each = λ i k d at lt. absurd (omega (arith, lt, one, ap length was)) })
 
-  -- the one element and those behind it
+  -- the one element and those after it
   pub changes_own : (place : ℕ) (all own rest own' rest' : List T) → all ≡ own ++ rest → length own ≡ 1 → length own' ≡ 1 → ChangesFrom g f place own own' → ChangesFrom g f (place + 1) rest rest' → ChangesFrom g f place all (own' ++ rest')
   changes_own place all [] rest own' rest' is one one' h behind = absurd (omega (arith, one))
   changes_own place all (x ∷ y ∷ ys) rest own' rest' is one one' h behind = absurd (omega (arith, one))

@@ -7,43 +7,44 @@ use Rattle.wire_frames.specs.Frame.{framed}
 use Rattle.solve_serve.specs.declared.stop.Stop.{Stop}
 use Rattle.solve_serve.specs.declared.stop.Stop.TheVariants as stops
 
--- the looks of a share and how many of them found nothing, and the calls of a maker
+-- the looks of a share, how many of them found nothing, and the calls of a maker
 pub record Tally : Type 0 where
   pub looks : ℕ
   pub misses : ℕ
   pub calls : ℕ
 
--- the tally of these counts
+-- the tally with these counts
 abbrev pub tally : ℕ → ℕ → ℕ → Tally
 tally looks misses calls = record { looks = looks; misses = misses; calls = calls }
 
--- so many looks more, and as many calls of the maker as looks that found nothing
+-- `more` looks more, and as many calls of the maker more as looks that found nothing
 pub record Tallies (more : ℕ) (before after : Tally) : Type 0 where
   pub looks : after.looks ≡ before.looks + more
   pub made : after.calls + before.misses ≡ before.calls + after.misses
   pub missed : before.misses ≤ after.misses
   pub few : after.misses ≤ before.misses + more
 
--- the tally of a reply: one look; or memory was wanted, before it or behind it
+-- the tally of making a reply: one look; or memory ran out, before the look or after it
 abbrev pub IsReplied : Result (List ℕ) NoMemory → Tally → Tally → Type 0
 IsReplied (Ok reply) before after = Tallies 1 before after
 IsReplied (Err refused) before after = (more : ℕ) × (more ≤ 1) × Tallies more before after
 
--- what a sink holds, where it tells it, its count of faults, and a tally
+-- what a sink holds, if it is known, its count of faults, and a tally
 pub record Answering : Type 0 where
   pub held : Option (List ℕ)
   pub faults : ℕ
   pub tally : Tally
 
--- the answering that stands so
+-- the answering with these parts
 abbrev pub answering : Option (List ℕ) → ℕ → Tally → Answering
 answering held faults tally = record { held = held; faults = faults; tally = tally }
 
--- a request was not answered, since memory was wanted: nothing was written
+-- a request was not answered because memory ran out: nothing was written
 abbrev pub IsUnanswered : Answering → Answering → Type 0
 IsUnanswered before after = ((more : ℕ) × (more ≤ 1) × Tallies more before.tally after.tally) × (after.held ≡ before.held) × (after.faults ≡ before.faults)
 
--- a request of which this says whether bytes are its reply was answered: its reply's frame was written; or a prefix of it, and the sink failed; or memory was wanted
+-- a request was answered, given which bytes are its reply: its reply's frame was written; or a
+-- prefix of that frame, and the sink failed; or memory ran out
 abbrev pub IsAnswered : (List ℕ → Type 0) → Result (Unit {0}) Stop → Answering → Answering → Type 0
 IsAnswered is_reply (Ok done) before after =
     (reply : List ℕ) × is_reply reply × Tallies 1 before.tally after.tally × Adds before.held (framed reply) after.held × (after.faults ≡ before.faults)

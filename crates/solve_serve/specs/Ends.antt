@@ -5,7 +5,7 @@ use Rattle.solve_serve.specs.declared.end.SessionEnd.TheVariants as ends
 use Rattle.solve_serve.specs.declared.stop.Stop.{Stop}
 use Rattle.solve_serve.specs.declared.stop.Stop.TheVariants as stops
 
--- the end of a session that stops so after this many replies
+-- the end of a session that stops for this reason after this many replies
 abbrev pub end_of : Stop → ℕ → SessionEnd
 end_of stops.Closed served = ends.Closed served
 end_of stops.Cut served = ends.Cut served

@@ -1,4 +1,5 @@
--- The end of a session is that of its input, its requests are the first of the input, and its replies are the only ones.
+-- The end of a session is that of its input, its requests are the first of the input, and its
+-- replies are the only ones.
 use Rattle.std.specs.Prelude.{◌≡◌, ℕ, nat_le, min, Bool, true, false, List, [], ◌∷◌, length, take, Some, if◌then◌else◌}
 use Rattle.dcop_base.specs.Limits.{count_limit}
 use Rattle.wire_frames.specs.Frame.{framed_all}
@@ -8,7 +9,7 @@ use Rattle.solve_serve.specs.Session.{Outside, served_by, HasServed}
 use Rattle.solve_serve.specs.declared.end.SessionEnd.{SessionEnd}
 use Rattle.solve_serve.specs.declared.end.SessionEnd.TheVariants as ends
 
--- the input made this end, and not a fault or want of memory
+-- whether the input made this end, and not a fault or running out of memory
 abbrev pub is_of_input : SessionEnd → Bool
 is_of_input (ends.Closed served) = true
 is_of_input (ends.Cut served) = true
@@ -18,29 +19,32 @@ is_of_input (ends.Read served) = false
 is_of_input (ends.Write served) = false
 is_of_input (ends.Memory served) = false
 
--- the end behind so many whole frames, where no byte stands behind them or some do
+-- the end after this many whole frames, by whether bytes follow them
 abbrev pub end_behind : List ℕ → ℕ → SessionEnd
 end_behind [] served = ends.Closed served
 end_behind (b ∷ bs) served = ends.Cut served
 
--- the end of a session on the frames of these payloads and this rest, too long a length field or less than a frame: the limit of replies comes first
+-- the end of a session on the frames of these payloads and this rest, which is less than a frame
+-- or, if `stuck`, begins with a length field that is too long; the limit of replies comes first
 abbrev pub end_for : List (List ℕ) → List ℕ → Bool → SessionEnd
 end_for payloads rest stuck =
     if nat_le session_limit (length payloads) then ends.Limit session_limit
     else (if stuck then ends.Long (length payloads) (min (length (framed_all payloads)) count_limit)
     else end_behind rest (length payloads))
 
--- where a source tells its bytes, and no fault and no want of memory ends the session, its end is that of the whole input
+-- if a source's bytes are known, and neither a fault nor running out of memory ends the session,
+-- its end is that of the whole input
 abbrev pub EndsExactly : (List ℕ → List ℕ → Type 0) → Type 0
 EndsExactly is_reply = (end : SessionEnd) (before after : Outside) (stream : List ℕ) (payloads : List (List ℕ)) (rest : List ℕ) (stuck : Bool)
     → before.left ≡ Some stream → Splits request_limit stream payloads rest stuck → HasServed is_reply end before after → is_of_input end ≡ true → end ≡ end_for payloads rest stuck
 
--- where a source tells its bytes, the requests that were answered are the first payloads of the whole input
+-- if a source's bytes are known, the requests that were answered are the first payloads of the
+-- whole input
 abbrev pub AnswersFirst : (List ℕ → List ℕ → Type 0) → Type 0
 AnswersFirst is_reply = (end : SessionEnd) (before after : Outside) (stream : List ℕ) (payloads : List (List ℕ)) (rest : List ℕ) (stuck : Bool)
     → before.left ≡ Some stream → Splits request_limit stream payloads rest stuck → (h : HasServed is_reply end before after) → h.requests ≡ take (served_by end) payloads
 
--- two sessions that answered the same requests gave the same replies: so those with a cache are those without one
+-- two sessions that answered the same requests gave the same replies; so a cache changes no reply
 abbrev pub RepliesAreOne : (List ℕ → List ℕ → Type 0) → Type 0
 RepliesAreOne is_reply = (end end' : SessionEnd) (before after before' after' : Outside) (h : HasServed is_reply end before after) (h' : HasServed is_reply end' before' after')
     → h.requests ≡ h'.requests → h.replies ≡ h'.replies

@@ -4,7 +4,7 @@ use Rattle.solve_serve.specs.declared.peers.Peer.{Peer}
 use Rattle.solve_serve.specs.Answers.{tally, answering}
 use Rattle.solve_serve.specs.Session.{Outside, outside, HasServed}
 
--- the most sessions beside each other
+-- the most peers
 abbrev pub peer_limit : ℕ
 peer_limit = 64
 
@@ -13,7 +13,8 @@ abbrev pub server_limit : ℕ
 server_limit = 16
 
 module _ {S K M A B : Type 0} (made : M → ℕ) where
-  -- a peer whose session did not begin: it has parts of both ledgers, and its maker was not called too often
+  -- a peer whose session did not begin: it has parts of both ledgers, and its maker was called at
+  -- most 2^62 times
   pub record IsFresh (p : Peer S K M A B) : Type 0 where
     pub endless : p.end ≡ None
     pub look_parts : 0 < p.share.looks.parts
@@ -25,7 +26,7 @@ module _ {S K M A B : Type 0} (left : S → Option (List ℕ)) (reads : S → �
   abbrev pub outside_of : Peer S K M A B → Outside
   outside_of p = outside (left p.source) (reads p.source) (answering (held p.sink) (writes p.sink) (tally p.share.looks.amount p.share.misses.amount (made p.maker)))
 
-  -- a peer was served: its end is there, and its session ended so
+  -- a peer was served: its session has an end, which belongs to what was read and written
   pub record IsServed (is_reply : List ℕ → List ℕ → Type 0) (before after : Peer S K M A B) : Type 0 where
     pub ended : IsSomeAnd after.end (λ end. HasServed is_reply end (outside_of before) (outside_of after))
     pub look_parts : after.share.looks.parts ≡ before.share.looks.parts

@@ -1,4 +1,4 @@
--- What a session reads: the requests, and why no further one came.
+-- What a session reads: its requests, and why no further one came.
 use Rattle.std.specs.Prelude.{◌≡◌, ◌≢◌, ℕ, ◌<◌, true, false, List, [], ◌∷◌, ◌++◌, length, Option, Some, None, Result, Ok, Err}
 use Rattle.std.specs.Io.KnownBytes.{prepend_known, IsAtEnd}
 use Rattle.dcop_edge.specs.Faults.{Rose}
@@ -9,20 +9,21 @@ use Rattle.solve_serve.specs.Limits.{request_limit}
 use Rattle.solve_serve.specs.declared.stop.Stop.{Stop}
 use Rattle.solve_serve.specs.declared.stop.Stop.TheVariants as stops
 
--- of a source that had `start` left a stream was read, which a reader took, and these requests were handed out
+-- from a source that had `start` left, a stream was read and taken by a reader, which handed out
+-- these requests
 pub record IsAhead (start : Option (List ℕ)) (requests : List (List ℕ)) (r : Reader) (left : Option (List ℕ)) : Type 0 where
   pub stream : List ℕ
   pub read : start ≡ prepend_known stream left
   pub stands : HasRead stream requests r
   pub limit : r.limit ≡ request_limit
 
--- a reader and what a source has left
+-- a reader, what a source has left, and its count of faults
 pub record Reading : Type 0 where
   pub reader : Reader
   pub left : Option (List ℕ)
   pub faults : ℕ
 
--- the reading with this reader, this left and so many faults
+-- the reading with this reader, these bytes left and this count of faults
 abbrev pub reading : Reader → Option (List ℕ) → ℕ → Reading
 reading r left faults = record { reader = r; left = left; faults = faults }
 
@@ -34,12 +35,12 @@ GoesOn before after = (start : Option (List ℕ)) (requests : List (List ℕ)) �
 abbrev pub Gives : List ℕ → Reading → Reading → Type 0
 Gives request before after = (start : Option (List ℕ)) (requests : List (List ℕ)) → IsAhead start requests before.reader before.left → IsAhead start (requests ++ request ∷ []) after.reader after.left
 
--- a reading went on, but not all that was read was taken
+-- a reading went on, but not all bytes that were read were taken
 abbrev pub Loses : Reading → Reading → Type 0
 Loses before after = (start : Option (List ℕ)) (requests : List (List ℕ)) → IsAhead start requests before.reader before.left
     → (behind : List ℕ) × (start ≡ prepend_known (framed_all requests ++ behind) after.left)
 
--- a reading went on until no whole frame was left of what was read, and stands at a length field above the limit or not
+-- a reading went on until no whole frame of what was read is left
 pub record RunsDry (before after : Reading) : Type 0 where
   pub on : GoesOn before after
   pub none : after.reader.ready ≡ []
@@ -58,29 +59,33 @@ abbrev pub IsNext : Result (List ℕ) Stop → Reading → Reading → Type 0
 IsNext (Ok request) before after = Gives request before after × (after.faults ≡ before.faults)
 IsNext (Err stop) before after = IsStopped stop before after
 
--- the place of too long a length field is known exactly where a reader stands at one
+-- a place is given exactly if a reader is at a length field that is too long, and then it is that
+-- field's place
 abbrev pub IsPlace : Option ℕ → Reader → Type 0
 IsPlace None r = r.stuck ≡ false
 IsPlace (Some place) r = (r.stuck ≡ true) × (place ≡ r.place)
 
--- one more piece was read, and whether it has too long a length field
+-- one more piece was read, with the place of a length field that is too long, if the reader is at
+-- one
 abbrev pub IsPiece : Result (Option ℕ) Stop → Reading → Reading → Type 0
 IsPiece (Ok place) before after = GoesOn before after × IsPlace place after.reader × (after.faults ≡ before.faults)
 IsPiece (Err stop) before after = IsStopped stop before after
 
--- a piece was read by a reader that stood at no too long a length field: where it made no frame whole and brought no such field, more bytes stand behind the whole frames
+-- a reader that was at no length field that is too long took a piece: if that made no frame whole
+-- and brought no such field, more bytes follow the whole frames
 pub record HasGrown (before after : Reader) : Type 0 where
   pub free : before.stuck ≡ false
   pub limit : after.limit ≡ before.limit
   pub more : after.ready ≡ [] → after.stuck ≡ false → length before.rest < length after.rest
 
--- a reader at the end of the input: no byte stands behind the whole frames, or some do
+-- a reader at the end of the input: no byte follows the whole frames, or some do
 abbrev pub IsEnd : Reader → Stop → Type 0
 IsEnd r stops.Closed = r.rest ≡ []
 IsEnd r stops.Cut = r.rest ≢ []
 IsEnd r stop = ⊥
 
--- a piece was taken, and whether it has too long a length field; or memory was wanted, and nothing has changed
+-- a piece was taken, with the place of a length field that is too long, if the reader is at one; or
+-- memory ran out, and nothing has changed
 abbrev pub IsTaken : Reader → List ℕ → Result (Option ℕ) Stop → Reader → Type 0
 IsTaken before piece (Ok place) after = Takes before piece after × IsPlace place after
 IsTaken before piece (Err stops.Memory) after = after ≡ before

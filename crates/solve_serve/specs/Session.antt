@@ -1,4 +1,4 @@
--- A session: what was written, and what it answers to which end.
+-- A session: what it read and wrote, and why it ended.
 use Rattle.std.specs.Prelude.{◌≡◌, ◌≢◌, ℕ, ◌+◌, ◌<◌, ◌≤◌, min, List, [], ◌++◌, length, take, Option, Result, Ok, Err}
 use Rattle.std.specs.List.{All, AllZip}
 use Rattle.std.specs.Io.KnownBytes.{prepend_known, IsAtEnd}
@@ -15,17 +15,18 @@ use Rattle.solve_serve.specs.declared.end.SessionEnd.TheVariants as ends
 use Rattle.solve_serve.specs.declared.stop.Stop.{Stop}
 use Rattle.solve_serve.specs.declared.stop.Stop.TheVariants as stops
 
--- what is outside of a session: what its source has left, where that is told, and its count of faults; and its answering
+-- what is outside of a session: what its source has left, if it is known, and the source's count of
+-- faults; and its answering
 pub record Outside : Type 0 where
   pub left : Option (List ℕ)
   pub faults : ℕ
   pub answering : Answering
 
--- the outside that stands so
+-- the outside with these parts
 abbrev pub outside : Option (List ℕ) → ℕ → Answering → Outside
 outside left faults answering = record { left = left; faults = faults; answering = answering }
 
--- how many requests were answered
+-- how many requests a session with this end answered
 abbrev pub served_by : SessionEnd → ℕ
 served_by (ends.Closed served) = served
 served_by (ends.Cut served) = served
@@ -35,13 +36,15 @@ served_by (ends.Read served) = served
 served_by (ends.Write served) = served
 served_by (ends.Memory served) = served
 
--- nothing stands behind the replies, no look was made but for them, and the sink did not fail
+-- nothing was written after the replies, no look was made except for them, and the sink did not
+-- fail
 pub record IsQuiet (beside : List ℕ) (extra : ℕ) (before after : Outside) : Type 0 where
   pub none : beside ≡ []
   pub as_many : extra ≡ 0
   pub same : after.answering.faults ≡ before.answering.faults
 
--- the first of the requests that were not answered was read whole, and of its reply's frame so much was written
+-- the first request that was not answered was read whole, and a prefix of its reply's frame was
+-- written
 pub record IsBroken (is_reply : List ℕ → List ℕ → Type 0) (behind beside : List ℕ) : Type 0 where
   pub request : List ℕ
   pub reply : List ℕ
@@ -53,7 +56,8 @@ pub record IsBroken (is_reply : List ℕ → List ℕ → Type 0) (behind beside
   pub most : count ≤ length (framed reply)
   pub written : beside ≡ take count (framed reply)
 
--- why a session ended so, after these requests, with these bytes read behind them, and these written behind their replies
+-- why a session with these requests ended so; `behind` was read after the requests, `beside` was
+-- written after their replies, and `extra` looks were made for no whole reply
 abbrev pub IsCause : (List ℕ → List ℕ → Type 0) → SessionEnd → List (List ℕ) → List ℕ → List ℕ → ℕ → Outside → Outside → Type 0
 IsCause is_reply (ends.Closed served) requests behind beside extra before after =
     (served < session_limit) × IsQuiet beside extra before after × (behind ≡ []) × IsAtEnd after.left × (after.faults ≡ before.faults)
@@ -70,7 +74,8 @@ IsCause is_reply (ends.Write served) requests behind beside extra before after =
 IsCause is_reply (ends.Memory served) requests behind beside extra before after =
     (served < session_limit) × (beside ≡ []) × (extra ≤ 1) × (after.answering.faults ≡ before.answering.faults) × (after.faults ≡ before.faults)
 
--- a session ended so: its requests were the first that were read, in order, the frames of their replies were written, in order too, and each look that found nothing was a call of the maker
+-- a session ended so: its requests are the first that were read, in order; the frames of their
+-- replies were written, in order; and the maker was called as many times as looks found nothing
 pub record HasServed (is_reply : List ℕ → List ℕ → Type 0) (end : SessionEnd) (before after : Outside) : Type 0 where
   pub requests : List (List ℕ)
   pub replies : List (List ℕ)

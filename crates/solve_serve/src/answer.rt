@@ -41,8 +41,8 @@ pub(crate) fn answer<R: Threads + Wait + Sync, K: Sink, M: Maker, A: Ledger, B: 
     }
 }
 
-/// The reply to a request: from the cache, or made without its lock, and then kept where its key is
-/// short enough.
+/// The reply to a request: from the cache; or made while the cache's lock is free, and then kept if
+/// its key is short enough.
 fn reply_to<R: Threads + Wait + Sync, M: Maker, A: Ledger, B: Ledger>(
     rt: &R,
     alloc: Global,
@@ -73,7 +73,7 @@ fn reply_to<R: Threads + Wait + Sync, M: Maker, A: Ledger, B: Ledger>(
     Ok(reply)
 }
 
-/// Keeps a reply, which it shares; where memory was wanted, it is not kept.
+/// Keeps a reply, which it shares; if memory runs out, it is not kept.
 fn keep<R: Wait, M: Maker, A: Ledger, B: Ledger>(
     rt: &R,
     alloc: Global,

@@ -3,7 +3,7 @@
 /// How a session ended, and how many requests it answered.
 #[derive(Clone, Copy, Debug, PartialEq, Eq)]
 pub enum SessionEnd {
-    /// The input ended behind whole frames.
+    /// The input ended after whole frames.
     Closed {
         /// How many requests were answered.
         served: u64,
@@ -19,8 +19,8 @@ pub enum SessionEnd {
     Long {
         /// How many requests were answered.
         served: u64,
-        /// The place of that field in the stream, from 0; 2^64 - 1 stands for each place from
-        /// there on.
+        /// The place of that field in the stream, from 0; 2^64 - 1 means that place or any later
+        /// one.
         place: u64,
     },
     /// [`MAX_REPLIES`] requests were answered.
@@ -37,12 +37,12 @@ pub enum SessionEnd {
     },
     /// The sink failed.
     Write {
-        /// How many requests were answered before.
+        /// How many requests were answered before that.
         served: u64,
     },
-    /// Memory was wanted and not had. No clause says when it comes.
+    /// Memory ran out. No clause says when this happens.
     Memory {
-        /// How many requests were answered before.
+        /// How many requests were answered before that.
         served: u64,
     },
 }

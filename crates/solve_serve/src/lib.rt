@@ -2,10 +2,11 @@
 //!
 //! [`serve_one`] serves one session over a source, a sink and a maker of replies, with a cache of
 //! replies that many sessions share. Its clause says which requests were read, that what was
-//! written is the frames of their replies, why the session ended, and that the maker was called
-//! just where a look at the cache found nothing: so a reply from the cache is the reply without it,
-//! of which there is one for each key ([`replies_are_one`]).
-//! [`serve_peers`] serves many sessions beside each other, each as soon as a worker is free.
+//! written is the frames of their replies, and why the session ended. It also says that the maker
+//! was called as many times as a look at the cache found nothing. So a reply from the cache is the
+//! reply without it, since each key has only one ([`replies_are_one`]).
+//!
+//! [`serve_peers`] serves many sessions concurrently, each as soon as a worker is free.
 #![tactic(auto)]
 
 mod answer;

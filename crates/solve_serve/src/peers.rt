@@ -1,4 +1,4 @@
-//! Sessions beside each other.
+//! Concurrent sessions.
 
 ghost use Rattle.std.specs.Prelude.{◌≡◌, ◌≤◌, ◌<◌, All, length};
 ghost use Rattle.solve_serve.specs.Peers.{peer_limit, server_limit, IsFresh, IsServed, AreServed};
@@ -26,18 +26,20 @@ pub struct Peer<S, K, M, A: Ledger, B: Ledger> {
     pub maker: M,
     /// Its share of the looks at the cache.
     pub share: LookShare<A, B>,
-    /// How its session ended; `None` until it has.
+    /// How its session ended; `None` until then.
     pub end: Option<SessionEnd>,
 }
 
-/// Peers, in order of their sessions' numbers.
+/// Peers, in the order of their sessions' numbers.
 pub type PeerList<S, K, M, A, B> = Vec<Peer<S, K, M, A, B>>;
 
 /// Serves all peers, each by [`serve_one`] with its place in the list, from 0, as the session's
-/// number: at most 64 peers, by so many workers beside each other, 1 to 16. Sessions begin in the
-/// order of the list, each as soon as a worker is free. Where no thread can be had, the sessions are
-/// served one after another. Afterwards each peer's end is there. It takes memory; want of it is the
-/// end of a session.
+/// number.
+///
+/// There are at most 64 peers and 1 to 16 workers, which serve concurrently. Sessions begin in the
+/// order of the list, each as soon as a worker is free. If no thread can be had, the sessions are
+/// served one after another. Afterwards each peer has an end. Running out of memory is the end of a
+/// session.
 pub fn serve_peers<
     R: Threads + Wait + Sync,
     S: Source + Send,
@@ -62,7 +64,7 @@ pub fn serve_peers<
     serve_all(rt, alloc, peers.as_mut_slice(), cache, workers, gate);
 }
 
-/// [`serve_peers`], on a slice.
+/// [`serve_peers`] on a slice.
 fn serve_all<
     R: Threads + Wait + Sync,
     S: Source + Send,

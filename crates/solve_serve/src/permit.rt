@@ -1,8 +1,8 @@
-//! How many sessions are served beside each other.
+//! How many sessions are served concurrently.
 
 use std::sync::{Condvar, Mutex, Wait};
 
-/// Permits to serve a session, as many as there are workers. Who has one gives it back.
+/// Permits to serve a session, one for each worker. Whoever takes a permit gives it back.
 #[derive(Drop)]
 pub(crate) struct Permits {
     free: Mutex<u32>,
@@ -10,7 +10,7 @@ pub(crate) struct Permits {
 }
 
 impl Permits {
-    /// So many permits, all of them free.
+    /// This many permits, all of them free.
     pub(crate) fn new(count: u32) -> Self {
         Permits {
             free: Mutex::new(count),
@@ -26,7 +26,7 @@ impl Permits {
         *free -= 1;
     }
 
-    /// Gives a permit back, to one that waits.
+    /// Gives a permit back, to a session that waits for one.
     pub(crate) fn give<R: Wait>(&self, rt: &R) {
         let mut free = self.free.lock(rt);
         *free = free.saturating_add(1);

@@ -11,8 +11,10 @@ use wire_frames::{FrameFault, FrameReader};
 /// The most bytes of one read.
 const BLOCK: usize = 4_096;
 
-/// The next request: the payload of the next whole frame. Frames that were read before too long a
-/// length field come first, and behind it nothing is read.
+/// The next request: the payload of the next whole frame.
+///
+/// Frames that were read before a length field that is too long come first. After that field
+/// nothing is read.
 pub(crate) fn next_request<S: Source>(
     source: &mut S,
     reader: &mut FrameReader,
@@ -32,8 +34,8 @@ pub(crate) fn next_request<S: Source>(
     }
 }
 
-/// Reads one more piece for a reader that holds no whole frame, unless it stands at too long a length
-/// field. Answers the place of such a field where the piece brought one.
+/// Reads one more piece for a reader that holds no whole frame, unless it is at a length field that
+/// is too long. Gives the place of such a field if the piece brought one.
 fn read_on<S: Source>(
     source: &mut S,
     reader: &mut FrameReader,
@@ -52,7 +54,7 @@ fn read_on<S: Source>(
     }
 }
 
-/// [`read_on`] for a reader that did not meet too long a length field.
+/// [`read_on`] for a reader that met no length field that is too long.
 fn read_piece<S: Source>(source: &mut S, reader: &mut FrameReader) -> Result<Option<u64>, Stop>
     requires none { reader.old.ready ≡ [] }
     requires free { reader.old.stuck ≡ false }
@@ -69,7 +71,7 @@ fn read_piece<S: Source>(source: &mut S, reader: &mut FrameReader) -> Result<Opt
     }
 }
 
-/// Whether the input has ended behind whole frames or inside one.
+/// Whether the input ended after whole frames or inside one.
 fn input_end(reader: &FrameReader) -> Stop
     ensures { IsEnd reader.now result }
 {

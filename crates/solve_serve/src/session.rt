@@ -22,11 +22,13 @@ use std::thread::Threads;
 use wire_frames::FrameReader;
 
 /// Serves one session: passes the gate once with the session's number, then reads frames of at most
-/// [`MAX_REQUEST`] bytes, and writes the frame of the reply to each, until the input ends or a limit
-/// is met. A reply is looked up in the cache; where it is not there, the maker makes it while the
-/// cache's lock is free, and it is kept where its key is short enough. The lock waits for nobody but
-/// a holder that looks or keeps. It takes memory; want of it is the end [`SessionEnd::Memory`], but
-/// a reply that could not be kept is written all the same.
+/// [`MAX_REQUEST`] bytes and writes the frame of the reply to each, until the input ends, a limit
+/// is met, a call fails or memory runs out.
+///
+/// A reply is looked up in the cache. If it is not there, the maker makes it while the cache's lock
+/// is free, and it is kept if its key is short enough. Whoever holds the lock only looks or keeps,
+/// so nobody waits longer for it. Running out of memory is the end [`SessionEnd::Memory`], but a
+/// reply that could not be kept is still written.
 pub fn serve_one<
     R: Threads + Wait + Sync,
     S: Source,

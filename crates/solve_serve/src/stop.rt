@@ -9,7 +9,7 @@ use dcop_base::NoMemory;
 /// Why a session stops before its last turn.
 #[derive(Clone, Copy, Debug)]
 pub(crate) enum Stop {
-    /// The input ended behind whole frames.
+    /// The input ended after whole frames.
     Closed,
     /// The input ended inside a frame.
     Cut,
@@ -19,12 +19,12 @@ pub(crate) enum Stop {
     Read,
     /// The sink failed.
     Write,
-    /// Memory was wanted and not had.
+    /// Memory ran out.
     Memory,
 }
 
 impl Stop {
-    /// The end of a session that stops so after this many replies.
+    /// The end of a session that stops for this reason after this many replies.
     pub(crate) fn end(self, served: u64) -> SessionEnd
         ensures { result ≡ end_of self served }
     {

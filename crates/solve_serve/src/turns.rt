@@ -1,4 +1,4 @@
-//! Calls beside each other, which begin in the order of a list.
+//! Concurrent calls that begin in the order of a list.
 
 ghost use Rattle.std.specs.Prelude.{◌≡◌, ◌≤◌, ◌<◌, ◌+◌, ◌^◌, length};
 ghost use Rattle.std.specs.Fork.{AcceptsAt, ChangesAt, AcceptsEach, ChangesEach};
@@ -10,9 +10,9 @@ use std::marker::{Send, Sync};
 use std::sync::Wait;
 use std::thread::{Threads, join_mut};
 
-/// Calls `call` with each place and its element: in the order of the list, each as soon as there is a
-/// permit for it, which the call gives back. Where no thread can be had, one call is made after
-/// another.
+/// Calls `call` with each place and its element, in the order of the list, each as soon as there is
+/// a permit for it; the call gives the permit back. If no thread can be had, the calls are made one
+/// after another.
 pub(crate) fn each_in_order<R: Threads + Wait + Sync, T: Send, F: Fn(usize, &mut T) + Sync>(
     rt: &R,
     permits: &Permits,
@@ -25,7 +25,7 @@ pub(crate) fn each_in_order<R: Threads + Wait + Sync, T: Send, F: Fn(usize, &mut
     each_from(rt, permits, call, 0, items);
 }
 
-/// [`each_in_order`], for the elements from this place on.
+/// [`each_in_order`] for the elements from this place on.
 #[cycle(turns)]
 fn each_from<R: Threads + Wait + Sync, T: Send, F: Fn(usize, &mut T) + Sync>(
     rt: &R,
@@ -46,8 +46,8 @@ fn each_from<R: Threads + Wait + Sync, T: Send, F: Fn(usize, &mut T) + Sync>(
     own_beside(rt, permits, call, place, own, place + 1, rest);
 }
 
-/// Calls with the one element for which there is a permit in this thread, and in another with those
-/// that come next.
+/// Calls with one element, for which there is a permit, in this thread, and with the elements after
+/// it in another thread.
 #[cycle(turns)]
 fn own_beside<R: Threads + Wait + Sync, T: Send, F: Fn(usize, &mut T) + Sync>(
     rt: &R,

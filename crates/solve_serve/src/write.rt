@@ -6,7 +6,7 @@ ghost use Rattle.dcop_edge.specs.Sink.{Adds};
 
 use dcop_edge::{Failed, Sink};
 
-/// Writes all bytes and hands them on. Where the sink fails, the first of them were written.
+/// Writes all bytes and hands them on. If the sink fails, a prefix of them was written.
 pub fn write_all<K: Sink>(sink: &mut K, bytes: &[u8]) -> Result<(), Failed>
     ensures written { OnOk result (Adds (K.held sink.old) bytes.now (K.held sink.new)) }
     ensures finished { OnOk result (K.finished sink.new ≡ true) }

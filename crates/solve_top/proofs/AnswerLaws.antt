@@ -1,4 +1,5 @@
--- Which answer belongs to which words and input, case by case; and what its status says of the source.
+-- Which answer belongs to which words and input, case by case; and what its status says about the
+-- source.
 use Rattle.std.proofs.Common.{take, drop, ◌≡◌, ◌≢◌, ℕ, ◌<◌, ◌⊎◌, inl, inr, Bool, List, Option, Some, None, Result, Ok, Err, IfOk, sym, ap, subst, arith, refl, ◌∙◌}
 use Rattle.dcop_edge.specs.Faults.{Rose}
 use Rattle.dcop_base.specs.Whole.{IsProblem}
@@ -65,7 +66,7 @@ use Rattle.solve_cut.specs.Cut.{refusal_of, IsRefusalAnswer, IsCutAnswerBy}
 use Rattle.solve_cut.specs.Allowed.{IsSolvedReport}
 use Rattle.solve_cut.proofs.AllowedLaws.{allowed-solved}
 
--- the answer of a task, where words ask for it
+-- the answer of a task, if words ask for it
 pub IsAnswer-task : (words : List (List ℕ)) (command : Command) (task : Task) (input : Input) (answer : Answer)
     → answer_to words ≡ Ok command → task_of command ≡ Some task → IsInputAnswer task input answer → IsAnswer words input answer
 IsAnswer-task words command task input answer asked served is =
@@ -88,7 +89,8 @@ Answered-task words command task before after input answer asked served read is 
   right = right;
 }
 
--- words ask for a command, and its agents are in so many nodes where these are more than one
+-- words ask for a command, and if its agents are in more than one node, they are in as many as it
+-- asks for
 module _ (words : List (List ℕ)) (command : Command) (nodes : ℕ) (asked : answer_to words ≡ Ok command) (so_many : 1 < nodes → nodes ≡ nodes_of command) where
   abbrev pub asks_nodes : 1 < nodes → AskForNodes words
   asks_nodes many = record {
@@ -97,7 +99,7 @@ module _ (words : List (List ℕ)) (command : Command) (nodes : ℕ) (asked : an
     many = subst (λ (k : ℕ). 1 < k) (so_many many) many;
   }
 
-  -- an answer of the links between them is one to the words, on an input that tells their problem
+  -- an answer about the links between them is one to the words, on an input with their problem
   links_given : (input : Input) (task : FileTask) (told : Told) (answer : Answer) → TellsProblem (task_of command) (drill_of command) input task told → 1 < nodes → IsOfLinks task nodes told.declared answer → IsLinkAnswer words input answer
   links_given input task told answer read many links = record {
     asks = asks_nodes many;
@@ -107,7 +109,7 @@ module _ (words : List (List ℕ)) (command : Command) (nodes : ℕ) (asked : an
     links = subst (λ (k : ℕ). IsOfLinks task k told.declared answer) (so_many many) links;
   }
 
-  -- the answer to a task on a text, where the words ask for it
+  -- the answer to a task on a text, if the words ask for it
   module _ (format : Format) (task : FileTask) (bytes : List ℕ) (answer : Answer) (served : task_of command ≡ Some (File format task)) where
     told_problem : (told : Told) → input_read format bytes ≡ Ok told → TellsProblem (task_of command) (drill_of command) (Whole bytes) task told
     told_problem told read = subst (λ (t : Option Task). TellsProblem t (drill_of command) (Whole bytes) task told) (sym served) (refl, read)
@@ -126,7 +128,7 @@ module _ (words : List (List ℕ)) (command : Command) (nodes : ℕ) (asked : an
   task_given (Replay format after) bytes answer served is = inl (IsAnswer-task words command (Replay format after) (Whole bytes) answer asked served is)
   task_given Edit bytes answer served is = inl (IsAnswer-task words command Edit (Whole bytes) answer asked served is)
 
-  -- the same on all bytes that were read, unless memory was wanted
+  -- the same on all bytes that were read, unless memory ran out
   pub Answered-text : (task : Task) (before after : SourceState) (bytes slice : List ℕ) (result : Result Answer NoMemory)
       → task_of command ≡ Some task → IsReadFrom (Whole bytes) before after → slice ≡ bytes
       → IfOk result (IsTaskAnswerIn nodes task slice) → IfOk result TellsRight → IfOk result (Answered words before after)
@@ -138,7 +140,7 @@ module _ (words : List (List ℕ)) (command : Command) (nodes : ℕ) (asked : an
   }
   Answered-text task before after bytes slice (Err none) served read same is right = tt
 
-  -- the answer where nothing is read
+  -- the answer if nothing is read
   unread-IsAnswer : (answer : Answer) → task_of command ≡ None → IsUnreadAnswer (drill_of command) answer → IsAnswer words Unread answer
   unread-IsAnswer answer unread is =
       subst (λ (r : Result Command WordFault). IsCommandAnswer r Unread answer) (sym asked)
@@ -158,7 +160,7 @@ module _ (words : List (List ℕ)) (command : Command) (nodes : ℕ) (asked : an
   unread_given (Some drill) answer unread drills is = drill_given drill answer unread drills is
   unread_given None answer unread drills is = absurd is
 
-  -- the same, unless memory was wanted
+  -- the same, unless memory ran out
   pub Answered-unread : (before after : SourceState) (result : Result Answer NoMemory)
       → task_of command ≡ None → after ≡ before → IfOk result (IsUnreadAnswerIn nodes (drill_of command)) → IfOk result TellsRight → IfOk result (Answered words before after)
   Answered-unread before after (Ok answer) unread same is right = record {
@@ -197,11 +199,11 @@ tree-solved file (answers.LinkBytes round from_node to_node place sent taken) is
 pub report-solved : (file : TextFile) (certified : Bool) (answer : Answer) → IsDpopSolved file certified answer → status_of answer ≡ Solved
 report-solved file certified answer is = let parts = report_in file certified answer is in ap status_of parts.1 ∙ ap status_of_ending parts.2.status
 
--- and so is one of DPOP where nothing is too wide
+-- so is an answer of DPOP if nothing is too wide
 dpop-solved : (file : TextFile) (certified : Bool) (answer : Answer) → wide_in (solved file.goal file.problem) ≡ None → IsDpopAnswer file certified answer → status_of answer ≡ Solved
 dpop-solved file certified answer none is = report-solved file certified answer (subst (λ (wide : Option Wide). IsAnswerBy file certified wide answer) none is)
 
--- what is too wide is told by another status than that of a failed source
+-- the answer that something is too wide has its own status
 pub wide-status : (names : List (List ℕ)) (wide : Wide) → status_of (wide_answer names wide) ≡ TooWide
 wide-status names (Agent var cells) = refl
 wide-status names (Total cells) = refl
@@ -210,7 +212,7 @@ dpop-sound : (file : TextFile) (certified : Bool) (wide : Option Wide) → ¬ Is
 dpop-sound file certified None is = is
 dpop-sound file certified (Some wide) is = let s = ap status_of is in let t = wide-status file.names wide in cc
 
--- nothing is too wide in the tree of a file, where that is so of one that declares the same
+-- nothing is too wide in the tree of a file if nothing is in that of a file that declares the same
 pub fit-none : (d : Declared) → HasFitTree d → (file : TextFile) → IsProblem file.problem → declared_by file ≡ d → wide_in (solved file.goal file.problem) ≡ None
 fit-none d fit file whole declared =
     subst (λ (f : TextFile). wide_in (solved f.goal f.problem) ≡ None) (one_file fit.file file fit.whole whole (fit.declared ∙ sym declared))
@@ -309,7 +311,7 @@ upgraded-solved d (Some bar) answers.Link is = absurd is
 upgraded-solved d (Some bar) (answers.LinkDiffers from to at sent taken links) is = absurd is
 upgraded-solved d (Some bar) (answers.LinkBytes round from_node to_node place sent taken) is = absurd is
 
--- nor is the answer of a cut
+-- the refusal of a cut is no failed reading
 refusal_sound : (fault : CutFault) → ¬ IsRefusalAnswer fault answers.Read
 refusal_sound (faults.TooMany turns) is = cc is
 refusal_sound (faults.Total cells) is = cc is
@@ -334,7 +336,7 @@ text-sound : (task : FileTask) (read : Result Told Answer) → ¬ (read ≡ Err 
 text-sound task (Ok t) told is = file-sound task t is
 text-sound task (Err refusal) told is = told (ap Err (sym is))
 
--- nor is the answer of `check`
+-- an answer of `check` is no failed reading
 read-sound : (file : TextFile) (before : ℕ) (read : Result Report ReportFault) → ¬ IsReadAnswer file before read answers.Read
 read-sound file before (Ok report) is = is
 read-sound file before (Err fault) is = cc is
@@ -343,7 +345,7 @@ report-sound : (bytes : List ℕ) (read : Result Parts Answer) → ¬ (read ≡ 
 report-sound bytes (Ok parts) told is = read-sound is.file (lines_in (take parts.used bytes)) (report_read (drop parts.used bytes) is.file) is.is
 report-sound bytes (Err refusal) told is = told (ap Err (sym is))
 
--- nor that of `replay`
+-- an answer of `replay` is no failed reading
 played-sound : (file : TextFile) (before : ℕ) (text : List ℕ) (after : Option ℕ) (error : ℕ) (certificate : Option Certificate) → ¬ IsReplayOf file before text after error certificate answers.Read
 played-sound file before text after error (Some (Log log)) is = is
 played-sound file before text after error (Some (Tables utils)) is = cc is
@@ -372,7 +374,7 @@ input-sound task Broken answer is fault = refl
 input-sound task TooLong answer is fault = let s = ap status_of is in cc
 input-sound task (Whole bytes) answer is fault = absurd (task-sound task bytes (subst (IsTaskAnswer task bytes) (read-alone answer fault) is))
 
--- what a drill tells has the status of the answer on the file that was made
+-- the answer to a drill has the status of the answer on the file that was made
 pub drilled-status : (seed : ℕ) (solved : Answer) → status_of (drilled seed solved) ≡ status_of solved
 drilled-status seed (answers.Report report file) = refl
 drilled-status seed (answers.Tree deliveries nodes names) = refl
@@ -396,7 +398,7 @@ drilled-status seed answers.Link = refl
 drilled-status seed (answers.LinkDiffers from to at sent taken links) = refl
 drilled-status seed (answers.LinkBytes round from_node to_node place sent taken) = refl
 
--- nothing was read for such an answer, so no reading failed
+-- such an answer reads nothing, so no reading failed
 unread-sound : (drill : Option Drill) (answer : Answer) → IsUnreadAnswer drill answer → status_of answer ≡ ReadFault → ⊥
 unread-sound (Some drill) answer is fault =
     let solved : status_of is.solved ≡ ReadFault = sym (drilled-status drill.seed is.solved) ∙ sym (ap status_of is.told) ∙ fault in
@@ -422,7 +424,7 @@ command-broken (Ok command) answer is = served-broken command (task_of command) 
 command-broken (Err (words.Bad at kind)) answer is = cc is.0
 command-broken (Err words.NoMemory) answer is = absurd is
 
--- no answer of links tells a failed reading
+-- no answer about links is one of a failed reading
 given-sound : (words : List (List ℕ)) (input : Input) (answer : Answer) → IsGiven words input answer → status_of answer ≡ ReadFault → input ≡ Broken
 given-sound words input answer (inl is) fault = command-sound (answer_to words) input answer is fault
 given-sound words input answer (inr links) fault = elim (links-status _ _ _ answer links.links) [
@@ -430,13 +432,13 @@ given-sound words input answer (inr links) fault = elim (links-status _ _ _ answ
   | inr differs ↦ let e : LinkDiffers ≡ ReadFault = sym differs ∙ fault in cc e
 ]
 
--- an answer by a failed reading comes only where the source failed
+-- an answer by a failed reading comes only if the source failed
 pub Rose-answered : (words : List (List ℕ)) (before after : SourceState) (answer : Answer) → Answered words before after answer
     → status_of answer ≡ ReadFault → Rose before.faults after.faults
 Rose-answered words before after answer done fault =
     subst (λ (i : Input). IsReadFrom i before after) (given-sound words done.input answer done.belongs fault) done.read
 
--- a broken input tells no problem
+-- a broken input has no problem
 broken-untold : (task : Option Task) (drill : Option Drill) (done : FileTask) (told : Told) → ¬ TellsProblem task drill Broken done told
 broken-untold (Some (File format task)) drill done told is = is
 broken-untold (Some (Check format)) drill done told is = is
@@ -449,7 +451,7 @@ given-broken : (words : List (List ℕ)) (answer : Answer) → IsGiven words Bro
 given-broken words answer (inl is) = command-broken (answer_to words) answer is
 given-broken words answer (inr links) = absurd (broken-untold (task_of links.asks.command) (drill_of links.asks.command) links.task links.told links.read)
 
--- and it comes wherever the source failed
+-- it comes whenever the source failed
 failed-input : (words : List (List ℕ)) (before after : SourceState) (input : Input) (answer : Answer) → IsReadFrom input before after → IsGiven words input answer
     → before.faults < after.faults → status_of answer ≡ ReadFault
 failed-input words before after Unread answer read is more = absurd (omega (arith, more, ap (λ (s : SourceState). s.faults) read))
@@ -469,7 +471,7 @@ solved-well status task is = subst (λ (s : Status). GoesWell s task) (sym is) t
 cut-solved : (answer : Answer) → IsSolvedReport answer → status_of answer ≡ Solved
 cut-solved answer is = ap status_of is.is ∙ ap status_of_ending is.solved
 
--- a task on what a text declares goes well, where it is within its limits
+-- a task on what a text declares goes well if it is within its limits
 file-well : (format : Format) (task : FileTask) (t : Told) (answer : Answer) → IsWithinLimits task t.declared → IsFileAnswer task t answer → GoesWell (status_of answer) (File format task)
 file-well format tasks.Plain t (answers.Report report file) few is = solved-well (status_of_ending report.status) (File format tasks.Plain) (ap status_of_ending is.2.status)
 file-well format tasks.Plain t (answers.Many n) few is = absurd (omega (arith, few, is.0))
@@ -509,7 +511,7 @@ task-well (Check format) text answer fits is = solved-well (status_of answer) (C
 task-well (Replay format after) text answer fits is = solved-well (status_of answer) (Replay format after) (logged_solved format after text answer fits is)
 task-well Edit text answer fits is = solved-well (status_of answer) Edit (edits_solved text answer fits (subst (λ (r : Result Parts Answer). IsEditsAnswer text r answer) fits.read is))
 
--- all of a text that is told, and accepted, is read and goes well
+-- an accepted text whose source is known is read whole and goes well
 input-well : (text : List ℕ) (words : List (List ℕ)) (accepts : Accepts words text) (before after : SourceState) (input : Input) (answer : Answer)
     → before.left ≡ Some text → ¬ Rose before.faults after.faults → IsReadFrom input before after → IsInputAnswer accepts.task input answer → GoesWell (status_of answer) accepts.task
 input-well text words accepts before after Unread answer told steady read is = absurd is
@@ -527,7 +529,7 @@ well-answered words text before after answer done told accepts steady fine same 
     input-well text words accepts before after done.input answer told steady done.read
     (task-IsAnswer words accepts.command accepts.task done.input answer accepts.asked accepts.served (linkless-belongs words done.input answer done.belongs fine same))
 
--- the answer where words ask for a drill
+-- the answer if words ask for a drill
 drill-IsAnswer : (words : List (List ℕ)) (asks : AsksDrill words) (input : Input) (answer : Answer) → IsAnswer words input answer → IsDrillAnswer asks.drill answer
 drill-IsAnswer words asks input answer is =
     subst (λ (d : Option Drill). IsUnreadAnswer d answer) asks.served

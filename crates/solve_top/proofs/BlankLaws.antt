@@ -1,4 +1,4 @@
--- Lines without words in front of a report change nothing in what it is read as.
+-- Lines without words before a report change nothing in what it is read as.
 use Rattle.std.proofs.Common.{◌≡◌, ℕ, ◌+◌, ◌≤◌, zero, suc, Bool, true, false, cond, nat_eq, List, [], ◌∷◌, ◌++◌, length, drop, count_by, ◌⊎◌, inl, inr, Ok, refl, sym, ap, subst, ◌∙◌, arith}
 use Rattle.std.specs.List.{filter}
 use Rattle.std.proofs.lemmas.List.{drop-append-le}
@@ -58,7 +58,8 @@ ended_kept bytes text f r none is =
     let told : lines_read f later ≡ Ok r = read-same f (whole text) later r (numbers_free 1 number (lines text)) is in
     subst (λ (ls : List Plain). lines_read f (record { lines = ls; over = over }) ≡ Ok r) (sym joined) told
 
--- what stands behind the first bytes of a text that ends with line_feed: nothing, or it ends with line_feed too
+-- what follows the first bytes of a text that ends with line_feed: nothing, or it ends with
+-- line_feed too
 abbrev IsTail : List ℕ → Type 0
 IsTail tail = (tail ≡ []) ⊎ ((bytes : List ℕ) × (tail ≡ bytes ++ line_feed ∷ []))
 
@@ -74,7 +75,8 @@ tail_kept tail text f r (inr (bytes, ends)) none is =
     subst (λ (t : List ℕ). report_read (t ++ text) f ≡ Ok r) (sym ends)
     (ended_kept bytes text f r (subst (λ (t : List ℕ). plain_lines 1 t ≡ []) ends none) is)
 
--- a report behind a text that ends with line_feed, of which all lines behind so many bytes have no words, is read as it is alone
+-- a report is read as it is alone if it follows a text that ends with line_feed and has no words in
+-- the lines after its first `used` bytes
 pub rest_kept : (problem before text : List ℕ) (used : ℕ) (f : TextFile) (r : Report) → problem ≡ before ++ line_feed ∷ [] → used ≤ length problem → plain_lines 1 (drop used problem) ≡ []
     → report_read text f ≡ Ok r → report_read (drop used (problem ++ text)) f ≡ Ok r
 rest_kept problem before text used f r ends within none is =

@@ -200,7 +200,7 @@ few_turns Max p cut few = few
 few_deliveries : (deliveries turns each : ℕ) → deliveries ≡ turns * each → turns ≤ turn_limit → each ≤ 2 * variable_limit → deliveries ≤ amount_limit
 few_deliveries deliveries turns each is few small = let low : turns * each ≤ turn_limit * each = mul-le-mul_right each few in omega (arith, low, is, small)
 
--- no size exceeds the limit
+-- no domain size exceeds the limit
 few_values : (p : Dcop) (limit : ℕ) → IsProblem p → size_limit ≤ limit → All (λ s. s ≤ limit) p.sizes
 few_values p limit whole least k d lt = let small = (whole.sizes k d lt).1 in omega (arith, small, least)
 
@@ -214,7 +214,7 @@ module _ (d : Declared) (file : TextFile) (report : Report) (limit : ℕ) (cut :
       let are_cut = (cut_sets_are_one q (dfs q) limit whole_q (depth_first_trees_are_linked q whole_q).0 (few_values q limit whole_q least)).are_cut cut is_cut in
       (cut_answers_are_optimal q (dfs q) cut is.first.0 report.values whole_q are_cut is.first.1).assignment
 
-  -- and its messages an amount
+  -- and its number of messages is an amount
   cut_deliveries : report.deliveries ≤ amount_limit
   cut_deliveries =
       let few = few_turns file.goal file.problem cut (few-turns (problem_solved file) (dfs (problem_solved file)) cut true allowed) in
@@ -244,7 +244,7 @@ module _ (d : Declared) (file : TextFile) (report : Report) (limit : ℕ) (cut :
         holds = subst (Certifies file report) (sym told) turns.holds;
       }
 
--- an answer with a report tells of its own file
+-- an answer with a report is about its own file
 wide_no_report : (names : List (List ℕ)) (wide : Wide) (report : Report) (file : TextFile) → ¬ (answers.Report report file ≡ wide_answer names wide)
 wide_no_report names (Agent var cells) report file e = cc
 wide_no_report names (Total cells) report file e = cc

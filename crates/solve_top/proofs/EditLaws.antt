@@ -1,4 +1,5 @@
--- What `edit` answers: the optima where no line is refused, never a failed reading, and what DPOP reports.
+-- What `edit` answers: the optima if no line is refused, never a failed reading, and what DPOP
+-- reports.
 use Rattle.std.proofs.Common.{take, drop, ◌≡◌, ℕ, ◌+◌, List, [], ◌∷◌, ◌++◌, Bool, Option, Some, None, Result, Ok, Err, sym, ap, subst, ◌∙◌}
 use Rattle.dcop_base.specs.Problem.{Dcop, cost}
 use Rattle.dcop_base.specs.Whole.{IsProblem}
@@ -35,7 +36,7 @@ use Rattle.solve_top.specs.Solving.{HasFitTree, IsEditedFor}
 use Rattle.solve_top.specs.Taken.{AreLinesTaken, IsLineTaken}
 use Rattle.solve_top.proofs.SameLaws.{one_file}
 
--- optima are told, and no fault
+-- optima are answered, and no fault
 abbrev AreTold : Result ToldLines Refused → Type 0
 AreTold result = (told : ToldLines) × (result ≡ Ok told)
 
@@ -47,7 +48,7 @@ edit_told : (line : ℕ) (fault : Option SetFault) (next : SessionState) (later 
     → fault ≡ None → (later next told → AreTold told) → IsEditTold line fault next later told → AreTold told
 edit_told line fault next later told none goes is = goes (subst (λ (f : Option SetFault). IsEditTold line f next later told) none is)
 
--- a line that is taken tells optima, where the later lines do
+-- a line that is taken leads to optima if the later lines do
 line_told : (s : SessionState) (line : ℕ) (says : Result EditLine EditKind) (ls : List Plain) (later : SessionState → Result ToldLines Refused → Type 0) (taken : TextFile → Type 0) (told : Result ToldLines Refused)
     → ((next : SessionState) (rest : Result ToldLines Refused) → taken next.file → later next rest → AreTold rest)
     → IsLineTaken s.file says ls taken → IsLineTold s line says ls later told → AreTold told
@@ -61,7 +62,7 @@ line_told s line (Ok said.Answer) ls later taken told goes fine is =
 line_told s line (Ok said.End) ls later taken told goes fine is = (record { answers = []; file = s.file }, is ∙ ap (ended s) fine)
 line_told s line (Err kind) ls later taken told goes fine is = absurd fine
 
--- lines that are taken tell optima
+-- lines that are taken lead to optima
 lines_told : (ls : List Plain) (s : SessionState) (last : ℕ) (told : Result ToldLines Refused) → AreLinesTaken s.file ls → AreLinesTold s last ls told → AreTold told
 lines_told [] s last told fine is = absurd fine
 lines_told (l ∷ ls) s last told fine is =
@@ -71,7 +72,7 @@ lines_told (l ∷ ls) s last told fine is =
 told_solved : (told : Result ToldLines Refused) (answer : Answer) → AreTold told → told_answer told answer → status_of answer ≡ Solved
 told_solved told answer of is = ap status_of (subst (λ (r : Result ToldLines Refused). told_answer r answer) of.1 is)
 
--- where nothing is too wide and no line is refused, the optima are answered
+-- if nothing is too wide and no line is refused, the optima are answered
 fit_solved : (file : TextFile) (before : ℕ) (text : List ℕ) (answer : Answer) → wide_in (problem_solved file) ≡ None → AreLinesTaken file (plain_lines (before + 1) text) → IsEditAnswer file before text answer
     → status_of answer ≡ Solved
 fit_solved file before text answer none taken is =
@@ -108,7 +109,8 @@ report_wide : (report : Report) (file : TextFile) (names : List (List ℕ)) (wid
 report_wide report file names (Agent var cells) is = cc is
 report_wide report file names (Total cells) is = cc is
 
--- an optimum of a session has the values and the cost of a report of DPOP on the file as it is now
+-- an optimum of a session has the values and the cost of a report of DPOP on the file as edited so
+-- far
 module _ (optima : FirstOptimaOfTreesAreOne) (trees : DepthFirstTreesAreLinked) (s : SessionState) (answer : Edited) (whole : IsProblem s.file.problem) (now : IsAnswerNow s answer) where
   same_by : (certified : Bool) (report : Report) (file : TextFile) (wide : Option Wide) → IsAnswerBy s.file certified wide (answers.Report report file) → (report.values ≡ answer.values) × (report.cost ≡ answer.cost)
   same_by certified report file (Some wide) is = absurd (report_wide report file s.file.names wide is)

@@ -1,4 +1,4 @@
--- An answer that is solved is none of links between nodes.
+-- A solved answer is not one about links between nodes.
 use Rattle.std.proofs.Common.{◌≡◌, ◌≢◌, ℕ, ◌⊎◌, inl, inr, List, refl, sym, ap, ◌∙◌}
 use Rattle.tcp_links.specs.declared.fault.Difference.{Difference}
 use Rattle.tcp_links.specs.declared.fault.Difference.TheVariants.{Message, Bytes}
@@ -20,12 +20,12 @@ difference-status names (Bytes round from_node to_node place sent taken) = refl
 told-status : (task : FileTask) (nodes : ℕ) (d : Declared) (answer : Answer) → TellsDifference task nodes d answer → status_of answer ≡ LinkDiffers
 told-status task nodes d answer t = ap status_of t.told ∙ difference-status t.file.names t.difference
 
--- an answer of links has one of two statuses
+-- an answer about links has one of two statuses
 pub links-status : (task : FileTask) (nodes : ℕ) (d : Declared) (answer : Answer) → IsOfLinks task nodes d answer → (status_of answer ≡ LinkFault) ⊎ (status_of answer ≡ LinkDiffers)
 links-status task nodes d answer (inl failed) = inl (ap status_of failed)
 links-status task nodes d answer (inr differs) = inr (told-status task nodes d answer differs)
 
--- an answer that tells nothing of links belongs to the words and the input
+-- an answer that says nothing about links belongs to the words and the input
 pub linkless-belongs : (words : List (List ℕ)) (input : Input) (answer : Answer) → IsGiven words input answer → status_of answer ≢ LinkFault → status_of answer ≢ LinkDiffers → IsAnswer words input answer
 linkless-belongs words input answer (inl belongs) fine same = belongs
 linkless-belongs words input answer (inr links) fine same = elim (links-status _ _ _ answer links.links) [
@@ -33,7 +33,7 @@ linkless-belongs words input answer (inr links) fine same = elim (links-status _
   | inr differs ↦ absurd (same differs)
 ]
 
--- so does a solved one
+-- a solved answer belongs to the words and the input
 pub solved-belongs : (words : List (List ℕ)) (input : Input) (answer : Answer) → IsGiven words input answer → status_of answer ≡ Solved → IsAnswer words input answer
 solved-belongs words input answer given solved =
     linkless-belongs words input answer given

@@ -1,4 +1,4 @@
--- What a call on agents in nodes says of links, and the answers that tell it.
+-- What a call on agents in nodes says about links, and the answers that report it.
 use Rattle.std.proofs.Common.{◌≡◌, ℕ, ◌<◌, inl, inr, List, length, None, Result, Ok, Err, IfOk, refl, sym, ap, subst, ◌∙◌}
 use Rattle.std.proofs.lemmas.Result.{IfOk-weaker}
 use Rattle.dcop_base.specs.Problem.{Dcop}
@@ -51,7 +51,7 @@ module _ (file : TextFile) (task : FileTask) (nodes : ℕ) (honest : Type 0) (ol
       (difference_named (length (problem_solved file).sizes) nodes (home nodes (length (problem_solved file).sizes)) h.budget h.links h.started h.last d h.between h.right)
   fault_named no_memory named fails = tt
 
-  -- it is one of the links
+  -- it is an answer about the links
   pub fault_belongs : (P : Answer → Type 0) (e : NodeFault) (r : Result Answer NoMemory) → IsProblem file.problem → IsFaultOf (problem_solved file) (IsPhaseOf task (problem_solved file)) nodes honest old new e → TellsFault file.names e r
       → IfOk r (IsAnswerIn task nodes (declared_by file) P)
   fault_belongs P Failed r whole fails told = subst (λ (x : Result Answer NoMemory). IfOk x (IsAnswerIn task nodes (declared_by file) P)) (sym told) (inr (fails.0, inl refl))
@@ -70,7 +70,7 @@ module _ (file : TextFile) (task : FileTask) (nodes : ℕ) (honest : Type 0) (ol
   fault_belongs P no_memory (Ok answer) whole fails told = absurd told
   fault_belongs P no_memory (Err refused) whole fails told = tt
 
-  -- and tells of them what the fault says
+  -- it says of them what the fault says
   pub fault_tells : (e : NodeFault) (r : Result Answer NoMemory) → IsFaultOf (problem_solved file) (IsPhaseOf task (problem_solved file)) nodes honest old new e → TellsFault file.names e r → TellsLinks (1 < nodes) honest old new r
   fault_tells Failed r fails told = subst (λ (x : Result Answer NoMemory). TellsLinks (1 < nodes) honest old new x) (sym told) (record {
     failed = λ e. fails;
@@ -92,7 +92,7 @@ module _ (file : TextFile) (task : FileTask) (nodes : ℕ) (honest : Type 0) (ol
 pub own_answer : (task : FileTask) (nodes : ℕ) (d : Declared) (P : Answer → Type 0) (r : Result Answer NoMemory) → IfOk r P → IfOk r (IsAnswerIn task nodes d P)
 own_answer task nodes d P r is = IfOk-weaker r P (IsAnswerIn task nodes d P) (λ answer own. inl own) is
 
--- what a drill tells of an answer of links is that answer
+-- a drill passes an answer about links on as it is
 drilled-difference : (seed : ℕ) (names : List (List ℕ)) (d : Difference) → drilled seed (difference_answer names d) ≡ difference_answer names d
 drilled-difference seed names (Message from to at sent taken) = refl
 drilled-difference seed names (Bytes round from_node to_node place sent taken) = refl
@@ -124,7 +124,7 @@ drill_tells seed many honest old new answer tells =
       quiet = λ other. tells.quiet (λ e. other (same ∙ e));
     }
 
--- what an answer tells of links between so many nodes, where words ask for them
+-- what an answer says about links, if words ask for this many nodes
 pub asks_tells : (words : List (List ℕ)) (command : Command) (nodes : ℕ) (honest : Type 0) (old new : ℕ) (r : Result Answer NoMemory) → answer_to words ≡ Ok command → (1 < nodes → nodes ≡ nodes_of command)
     → TellsLinks (1 < nodes) honest old new r → TellsLinks (AskForNodes words) honest old new r
 asks_tells words command nodes honest old new (Ok answer) asked so_many tells = record {

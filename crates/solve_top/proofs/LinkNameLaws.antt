@@ -13,7 +13,7 @@ use Rattle.tcp_links.specs.Plans.{IsBetween}
 use Rattle.tcp_links.specs.Ends.{AreThere, IsDifference}
 use Rattle.solve_top.specs.Nodes.{IsFaultNamed}
 
--- a link leads between agents, so many
+-- a link is between agents with numbers below this one
 abbrev IsInside : ℕ → Wire → Type 0
 IsInside agents w = (w.sender < agents) × (w.receiver < agents)
 
@@ -23,7 +23,7 @@ inside_between agents nodes (w ∷ ws) all =
     let own = All-head (IsBetween agents nodes) w ws all in
     All-cons (IsInside agents) w ws (own.sender, own.receiver) (inside_between agents nodes ws (All-tail (IsBetween agents nodes) w ws all))
 
--- an exchange leaves it so
+-- an exchange keeps this
 inside_passed : (agents : ℕ) (ws vs : List Wire) → ArePassedOn ws vs → All (IsInside agents) ws → All (IsInside agents) vs
 inside_passed agents [] [] passed all = All-nil (IsInside agents)
 inside_passed agents [] (v ∷ vs) passed all = absurd passed
@@ -33,7 +33,7 @@ inside_passed agents (w ∷ ws) (v ∷ vs) passed all =
     All-cons (IsInside agents) v vs (subst (λ (k : ℕ). k < agents) (sym passed.0.sender) own.0, subst (λ (k : ℕ). k < agents) (sym passed.0.receiver) own.1)
     (inside_passed agents ws vs passed.1 (All-tail (IsInside agents) w ws all))
 
--- and so do rounds
+-- so do rounds
 inside_rounds : (agents : ℕ) (node : ℕ → ℕ) (budget : ℕ) (ws : List Wire) (before : List CellState) (rounds : List (List CellState)) (vs : List Wire) (after : List CellState) → AreNodeRounds node budget ws before rounds vs after
     → All (IsInside agents) ws → All (IsInside agents) vs
 inside_rounds agents node budget ws before [] vs after r all = subst (λ (xs : List Wire). All (IsInside agents) xs) r.0 all
@@ -49,7 +49,7 @@ inside_there agents node budget begun started wires now count (inr b) all =
 all_at : (P : Wire → Type 0) (ws : List Wire) (i : ℕ) (w : Wire) → All P ws → slice_get ws i ≡ Some w → P w
 all_at P ws i w all is = subst P (get_or_from_slice_get ws i w w is) (all i w (slice_get_within ws i w is))
 
--- a difference that agents come to, so many, over links between them, tells agents of them
+-- a difference that agents reach over links between them reports two of these agents
 pub difference_named : (agents nodes : ℕ) (node : ℕ → ℕ) (budget : ℕ) (begun : List Wire) (started last : List CellState) (d : Difference) → All (IsBetween agents nodes) begun → IsDifference nodes node budget begun started last d
     → IsFaultNamed agents (Differs d)
 difference_named agents nodes node budget begun started last (Message from to at sent taken) all is =

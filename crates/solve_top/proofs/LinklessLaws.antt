@@ -1,4 +1,4 @@
--- No answer to a task on an input tells anything of links between nodes.
+-- No answer to a task on an input says anything about links between nodes.
 use Rattle.std.proofs.Common.{take, drop, ◌≡◌, ℕ, Bool, List, Option, Some, None, Result, Ok, Err, IfOk, refl, sym, ap, subst, ◌∙◌}
 use Rattle.dcop_base.specs.declared.memory.NoMemory.{NoMemory}
 use Rattle.pseudotree.specs.declared.width.Wide.{Wide}
@@ -44,7 +44,7 @@ use Rattle.solve_top.specs.Answering.{IsFileAnswer, IsReportAnswer, IsReplayAnsw
 use Rattle.solve_top.specs.Nodes.{TellsAnswer, TellsLinks}
 use Rattle.solve_top.proofs.AnswerLaws.{adopt-status, auto-status, report-solved, tree-solved, upgraded-solved, wide-status}
 
--- a status that tells nothing of links
+-- a status that says nothing about links
 abbrev pub IsLinkless : Status → Type 0
 IsLinkless LinkFault = ⊥
 IsLinkless LinkDiffers = ⊥
@@ -66,7 +66,7 @@ verdict-linkless (verdicts.No differs) = tt
 status-linkless : (answer : Answer) (status : Status) → status_of answer ≡ status → IsLinkless status → TellsNoLink answer
 status-linkless answer status is none = subst IsLinkless (sym is) none
 
--- what no answer of links is, is an answer that tells nothing of links
+-- what holds for no answer about links holds only for answers that say nothing about links
 no-link : (P : Answer → Type 0) → ¬ P answers.Link → ((from to at : ℕ) (sent taken : Option (List ℕ)) (names : List (List ℕ)) → ¬ P (answers.LinkDiffers from to at sent taken names))
     → ((round from_node to_node place : ℕ) (sent taken : Option ℕ) → ¬ P (answers.LinkBytes round from_node to_node place sent taken)) → (answer : Answer) → P answer → TellsNoLink answer
 no-link P fine same alike (answers.Report report file) is = ending-linkless report.status
@@ -91,16 +91,16 @@ no-link P fine same alike answers.Link is = absurd (fine is)
 no-link P fine same alike (answers.LinkDiffers from to at sent taken names) is = absurd (same from to at sent taken names is)
 no-link P fine same alike (answers.LinkBytes round from_node to_node place sent taken) is = absurd (alike round from_node to_node place sent taken is)
 
--- so it is with what is too wide
+-- an answer that something is too wide is one
 wide-linkless : (names : List (List ℕ)) (wide : Wide) (answer : Answer) → answer ≡ wide_answer names wide → TellsNoLink answer
 wide-linkless names wide answer is = status-linkless answer _ (ap status_of is ∙ wide-status names wide) tt
 
--- with the answer of DPOP
+-- so is the answer of DPOP
 dpop-linkless : (file : TextFile) (certified : Bool) (wide : Option Wide) (answer : Answer) → IsAnswerBy file certified wide answer → TellsNoLink answer
 dpop-linkless file certified None answer is = status-linkless answer _ (report-solved file certified answer is) tt
 dpop-linkless file certified (Some wide) answer is = wide-linkless file.names wide answer is
 
--- with that of a cut
+-- so is the answer of a cut
 refusal-linkless : (fault : CutFault) (answer : Answer) → IsRefusalAnswer fault answer → TellsNoLink answer
 refusal-linkless (faults.TooMany turns) answer is = status-linkless answer _ (ap status_of is) tt
 refusal-linkless (faults.Total cells) answer is = status-linkless answer _ (ap status_of is) tt
@@ -110,7 +110,7 @@ cut-linkless : (file : TextFile) (cut : List ℕ) (certified : Bool) (refusal : 
 cut-linkless file cut certified (Some fault) answer is = refusal-linkless fault answer is
 cut-linkless file cut certified None answer is = status-linkless answer _ (ap status_of is.is) (ending-linkless is.report.status)
 
--- with every answer to what a text declares
+-- so is every answer to what a text declares
 pub file-linkless : (task : FileTask) (t : Told) (answer : Answer) → IsFileAnswer task t answer → TellsNoLink answer
 file-linkless tasks.Plain t answer is = no-link (IsFileAnswer tasks.Plain t) (λ no. no) (λ from to at sent taken names no. no) (λ round from_node to_node place sent taken no. no) answer is
 file-linkless (tasks.Dpop certified) t answer is = dpop-linkless is.file certified (wide_in (problem_solved is.file)) answer is.is
@@ -122,7 +122,7 @@ file-linkless (tasks.Cut limit certified) t answer is = cut-linkless is.file is.
 file-linkless tasks.Tree t answer is = status-linkless answer _ (tree-solved is.file answer is.is) tt
 file-linkless tasks.Upgrade t answer is = status-linkless answer _ (upgraded-solved t.declared t.bar answer is) tt
 
--- with one that refuses a problem
+-- so is an answer that refuses a problem
 own-refused : (r : Result Parts Fault) (refusal : Answer) → own_front r ≡ Err refusal → status_of refusal ≡ BadText
 own-refused (Ok parts) refusal e = cc e
 own-refused (Err fault) refusal e = let same : refused_by fault ≡ refusal = cc e in sym (ap status_of same)
@@ -135,7 +135,7 @@ front-linkless : (format : Format) (bytes : List ℕ) (refusal answer : Answer) 
 front-linkless Own bytes refusal answer e is = status-linkless answer _ (ap status_of is ∙ own-refused (text_read bytes) refusal e) tt
 front-linkless Wcsp bytes refusal answer e is = status-linkless answer _ (ap status_of is ∙ wcsp-refused bytes (wcsp_read bytes) refusal e) tt
 
--- with that of `check`
+-- so is the answer of `check`
 read-linkless : (file : TextFile) (before : ℕ) (read : Result Report ReportFault) (answer : Answer) → IsReadAnswer file before read answer → TellsNoLink answer
 read-linkless file before (Ok report) answer is = no-link (IsReadAnswer file before (Ok report)) (λ no. no) (λ from to at sent taken names no. no) (λ round from_node to_node place sent taken no. no) answer is
 read-linkless file before (Err fault) answer is = status-linkless answer _ (ap status_of is) tt
@@ -144,7 +144,7 @@ report-linkless : (format : Format) (bytes : List ℕ) (read : Result Parts Answ
 report-linkless format bytes (Ok parts) answer e is = read-linkless is.file (lines_in (take parts.used bytes)) (report_read (drop parts.used bytes) is.file) answer is.is
 report-linkless format bytes (Err refusal) answer e is = front-linkless format bytes refusal answer e is
 
--- with that of `replay`
+-- so is the answer of `replay`
 played-linkless : (file : TextFile) (before : ℕ) (text : List ℕ) (after : Option ℕ) (error : ℕ) (certificate : Option Certificate) (answer : Answer) → IsReplayOf file before text after error certificate answer → TellsNoLink answer
 played-linkless file before text after error (Some (Log log)) answer is =
     no-link (IsReplay file (start_state (agents_for file error)) (events_of (log_up_to after log))) (λ no. no) (λ from to at sent taken names no. no) (λ round from_node to_node place sent taken no. no) answer is
@@ -161,7 +161,7 @@ behind-linkless format bytes after (Ok parts) answer e is =
     replay-linkless is.file (lines_in (take parts.used bytes)) (drop parts.used bytes) after (report_read (drop parts.used bytes) is.file) answer is.is
 behind-linkless format bytes after (Err refusal) answer e is = front-linkless format bytes refusal answer e is
 
--- and with that of `edit`
+-- so is the answer of `edit`
 lines-linkless : (told : Result ToldLines Refused) (answer : Answer) → told_answer told answer → TellsNoLink answer
 lines-linkless (Ok told) answer is = status-linkless answer _ (ap status_of is) tt
 lines-linkless (Err fault) answer is = status-linkless answer _ (ap status_of is) tt
@@ -174,7 +174,7 @@ edits-linkless : (bytes : List ℕ) (read : Result Parts Answer) (answer : Answe
 edits-linkless bytes (Ok parts) answer e is = edited-linkless is.file (lines_in (take parts.used bytes)) (drop parts.used bytes) (wide_in (problem_solved is.file)) answer is.is
 edits-linkless bytes (Err refusal) answer e is = front-linkless Own bytes refusal answer e is
 
--- such an answer, where the dialer was left as it was
+-- such an answer, if the dialer is as it was
 module _ (many honest : Type 0) (old new : ℕ) (still : new ≡ old) where
   pub linkless-tells : (answer : Answer) → TellsNoLink answer → TellsAnswer many honest old new answer
   linkless-tells answer none = record {

@@ -1,4 +1,5 @@
--- Of inputs that are read alike DPOP has one answer, and auto has it too where DPOP fits; a drill by DPOP has one; an optimum of `edit` is that of DPOP.
+-- Inputs that are read alike have one answer of DPOP, and of auto when DPOP fits; a drill by DPOP
+-- has one answer; an optimum of `edit` is that of DPOP.
 use Rattle.std.proofs.Common.{◌≡◌, ℕ, inl, inr, Bool, false, List, Option, None, Result, Ok, Err, sym, ap, subst, ◌∙◌}
 use Rattle.dcop_optimum.specs.TreeOptimum.{FirstOptimaOfTreesAreOne}
 use Rattle.pseudotree.specs.DepthFirst.{DepthFirstTreesAreLinked}
@@ -66,7 +67,7 @@ dpop_answers_one optima trees format format' certified words words' input input'
     (task-IsAnswer words asks.command (File format (tasks.Dpop certified)) input a asks.asked asks.served of_a)
     (task-IsAnswer words' asks'.command (File format' (tasks.Dpop certified)) input' b asks'.asked asks'.served of_b)
 
--- an answer of auto is one of DPOP where nothing is too wide
+-- an answer of auto is one of DPOP if nothing is too wide
 fit-dpop : (d : Declared) (error budget : ℕ) (certified : Bool) (answer : Answer) → HasFitTree d → AnswersAuto d error budget certified answer → AnswersDpop d certified answer
 fit-dpop d error budget certified answer fit is =
     let none : wide_in (problem_solved is.file) ≡ None = fit-none d fit is.file is.whole is.declared in record {
@@ -92,7 +93,7 @@ auto_answers_dpop format certified words words' input answer asks asks' fit is =
     (auto_of_input format asks.error asks.budget certified input answer fit
     (task-IsAnswer words asks.command (File format (tasks.Auto asks.error asks.budget certified)) input answer asks.asked asks.served is))
 
--- an answer to words that come to DPOP is one of DPOP
+-- an answer to words that lead to DPOP is one of DPOP
 come_to_input : (format : Format) (certified : Bool) (words : List (List ℕ)) (input : Input) (answer : Answer) → ComeToDpop format certified input words → IsAnswer words input answer
     → IsInputAnswer (File format (tasks.Dpop certified)) input answer
 come_to_input format certified words input answer (inl asks) is = task-IsAnswer words asks.command (File format (tasks.Dpop certified)) input answer asks.asked asks.served is
@@ -113,7 +114,7 @@ drill-belongs drill words input answer asks is =
     let unread : IsServedAnswer asks.command None input answer = subst (λ (t : Option Task). IsServedAnswer asks.command t input answer) asks.unread served in
     subst (λ (d : Option Drill). IsUnreadAnswer d answer) asks.served unread.1
 
--- the answer of DPOP of which a drill tells
+-- the answer of DPOP that a drill summarizes
 drill-dpop : (drill : Drill) (answer : Answer) → drill.task ≡ tasks.Dpop false → (is : IsDrillAnswer drill answer) → AnswersDpop (declared_by (made_for drill)) false is.solved
 drill-dpop drill answer by is = subst (λ (t : FileTask). IsFileAnswer t (told_of (made_for drill) None) is.solved) by is.is
 

@@ -92,7 +92,7 @@ lawful-up-to net log (Some after) none = lawful-first 1 net log after none
 no_fault : (net : Network) (log : List LogEvent) (place : ℕ) (fault : EventFault) → fault_in 1 net log ≡ None → ¬ FirstFault net (events_of log) place fault
 no_fault net log place fault none first = none-some (differences.Event (1 + place) fault) (sym none ∙ fault_told 1 net log place fault first)
 
--- what is replayed of a run is told by its end
+-- the replay of a run answers with its end
 module _ (file : TextFile) (net : Network) (log : List LogEvent) (none : fault_in 1 net log ≡ None) where
   differs_replayed : (differs : Differs) (names : List (List ℕ)) → ¬ IsReplay file net (events_of log) (answers.Verdict (No differs) names)
   differs_replayed (differences.Event at fault) names is = no_fault net log is.1.0 fault none is.1.2
@@ -146,7 +146,7 @@ log_replayed file report log after answer holds is =
     let net : Network = start_state (agents_for file report.error) in
     run_replayed file net (log_up_to after log) (lawful-up-to net log after (run-lawful 1 net holds.end log holds.run.leads).0) answer is
 
--- the text of a report that was printed, behind the text of its problem, is read as that report
+-- the text of a report that was printed, after the text of its problem, is read as that report
 module _ (format : Format) (text : List ℕ) (printed : IsPrintedFor format text) where
   abbrev used : ℕ
   used = printed.parts.used
@@ -175,7 +175,7 @@ module _ (format : Format) (text : List ℕ) (printed : IsPrintedFor format text
       read_solved printed.file (lines_in (take used text)) printed.report answer
       (subst (λ (r : Result Report ReportFault). IsReadAnswer printed.file (lines_in (take used text)) r answer) read here) certified.holds
 
-  -- and `replay` tells the end, where the certificate is a log
+  -- and `replay` answers with the end, if the certificate is a log
   replayed_solved : (log : List LogEvent) (after : Option ℕ) (answer : Answer) → printed.report.certificate ≡ Some (Log log)
       → AnswersReplay printed.parts.declared (lines_in (take used text)) (drop used text) after answer → status_of answer ≡ Solved
   replayed_solved log after answer logged is =

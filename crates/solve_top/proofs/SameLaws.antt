@@ -1,4 +1,4 @@
--- One file is declared by a text, and one answer of DPOP belongs to it.
+-- A text declares one file, which has one answer of DPOP.
 use Rattle.std.proofs.Common.{◌≡◌, ℕ, Bool, List, length, Option, Some, None, sym, ap, ap₂, subst, ◌∙◌}
 use Rattle.dcop_base.specs.Whole.{IsProblem}
 use Rattle.dcop_base.specs.Graph.{AreJoints}
@@ -33,7 +33,7 @@ one_file f g of_f of_g e =
     (AreJoints-unique (length g.problem.sizes) g.problem.tables f.problem.joints g.problem.joints
     (subst (λ (d : Declared). AreJoints (length d.sizes) d.tables f.problem.joints) e of_f.joints) of_g.joints)
 
--- an answer with a report of DPOP, taken apart
+-- the parts of an answer with a report of DPOP
 pub report_in : (file : TextFile) (certified : Bool) (answer : Answer) → IsDpopSolved file certified answer
     → (report : Report) × (answer ≡ answers.Report report file) × IsDpopReport file certified report
 report_in file certified (answers.Report report same) is = (report, ap (λ (f : TextFile). answers.Report report f) is.0, is.1)
@@ -59,7 +59,7 @@ report_in file certified (answers.LinkDiffers from to at sent taken links) is = 
 report_in file certified (answers.LinkBytes round from_node to_node place sent taken) is = absurd is
 
 module _ (optima : FirstOptimaOfTreesAreOne) (trees : DepthFirstTreesAreLinked) (certified : Bool) where
-  -- one answer of DPOP belongs to a file in whose tree this is too wide, or nothing
+  -- a file in whose tree this is too wide, or nothing, has one answer of DPOP
   one_by : (file : TextFile) → IsProblem file.problem → (wide : Option Wide) (a b : Answer) → IsAnswerBy file certified wide a → IsAnswerBy file certified wide b → a ≡ b
   one_by file whole (Some wide) a b of_a of_b = of_a ∙ sym of_b
   one_by file whole None a b of_a of_b =
@@ -67,7 +67,7 @@ module _ (optima : FirstOptimaOfTreesAreOne) (trees : DepthFirstTreesAreLinked) 
       let in_b = report_in file certified b of_b in
       in_a.1 ∙ ap (λ (r : Report). answers.Report r file) (one_report optima trees file whole certified in_a.0 in_b.0 in_a.2 in_b.2) ∙ sym in_b.1
 
-  -- one answer of DPOP belongs to what a text declares
+  -- what a text declares has one answer of DPOP
   pub one_answer : (d : Declared) (a b : Answer) → AnswersDpop d certified a → AnswersDpop d certified b → a ≡ b
   one_answer d a b of_a of_b =
       let same : of_b.file ≡ of_a.file = one_file of_b.file of_a.file of_b.whole of_a.whole (of_b.declared ∙ sym of_a.declared) in

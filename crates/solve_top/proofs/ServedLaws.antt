@@ -1,4 +1,4 @@
--- Every command asks for something on an input, or for a drill.
+-- Every command has a task on an input, or a drill.
 use Rattle.std.proofs.Common.{◌≡◌, None}
 use Rattle.solve_words.specs.declared.command.Command.{Command}
 use Rattle.solve_words.specs.declared.command.Command.TheVariants.{Solve, Tree, Check, Replay, Drill, Upgrade, Edit}

@@ -27,7 +27,7 @@ pub source-so : (words : List (List ℕ)) (source source' : SourceState) (answer
 source-so words source source' answer answered sink sink' faults faults' status shown more =
     shows.source-so answer sink sink' faults faults' status shown (ReadFault-answered words source source' answer answered more)
 
--- a status is that of links that failed, or not
+-- a status is that of failed links, or not
 is-link : (status : Status) → (status ≡ LinkFault) ⊎ (status ≢ LinkFault)
 is-link Solved = inr (λ e. cc e)
 is-link Spent = inr (λ e. cc e)
@@ -42,7 +42,7 @@ is-link LinkFault = inl refl
 is-link LinkDiffers = inr (λ e. cc e)
 is-link TooMany = inr (λ e. cc e)
 
--- what an answer tells of links, the call's status tells
+-- the status of the call says about links what the answer says
 module _ (words : List (List ℕ)) (honest : Type 0) (old new : ℕ) (answer : Answer) (tells : TellsAnswer (AskForNodes words) honest old new answer) where
   risen-failed : old < new → status_of answer ≡ LinkFault
   risen-failed more = elim (is-link (status_of answer)) [
@@ -50,7 +50,7 @@ module _ (words : List (List ℕ)) (honest : Type 0) (old new : ℕ) (answer : A
     | inr other ↦ let still = tells.quiet other in absurd (omega (arith, still, more))
   ]
 
-  -- an answer tells nothing of the links of a dialer that is honest and has not failed
+  -- an answer says nothing about the links of a dialer that is honest and has not failed
   unfailed : ¬ Rose old new → status_of answer ≢ LinkFault
   unfailed still failed = still (tells.failed failed).2
 

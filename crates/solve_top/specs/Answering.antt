@@ -1,4 +1,4 @@
--- Which answer belongs to which words and input, in the order in which a call goes.
+-- Which answer belongs to which words and input; each definition rests on the ones above it.
 use Rattle.std.specs.Prelude.{◌≡◌, ℕ, ◌≤◌, List, Option, Some, None, Result, Ok, Err, take, drop}
 use Rattle.dcop_base.specs.Table.{product}
 use Rattle.dcop_base.specs.Limits.{assignment_limit}
@@ -36,13 +36,14 @@ use Rattle.solve_cut.specs.Cut.{AnswersCut}
 use Rattle.solve_edit.specs.Editing.{AnswersEdit}
 use Rattle.solve_words.specs.declared.command.Format.TheVariants.{Dcop as Own}
 
--- the answer of `upgrade` to what is told: the file in version 2, with the bar of a WCSP text
+-- the answer of `upgrade` to what was read: the file in version 2, with the bar of a WCSP text
 abbrev pub IsUpgraded : Declared → Option ℕ → Answer → Type 0
 IsUpgraded d None (answers.Upgraded file) = declared_by file ≡ record d { version = 2 }
 IsUpgraded d (Some bar) (answers.UpgradedWcsp same file) = (same ≡ bar) × (declared_by file ≡ record d { version = 2 })
 IsUpgraded d bar answer = ⊥
 
--- the answer to a task on a text that declares this: plain has at most assignment_limit assignments to try
+-- the answer to a task on a text that declares this; plain tries at most assignment_limit
+-- assignments
 abbrev pub IsFileAnswer : FileTask → Told → Answer → Type 0
 IsFileAnswer tasks.Plain t (answers.Report report file) =
     (product t.declared.sizes ≤ assignment_limit) × (declared_by file ≡ t.declared) × IsPlainReport file report × HasFirstOptimum file report
@@ -60,22 +61,27 @@ abbrev pub IsTextAnswer : FileTask → Result Told Answer → Answer → Type 0
 IsTextAnswer task (Ok told) answer = IsFileAnswer task told answer
 IsTextAnswer task (Err refusal) answer = answer ≡ refusal
 
--- the answer of `check` on an input whose problem is read as this: what comes of the report behind the problem's last line
+-- the answer of `check` on an input whose problem is read as this; it is about the report after the
+-- problem's last line
 abbrev pub IsReportAnswer : List ℕ → Result Parts Answer → Answer → Type 0
 IsReportAnswer bytes (Ok parts) answer = AnswersCheck parts.declared (lines_in (take parts.used bytes)) (drop parts.used bytes) answer
 IsReportAnswer bytes (Err refusal) answer = answer ≡ refusal
 
--- the answer of `replay` on an input whose problem is read as this: what comes of the first events of the log of the report behind the problem's last line
+-- the answer of `replay` on an input whose problem is read as this; it is about the first events of
+-- the log of the report after the problem's last line
 abbrev pub IsReplayAnswer : List ℕ → Option ℕ → Result Parts Answer → Answer → Type 0
 IsReplayAnswer bytes after (Ok parts) answer = AnswersReplay parts.declared (lines_in (take parts.used bytes)) (drop parts.used bytes) after answer
 IsReplayAnswer bytes after (Err refusal) answer = answer ≡ refusal
 
--- the answer of `edit` on an input whose problem is read as this: what comes of the edit lines behind the problem's last line
+-- the answer of `edit` on an input whose problem is read as this; it is about the edit lines after
+-- the problem's last line
 abbrev pub IsEditsAnswer : List ℕ → Result Parts Answer → Answer → Type 0
 IsEditsAnswer bytes (Ok parts) answer = AnswersEdit parts.declared (lines_in (take parts.used bytes)) (drop parts.used bytes) answer
 IsEditsAnswer bytes (Err refusal) answer = answer ≡ refusal
 
--- the answer to a task on a text, by the format of its problem: `check` and `replay` read a problem and the report behind it, `edit` a problem and the edit lines behind it, every other task a problem behind which no further word stands
+-- the answer to a task on a text, by the format of its problem: `check` and `replay` read a problem
+-- and the report after it, `edit` a problem and the edit lines after it, every other task a problem
+-- with no further word after it
 abbrev pub IsTaskAnswer : Task → List ℕ → Answer → Type 0
 IsTaskAnswer (File format task) bytes answer = IsTextAnswer task (input_read format bytes) answer
 IsTaskAnswer (Check format) bytes answer = IsReportAnswer bytes (front_read format bytes) answer
@@ -89,24 +95,25 @@ IsInputAnswer task Broken answer = answer ≡ answers.Read
 IsInputAnswer task TooLong answer = answer ≡ answers.ProblemText 0 9 0
 IsInputAnswer task (Whole bytes) answer = IsTaskAnswer task bytes answer
 
--- the answer to a drill: what it tells of an answer of `solve` on the file that is made for it, and that answer is right
+-- the answer to a drill: it summarizes a right answer of `solve` on the file made for it, or passes
+-- on that answer's refusal
 pub record IsDrillAnswer (drill : Drill) (answer : Answer) : Type 0 where
   pub solved : Answer
   pub is : IsFileAnswer drill.task (told_of (made_for drill) None) solved
   pub right : TellsRight solved
   pub told : answer ≡ drilled drill.seed solved
 
--- the answer to a command for which nothing is read: that of a drill, since every other command asks for something on an input
+-- the answer to a command that reads nothing: only a drill is such a command
 abbrev pub IsUnreadAnswer : Option Drill → Answer → Type 0
 IsUnreadAnswer (Some drill) answer = IsDrillAnswer drill answer
 IsUnreadAnswer None answer = ⊥
 
--- the answer to a command, by its task on an input where it has one
+-- the answer to a command: by its task if it reads an input, and otherwise with nothing read
 abbrev pub IsServedAnswer : Command → Option Task → Input → Answer → Type 0
 IsServedAnswer command (Some task) input answer = IsInputAnswer task input answer
 IsServedAnswer command None input answer = (input ≡ Unread) × IsUnreadAnswer (drill_of command) answer
 
--- the answer to a command, or to words that give none
+-- the answer to a command, or to words that are refused
 abbrev pub IsCommandAnswer : Result Command WordFault → Input → Answer → Type 0
 IsCommandAnswer (Ok command) input answer = IsServedAnswer command (task_of command) input answer
 IsCommandAnswer (Err (words.Bad at kind)) input answer =

@@ -1,4 +1,4 @@
--- The command `drill`: which problem it makes, and what is asked on it.
+-- The command `drill`: which problem it makes, and how it solves it.
 use Rattle.std.specs.Prelude.{ℕ, false, Option, Some, None}
 use Rattle.instance_make.specs.Limits.{CanMake}
 use Rattle.instance_make.specs.Generator.{made_problem}
@@ -13,12 +13,13 @@ use Rattle.solve_top.specs.declared.drilling.Drill.{Drill}
 abbrev pub made_for : Drill → TextFile
 made_for drill = numbered_file (made_problem drill.seed drill.vars drill.size drill.degree drill.top)
 
--- what a command asks to be made and solved: what `solve` does with the same options, without a certificate
+-- the problem that a command asks to make and the task on it: the task of `solve` with the same
+-- options and no certificate
 abbrev pub drill_of : Command → Option Drill
 drill_of (commands.Drill method workers error budget nodes seed vars size degree top cells) =
     Some (record { seed = seed; vars = vars; size = size; degree = degree; top = top; task = task_by method error budget false cells })
 drill_of _ = None
 
--- a drill for which a problem can be made, and whose task is in its range
+-- a problem can be made for this drill, and its task is in its range
 abbrev pub IsDrillInRange : Drill → Type 0
 IsDrillInRange drill = CanMake drill.vars drill.size drill.degree drill.top × IsFileTaskInRange drill.task

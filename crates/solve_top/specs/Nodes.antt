@@ -1,4 +1,5 @@
--- Agents in more nodes than one: which words ask for them, and the answers of the links between nodes.
+-- Agents in more than one node: which words ask for them, and the answers about the links between
+-- nodes.
 use Rattle.std.specs.Prelude.{◌≡◌, ◌≢◌, ℕ, ◌<◌, ◌≤◌, ◌⊎◌, List, Option, Some, None, Result, Ok, Err, option_map}
 use Rattle.dcop_edge.specs.Faults.{Rose}
 use Rattle.dcop_base.specs.Whole.{IsProblem}
@@ -39,34 +40,36 @@ nodes_of (Solve method workers error budget nodes certificate format cells) = no
 nodes_of (Drill method workers error budget nodes seed vars size degree top cells) = nodes
 nodes_of _ = 1
 
--- words that ask for more nodes than one
+-- these words ask for more than one node
 pub record AskForNodes (words : List (List ℕ)) : Type 0 where
   pub command : Command
   pub asked : answer_to words ≡ Ok command
   pub many : 1 < nodes_of command
 
--- the code of an envelope, where there is one
+-- the code of an envelope, if there is one
 abbrev pub code_in : Option (ℕ × Sent) → Option (List ℕ)
 code_in envelope = option_map code_of envelope
 
--- the answer that tells a difference, beside the names of the variables
+-- the answer that reports a difference, given the names of the variables
 abbrev pub difference_answer : List (List ℕ) → Difference → Answer
 difference_answer names (Message from to at sent taken) = answers.LinkDiffers from to at (code_in sent) (code_in taken) names
 difference_answer names (Bytes round from_node to_node place sent taken) = answers.LinkBytes round from_node to_node place sent taken
 
--- what comes of telling a fault of agents in nodes, whose variables have these names: that the links failed is told without memory
+-- what reporting a fault of agents in nodes gives, given the names of their variables; that the
+-- links failed is reported without any memory
 abbrev pub TellsFault : List (List ℕ) → NodeFault → Result Answer NoMemory → Type 0
 TellsFault names Failed result = result ≡ Ok answers.Link
 TellsFault names (Differs d) (Ok answer) = answer ≡ difference_answer names d
 TellsFault names no_memory (Ok answer) = ⊥
 TellsFault names fault (Err refused) = Unit {0}
 
--- a fault whose agents, where it tells a link, are among so many
+-- the link of a difference, if the fault reports one, is between agents with numbers below `count`
 abbrev pub IsFaultNamed : ℕ → NodeFault → Type 0
 IsFaultNamed count (Differs (Message from to at sent taken)) = (from < count) × (to < count)
 IsFaultNamed count fault = Unit {0}
 
--- it tells a difference that agents came to, in so many nodes, who do a task on a file that declares this
+-- this answer reports a difference that the agents of a task reached, in this many nodes, on a file
+-- that declares this
 pub record TellsDifference (task : FileTask) (nodes : ℕ) (d : Declared) (answer : Answer) : Type 0 where
   pub file : TextFile
   pub whole : IsProblem file.problem
@@ -75,17 +78,19 @@ pub record TellsDifference (task : FileTask) (nodes : ℕ) (d : Declared) (answe
   pub differed : HaveDiffered (problem_solved file) (IsPhaseOf task (problem_solved file)) nodes difference
   pub told : answer ≡ difference_answer file.names difference
 
--- an answer of the links between so many nodes, in which a task is done: they failed, or what was taken is not what was sent
+-- an answer about the links between the nodes in which a task is done: they failed, or what was
+-- taken is not what was sent
 abbrev pub IsOfLinks : FileTask → ℕ → Declared → Answer → Type 0
 IsOfLinks task nodes d answer = (answer ≡ answers.Link) ⊎ TellsDifference task nodes d answer
 
--- an input tells a problem on which agents do a task: all of a text that is accepted; or, for a drill, nothing is read and the problem is the one that is made
+-- what an input gives agents to do: the task and problem of an accepted text; or, for a drill, with
+-- nothing read, the task and the problem that is made
 abbrev pub TellsProblem : Option Task → Option Drilled → Input → FileTask → Told → Type 0
 TellsProblem (Some (File format task)) drill (Whole bytes) done told = (done ≡ task) × (input_read format bytes ≡ Ok told)
 TellsProblem None (Some drill) Unread done told = (done ≡ drill.task) × (told ≡ told_of (made_for drill) None)
 TellsProblem task drill input done told = ⊥
 
--- an answer of links to words that ask for more nodes than one, where words and text are accepted
+-- an answer about links to words that ask for more than one node, with words and text accepted
 pub record IsLinkAnswer (words : List (List ℕ)) (input : Input) (answer : Answer) : Type 0 where
   pub asks : AskForNodes words
   pub task : FileTask
@@ -93,32 +98,36 @@ pub record IsLinkAnswer (words : List (List ℕ)) (input : Input) (answer : Answ
   pub read : TellsProblem (task_of asks.command) (drill_of asks.command) input task told
   pub links : IsOfLinks task (nodes_of asks.command) told.declared answer
 
--- an answer to a task on a text that declares this, by agents in so many nodes: one that belongs to it, or one of the links between them
+-- an answer to a task, by agents in this many nodes, on a text that declares this: one that belongs
+-- to it, or one about the links between the nodes
 abbrev pub IsAnswerIn : FileTask → ℕ → Declared → (Answer → Type 0) → Answer → Type 0
 IsAnswerIn task nodes d belongs answer = belongs answer ⊎ ((1 < nodes) × IsOfLinks task nodes d answer)
 
--- the same, on an input that is read as this
+-- an answer to a task, by agents in this many nodes, on an input that is read as this
 abbrev pub IsAnswerRead : FileTask → ℕ → Result Told Answer → (Answer → Type 0) → Answer → Type 0
 IsAnswerRead task nodes (Ok told) belongs answer = IsAnswerIn task nodes told.declared belongs answer
 IsAnswerRead task nodes (Err refusal) belongs answer = belongs answer
 
--- the answer to a task on a text, by agents in so many nodes
+-- an answer to a task on a text, by agents in this many nodes
 abbrev pub IsTaskAnswerIn : ℕ → Task → List ℕ → Answer → Type 0
 IsTaskAnswerIn nodes (File format task) bytes answer = IsAnswerRead task nodes (input_read format bytes) (IsTextAnswer task (input_read format bytes)) answer
 IsTaskAnswerIn nodes task bytes answer = IsTaskAnswer task bytes answer
 
--- the answer to a command for which nothing is read, by agents in so many nodes
+-- an answer to a command that reads nothing, by agents in this many nodes
 abbrev pub IsUnreadAnswerIn : ℕ → Option Drilled → Answer → Type 0
 IsUnreadAnswerIn nodes (Some drill) answer = IsAnswerIn drill.task nodes (declared_by (made_for drill)) (IsDrillAnswer drill) answer
 IsUnreadAnswerIn nodes None answer = IsUnreadAnswer None answer
 
--- what an answer tells of the links between nodes, where this is that there are more nodes than one, and this that the dialer is honest: the dialer's count rose where it tells that they failed, and in no other case; and a difference is told over no honest dialer
+-- what an answer says about links: `many` states that there is more than one node, `honest` that
+-- the dialer is honest; if the answer is that links failed, `many` holds and the dialer's count of
+-- faults rose, and otherwise that count is unchanged; if it is that links differ, `many` holds and
+-- `honest` does not
 pub record TellsAnswer (many honest : Type 0) (old new : ℕ) (answer : Answer) : Type 0 where
   pub failed : status_of answer ≡ LinkFault → many × (old ≤ new) × Rose old new
   pub differs : status_of answer ≡ LinkDiffers → many × (¬ honest)
   pub quiet : status_of answer ≢ LinkFault → new ≡ old
 
--- the same, where want of memory leaves the count as it was
+-- the same for a call that may run out of memory, which leaves the count as it was
 abbrev pub TellsLinks : Type 0 → Type 0 → ℕ → ℕ → Result Answer NoMemory → Type 0
 TellsLinks many honest old new (Ok answer) = TellsAnswer many honest old new answer
 TellsLinks many honest old new (Err refused) = new ≡ old

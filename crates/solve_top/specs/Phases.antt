@@ -6,7 +6,7 @@ use Rattle.solve_agents.specs.Phases.{IsNoPhase, IsPhaseByDpop, IsPhaseByAdopt, 
 use Rattle.solve_top.specs.declared.task.FileTask.{FileTask}
 use Rattle.solve_top.specs.declared.task.FileTask.TheVariants as tasks
 
--- a phase of a task: one by its method, where agents are run in several nodes for it
+-- a phase of a task in which agents run in several nodes, by its method
 abbrev pub IsPhaseOf : FileTask → Dcop → Start → ℕ → Type 0
 IsPhaseOf (tasks.Dpop certified) p = IsPhaseByDpop p
 IsPhaseOf (tasks.Adopt error budget certified) p = IsPhaseByAdopt p error budget

@@ -1,4 +1,5 @@
--- The answer of DPOP is one function of what was read, and so is that of auto where DPOP fits; a drill by DPOP has one; an optimum of `edit` is that of DPOP.
+-- Laws: DPOP, auto when DPOP fits, and a drill by DPOP have one answer each; an optimum of `edit`
+-- is that of DPOP.
 use Rattle.std.specs.Prelude.{◌≡◌, ℕ, ◌⊎◌, Bool, false, List, Some, None, Ok}
 use Rattle.solve_words.specs.declared.command.Command.{Command}
 use Rattle.solve_words.specs.declared.command.Format.{Format}
@@ -25,32 +26,36 @@ use Rattle.solve_top.specs.Solving.{HasFitTree}
 use Rattle.solve_inputs.specs.Told.{Told}
 use Rattle.solve_inputs.specs.Inputs.{input_read, declared_in}
 
--- words that ask for DPOP on a problem in this format, with a certificate or without
+-- these words ask for DPOP on a problem in this format, with or without a certificate
 pub record AskForDpop (format : Format) (certified : Bool) (words : List (List ℕ)) : Type 0 where
   pub command : Command
   pub asked : answer_to words ≡ Ok command
   pub served : task_of command ≡ Some (File format (tasks.Dpop certified))
 
--- two inputs, each of a format, are read alike: two texts that declare the same or are refused by the same answer, or one and the same input
+-- two inputs, each in its format, are read alike: two texts declare the same or are refused by the
+-- same answer; otherwise both inputs are the same
 abbrev pub AreReadAlike : Format → Format → Input → Input → Type 0
 AreReadAlike format format' (Whole bytes) (Whole bytes') = declared_in (input_read format bytes) ≡ declared_in (input_read format' bytes')
 AreReadAlike format format' input input' = input ≡ input'
 
--- whatever words ask for DPOP, all with a certificate or all without, one answer belongs to inputs that are read alike
+-- inputs that are read alike have one answer, whatever words ask for DPOP, if all ask for a
+-- certificate or none does
 abbrev pub DpopAnswersAreOne : Type 0
 DpopAnswersAreOne = (format format' : Format) (certified : Bool) (words words' : List (List ℕ)) (input input' : Input) (a b : Answer) → AskForDpop format certified words → AskForDpop format' certified words'
     → AreReadAlike format format' input input' → IsAnswer words input a → IsAnswer words' input' b → a ≡ b
 
--- an answer that words are given on an input, also one of links between the nodes that they ask for
+-- an answer that words may get on an input; it may be one about the links between the nodes that
+-- they ask for
 abbrev pub IsGiven : List (List ℕ) → Input → Answer → Type 0
 IsGiven words input answer = IsAnswer words input answer ⊎ IsLinkAnswer words input answer
 
--- whatever words ask for DPOP, in any number of nodes, all with a certificate or all without: the solved answers on inputs that are read alike are one
+-- inputs that are read alike have one solved answer, whatever words ask for DPOP in any number of
+-- nodes, if all ask for a certificate or none does
 abbrev pub SolvedAnswersAreOne : Type 0
 SolvedAnswersAreOne = (format format' : Format) (certified : Bool) (words words' : List (List ℕ)) (input input' : Input) (a b : Answer) → AskForDpop format certified words → AskForDpop format' certified words'
     → AreReadAlike format format' input input' → IsGiven words input a → IsGiven words' input' b → status_of a ≡ Solved → status_of b ≡ Solved → a ≡ b
 
--- words that ask for auto on a problem in this format, with a certificate or without
+-- these words ask for auto on a problem in this format, with or without a certificate
 pub record AskForAuto (format : Format) (certified : Bool) (words : List (List ℕ)) : Type 0 where
   pub command : Command
   pub error : ℕ
@@ -58,38 +63,41 @@ pub record AskForAuto (format : Format) (certified : Bool) (words : List (List �
   pub asked : answer_to words ≡ Ok command
   pub served : task_of command ≡ Some (File format (tasks.Auto error budget certified))
 
--- an input of this format was read that tells a problem in whose tree nothing is too wide for DPOP
+-- an input in this format is read as a problem whose tree is not too wide for DPOP
 abbrev pub HasFitProblem : Format → Input → Type 0
 HasFitProblem format (Whole bytes) = (told : Told) × (input_read format bytes ≡ Ok told) × HasFitTree told.declared
 HasFitProblem format input = ⊥
 
--- words that ask for DPOP, or for auto on an input that tells such a problem, with a certificate or without
+-- these words ask for DPOP, or for auto on an input with such a problem, with or without a
+-- certificate
 abbrev pub ComeToDpop : Format → Bool → Input → List (List ℕ) → Type 0
 ComeToDpop format certified input words = AskForDpop format certified words ⊎ (AskForAuto format certified words × HasFitProblem format input)
 
--- whatever words come to DPOP, in any number of nodes, all with a certificate or all without: the solved answers on inputs that are read alike are one
+-- inputs that are read alike have one solved answer, whatever words lead to DPOP in any number of
+-- nodes, if all ask for a certificate or none does
 abbrev pub FitAnswersAreOne : Type 0
 FitAnswersAreOne = (format format' : Format) (certified : Bool) (words words' : List (List ℕ)) (input input' : Input) (a b : Answer) → ComeToDpop format certified input words → ComeToDpop format' certified input' words'
     → AreReadAlike format format' input input' → IsGiven words input a → IsGiven words' input' b → status_of a ≡ Solved → status_of b ≡ Solved → a ≡ b
 
--- words that ask for this drill
+-- these words ask for this drill
 pub record AskForDrill (drill : Drill) (words : List (List ℕ)) : Type 0 where
   pub command : Command
   pub asked : answer_to words ≡ Ok command
   pub unread : task_of command ≡ None
   pub served : drill_of command ≡ Some drill
 
--- whatever words ask for one drill by DPOP, in any number of nodes: the solved answers are one
+-- one drill by DPOP has one solved answer, whatever words ask for it in any number of nodes
 abbrev pub DrillAnswersAreOne : Type 0
 DrillAnswersAreOne = (drill : Drill) (words words' : List (List ℕ)) (input input' : Input) (a b : Answer) → drill.task ≡ tasks.Dpop false → AskForDrill drill words → AskForDrill drill words'
     → IsGiven words input a → IsGiven words' input' b → status_of a ≡ Solved → status_of b ≡ Solved → a ≡ b
 
--- an answer of auto on such an input is one of DPOP, with a certificate or without alike
+-- an answer of auto on such an input is one of DPOP, if both ask for a certificate or neither does
 abbrev pub AutoAnswersAreThoseOfDpop : Type 0
 AutoAnswersAreThoseOfDpop = (format : Format) (certified : Bool) (words words' : List (List ℕ)) (input : Input) (answer : Answer) → AskForAuto format certified words → AskForDpop format certified words' → HasFitProblem format input
     → IsAnswer words input answer → IsAnswer words' input answer
 
--- an optimum of a session has the values and the cost that `solve --method dpop` reports of a text which declares the problem as it is now, with a certificate or without
+-- an optimum of a session has the values and the cost that `solve --method dpop` reports for a text
+-- that declares the problem as edited so far, with or without a certificate
 abbrev pub EditAnswersAreThoseOfDpop : Type 0
 EditAnswersAreThoseOfDpop = (format : Format) (certified : Bool) (words : List (List ℕ)) (bytes : List ℕ) (told : Told) (report : Report) (file : TextFile) (s : SessionState) (answer : Edited)
     → AskForDpop format certified words → input_read format bytes ≡ Ok told → told.declared ≡ declared_by s.file → IsProblem s.file.problem

@@ -1,4 +1,4 @@
--- What a top call does: it answers, and shows its answer.
+-- What a top call does: it finds an answer and shows it.
 use Rattle.std.specs.Prelude.{◌≡◌, ℕ, ◌≤◌, ◌⊎◌, List, [], ◌∷◌, ◌++◌, length, take, drop, ◌+◌, Some, None, Ok, IsTrue, is_some}
 use Rattle.dcop_base.specs.Table.{product}
 use Rattle.dcop_base.specs.Whole.{IsProblem}
@@ -42,28 +42,33 @@ use Rattle.solve_inputs.specs.Told.{Told}
 use Rattle.solve_inputs.specs.Inputs.{input_read}
 use Rattle.solve_inputs.specs.Fronts.{front_read, lines_in}
 
--- an answer to words, or one of links between the nodes that they ask for, with what was read for it of a source that stood so before and stands so afterwards
+-- an answer to words, possibly about the links between nodes, with the input read for it from a
+-- source with this state before and this state after
 pub record Answered (words : List (List ℕ)) (before after : SourceState) (answer : Answer) : Type 0 where
   pub input : Input
   pub read : IsReadFrom input before after
   pub belongs : IsAnswer words input answer ⊎ IsLinkAnswer words input answer
   pub right : TellsRight answer
 
--- a call on these words answered, and showed its answer, or its sink failed behind a prefix of it; where this is that its dialer is honest, and the dialer's count of faults went from here to there, the answer tells of the links between nodes what is so of them
+-- a call on these words found an answer and showed it, or its sink failed after a prefix of it;
+-- `honest` states that its dialer is honest, and the dialer's count of faults was `old` and is
+-- `new`
 pub record Solves (words : List (List ℕ)) (honest : Type 0) (old new : ℕ) (source source' : SourceState) (sink sink' : SinkState) (status : Status) : Type 0 where
   pub answer : Answer
   pub answered : Answered words source source' answer
   pub links : TellsAnswer (AskForNodes words) honest old new answer
   pub shown : IsShown answer sink sink' status ⊎ IsCut answer sink sink' status
 
--- a text that declares this is a file in whose depth-first tree, that of the problem solved, nothing is too wide: it is narrow and light
+-- a text that declares this is a file, and the depth-first tree of its problem solved is narrow and
+-- light, so that nothing is too wide
 pub record HasFitTree (d : Declared) : Type 0 where
   pub file : TextFile
   pub whole : IsProblem file.problem
   pub declared : declared_by file ≡ d
   pub fits : wide_in (solved file.goal file.problem) ≡ None
 
--- a task is within its limits: plain has no more assignments to try than it tries, for DPOP the tree is narrow and light, and nothing refuses a cut
+-- a task is within its limits: the assignments that plain tries, the width of the tree for DPOP,
+-- and what refuses a cut
 abbrev pub IsWithinLimits : FileTask → Declared → Type 0
 IsWithinLimits tasks.Plain d = product d.sizes ≤ assignment_limit
 IsWithinLimits (tasks.Dpop certified) d = HasFitTree d
@@ -73,13 +78,15 @@ IsWithinLimits (tasks.Cut limit certified) d = (size_limit ≤ limit) × HasAllo
 IsWithinLimits tasks.Tree d = Unit {0}
 IsWithinLimits tasks.Upgrade d = Unit {0}
 
--- a text of this format that is read whole as a problem that is within the limits of a task
+-- a text in this format is read whole as a problem within the limits of a task
 pub record IsProblemFor (format : Format) (task : FileTask) (text : List ℕ) : Type 0 where
   pub told : Told
   pub read : input_read format text ≡ Ok told
   pub within : IsWithinLimits task told.declared
 
--- the text of a problem in this format, behind whose last line no line has words, also where comments are words; and behind it a report that some method prints for it with a certificate
+-- a text begins with a problem in this format, which ends with line_feed and has no words, not even
+-- in comments, after its last line; a report follows that some method prints for it with a
+-- certificate
 pub record IsPrintedFor (format : Format) (text : List ℕ) : Type 0 where
   pub problem : List ℕ
   pub parts : Parts
@@ -95,27 +102,30 @@ pub record IsPrintedFor (format : Format) (text : List ℕ) : Type 0 where
   pub certified : IsTrue (is_some report.certificate)
   pub behind : text ≡ problem ++ report_text report file
 
--- the same, where the certificate is a log
+-- such a text, whose report has a log as its certificate
 pub record IsLoggedFor (format : Format) (text : List ℕ) : Type 0 where
   pub printed : IsPrintedFor format text
   pub log : List LogEvent
   pub is : printed.report.certificate ≡ Some (Log log)
 
--- the text of a problem in whose tree nothing is too wide, and behind it edit lines none of which is refused
+-- a text begins with a problem whose tree is not too wide; edit lines follow of which none is
+-- refused
 pub record IsEditedFor (text : List ℕ) : Type 0 where
   pub parts : Parts
   pub read : front_read Own text ≡ Ok parts
   pub fits : HasFitTree parts.declared
   pub taken : AreLinesTaken fits.file (plain_lines (lines_in (take parts.used text) + 1) (drop parts.used text))
 
--- a text on which a task is served: a problem within its limits, or for `check` a problem and the report that was printed for it, for `replay` one with a log, and for `edit` edit lines that are not refused
+-- a text for a task: a problem within its limits; for `check` a problem and a report printed for
+-- it; for `replay` one with a log; for `edit` edit lines of which none is refused
 abbrev pub IsTextFor : Task → List ℕ → Type 0
 IsTextFor (File format task) text = IsProblemFor format task text
 IsTextFor (Check format) text = IsPrintedFor format text
 IsTextFor (Replay format after) text = IsLoggedFor format text
 IsTextFor Edit text = IsEditedFor text
 
--- words and a text that are accepted, and that can be served
+-- words are accepted and give a task on an input, and the text is short enough and one for this
+-- task
 pub record Accepts (words : List (List ℕ)) (text : List ℕ) : Type 0 where
   pub command : Command
   pub task : Task
@@ -124,7 +134,7 @@ pub record Accepts (words : List (List ℕ)) (text : List ℕ) : Type 0 where
   pub short : length text ≤ input_limit
   pub fits : IsTextFor task text
 
--- words that ask for a drill that can be served, with the problem that is made for it within the limits of its task
+-- words ask for a drill whose problem is within the limits of its task
 pub record AsksDrill (words : List (List ℕ)) : Type 0 where
   pub command : Command
   pub drill : Drill
@@ -133,7 +143,8 @@ pub record AsksDrill (words : List (List ℕ)) : Type 0 where
   pub served : drill_of command ≡ Some drill
   pub within : IsWithinLimits drill.task (declared_by (made_for drill))
 
--- a task that is served goes well: it is solved, or for ADOPT, also where auto takes it, the budget is spent, or memory was wanted
+-- a task goes well: it is solved, or for ADOPT, also if auto takes it, the budget is spent, or
+-- memory ran out
 abbrev pub GoesWell : Status → Task → Type 0
 GoesWell statuses.Solved task = Unit {0}
 GoesWell statuses.NoMemory task = Unit {0}

@@ -39,8 +39,9 @@ use std::thread::Threads;
 use std::time::Clock;
 use wire_edge::Dialer;
 
-/// The answer to words, and where they are served to all that the source has left. The words are
-/// tested before anything is read.
+/// Finds the answer to words, and reads all that the source has left if they need an input.
+///
+/// The words are tested before anything is read.
 pub fn answer_of<R, S, G, D>(
     rt: &R,
     alloc: Global,
@@ -111,7 +112,7 @@ where
     }
 }
 
-/// The answer to a task on the problem that a whole input tells.
+/// The answer to a task on the problem of a whole input.
 fn text_answer<R, D, G>(
     crew: &Crew<R, G>,
     alloc: Global,
@@ -138,8 +139,8 @@ where
     }
 }
 
-/// What an input tells. Its bytes are given back as soon as they are read, so what is solved lies in
-/// their memory.
+/// Reads an input as a problem. The bytes are freed as soon as they are read, so that solving can
+/// use their memory.
 fn told_by(alloc: Global, format: Format, bytes: Bytes) -> Result<ReadInput, InputFault>
     ensures { IsInput (input_read format bytes) result }
 {
@@ -211,7 +212,7 @@ fn upgrade_answer(file: ProblemFile, bar: Option<u64>) -> Answer
     }
 }
 
-/// The answer of `check` on a text: what comes of the report that stands behind a problem.
+/// The answer of `check` on a text; it is about the report after the problem.
 fn report_answer(alloc: Global, format: Format, bytes: &[u8]) -> Result<Answer, NoMemory>
     requires short { length bytes.now ≤ input_limit }
     ensures belongs { IfOk result (IsReportAnswer bytes.now (front_read format bytes.now)) }

@@ -16,9 +16,11 @@ use solve_report::Answer;
 use std::alloc::Global;
 use std::thread::Threads;
 
-/// The answer of the method cut on a file: the agents of the problem solved find its tree, and then
-/// those of each turn solve a slice, in which no joined table has more than `limit` cells. Where it is
-/// to be certified, the report has the tables of all turns as its certificate.
+/// The answer of the method cut on a file.
+///
+/// The agents of the problem solved find its tree. Then the agents of each turn solve a slice, in
+/// which no joined table has more than `limit` cells. If it is to be certified, the report has the
+/// tables of all turns as its certificate.
 pub(crate) fn by_cut<R: Threads + Sync, G: Gate>(
     crew: &Crew<R, G>,
     alloc: Global,

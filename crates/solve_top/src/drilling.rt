@@ -1,4 +1,4 @@
-//! Answers for which nothing is read: those of drills.
+//! Answers of drills, which read nothing.
 
 ghost use Rattle.std.specs.Prelude.{◌≡◌, ◌<◌, Some, None, IfOk, IfSome};
 ghost use Rattle.solve_report.specs.AnswerText.{HasText};
@@ -26,16 +26,16 @@ use std::thread::Threads;
 use std::time::Clock;
 use wire_edge::Dialer;
 
-/// A problem that is to be made from a number, and what is asked on it.
+/// A problem to make from a number, and how to solve it.
 #[derive(Clone, Copy, Debug, PartialEq, Eq)]
 pub struct Drill {
-    /// The number.
+    /// The number that the problem is made from.
     pub seed: u64,
     /// How many variables the problem has.
     pub vars: u32,
-    /// How many values each variable has.
+    /// The domain size of each variable.
     pub size: u16,
-    /// How many tables a variable has with earlier ones at most.
+    /// At most how many tables a variable has with earlier ones.
     pub degree: u32,
     /// The greatest cost that a cell may have.
     pub top: u64,
@@ -44,7 +44,7 @@ pub struct Drill {
 }
 
 impl Drill {
-    /// What a command asks to be made and solved; `None` exactly where it asks for no drill.
+    /// The drill that a command asks for; `None` exactly if it asks for none.
     pub fn of(command: &Command) -> Option<Drill>
         requires { IsInRange command.now }
         ensures same { result ≡ drill_of command.now }
@@ -76,7 +76,7 @@ impl Drill {
     }
 }
 
-/// The answer to a command that reads nothing, which is a drill: every other one is served on an
+/// The answer to a command that reads nothing. This is a drill, since every other command reads an
 /// input.
 pub(crate) fn unread_answer<R, D, G>(
     crew: &Crew<R, G>,
@@ -101,7 +101,7 @@ where
     }
 }
 
-/// The answer to a drill: the summary of what `solve` reports of the problem that is made, or its
+/// The answer to a drill: the summary of what `solve` reports for the problem that is made, or its
 /// refusal.
 fn made_answer<R, D, G>(
     crew: &Crew<R, G>,

@@ -21,7 +21,7 @@ use solve_words::Format;
 use std::alloc::Global;
 use std::thread::Threads;
 
-/// The answer of `edit` on a text: what comes of the edit lines that stand behind a problem.
+/// The answer of `edit` on a text; it is about the edit lines after the problem.
 pub(crate) fn edits_behind<R: Threads + Sync, G: Gate>(
     crew: &Crew<R, G>,
     alloc: Global,
@@ -43,8 +43,8 @@ pub(crate) fn edits_behind<R: Threads + Sync, G: Gate>(
     }
 }
 
-/// The answer to edit lines on a file, which stand behind so many lines, over the tree that the
-/// agents of the problem solved find.
+/// The answer to edit lines on a file, which follow `before` lines of the input, over the tree that
+/// the agents of the problem solved find.
 fn edits_on<R: Threads + Sync, G: Gate>(
     crew: &Crew<R, G>,
     alloc: Global,

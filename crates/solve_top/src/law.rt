@@ -5,11 +5,11 @@ ghost use Rattle.solve_top.specs.Same.{AutoAnswersAreThoseOfDpop, DpopAnswersAre
 use dcop_optimum::first_optima_of_trees_are_one;
 use pseudotree::depth_first_trees_are_linked;
 
-/// The answer of `solve --method dpop` is one function of the file and of whether it is certified:
-/// whatever other words stand beside these, as the number of workers, the same answer belongs to all
-/// texts of one file.
+/// The answer of `solve --method dpop` is one function of the file and of whether it is certified.
+/// Whatever the other words, such as the number of workers, all texts of one file have the same
+/// answer.
 ///
-/// It is the contract of a call that does nothing: who needs the law calls it.
+/// The law is the contract of a call that does nothing: to use the law, call it.
 pub fn dpop_answers_are_one()
     ensures { DpopAnswersAreOne }
 {
@@ -17,11 +17,11 @@ pub fn dpop_answers_are_one()
     depth_first_trees_are_linked();
 }
 
-/// The solved answers of `solve --method dpop` are one function of the file and of whether it is
-/// certified for every number of nodes too: over wires that nobody trusts a call answers the same, or
-/// that links have failed or differ.
+/// With any number of nodes, the solved answers of `solve --method dpop` are one function of the
+/// file and of whether they are certified. Over untrusted wires a call may also answer that links
+/// failed or differ.
 ///
-/// It is the contract of a call that does nothing: who needs the law calls it.
+/// The law is the contract of a call that does nothing: to use the law, call it.
 pub fn solved_answers_are_one()
     ensures { SolvedAnswersAreOne }
 {
@@ -29,19 +29,19 @@ pub fn solved_answers_are_one()
     depth_first_trees_are_linked();
 }
 
-/// Where nothing is too wide for DPOP in the tree of what was read, the answer of `solve --method
-/// auto` is that of `solve --method dpop`, so it is solved, and one function of the file too.
+/// If nothing is too wide for DPOP in the tree of the problem read, the answer of `solve --method
+/// auto` is that of `solve --method dpop`. So it is solved, and one function of the file.
 ///
-/// It is the contract of a call that does nothing: who needs the law calls it.
+/// The law is the contract of a call that does nothing: to use the law, call it.
 pub fn auto_answers_are_those_of_dpop()
     ensures { AutoAnswersAreThoseOfDpop }
 {}
 
-/// The solved answers of `solve --method auto` too, where nothing is too wide for DPOP in the tree of
-/// what was read, are that one function of the file and of whether it is certified, for every number
-/// of workers and of nodes: a solved answer of auto or of DPOP is the same as any other.
+/// If nothing is too wide for DPOP in the tree of the problem read, any two solved answers of
+/// `solve --method auto` or `--method dpop` are the same, if both are certified or neither is. This
+/// holds for any number of workers and of nodes.
 ///
-/// It is the contract of a call that does nothing: who needs the law calls it.
+/// The law is the contract of a call that does nothing: to use the law, call it.
 pub fn fit_answers_are_one()
     ensures { FitAnswersAreOne }
 {
@@ -49,10 +49,10 @@ pub fn fit_answers_are_one()
     depth_first_trees_are_linked();
 }
 
-/// The solved answers of `drill --method dpop` to words that ask for the same problem are one, whatever
-/// the number of workers and of nodes: its summary is the same at each run.
+/// All solved answers of `drill --method dpop` to words that ask for the same problem are the same,
+/// with any number of workers and of nodes. So each run has the same summary.
 ///
-/// It is the contract of a call that does nothing: who needs the law calls it.
+/// The law is the contract of a call that does nothing: to use the law, call it.
 pub fn drill_answers_are_one()
     ensures { DrillAnswersAreOne }
 {
@@ -60,10 +60,10 @@ pub fn drill_answers_are_one()
     depth_first_trees_are_linked();
 }
 
-/// An optimum that `edit` answers has the values and the cost that `solve --method dpop` reports of a
-/// text which declares the problem as it is then, for either goal.
+/// An optimum that `edit` answers has the values and the cost that `solve --method dpop` reports
+/// for a text that declares the problem as edited so far, for either goal.
 ///
-/// It is the contract of a call that does nothing: who needs the law calls it.
+/// The law is the contract of a call that does nothing: to use the law, call it.
 pub fn edit_answers_are_those_of_dpop()
     ensures { EditAnswersAreThoseOfDpop }
 {

@@ -1,4 +1,4 @@
-//! The answers of links between nodes.
+//! The answers about links between nodes.
 
 ghost use Rattle.std.specs.Prelude.{◌≡◌, ◌<◌, length, IfOk};
 ghost use Rattle.solve_report.specs.AnswerText.{HasText};
@@ -13,12 +13,12 @@ use solve_report::Answer;
 use std::alloc::Global;
 use tcp_links::{Difference, NodeFault};
 
-/// The answer to agents in nodes that were not run to an end, whose variables have these names.
+/// The answer to a fault of agents in nodes, given the names of their variables.
 ///
 /// # Errors
 ///
-/// [`NoMemory`] where memory was wanted and not had, also where the fault says so; never where it
-/// says that the links failed.
+/// [`NoMemory`] if memory runs out, also if the fault itself says so; never if the fault says that
+/// the links failed.
 pub(crate) fn fault_told(alloc: Global, names: Names, fault: NodeFault) -> Result<Answer, NoMemory>
     requires named { IsFaultNamed (length names) fault }
     ensures told { TellsFault names fault result }
@@ -32,7 +32,7 @@ pub(crate) fn fault_told(alloc: Global, names: Names, fault: NodeFault) -> Resul
     }
 }
 
-/// The answer that tells a difference.
+/// The answer that reports a difference.
 fn difference_told(alloc: Global, names: Names, difference: Difference) -> Result<Answer, NoMemory>
     ensures { IfOk result (λ answer. answer ≡ difference_answer names difference) }
 {
@@ -69,7 +69,7 @@ fn difference_told(alloc: Global, names: Names, difference: Difference) -> Resul
     }
 }
 
-/// The code of an envelope, where there is one.
+/// The code of an envelope, if there is one.
 fn code_in(alloc: Global, envelope: Option<Envelope>) -> Result<Option<Bytes>, NoMemory>
     ensures { IfOk result (λ code. code ≡ code_in envelope) }
 {

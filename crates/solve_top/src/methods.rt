@@ -1,4 +1,4 @@
-//! The answer of each method whose agents are run, and of `tree`.
+//! The answers of `tree` and of each method whose agents are run.
 
 ghost use Rattle.std.specs.Prelude.{◌<◌, ◌≤◌, IfOk};
 ghost use Rattle.dcop_base.specs.Limits.{amount_limit, budget_limit};
@@ -41,7 +41,7 @@ pub(crate) fn by_search<R: Threads + Sync, G: Gate>(
     tree_answer(alloc, file, found)
 }
 
-/// The answer of DPOP on a file. Where it is to be certified, the report has the tables of all
+/// The answer of DPOP on a file. If it is to be certified, the report has the tables of all
 /// variables, in preorder, as its certificate.
 pub(crate) fn by_dpop<R, D, G>(
     crew: &Crew<R, G>,
@@ -67,7 +67,7 @@ where
 }
 
 /// The answer of ADOPT on a file: what the agents of the problem solved reach on its depth-first
-/// tree. Where it is to be certified, the report has the log of their run as its certificate.
+/// tree. If it is to be certified, the report has the log of their run as its certificate.
 pub(crate) fn by_adopt<R, D, G>(
     crew: &Crew<R, G>,
     alloc: Global,
@@ -93,7 +93,7 @@ where
     }
 }
 
-/// The answer of auto on a file: what the agents of the problem solved come to.
+/// The answer of auto on a file: what the agents of the problem solved reach.
 pub(crate) fn by_auto<R, D, G>(
     crew: &Crew<R, G>,
     alloc: Global,

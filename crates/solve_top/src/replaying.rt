@@ -15,8 +15,8 @@ use solve_report::Answer;
 use solve_words::Format;
 use std::alloc::Global;
 
-/// The answer of `replay` on a text: what comes of the first events of the log of the report that
-/// stands behind a problem.
+/// The answer of `replay` on a text; it is about the first events of the log of the report after
+/// the problem.
 pub(crate) fn replay_behind(
     alloc: Global,
     format: Format,

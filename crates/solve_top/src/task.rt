@@ -1,4 +1,4 @@
-//! The commands that are served.
+//! The tasks of commands.
 
 ghost use Rattle.std.specs.Prelude.{◌≡◌, ◌<◌, ◌≤◌, IfSome};
 ghost use Rattle.dcop_base.specs.Limits.{amount_limit, budget_limit, joined_limit, node_limit, size_limit};
@@ -8,20 +8,20 @@ ghost use Rattle.solve_top.specs.Served.{task_by, task_of, IsFileTaskInRange, Is
 
 use solve_words::{Choice, Command, Format};
 
-/// What a command asks for on an input.
+/// The task of a command on an input.
 #[derive(Clone, Copy, Debug, PartialEq, Eq)]
 pub enum Task {
-    /// An answer on the file of a problem that is given in this format.
+    /// A task on the file of a problem in this format.
     File { format: Format, task: FileTask },
-    /// Check the report that stands behind a problem in this format.
+    /// Check the report that follows a problem in this format.
     Check { format: Format },
-    /// Play so many events of the log of such a report again, or all.
+    /// Replay the first `after` events of the log of such a report, or all.
     Replay { format: Format, after: Option<u64> },
-    /// Answer the lines of an edit session that stand behind a problem.
+    /// Answer the lines of an edit session that follow a problem.
     Edit,
 }
 
-/// What is asked on the file of a problem.
+/// A task on the file of a problem.
 #[derive(Clone, Copy, Debug, PartialEq, Eq)]
 pub enum FileTask {
     /// Solve the problem by the plain method.
@@ -37,14 +37,14 @@ pub enum FileTask {
         budget: u64,
         certified: bool,
     },
-    /// Solve the problem by DPOP where its tables fit, and as by ADOPT otherwise.
+    /// Solve the problem as by DPOP if its tables fit, and otherwise as by ADOPT.
     Auto {
         error: u64,
         budget: u64,
         certified: bool,
     },
     /// Solve the problem by DPOP on the slices of a cut, so that no joined table has more than
-    /// `limit` cells, and certify the answer by the tables of all turns or not.
+    /// `limit` cells. Certify the answer by the tables of all turns or not.
     Cut {
         limit: u64,
         certified: bool,
@@ -56,7 +56,7 @@ pub enum FileTask {
 }
 
 impl FileTask {
-    /// What a method is asked for on a file, with a certificate or without. `limit` is that of a cut.
+    /// The task of a method on a file, with or without a certificate. `limit` is that of a cut.
     pub(crate) fn by(
         method: Choice,
         error: u64,
@@ -90,7 +90,7 @@ impl FileTask {
 }
 
 impl Task {
-    /// What a command asks for on an input; `None` exactly for a drill, which reads nothing.
+    /// The task of a command on an input; `None` exactly for a drill, which reads nothing.
     pub fn of(command: &Command) -> Option<Task>
         requires { IsInRange command.now }
         ensures same { result ≡ task_of command.now }
@@ -118,7 +118,7 @@ impl Task {
         }
     }
 
-    /// What is asked on a file, as a task.
+    /// A task on a file, as a task on an input.
     fn on_file(format: Format, task: FileTask) -> Task
         ensures { result ≡ Task.File format task }
     {
@@ -139,7 +139,7 @@ pub(crate) fn workers_of(command: &Command) -> u32
     }
 }
 
-/// Over how many nodes the agents of a command are spread.
+/// How many nodes the agents of a command are spread over.
 pub(crate) fn nodes_of(command: &Command) -> u32
     requires { IsInRange command.now }
     ensures few { (0 < result) × (result ≤ node_limit) }

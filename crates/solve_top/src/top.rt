@@ -21,36 +21,45 @@ use std::time::Clock;
 use wire_edge::Dialer;
 
 /// Answers these words, which are the arguments of the program: reads the source as they ask,
-/// writes the answer to the sink, and says how it went.
+/// writes the answer to the sink, and gives the status.
 ///
 /// The words are tested before anything is read, and the whole answer is built before anything is
-/// written. `solve` reads a problem and reports an assignment: with `--method plain`, which tries
-/// all, and with `--method dpop`, by agents on a tree unless their tables would be too wide, its sum
-/// is the best of any; with `--method adopt`, by agents that agree step by step, it is at most the
-/// requested error worse than the best, or the budget of messages is spent and the report's bounds
-/// enclose the best sum; with `--method auto`, or without a method, as with `dpop` unless its tables
-/// would be too wide, and else as with `adopt`; with `--method cut`, by `dpop` in turns, in each of
-/// which some variables have a fixed value so that no joined table has more cells than `--cells`, its
-/// sum is the best of any, unless there are too many turns or cells. `drill` reads nothing: it makes
-/// a problem from a number, solves it in the same ways and writes a summary. `check` reads a problem
-/// and a report behind it, and says whether the report's certificate holds, so that its cost is at
-/// most the printed gap worse than the best sum. `replay` reads these too, plays the report's log as
-/// far as it is asked to, and writes what each agent has come to there. `tree` reads a problem and
-/// writes the tree over which its agents work, and `upgrade` reads a problem and writes it in the
-/// newest version of its text. With `--format wcsp` all of these but `drill` read a WCSP text as
-/// their problem. `edit` reads a problem and edit lines behind it, and writes the optimum of the
-/// problem as it is at each line that asks for it: the values and the cost that DPOP gives.
+/// written. Refusals are written to the sink too.
 ///
-/// With `--nodes` the agents of `dpop`, `adopt` and `auto` are spread over so many nodes, which talk
-/// over wires that the dialer gives; what is answered then stands on no trust in these wires.
-/// Refusals are written to the sink too.
+/// `solve` reads a problem and reports an assignment:
 ///
-/// [`Status::ReadFault`], [`Status::WriteFault`] and [`Status::LinkFault`] come only where the
-/// source, the sink or the dialer failed in this call, and [`Status::LinkDiffers`] only over a dialer
-/// that is not honest; the last two only with more nodes than one. With `WriteFault` a prefix of the
-/// answer is written, which tells that the links failed or differ in the same cases alone; with
-/// [`Status::NoMemory`], where memory was wanted and not had, nothing, and otherwise the whole
-/// answer, and the sink is finished.
+/// * with `--method plain`, which tries all assignments, its sum is the best of any;
+/// * with `--method dpop`, by agents on a tree, its sum is the best of any, unless their tables
+///   would be too wide;
+/// * with `--method adopt`, by agents that agree step by step, its sum is at most the requested
+///   error worse than the best; or the budget of messages is spent, and the report's bounds enclose
+///   the best sum;
+/// * with `--method auto`, or without a method, it answers as with `dpop`, or as with `adopt` if
+///   the tables would be too wide;
+/// * with `--method cut`, by `dpop` in turns, its sum is the best of any, unless there are too many
+///   turns or cells. In each turn some variables have a fixed value, so that no joined table has
+///   more cells than `--cells`.
+///
+/// `drill` reads nothing: it makes a problem from a number, solves it by one of these methods and
+/// writes a summary. `check` reads a problem and the report after it. It says whether the report's
+/// certificate holds, so that its cost is at most the printed gap worse than the best sum. `replay`
+/// reads these too, replays the report's log as far as asked, and writes the state that each agent
+/// reaches. `tree` reads a problem and writes the tree over which its agents work. `upgrade` reads
+/// a problem and writes it in the newest version of its text. With `--format wcsp` all of these but
+/// `drill` read a WCSP text as their problem. `edit` reads a problem and the edit lines after it.
+/// At each line that asks for it, it writes the optimum of the problem as edited so far: the values
+/// and the cost that DPOP gives.
+///
+/// With `--nodes` the agents of `dpop`, `adopt` and `auto` are spread over `n` nodes, which talk
+/// over wires that the dialer gives. The answer then needs no trust in these wires.
+///
+/// [`Status::ReadFault`], [`Status::WriteFault`] and [`Status::LinkFault`] come only if the source,
+/// the sink or the dialer failed in this call. [`Status::LinkDiffers`] comes only over a dialer
+/// that is not honest. The last two come only with more than one node.
+///
+/// With `WriteFault` a prefix of the answer is written. If that answer is that the links failed or
+/// differ, the same conditions hold. With [`Status::NoMemory`], when memory runs out, nothing is
+/// written. Otherwise the whole answer is written, and the sink is finished.
 pub fn solve<
     R: Threads + Wait + Clock + RandomSource + Net + AllocGlobal + Sync,
     S: Source,

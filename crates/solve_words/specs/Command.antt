@@ -44,12 +44,12 @@ method_fault pairs =
     option_map (λ k. Bad (2 + 2 * k) NotWith)
     (position (is_refused (method_in (settings_of pairs))) (names_of pairs))
 
--- the fault, where there is one, and else the command
+-- the fault if there is one, and the command otherwise
 abbrev pub answer_unless : Option WordFault → Command → Result Command WordFault
 answer_unless (Some fault) command = Err fault
 answer_unless None command = Ok command
 
--- the answer to pairs of words behind a command's word
+-- the answer to the pairs of words after the word of a command
 abbrev pub answer_behind : List (List ℕ) → Option Verb → Result Command WordFault
 answer_behind words None = Err (Bad 1 UnknownCommand)
 answer_behind words (Some verb) =
@@ -62,7 +62,7 @@ abbrev pub answer_to : List (List ℕ) → Result Command WordFault
 answer_to [] = Err (Bad 1 NoCommand)
 answer_to (word ∷ words) = answer_behind words (verb_named word)
 
--- the answer to words, unless memory was wanted
+-- a result is the answer to these words, unless memory runs out
 abbrev pub Answers : List (List ℕ) → Result Command WordFault → Type 0
 Answers words (Err NoMemory) = Unit {0}
 Answers words answer = answer ≡ answer_to words

@@ -1,4 +1,4 @@
--- The numbers by which a user knows the kinds of refused words.
+-- The numbers that a user sees for the kinds of refused words.
 use Rattle.std.specs.Prelude.{ℕ}
 use Rattle.solve_words.specs.declared.fault.WordKind.{WordKind}
 use Rattle.solve_words.specs.declared.fault.WordKind.TheVariants.{NoCommand, UnknownCommand, UnknownOption, NoValue, Twice, BadNumber, OutOfRange, BadChoice, NotWith}

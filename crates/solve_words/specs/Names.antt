@@ -29,14 +29,14 @@ choice_named word =
     else (if bytes_eq word (codes "cut") then Some Cut
     else None))))
 
--- the form of a problem that a word names
+-- the text format of a problem that a word names
 abbrev pub format_named : List ℕ → Option Format
 format_named word =
     if bytes_eq word (codes "dcop") then Some Dcop
     else (if bytes_eq word (codes "wcsp") then Some Wcsp
     else None)
 
--- what `yes` or `no` says
+-- what `yes` or `no` means
 abbrev pub yes_or_no : List ℕ → Option Bool
 yes_or_no word =
     if bytes_eq word (codes "yes") then Some true

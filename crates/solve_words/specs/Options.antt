@@ -25,7 +25,7 @@ word_of (Number Degree) = codes "--degree"
 word_of (Number Top) = codes "--top"
 word_of (Number Cells) = codes "--cells"
 
--- each option
+-- all options, each once
 abbrev pub options : List WordOption
 options =
     Method ∷ Certificate ∷ Format ∷ After
@@ -36,11 +36,11 @@ options =
 abbrev pub option_named : List ℕ → Option WordOption
 option_named word = find (λ option. bytes_eq (word_of option) word) options
 
--- how many events a replay may be told to play at most
+-- the most events that a replay can be asked to play
 abbrev pub most_replayed : ℕ
 most_replayed = 1000000000
 
--- what an option's number may be, and what it is where the option is not given
+-- the range of an option's number, and its value if the option is not given
 abbrev pub numbers_of : Quantity → Numbers
 numbers_of Workers = record { least = 1; most = worker_limit; default = 1 }
 numbers_of Error = record { least = 0; most = amount_limit; default = 0 }

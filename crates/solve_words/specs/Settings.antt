@@ -1,4 +1,4 @@
--- What the words behind a command set.
+-- What the words after a command set.
 use Rattle.std.specs.Prelude.{ℕ, List, [], ◌∷◌, Option, Some, None, map, option_map, option_and_then, filter_map}
 use Rattle.dcop_base.specs.NumberWord.{number_of}
 use Rattle.solve_words.specs.Names.{choice_named, format_named, yes_or_no}
@@ -8,7 +8,7 @@ use Rattle.solve_words.specs.declared.options.WordOption.TheVariants as options
 use Rattle.solve_words.specs.declared.settings.Setting.{Setting}
 use Rattle.solve_words.specs.declared.settings.Setting.TheVariants.{Method, Certificate, Format, After, Number}
 
--- a word in an option's place, and the word behind it where there is one
+-- a word in the position of an option, and the word after it if there is one
 pub record Pair : Type 0 where
   pub name : List ℕ
   pub value : Option (List ℕ)
@@ -17,17 +17,17 @@ pub record Pair : Type 0 where
 abbrev pub pair_of : List ℕ → Option (List ℕ) → Pair
 pair_of name value = record { name = name; value = value }
 
--- words cut into pairs
+-- words divided into pairs
 abbrev pub pairs_of : List (List ℕ) → List Pair
 pairs_of [] = []
 pairs_of (name ∷ []) = pair_of name None ∷ []
 pairs_of (name ∷ value ∷ words) = pair_of name (Some value) ∷ pairs_of words
 
--- the words in the places of options
+-- the words in the positions of options
 abbrev pub names_of : List Pair → List (List ℕ)
 names_of pairs = map (λ pair. pair.name) pairs
 
--- the option that a setting is of
+-- the option of a setting
 abbrev pub option_of : Setting → WordOption
 option_of (Method choice) = options.Method
 option_of (Certificate wanted) = options.Certificate

@@ -1,4 +1,4 @@
--- The table of options, continued: the commands and the methods with which they stand.
+-- The table of options, continued: the commands and the methods with which they can be given.
 use Rattle.std.specs.Prelude.{Bool, true, false, not, List, [], ◌∷◌}
 use Rattle.std.specs.List.{list_any}
 use Rattle.solve_words.specs.declared.verb.Verb.{Verb}
@@ -35,7 +35,7 @@ refused_with (Number Nodes) = Plain ∷ Cut ∷ []
 refused_with (Number Cells) = Plain ∷ Dpop ∷ Adopt ∷ Auto ∷ []
 refused_with _ = []
 
--- whether two commands are one
+-- whether two commands are the same
 abbrev pub is_verb : Verb → Verb → Bool
 is_verb Solve Solve = true
 is_verb Tree Tree = true
@@ -46,7 +46,7 @@ is_verb Upgrade Upgrade = true
 is_verb Edit Edit = true
 is_verb _ _ = false
 
--- whether two methods are one
+-- whether two methods are the same
 abbrev pub is_method : Choice → Choice → Bool
 is_method Plain Plain = true
 is_method Dpop Dpop = true

@@ -1,4 +1,4 @@
-//! What is wrong with words that are no command.
+//! What is wrong with words that do not form a command.
 
 ghost use Rattle.std.specs.Prelude.{◌≡◌};
 ghost use Rattle.solve_words.specs.Kinds.{number_of_words};
@@ -14,25 +14,25 @@ pub enum WordKind {
     /// There is no word.
     #[error("no command is given")]
     NoCommand = 1,
-    /// The first word is no command.
+    /// The first word is not a command.
     #[error("no such command")]
     UnknownCommand = 2,
-    /// A word in an option's place is no option.
+    /// A word in the position of an option is not an option.
     #[error("no such option")]
     UnknownOption = 3,
-    /// The option is the last word.
+    /// The option is the last word, so it has no value.
     #[error("the option has no value")]
     NoValue = 4,
-    /// The option came before.
+    /// The option is given a second time.
     #[error("the option is given twice")]
     Twice = 5,
-    /// The value should be a number, of 1 to 19 digits, and is none.
+    /// The value must be a number of 1 to 19 digits, and is not one.
     #[error("the value is no number")]
     BadNumber = 6,
     /// The number is outside the option's range.
     #[error("the number is out of range")]
     OutOfRange = 7,
-    /// The value is none of the option's words.
+    /// The value is not one of the option's words.
     #[error("the value is none of the choices")]
     BadChoice = 8,
     /// The option does not belong to the command or the method.
@@ -49,18 +49,18 @@ impl WordKind {
     }
 }
 
-/// Why words give no command.
+/// Why words do not form a command.
 #[derive(Clone, Copy, Debug, PartialEq, Eq, Error)]
 pub enum WordFault {
     /// The first fault of the words.
     #[error("word {at}: {kind}")]
     Bad {
-        /// The place of the word at fault, counted from 1.
+        /// The position of the word at fault, counted from 1.
         at: u64,
         /// What is wrong there.
         kind: WordKind,
     },
-    /// Memory was wanted and not had. No clause says when it comes.
+    /// Memory ran out. No clause says when this happens.
     #[error("out of memory")]
     NoMemory,
 }

@@ -13,9 +13,9 @@ use dcop_base::{CAP, MAX_BUDGET, MAX_JOINED_CELLS, MAX_VARIABLES};
 pub enum WordOption {
     /// How a problem is solved.
     Method,
-    /// Whether the report holds a certificate, `yes` or `no`.
+    /// Whether the report has a certificate, `yes` or `no`.
     Certificate,
-    /// The form of the problem.
+    /// The text format of the problem.
     Format,
     /// After how many events a replay stops.
     After,
@@ -79,7 +79,7 @@ impl WordOption {
         }
     }
 
-    /// The option that a word names; `None` exactly where no option has it.
+    /// The option that a word names; `None` exactly when no option has this name.
     pub fn named(word: &str) -> Option<WordOption>
         ensures { result ≡ option_named word.now }
     {
@@ -135,7 +135,7 @@ impl WordOption {
         self.commands().contains(&verb)
     }
 
-    /// Whether the option may be given where a problem is solved by this method.
+    /// Whether the option may be given if a problem is solved by this method.
     pub fn stands_with(self, method: Choice) -> bool
         ensures { result ≡ stands_with method self }
     {
@@ -150,10 +150,10 @@ fn first_named(options: &[WordOption], word: &str) -> Option<WordOption>
     options.iter().copied().find(|option| option.word() == word)
 }
 
-/// How many events a replay may be told to play at most.
+/// The most events that a replay can be asked to play.
 pub(crate) const MOST_EVENTS: u64 = 1_000_000_000;
 
-/// What the number of an option may be, and what it is where the option is not given.
+/// The range of an option's number, and its value if the option is not given.
 #[derive(Clone, Copy, Debug)]
 pub struct Numbers {
     pub least: u64,

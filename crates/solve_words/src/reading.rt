@@ -16,14 +16,18 @@ use crate::settings::{Setting, find_setting, read_settings};
 use crate::verb::Verb;
 use std::alloc::Global;
 
-/// The command that these words give, with the default of each option that is not given.
+/// Reads words as a command, with the default of each option that is not given.
 ///
-/// The words are the command, then pairs of an option and its value; the program's own name is
-/// not among them. `Bad` tells the place, counted from 1, and the kind of the first fault. Pairs
-/// are read from left to right, and of each pair it is tested that the option exists, that the
-/// command takes it, that it is new, that a value stands behind it, and that the value is of its
-/// form and in its range. Behind all pairs it is tested, again from left to right, that each
-/// option that is given may be given with the method.
+/// The words are the command, then pairs of an option and its value; the program's own name is not
+/// among them. Pairs are tested from left to right. For each pair the tests are, in this order: the
+/// option exists, the command takes it, it is given for the first time, a value follows it, and the
+/// value has the option's form and is in its range. After all pairs, again from left to right, each
+/// option is tested for whether it may be given with the method.
+///
+/// # Errors
+///
+/// [`WordFault::Bad`] with the position, counted from 1, and the kind of the first fault;
+/// [`WordFault::NoMemory`] if memory runs out.
 pub fn read_words(alloc: Global, words: &[String]) -> Result<Command, WordFault>
     ensures answer { Answers (map string_bytes words.now) result }
     ensures range { IfOk result IsInRange }
@@ -130,7 +134,7 @@ fn number(settings: &[Setting], quantity: Quantity) -> u64
     }
 }
 
-/// The method given, or auto.
+/// The method that is given, or auto.
 fn method(settings: &[Setting]) -> Choice
     ensures { result ≡ method_in settings.now }
 {
@@ -140,7 +144,7 @@ fn method(settings: &[Setting]) -> Choice
     }
 }
 
-/// Whether a certificate was asked for.
+/// Whether a certificate is requested.
 fn certificate(settings: &[Setting]) -> bool
     ensures { result ≡ certificate_in settings.now }
 {
@@ -150,7 +154,7 @@ fn certificate(settings: &[Setting]) -> bool
     }
 }
 
-/// The form of the problem given, or that of this product.
+/// The format that is given, or that of this product.
 fn format(settings: &[Setting]) -> Format
     ensures { result ≡ format_in settings.now }
 {
@@ -160,7 +164,7 @@ fn format(settings: &[Setting]) -> Format
     }
 }
 
-/// The number of events given, if one was.
+/// The number of events, if it is given.
 fn after(settings: &[Setting]) -> Option<u64>
     ensures { result ≡ after_in settings.now }
 {

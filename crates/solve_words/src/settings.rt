@@ -40,7 +40,7 @@ impl Setting {
     }
 }
 
-/// The settings of the words behind the command, or their first fault.
+/// The settings that the words after the command give, or their first fault.
 pub fn read_settings(alloc: Global, verb: Verb, words: &[String]) -> Result<Vec<Setting>, WordFault>
     ensures whole { IfOk result (λ settings.
         IsRead verb (map string_bytes words.now) settings.items) }
@@ -57,9 +57,9 @@ pub fn read_settings(alloc: Global, verb: Verb, words: &[String]) -> Result<Vec<
     Ok(settings)
 }
 
-/// The setting of an option behind these settings, or its first fault.
+/// The setting of an option after these settings, or its first fault.
 ///
-/// The value is the first of the words behind the option.
+/// The value is the first word after the option.
 fn read_pair(
     verb: Verb,
     earlier: &[Setting],
@@ -101,7 +101,7 @@ fn read_pair(
     }
 }
 
-/// Whether one of these settings is of the option that this word names.
+/// Whether one of these settings is for the option that this word names.
 fn came_before(earlier: &[Setting], name: &str) -> bool
     ensures { result
         ≡ list_any (λ setting. bytes_eq (word_of (option_of setting)) name.now) earlier.now }
@@ -111,7 +111,7 @@ fn came_before(earlier: &[Setting], name: &str) -> bool
         .any(|setting| setting.option().word() == name)
 }
 
-/// The setting of the option that this word names, where it is among these.
+/// The setting of the option that this word names, if it is among these.
 pub fn find_setting(settings: &[Setting], name: &str) -> Option<Setting>
     ensures { result
         ≡ find (λ setting. bytes_eq (word_of (option_of setting)) name.now) settings.now }

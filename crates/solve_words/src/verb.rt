@@ -1,4 +1,4 @@
-//! The first word: what is to be done.
+//! The first word: the command.
 
 ghost use Rattle.std.specs.Prelude.{◌≡◌};
 ghost use Rattle.solve_words.specs.Names.{verb_named};
@@ -16,7 +16,7 @@ pub enum Verb {
 }
 
 impl Verb {
-    /// The verb of this name; `None` exactly where no command has it.
+    /// The command with this name; `None` exactly when no command has it.
     pub fn named(word: &str) -> Option<Verb>
         ensures { result ≡ verb_named word.now }
     {

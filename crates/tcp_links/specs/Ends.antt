@@ -1,4 +1,4 @@
--- How a run of nodes ended.
+-- How a run in nodes ended.
 use Rattle.std.specs.Prelude.{◌≡◌, ℕ, ◌+◌, ◌⊎◌, List, length, Option}
 use Rattle.protocol_steps.specs.declared.message.Message.{Message as Sent}
 use Rattle.protocol_steps.specs.View.{View}
@@ -18,13 +18,16 @@ use Rattle.letter_wires.specs.Faults.{IsByteBetween}
 use Rattle.node_letters.specs.Passings.{Passing}
 use Rattle.tcp_links.specs.Over.{IsDrainedOf}
 
--- cells that had started were played in so many rounds, of which the last one may have been broken off
+-- from the start on, cells were played in `count` rounds, the last of which may have been broken
+-- off
 abbrev pub AreThere : (ℕ → ℕ) → ℕ → List Wire → List CellState → List Wire → List CellState → ℕ → Type 0
 AreThere node budget begun started wires now count =
     ((p : ArePlayedOver node budget begun started wires now) × (length p.rounds ≡ count))
     ⊎ ((stood : List CellState) × (b : AreBrokenOver node budget begun started wires stood now) × (length b.played.rounds + 1 ≡ count))
 
--- behind so many rounds of cells that had started, an exchange sent bytes from one of so many nodes to another, of all that its agents had sent to the other's and that was not drained before, and what came is no whole frames of letters
+-- after `round` rounds, an exchange sent from one node to another all that the agents there had
+-- sent to the other's and no earlier exchange had drained; what came is not whole frames of
+-- letters, and this is the first byte that differs
 pub record HasOtherByte (nodes : ℕ) (node : ℕ → ℕ) (budget : ℕ) (begun : List Wire) (started : List CellState) (round from_node to_node place : ℕ) (sent taken : Option ℕ) : Type 0 where
   pub wires : List Wire
   pub now : List CellState
@@ -33,7 +36,8 @@ pub record HasOtherByte (nodes : ℕ) (node : ℕ → ℕ) (budget : ℕ) (begun
   pub drained : EachAre (IsDrainedOf node now) wires passings
   pub other : IsByteBetween nodes passings from_node to_node place sent taken
 
--- behind some rounds of cells that had started, and one exchange more, the first two envelopes that differ stand on the lowest link
+-- after the rounds, one exchange more and a last settling, these are the first two envelopes that
+-- differ, on the lowest link that differs; and a difference is one of messages or of bytes
 pub record HasOtherMessage (node : ℕ → ℕ) (budget : ℕ) (begun : List Wire) (started last : List CellState) (from to at : ℕ) (sent taken : Option (ℕ × Sent)) : Type 0 where
   pub count : ℕ
   pub wires : List Wire
@@ -47,7 +51,7 @@ abbrev pub IsDifference : ℕ → (ℕ → ℕ) → ℕ → List Wire → List C
 IsDifference nodes node budget begun started last (Message from to at sent taken) = HasOtherMessage node budget begun started last from to at sent taken
 IsDifference nodes node budget begun started last (Bytes round from_node to_node place sent taken) = HasOtherByte nodes node budget begun started round from_node to_node place sent taken
 
--- while cells are played, a difference that is found is one of bytes
+-- a difference found during play is one of bytes; other faults say nothing
 abbrev pub IsFaultOver : ℕ → (ℕ → ℕ) → ℕ → List Wire → List CellState → NodeFault → Type 0
 IsFaultOver nodes node budget begun started Failed = Unit {0}
 IsFaultOver nodes node budget begun started (Differs (Message from to at sent taken)) = ⊥
@@ -55,7 +59,9 @@ IsFaultOver nodes node budget begun started (Differs (Bytes round from_node to_n
 IsFaultOver nodes node budget begun started NoMemory = Unit {0}
 
 module _ {W : Type 0} where
-  -- cells of agents that were made so have started, were played in rounds over the links of a plan, and each exchange, one more behind the last round too, took on each link just what it sent there
+  -- agents that were made in this way have started, their cells were played in rounds over the
+  -- links of the plan, and one exchange more and a last settling followed; each exchange took on
+  -- each link exactly what it sent there
   pub record HasHeldOver (budget : ℕ) (made : List View) (p : NodePlan W) (last : List CellState) : Type 0 where
     pub started : List CellState
     pub starts : AreStarted made started
@@ -66,13 +72,13 @@ module _ {W : Type 0} where
     pub end : IsNodeEnd (home p.nodes p.agents) wires passed now last
     pub held : HaveHeld passed
 
-  -- a difference that such cells have come to
+  -- agents that were made in this way have started, and their run has met this difference
   pub record HasDifference (budget : ℕ) (made : List View) (p : NodePlan W) (last : List CellState) (d : Difference) : Type 0 where
     pub started : List CellState
     pub starts : AreStarted made started
     pub right : IsDifference p.nodes (home p.nodes p.agents) budget p.kept.items started last d
 
-  -- what differs, where a fault says that something does
+  -- a fault of a difference says what differs; other faults say nothing
   abbrev pub DiffersOver : ℕ → List View → NodePlan W → List CellState → NodeFault → Type 0
   DiffersOver budget made p last Failed = Unit {0}
   DiffersOver budget made p last (Differs d) = HasDifference budget made p last d

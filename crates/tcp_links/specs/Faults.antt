@@ -12,31 +12,33 @@ use Rattle.tcp_links.specs.declared.fault.Difference.TheVariants.{Message, Bytes
 use Rattle.tcp_links.specs.declared.fault.NodeFault.{NodeFault}
 use Rattle.tcp_links.specs.declared.fault.NodeFault.TheVariants.{Failed, Differs, NoMemory}
 
--- the fault of the exchange behind so many rounds
+-- the fault of an exchange after `round` rounds
 abbrev pub node_fault : ℕ → PassFault → NodeFault
 node_fault round pass_failed = Failed
 node_fault round (pass_bytes from_node to_node place sent taken) = Differs (Bytes round from_node to_node place sent taken)
 node_fault round no_pass_memory = NoMemory
 
--- no difference was found
+-- the fault is not a difference
 abbrev pub IsNoDifference : NodeFault → Type 0
 IsNoDifference Failed = Unit {0}
 IsNoDifference (Differs d) = ⊥
 IsNoDifference NoMemory = Unit {0}
 
--- where a difference was found in the exchange behind so many rounds, it is one of bytes between two of so many nodes
+-- a difference is one of bytes between two nodes, met in the exchange after `round` rounds; other
+-- faults say nothing
 abbrev pub IsByteFault : ℕ → ℕ → List Passing → NodeFault → Type 0
 IsByteFault nodes round ps Failed = Unit {0}
 IsByteFault nodes round ps (Differs (Message from to at sent taken)) = ⊥
 IsByteFault nodes round ps (Differs (Bytes behind from_node to_node place sent taken)) = (behind ≡ round) × IsByteBetween nodes ps from_node to_node place sent taken
 IsByteFault nodes round ps NoMemory = Unit {0}
 
--- this difference is the first one between what was drained of links and what arrived on them
+-- this is the first difference between what was drained of links and what arrived on them
 abbrev pub IsKeptDifference : List Wire → Difference → Type 0
 IsKeptDifference ws (Message from to at sent taken) = DifferKept ws from to at sent taken
 IsKeptDifference ws (Bytes round from_node to_node place sent taken) = ⊥
 
--- the dialer's count rose where it failed, and in no other case
+-- the dialer's count of faults rose, or is at its last value, if the fault is `Failed`, and else
+-- stayed as it was
 abbrev pub HasNodeCause : {T : Type 0} → ℕ → ℕ → Result T NodeFault → Type 0
 HasNodeCause old new (Ok value) = new ≡ old
 HasNodeCause old new (Err Failed) = (old ≤ new) × Rose old new

@@ -6,7 +6,8 @@ use Rattle.fifo_links.specs.declared.ends.LinkTail.{LinkTail}
 use Rattle.fifo_links.specs.Link.{sent_on}
 use Rattle.worker_runs.specs.Cells.{CellState, lane, known_from}
 
--- what a cell took of an agent, and then what waits, is all that was sent on the inner end of the link, and of what waits the lesser of 64 and all is known
+-- what the cell took from an agent, and then what waits for it, is all that was fed to the link; of
+-- what waits it knows 64 messages, or all if there are fewer
 pub record AllWaits (to : CellState) (from : ℕ) (inner : LinkTail (ℕ × Message)) : Type 0 where
   pub waiting : List (ℕ × Message)
   pub whole : lane from to.taken ++ waiting ≡ sent_on inner

@@ -1,11 +1,12 @@
--- What is kept of a link, by its inner ends.
+-- What a link has passed, by its inner ends.
 use Rattle.std.specs.Prelude.{◌≡◌}
 use Rattle.std.specs.List.{flat_map}
 use Rattle.fifo_links.specs.Link.{sent_on, taken_from}
 use Rattle.node_runs.specs.Wires.{Wire}
 use Rattle.tcp_links.specs.declared.plan.InnerEnds.{InnerEnds}
 
--- all that was ever drained of a link stands in its passages, and all that was ever fed to its receiver arrived in them
+-- all that was ever drained of a link is what its passages drained, in order, and all that was ever
+-- fed to its receiver is what arrived in them
 pub record IsKept (w : Wire) (ends : InnerEnds) : Type 0 where
   pub drained : flat_map (λ p. p.drained) w.passages ≡ taken_from ends.drain
   pub arrived : flat_map (λ p. p.arrived) w.passages ≡ sent_on ends.feed

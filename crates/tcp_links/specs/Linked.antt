@@ -1,4 +1,4 @@
--- Cells whose links between nodes lead over a plan.
+-- Cells whose links between nodes are those of a plan.
 use Rattle.std.specs.Prelude.{◌≡◌, ◌≢◌, ℕ, List, [], length, Some, slice_get}
 use Rattle.std.specs.List.{Contains}
 use Rattle.std.specs.declared.dyn_box.DynBox.{DynBox}
@@ -23,7 +23,8 @@ module _ {X : Type 0} {F : X → Type 0} where
     pub untaken : taken_from ends.drain ≡ []
     pub unpassed : w.passages ≡ []
 
-  -- there are as many cells as agents; each link of the plan leads from a cell to one of its peers; and so does one from each cell to each of its peers in another node
+  -- there is one cell for each agent; each link of the plan leads from a cell to one of its peers,
+  -- and nothing has passed on it; each cell has a link to each of its peers in another node
   pub record AreLinkedOver {W : Type 0} (meaning : DynBox X Global F → View) (p : NodePlan W) (cells : List (Cell X F)) : Type 0 where
     pub size : length cells ≡ p.agents
     pub leads : (k : ℕ) (w : Wire) (ends : InnerEnds) (from to : Cell X F) → slice_get p.kept.items k ≡ Some w → slice_get p.ends.items k ≡ Some ends

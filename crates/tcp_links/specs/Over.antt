@@ -32,19 +32,22 @@ use Rattle.tcp_links.specs.Woven.{AreWoven, IsPassingOf, AreIdle, SentIsDrained,
 use Rattle.node_letters.specs.Passings.{Passing}
 use Rattle.tcp_links.specs.Faults.{IsByteFault}
 
--- what an exchange passes on a link: all that its sender has sent and no earlier exchange had drained
+-- what an exchange passes on a link is all that its sender has sent and no earlier exchange has
+-- drained
 pub record IsDrainedOf (node : ℕ → ℕ) (cells : List CellState) (w : Wire) (p : Passing) : Type 0 where
   pub link : IsPassingOf node w p
   pub drained : (from : CellState) → slice_get cells w.sender ≡ Some from → flat_map (λ q. q.drained) w.passages ++ p.drained ≡ lane w.receiver from.sent
 
 module _ {X : Type 0} {F : X → Type 0} {W : Type 0} where
-  -- the passings of a plan hold nothing, and it tells right what was drained and taken of its links
+  -- the passings of a plan are empty; if a cell's journal is as long as was noted, all that it sent
+  -- was drained, and if nothing waited for it, it has taken all that was fed
   pub record AreReady (meaning : DynBox X Global F → View) (node : ℕ → ℕ) (p : NodePlan W) (cells : List (Cell X F)) : Type 0 where
     pub idle : AreIdle node p.kept.items p.passings.items
     pub sent : SentIsDrained meaning p.seen.items p.kept.items p.ends.items cells
     pub fed : FedIsTaken meaning p.seen.items p.kept.items p.ends.items cells
 
-  -- a plan of as many nodes and agents, whose links are woven with the cells
+  -- a plan with as many nodes and agents as another, whose links are woven with the cells, ready
+  -- for an exchange
   pub record IsPlanOver (meaning : DynBox X Global F → View) (p q : NodePlan W) (cells : List (Cell X F)) : Type 0 where
     pub plan : IsPlan q
     pub nodes : q.nodes ≡ p.nodes
@@ -52,32 +55,34 @@ module _ {X : Type 0} {F : X → Type 0} {W : Type 0} where
     pub woven : AreWoven meaning q.nodes q.agents q.kept.items q.ends.items cells
     pub ready : AreReady meaning (home q.nodes q.agents) q cells
 
-  -- an exchange over a plan
+  -- an exchange passed over a plan, which is then ready for the next one
   pub record HasExchanged (meaning : DynBox X Global F → View) (before : NodePlan W) (cells : List (Cell X F)) (after : NodePlan W) (ready : List (Cell X F)) : Type 0 where
     pub over : IsPlanOver meaning before after ready
     pub exchange : IsExchange (home before.nodes before.agents) before.kept.items after.kept.items (states_of meaning cells) (states_of meaning ready)
     pub told : HaveCaughtUp meaning after.seen.items after.kept.items after.ends.items ready
 
-  -- an exchange found other bytes than those of what it passed
+  -- an exchange found bytes that are not those of what it passed
   pub record HasPassedOther (meaning : DynBox X Global F → View) (round : ℕ) (p : NodePlan W) (cells : List (Cell X F)) (d : Difference) : Type 0 where
     pub passings : List Passing
     pub drained : EachAre (IsDrainedOf (home p.nodes p.agents) (states_of meaning cells)) p.kept.items passings
     pub fault : IsByteFault p.nodes round passings (Differs d)
 
-  -- a difference that an exchange finds is one of the bytes that it passed
+  -- a difference that an exchange finds is one of the bytes that it passed; other faults say
+  -- nothing
   abbrev pub IsExchangeFault : (DynBox X Global F → View) → ℕ → NodePlan W → List (Cell X F) → NodeFault → Type 0
   IsExchangeFault meaning round p cells Failed = Unit {0}
   IsExchangeFault meaning round p cells (Differs d) = HasPassedOther meaning round p cells d
   IsExchangeFault meaning round p cells NoMemory = Unit {0}
 
--- cells that had started were played in such rounds, so many, under a budget, with so much passed between the nodes
+-- from the start on, cells were played in `count` rounds of which `Such` holds, under a budget, and
+-- this much has passed between the nodes
 pub record ArePlayedSo (node : ℕ → ℕ) (budget : ℕ) (Such : List CellState → List (List CellState) → Type 0) (count : ℕ) (begun : List Wire) (started : List CellState) (wires : List Wire) (now : List CellState) : Type 0 where
   pub rounds : List (List CellState)
   pub are : AreNodeRounds node budget begun started rounds wires now
   pub such : Such started rounds
   pub counted : length rounds ≡ count
 
--- a round that took nothing came last
+-- the last round began below the budget and took nothing
 pub record IsIdleOver (node : ℕ → ℕ) (budget : ℕ) (begun : List Wire) (started : List CellState) (wires : List Wire) (now : List CellState) : Type 0 where
   pub before : List CellState
   pub passed : List Wire
@@ -86,20 +91,21 @@ pub record IsIdleOver (node : ℕ → ℕ) (budget : ℕ) (begun : List Wire) (s
   pub round : IsNodeRound node passed wires before now
   pub none : total now ≡ total before
 
--- how playing has ended
+-- how playing has ended, with the number of messages taken
 abbrev pub HasStoppedOver : (ℕ → ℕ) → ℕ → List Wire → List CellState → List Wire → List CellState → RunEnd → Type 0
 HasStoppedOver node budget begun started wires now (AllEnded n) = (n ≡ total now) × (all_ended now ≡ true)
 HasStoppedOver node budget begun started wires now (Spent n) = (n ≡ total now) × (all_ended now ≡ false) × (budget ≤ total now)
 HasStoppedOver node budget begun started wires now (Still n) = (n ≡ total now) × (all_ended now ≡ false) × IsIdleOver node budget begun started wires now
 
--- cells were played until they ended so; where the answer is Still, the last round took nothing
+-- cells were played until they ended in this way; if the answer is `Still`, the last round took
+-- nothing
 pub record ArePlayedOutOver (node : ℕ → ℕ) (budget count : ℕ) (begun : List Wire) (started : List CellState) (wires : List Wire) (now : List CellState) (answer : RunEnd) : Type 0 where
   pub played : ArePlayedSo node budget AreDue count begun started wires now
   pub stopped : HasStoppedOver node budget begun started wires now answer
   pub idle : AtStill answer (EndIdle started played.rounds)
 
 module _ {X : Type 0} {F : X → Type 0} where
-  -- cells were played to a round that was broken off where stamps end, the last one of so many
+  -- cells were played until the last of `count` rounds was broken off because stamps ran out
   pub record HasBrokenOver (meaning : DynBox X Global F → View) (node : ℕ → ℕ) (budget count : ℕ) (begun : List Wire) (started : List CellState) (wires : List Wire) (now : List (Cell X F)) : Type 0 where
     pub stood : List CellState
     pub broken : AreBrokenOver node budget begun started wires stood (states_of meaning now)
@@ -108,14 +114,15 @@ module _ {X : Type 0} {F : X → Type 0} where
     pub few : total stood < amount_limit
     pub failed : SomeFailed StampEnd now
 
-  -- a round over a plan, in which so many messages were taken
+  -- a round over a plan, in which `count` messages were taken and no cell failed
   pub record HasRoundOver {W : Type 0} (meaning : DynBox X Global F → View) (before : NodePlan W) (cells : List (Cell X F)) (after : NodePlan W) (now : List (Cell X F)) (count : ℕ) : Type 0 where
     pub round : IsNodeRound (home before.nodes before.agents) before.kept.items after.kept.items (states_of meaning cells) (states_of meaning now)
     pub counted : total (states_of meaning now) ≡ total (states_of meaning cells) + count
     pub most : count ≤ length cells * sprint_limit
     pub fine : EachIs (λ c. fault_in c ≡ None) now
 
-  -- an exchange over a plan, and a round that was broken off where stamps end
+  -- an exchange over a plan, and a round that was broken off because stamps ran out; and what a
+  -- round did, by its answer
   pub record HasBrokenRound {W : Type 0} (meaning : DynBox X Global F → View) (before : NodePlan W) (cells : List (Cell X F)) (after : NodePlan W) (now : List (Cell X F)) : Type 0 where
     pub ready : List CellState
     pub exchange : IsExchange (home before.nodes before.agents) before.kept.items after.kept.items (states_of meaning cells) ready
@@ -129,7 +136,7 @@ module _ {X : Type 0} {F : X → Type 0} where
   IsRoundOver meaning before cells after now (Some count) = HasRoundOver meaning before cells after now count
   IsRoundOver meaning before cells after now None = HasBrokenRound meaning before cells after now
 
-  -- cells were played to an end, or to a round that was broken off
+  -- cells were played until the run ended, or until a round was broken off
   abbrev pub ArePlayedTo : (DynBox X Global F → View) → (ℕ → ℕ) → ℕ → List Wire → List CellState → List Wire → List (Cell X F) → ℕ → Option RunEnd → Type 0
   ArePlayedTo meaning node budget begun started wires now count (Some answer) = ArePlayedOutOver node budget count begun started wires (states_of meaning now) answer
   ArePlayedTo meaning node budget begun started wires now count None = HasBrokenOver meaning node budget count begun started wires now

@@ -14,7 +14,7 @@ use Rattle.letter_wires.specs.Honest.{AreHonest}
 use Rattle.tcp_links.specs.declared.plan.InnerEnds.{InnerEnds}
 use Rattle.tcp_links.specs.declared.plan.NodePlan.{NodePlan}
 
--- how many pairs there are of so many nodes
+-- the number of pairs of nodes
 abbrev pub pair_count : ℕ → ℕ
 pair_count nodes = nodes * (nodes - 1) / 2
 
@@ -24,22 +24,25 @@ pub record IsBetween (agents nodes : ℕ) (w : Wire) : Type 0 where
   pub receiver : w.receiver < agents
   pub apart : home nodes agents w.sender ≢ home nodes agents w.receiver
 
--- links stand in order, by sender and then receiver
+-- links are in order, by sender and then receiver
 abbrev pub AreOrdered : List Wire → Type 0
 AreOrdered ws = (k l : ℕ) (v w : Wire) → slice_get ws k ≡ Some v → slice_get ws l ≡ Some w → k < l → ComesBefore v w
 
--- a link from this agent to that, which has passed nothing
+-- a link from one agent to another that has passed nothing
 abbrev pub fresh_link : ℕ → ℕ → Wire
 fresh_link from to = record { receiver = to; sender = from; passages = [] }
 
--- such a link belongs at this place of others: those below it come before it, and it comes before all others
+-- such a link belongs at this position among others: those below come before it, and it comes
+-- before the rest
 pub record BelongsAt (ws : List Wire) (from to place : ℕ) : Type 0 where
   pub inside : place ≤ length ws
   pub below : (k : ℕ) (w : Wire) → slice_get ws k ≡ Some w → k < place → ComesBefore w (fresh_link from to)
   pub above : (k : ℕ) (w : Wire) → slice_get ws k ≡ Some w → place ≤ k → ComesBefore (fresh_link from to) w
 
 module _ {W : Type 0} where
-  -- a plan: at most 1,000 agents in at most 8 nodes, two wires for each pair of nodes, and two inner ends for each link; the links lead from node to node, and stand in order
+  -- a plan: up to 1,000 agents in up to 8 nodes, a pair of wires for each pair of nodes, and inner
+  -- ends for each link; the links lead between different nodes, are in order, and no two have the
+  -- same sender and receiver
   pub record IsPlan (p : NodePlan W) : Type 0 where
     pub agents : (0 < p.agents) × (p.agents ≤ variable_limit)
     pub nodes : (0 < p.nodes) × (p.nodes ≤ node_limit)
@@ -49,18 +52,19 @@ module _ {W : Type 0} where
     pub apart : AreApart p.kept.items
     pub ordered : AreOrdered p.kept.items
 
-  -- a plan of so many agents in so many nodes, with no link
+  -- a plan for this many agents in this many nodes, without links
   pub record IsNewPlan (agents nodes : ℕ) (p : NodePlan W) : Type 0 where
     pub plan : IsPlan p
     pub agents_are : p.agents ≡ agents
     pub nodes_are : p.nodes ≡ nodes
     pub no_link : p.kept.items ≡ []
 
-  -- there is no link from this agent to that
+  -- there is no link from this agent to that one
   pub record HasNoLink (p : NodePlan W) (from to : ℕ) : Type 0 where
     pub none : (k : ℕ) (w : Wire) → slice_get p.kept.items k ≡ Some w → w.sender ≡ from → w.receiver ≢ to
 
-  -- a plan has one link more, from this agent to that, at its place among the others; it has passed nothing, and these are its outer ends
+  -- the plan has one link more, from this agent to that one, at its position among the others;
+  -- nothing has passed on it, and these are its outer ends
   pub record IsNewLink (before : NodePlan W) (from to : ℕ) (tail : LinkTail (ℕ × Message)) (head : LinkHead (ℕ × Message)) (after : NodePlan W) : Type 0 where
     pub place : ℕ
     pub ends : InnerEnds
@@ -73,7 +77,7 @@ module _ {W : Type 0} where
     pub untaken : (taken_from ends.drain ≡ []) × (taken_from head ≡ [])
     pub same : (after.agents ≡ before.agents) × (after.nodes ≡ before.nodes) × (after.wires.items ≡ before.wires.items)
 
-  -- the plan is as before
+  -- the plan has the same agents, nodes, wires and links as before
   pub record IsSamePlan (before after : NodePlan W) : Type 0 where
     pub agents : after.agents ≡ before.agents
     pub nodes : after.nodes ≡ before.nodes

@@ -1,4 +1,4 @@
--- Cells whose links between nodes lead over a plan, in a run.
+-- Cells whose links between nodes are those of a plan, during a run.
 use Rattle.std.specs.Prelude.{◌≡◌, ◌≢◌, ℕ, ◌<◌, ◌≤◌, false, List, [], ◌++◌, map, length, Some, slice_get}
 use Rattle.std.specs.List.{All, Contains}
 use Rattle.std.specs.declared.dyn_box.DynBox.{DynBox}
@@ -20,7 +20,7 @@ use Rattle.tcp_links.specs.Drains.{HasDrained}
 use Rattle.tcp_links.specs.Feeds.{AllWaits}
 use Rattle.node_letters.specs.Passings.{Passing, emptied as emptied_of}
 
--- a link as an exchange passes it on: its agents and their nodes
+-- a link as an exchange passes it on: the same agents, and their nodes
 pub record IsPassingOf (node : ℕ → ℕ) (w : Wire) (p : Passing) : Type 0 where
   pub from : p.from ≡ w.sender
   pub to : p.to ≡ w.receiver
@@ -33,19 +33,20 @@ pub record IsIdle (node : ℕ → ℕ) (w : Wire) (p : Passing) : Type 0 where
   pub drained : p.drained ≡ []
   pub arrived : p.arrived ≡ []
 
--- so it is with each of these links
+-- nothing was drained of any of these links, and nothing has arrived on them
 pub record AreIdle (node : ℕ → ℕ) (ws : List Wire) (ps : List Passing) : Type 0 where
   pub size : length ps ≡ length ws
   pub each : (k : ℕ) (w : Wire) (p : Passing) → slice_get ws k ≡ Some w → slice_get ps k ≡ Some p → IsIdle node w p
 
--- the first links hold nothing more, so many of them, and the others stand as they stood
+-- the first `count` passings are empty, and the others are as before
 pub record AreEmptied (count : ℕ) (before after : List Passing) : Type 0 where
   pub size : length after ≡ length before
   pub rest : (k : ℕ) → count ≤ k → slice_get after k ≡ slice_get before k
   pub emptied : (k : ℕ) (p q : Passing) → k < count → slice_get before k ≡ Some p → slice_get after k ≡ Some q → q ≡ emptied_of p
 
 module _ {X : Type 0} {F : X → Type 0} where
-  -- the inner ends of a link belong to the two cells between which it leads, of which each is a peer of the other, and its passages tell all that went through them
+  -- the inner ends of a link belong to the two cells that it links, each of them a peer of the
+  -- other, and its passages are all that went through these ends
   pub record IsWoven (meaning : DynBox X Global F → View) (from to : Cell X F) (w : Wire) (ends : InnerEnds) : Type 0 where
     pub drains : TailJoins (tails_in from) w.receiver ends.drain
     pub feeds : HeadJoins (heads_in to) w.sender ends.feed
@@ -53,7 +54,8 @@ module _ {X : Type 0} {F : X → Type 0} where
     pub takes : Contains (peers (state_of meaning to).taken) w.sender
     pub kept : IsKept w ends
 
-  -- so it is with each of these links, which lead apart from node to node, and there is one from each cell to each of its peers in another node
+  -- each link is woven with its two cells; the links lead between different nodes, no two with the
+  -- same sender and receiver, and each cell has a link to each of its peers in another node
   pub record AreWoven (meaning : DynBox X Global F → View) (nodes agents : ℕ) (ws : List Wire) (es : List InnerEnds) (cells : List (Cell X F)) : Type 0 where
     pub size : length cells ≡ agents
     pub ends : length es ≡ length ws
@@ -69,7 +71,7 @@ module _ {X : Type 0} {F : X → Type 0} where
     pub joined : TailJoins (tails_in from) w.receiver ends.drain
     pub peer : Contains (peers (state_of meaning from).sent) w.receiver
 
-  -- so can the cells of all these links
+  -- the senders' cells of all these links can be drained
   pub record CanDrainAll (meaning : DynBox X Global F → View) (ws : List Wire) (es : List InnerEnds) (cells : List (Cell X F)) : Type 0 where
     pub inside : (k : ℕ) (w : Wire) → slice_get ws k ≡ Some w → w.sender < length cells
     pub each : (k : ℕ) (w : Wire) (e : InnerEnds) (from : Cell X F) → slice_get ws k ≡ Some w → slice_get es k ≡ Some e → slice_get cells w.sender ≡ Some from → CanDrain meaning from w e
@@ -80,33 +82,36 @@ module _ {X : Type 0} {F : X → Type 0} where
     pub joined : HeadJoins (heads_in to) w.sender ends.feed
     pub peer : Contains (peers (state_of meaning to).taken) w.sender
 
-  -- so can the cells of all these links, which lead apart
+  -- the receivers' cells of all these links can be fed; no two links have the same sender and
+  -- receiver
   pub record CanFeedAll (meaning : DynBox X Global F → View) (ws : List Wire) (es : List InnerEnds) (cells : List (Cell X F)) : Type 0 where
     pub apart : AreApart ws
     pub inside : (k : ℕ) (w : Wire) → slice_get ws k ≡ Some w → w.receiver < length cells
     pub each : (k : ℕ) (w : Wire) (e : InnerEnds) (to : Cell X F) → slice_get ws k ≡ Some w → slice_get es k ≡ Some e → slice_get cells w.receiver ≡ Some to → CanFeed meaning to w e
 
-  -- where the sender's journal is as long as was noted, all that it has sent on a link was drained of it
+  -- if the sender's journal is as long as was noted, all that it has sent on a link was drained
   pub record SentIsDrained (meaning : DynBox X Global F → View) (seen : List ℕ) (ws : List Wire) (es : List InnerEnds) (cells : List (Cell X F)) : Type 0 where
     pub each : (k : ℕ) (w : Wire) (e : InnerEnds) (from : Cell X F) → slice_get ws k ≡ Some w → slice_get es k ≡ Some e → slice_get cells w.sender ≡ Some from
         → slice_get seen w.sender ≡ Some (length (state_of meaning from).journal) → taken_from e.drain ≡ lane w.receiver (state_of meaning from).sent
 
-  -- where the receiver's journal is as long as was noted, and nothing waited, the receiver has taken all that was fed to it
+  -- if the receiver's journal is as long as was noted, and nothing waited, the receiver has taken
+  -- all that was fed to it
   pub record FedIsTaken (meaning : DynBox X Global F → View) (seen : List ℕ) (ws : List Wire) (es : List InnerEnds) (cells : List (Cell X F)) : Type 0 where
     pub each : (k : ℕ) (w : Wire) (e : InnerEnds) (to : Cell X F) → slice_get ws k ≡ Some w → slice_get es k ≡ Some e → slice_get cells w.receiver ≡ Some to
         → slice_get seen w.receiver ≡ Some (length (state_of meaning to).journal) → e.waits ≡ false → lane w.sender (state_of meaning to).taken ≡ sent_on e.feed
 
-  -- the journals were noted behind an exchange, which drained all that was sent; and where nothing waited then, the receiver had taken all that was fed to it
+  -- the journals were noted after an exchange that drained all that was sent; if nothing waited,
+  -- the receiver had taken all that was fed to it
   pub record HaveCaughtUp (meaning : DynBox X Global F → View) (seen : List ℕ) (ws : List Wire) (es : List InnerEnds) (cells : List (Cell X F)) : Type 0 where
     pub noted : seen ≡ map (λ c. length (state_of meaning c).journal) cells
     pub sent : (k : ℕ) (w : Wire) (e : InnerEnds) (from : Cell X F) → slice_get ws k ≡ Some w → slice_get es k ≡ Some e → slice_get cells w.sender ≡ Some from → taken_from e.drain ≡ lane w.receiver (state_of meaning from).sent
     pub fed : (k : ℕ) (w : Wire) (e : InnerEnds) (to : Cell X F) → slice_get ws k ≡ Some w → slice_get es k ≡ Some e → slice_get cells w.receiver ≡ Some to → e.waits ≡ false → lane w.sender (state_of meaning to).taken ≡ sent_on e.feed
 
-  -- of other links than that to agent i from agent j no cell knows more or less
+  -- on every link but the one to agent i from agent j, cells know as much as before
   pub record KnowsElse (meaning : DynBox X Global F → View) (i j : ℕ) (before after : List (Cell X F)) : Type 0 where
     pub other : (k l : ℕ) (a b : Cell X F) → slice_get before k ≡ Some a → slice_get after k ≡ Some b → (k ≡ i → l ≡ j → ⊥) → known_from l (state_of meaning b).known ≡ known_from l (state_of meaning a).known
 
-  -- all that the sender's cell has sent on a link was drained of it
+  -- all that the sender's cell has sent on a link was drained
   pub record HasDrainedLink (meaning : DynBox X Global F → View) (from : Cell X F) (w : Wire) (before after : InnerEnds) (drained : List (ℕ × Message)) : Type 0 where
     pub end : SameHead before.drain after.drain
     pub more : HasDrained before.drain [] after.drain drained
@@ -114,7 +119,7 @@ module _ {X : Type 0} {F : X → Type 0} where
     pub feed : after.feed ≡ before.feed
     pub waits : after.waits ≡ before.waits
 
-  -- of the first links, so many, all was drained, and the others stand as they stood
+  -- the first `count` links were drained completely, and the others are as before
   pub record HaveDrained (meaning : DynBox X Global F → View) (node : ℕ → ℕ) (count : ℕ) (cells : List (Cell X F)) (ws : List Wire) (before after : List InnerEnds) (ps : List Passing) : Type 0 where
     pub size : length after ≡ length before
     pub counted : length ps ≡ length ws
@@ -124,7 +129,8 @@ module _ {X : Type 0} {F : X → Type 0} where
     pub drained : (k : ℕ) (w : Wire) (from : Cell X F) (a b : InnerEnds) (p : Passing) → k < count → slice_get ws k ≡ Some w → slice_get cells w.sender ≡ Some from → slice_get before k ≡ Some a → slice_get after k ≡ Some b → slice_get ps k ≡ Some p
         → HasDrainedLink meaning from w a b p.drained
 
-  -- what arrived on a link was fed to it, all of it waits for the receiver's cell, and it is kept with what was drained
+  -- what arrived on a link was fed to it, all of it waits for the receiver's cell, and the link has
+  -- passed it together with what was drained
   pub record HasFedLink (meaning : DynBox X Global F → View) (to : Cell X F) (w v : Wire) (before after : InnerEnds) (p : Passing) : Type 0 where
     pub end : SameTail before.feed after.feed
     pub fed : sent_on after.feed ≡ sent_on before.feed ++ p.arrived
@@ -133,7 +139,7 @@ module _ {X : Type 0} {F : X → Type 0} where
     pub drain : after.drain ≡ before.drain
     pub kept : v ≡ keeps w p.drained p.arrived
 
-  -- so it was with the first links, so many, and the others stand as they stood
+  -- the first `count` links were fed in this way, and the others are as before
   pub record HaveFed (meaning : DynBox X Global F → View) (count : ℕ) (cells : List (Cell X F)) (ws vs : List Wire) (before after : List InnerEnds) (ps : List Passing) : Type 0 where
     pub size : length after ≡ length before
     pub wires : length vs ≡ length ws

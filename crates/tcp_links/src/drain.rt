@@ -15,8 +15,8 @@ use fifo_links::{LinkHead, SLOTS};
 use protocol_steps::Envelope;
 use std::alloc::Global;
 
-/// Takes all that a cell has sent to an agent of another node from the inner end of that link, oldest
-/// first, and adds it to a list.
+/// Takes all that a cell has sent to an agent of another node from the inner end of that link,
+/// oldest first, and adds it to a list.
 pub(crate) fn drain_link(
     alloc: Global,
     cell: &mut Cell,
@@ -38,8 +38,8 @@ pub(crate) fn drain_link(
     Ok(())
 }
 
-/// Takes what is found in the ring of a link, and adds it to a list. It takes memory for all that the
-/// ring has room for.
+/// Takes all that is known in the ring of a link, and adds it to a list. It reserves memory for a
+/// full ring.
 fn take_found(
     alloc: Global,
     inner: &mut LinkHead<Sealed>,

@@ -25,10 +25,10 @@ use std::thread::Threads;
 use std::time::Clock;
 use wire_edge::Dialer;
 
-/// Drains each link between nodes, sends what they held over the wires, and feeds what arrived to
-/// the receivers, in the exchange behind so many rounds. Links on which nothing was sent rest, and so
-/// do wires between whose nodes there is nothing to send. What the links pass is taken out again, and
-/// it is noted how long the cells' journals are.
+/// Drains each link between nodes, sends over the wires what was drained, and feeds what arrived to
+/// the receivers. The exchange comes after `round` rounds. Links on which nothing was sent are left
+/// out, and so are wires between nodes that have nothing to send. At its end the passings are empty
+/// again, and the length of each cell's journal is noted.
 pub(crate) fn exchange<R, D>(
     rt: &R,
     alloc: Global,

@@ -9,38 +9,40 @@ use letter_wires::PassFault;
 use protocol_steps::Envelope;
 use std::alloc::{AllocError, AllocFailed};
 
-/// Two kept values that differ.
+/// What was sent and what was received, when they differ.
 #[derive(Drop)]
 pub enum Difference {
-    /// On the lowest link that has not held, by its sender and then its receiver, the first place
-    /// where the envelope that arrived is not the one that was drained in the same exchange. Where
-    /// one of that exchange's two lists is over, its envelope is `None`.
+    /// On the lowest link that differs, by its sender and then its receiver: the first position at
+    /// which the envelope that arrived is not the one that was drained in the same exchange. If one
+    /// of the exchange's two lists is over there, its envelope is `None`.
     Message {
         /// The agent that sends on the link.
         from: VarId,
-        /// The agent that takes from it.
+        /// The agent that receives on the link.
         to: VarId,
-        /// The place on the link in this run, from 0.
+        /// The position on the link in this run, from 0: how many envelopes the link had drained
+        /// before. Positions from 2^64 - 1 up are all given as 2^64 - 1.
         at: u64,
-        /// What was sent there.
+        /// The envelope that was drained.
         sent: Option<Envelope>,
-        /// What was taken there.
+        /// The envelope that arrived.
         taken: Option<Envelope>,
     },
     /// The bytes that a node received are not whole frames of envelopes from an agent of the other
-    /// node to a neighbour in this one: the first byte that differs from those that were sent.
+    /// node to a neighbour in this one. The fields give the first byte that differs from what was
+    /// sent.
     Bytes {
-        /// The number of rounds before the exchange; 0 is the exchange after the start.
+        /// The number of rounds before the exchange; 0 for the exchange after the start.
         round: u64,
         /// The node that sent.
         from_node: u32,
         /// The node that received.
         to_node: u32,
-        /// The place in that exchange's bytes from the one node to the other, from 0.
+        /// The position in that exchange's bytes from the one node to the other, from 0.
         place: u64,
-        /// The byte that was sent, where there is one.
+        /// The byte that was sent; `None` if the bytes that were sent are over.
         sent: Option<u8>,
-        /// The byte that was received, where there is one.
+        /// The byte that was received; `None` if the bytes that were received are over.
         taken: Option<u8>,
     },
 }
@@ -64,11 +66,11 @@ impl From<LinkDifference> for Difference {
 /// Why a run of nodes failed.
 #[derive(Drop)]
 pub enum NodeFault {
-    /// The dialer failed, or a wire did, which was then charged to it: its count of faults rose.
+    /// The dialer failed, or a wire did and was charged to it. The dialer's count of faults rose.
     Failed,
     /// What arrived is not what was sent.
     Differs(Difference),
-    /// Memory was wanted and not had.
+    /// Memory ran out.
     NoMemory,
 }
 
@@ -102,7 +104,7 @@ impl<T: Drop> From<AllocFailed<T>> for NodeFault {
     }
 }
 
-/// The fault of the exchange behind so many rounds.
+/// The fault of the exchange after `round` rounds.
 pub(crate) fn node_fault(round: u64, fault: PassFault) -> NodeFault
     ensures { result ≡ node_fault round fault }
 {

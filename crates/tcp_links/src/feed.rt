@@ -1,4 +1,4 @@
-//! Feeding what arrived from another node to the cell that takes it.
+//! Feeding what arrived from another node to the cell that receives it.
 
 ghost use Rattle.std.specs.Prelude.{◌≡◌, ◌≢◌, ℕ, ◌++◌, false, IfOk, OnOk};
 ghost use Rattle.std.specs.List.{Contains};
@@ -15,8 +15,9 @@ use fifo_links::LinkTail;
 use protocol_steps::Envelope;
 use std::alloc::Global;
 
-/// Sends what arrived of an agent of another node on the inner end of its link, in order, and settles
-/// the link. So the cell can take it, behind what arrived before. Whether something waits for it then.
+/// Sends what arrived from an agent of another node on the inner end of its link, in order, and
+/// settles the link. The cell can then take it after what arrived before. The answer is whether
+/// anything waits for the cell then.
 pub(crate) fn feed_link(
     alloc: Global,
     cell: &mut Cell,
@@ -56,7 +57,7 @@ fn send_all(
     Ok(())
 }
 
-/// The same envelope again.
+/// A copy of the envelope.
 fn copy_of(envelope: &Envelope) -> Result<Envelope, NoMemory>
     ensures { IfOk result (λ copy. copy ≡ envelope.now) }
 {

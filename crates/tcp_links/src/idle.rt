@@ -13,7 +13,7 @@ use kept_wires::KeptLink;
 use node_letters::LinkPassing;
 use std::alloc::Global;
 
-/// What an exchange passes on each of these links while nothing is drained of them.
+/// What an exchange passes on each of these links as long as nothing is drained of them.
 pub(crate) fn idle_passings(
     alloc: Global,
     kept: &[KeptLink],

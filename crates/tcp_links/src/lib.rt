@@ -1,10 +1,10 @@
-//! Links between the nodes of agents, over wires that nobody trusts, and runs of cells in nodes.
+//! Links between the nodes of agents, over wires that are not trusted, and runs of cells in nodes.
 //!
-//! A [`NodePlan`] has a pair of wires between each two nodes, and the inner ends of the links between
-//! agents of different nodes. In [`run_nodes`] an exchange follows the start and each round: it
-//! drains these links, sends what they held over the wires, and feeds what arrived to the receivers.
-//! Nothing is taken for true that came over a wire: what each exchange drained and what arrived is
-//! kept, and compared before an end is answered.
+//! A [`NodePlan`] has a pair of wires between each two nodes, and the inner ends of the links
+//! between agents of different nodes. In [`run_nodes`] an exchange follows the start and each
+//! round. It drains these links, sends over the wires what was drained, and feeds what arrived to
+//! the receivers. Nothing that came over a wire is trusted: what each exchange drained and what
+//! arrived is kept, and compared before the run's end is answered.
 #![tactic(auto)]
 
 mod drain;

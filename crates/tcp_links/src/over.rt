@@ -27,16 +27,16 @@ use std::thread::Threads;
 use std::time::Clock;
 use wire_edge::Dialer;
 
-/// How playing came to its end.
+/// How playing ended.
 #[derive(Clone, Copy, Debug, PartialEq, Eq)]
 pub(crate) struct Played {
-    /// The number of rounds, one that was broken off included.
+    /// The number of rounds, including one that was broken off.
     pub(crate) rounds: u64,
-    /// How the run ended; `None` where a round was broken off because stamps came to their end.
+    /// How the run ended; `None` if a round was broken off because stamps ran out.
     pub(crate) end: Option<RunEnd>,
 }
 
-/// Plays rounds, with an exchange before each, until the run has ended or a round was broken off.
+/// Plays rounds, with an exchange before each, until the run has ended or a round is broken off.
 pub(crate) fn play_over<R, D, G>(
     rt: &R,
     alloc: Global,
@@ -94,8 +94,8 @@ where
     Ok(ended(budget, RunEnd::Spent { deliveries }))
 }
 
-/// Plays the round behind so many, with an exchange before it. Answers how many messages were taken;
-/// `None` where stamps came to their end.
+/// Plays the round after `round` rounds, with an exchange before it. The answer is how many
+/// messages were taken; `None` if stamps ran out.
 fn round_over<R, D, G>(
     rt: &R,
     alloc: Global,
@@ -137,7 +137,7 @@ where
     }
 }
 
-/// Playing that ended so after so many rounds.
+/// Playing that ended in this way after `rounds` rounds.
 fn ended(rounds: u64, end: RunEnd) -> Played
     ensures { (result.rounds ≡ rounds) × (result.end ≡ some end) }
 {
@@ -147,7 +147,7 @@ fn ended(rounds: u64, end: RunEnd) -> Played
     }
 }
 
-/// Playing of which so many rounds were begun, and the last one was broken off.
+/// Playing whose last round was broken off, with `rounds` rounds in all.
 fn broken(rounds: u64) -> Played
     ensures { (result.rounds ≡ rounds) × (result.end ≡ none) }
 {

@@ -1,4 +1,4 @@
-//! What stands between the nodes of agents: wires, and the inner ends of links.
+//! What is between the nodes of agents: wires, and the inner ends of links.
 
 ghost use Rattle.std.specs.Prelude.{◌≡◌, ◌≢◌, ◌↔◌, ℕ, ◌<◌, ◌≤◌, true, [], length, Some, slice_get, IfOk, OnOk, OnErr};
 ghost use Rattle.std.specs.List.{insert};
@@ -22,18 +22,19 @@ use std::thread::Threads;
 use std::time::Clock;
 use wire_edge::{DialFault, Dialer, Wire};
 
-/// The inner ends of a link between two nodes: what the sender's cell sends is drained from the
-/// one, and what has arrived is fed to the other, of which the receiver's cell has the head.
+/// The inner ends of a link between two nodes. What the sender's cell sends is drained from
+/// `drain`. What arrives is fed to `feed`, whose other end the receiver's cell has.
 #[derive(Drop)]
 pub struct InnerEnds {
     pub(crate) drain: LinkHead<Sealed>,
     pub(crate) feed: LinkTail<Sealed>,
-    /// Whether something waited for the receiver's cell when the link was last fed.
+    /// Whether anything waited for the receiver's cell when the link was last fed.
     pub(crate) waits: bool,
 }
 
 /// The wires between each two nodes, and the inner ends of the links between agents of different
-/// nodes, by sender and then receiver. Agent i of n is in node i · nodes / n, rounded down.
+/// nodes. The links are in order, by sender and then receiver. Agent i of n is in node i · nodes /
+/// n, rounded down.
 #[derive(Drop)]
 pub struct NodePlan<W: Wire> {
     pub(crate) agents: u32,
@@ -41,20 +42,21 @@ pub struct NodePlan<W: Wire> {
     pub(crate) wires: Vec<(W, W)>,
     pub(crate) kept: Vec<KeptLink>,
     pub(crate) ends: Vec<InnerEnds>,
-    /// What an exchange passes on each link, in a run. Between exchanges they hold nothing.
+    /// What an exchange passes on each link, during a run. Between exchanges they are empty.
     pub(crate) passings: Vec<LinkPassing>,
-    /// How many entries each cell's journal had at the end of the last exchange; empty where there
-    /// was none, or where cells have failed since.
+    /// How many entries each cell's journal had at the end of the last exchange. Empty if there was
+    /// no exchange yet, or if a round was broken off since.
     pub(crate) seen: Vec<usize>,
 }
 
 impl<W: Wire> NodePlan<W> {
-    /// Dials each pair of nodes, (0, 1), (0, 2) and so on in order, for so many agents. It takes
-    /// memory, and may wait.
+    /// Dials each pair of nodes, (0, 1), (0, 2) and so on in order. The plan has no links yet. It
+    /// takes memory, and may wait.
     ///
     /// # Errors
     ///
-    /// [`DialFault::Failed`] only where the dialer's count of faults rose.
+    /// - [`DialFault::Failed`] if the dialer failed: its count of faults rises.
+    /// - [`DialFault::NoMemory`] if memory runs out.
     pub fn new<R, D>(
         rt: &R,
         alloc: Global,
@@ -97,14 +99,14 @@ impl<W: Wire> NodePlan<W> {
         home(one, self.nodes, self.agents) == home(other, self.nodes, self.agents)
     }
 
-    /// The outer ends of a link from one agent to another in a different node: the tail for the
-    /// cell that sends, and the head for the one that takes. The plan keeps the two inner ends until
-    /// [`run_nodes`](crate::run_nodes) returns. Links may be made in any order; it is done soonest
-    /// by sender and then receiver. It takes memory.
+    /// The outer ends of a new link from one agent to another in a different node: the tail for the
+    /// cell that sends, and the head for the cell that receives. There is no such link yet. The
+    /// plan keeps the two inner ends until [`run_nodes`](crate::run_nodes) succeeds. Links may be
+    /// made in any order; by sender and then receiver is fastest. It takes memory.
     ///
     /// # Errors
     ///
-    /// [`NoMemory`] where memory was wanted and not had. The plan is then as before.
+    /// [`NoMemory`] if memory runs out. The plan stays as it was.
     pub fn link(
         &mut self,
         alloc: Global,
@@ -137,7 +139,7 @@ impl<W: Wire> NodePlan<W> {
     }
 }
 
-/// The node of an agent, of so many nodes and agents.
+/// The node of an agent.
 pub(crate) fn home(agent: VarId, nodes: u32, agents: u32) -> u32
     requires inside { agent < agents }
     requires few { (agents ≤ variable_limit) × (nodes ≤ node_limit) }
@@ -146,7 +148,7 @@ pub(crate) fn home(agent: VarId, nodes: u32, agents: u32) -> u32
     agent.0 * nodes / agents
 }
 
-/// How many pairs there are of so many nodes.
+/// The number of pairs of nodes.
 fn pair_count(nodes: u32) -> u32
     requires { (0 < nodes) × (nodes ≤ node_limit) }
     ensures { result ≡ pair_count nodes }
@@ -154,7 +156,7 @@ fn pair_count(nodes: u32) -> u32
     nodes * (nodes - 1) / 2
 }
 
-/// The ends of a new link.
+/// The two ends of a new link.
 fn new_link(alloc: Global) -> Result<(LinkTail<Sealed>, LinkHead<Sealed>), NoMemory>
     ensures ends { IfOk result (λ l. AreEnds l.0 l.1) }
     ensures sent { IfOk result (λ l. sent_on l.0 ≡ []) }
@@ -166,7 +168,7 @@ fn new_link(alloc: Global) -> Result<(LinkTail<Sealed>, LinkHead<Sealed>), NoMem
     Ok((tail, head))
 }
 
-/// The place of a new link among these. It is sought from their end.
+/// The position of a new link among these, sought from the end.
 fn place_of(kept: &[KeptLink], from: VarId, to: VarId) -> usize
     requires ordered { AreOrdered kept.now }
     requires none { (k : ℕ) (w : _) → slice_get kept.now k ≡ Some w → w.sender ≡ from → w.receiver ≢ to }
@@ -182,7 +184,7 @@ fn place_of(kept: &[KeptLink], from: VarId, to: VarId) -> usize
     place
 }
 
-/// Whether a link comes before one from this agent to that.
+/// Whether a link comes before one with this sender and receiver.
 fn comes_before(link: &KeptLink, from: VarId, to: VarId) -> bool
     ensures { (result ≡ true) ↔ ComesBefore link.now (fresh_link from to) }
 {
@@ -193,7 +195,8 @@ fn comes_before(link: &KeptLink, from: VarId, to: VarId) -> bool
     link.to() < to
 }
 
-/// Adds a link and its inner ends to two lists at a place, or leaves both as they were.
+/// Inserts a link and its inner ends into two lists at the same position. If memory runs out, both
+/// stay as they were.
 fn add_link(
     kept: &mut Vec<KeptLink>,
     ends: &mut Vec<InnerEnds>,

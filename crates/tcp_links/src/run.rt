@@ -33,17 +33,20 @@ use std::thread::Threads;
 use std::time::Clock;
 use wire_edge::{Dialer, Wire};
 
-/// Starts the agents of all cells in order, and plays the cells in rounds of so many workers until
-/// the run has ended under this budget of deliveries, with an exchange between the nodes after the
-/// start and after each round. The run ends as that of `agent_workers` does. At the end every link is
-/// settled once more, and what each exchange drained and what arrived is compared, exchange by
-/// exchange. It takes memory, but not for the comparison, and may wait.
+/// Starts the agents of all cells in order, and plays the cells in rounds with this many workers.
+/// An exchange between the nodes follows the start and each round. The run ends as one of
+/// `agent_workers` does, under this budget of deliveries. At the end every link is settled once
+/// more. Then what each exchange drained and what arrived is compared, exchange by exchange. It
+/// takes memory, but not for the comparison, and may wait.
 ///
 /// # Errors
 ///
-/// [`NodeFault::Failed`] only where the dialer's count of faults rose. [`NodeFault::Differs`] only
-/// where the two values in it differ, and never over a plan of an honest dialer. After a fault the
-/// cells and the plan are as the rounds and exchanges left them.
+/// - [`NodeFault::Failed`] if the dialer or a wire failed: the dialer's count of faults rises.
+/// - [`NodeFault::Differs`] only if the two values in it differ. It never comes over the plan of an
+///   honest dialer.
+/// - [`NodeFault::NoMemory`] if memory runs out.
+///
+/// After a fault the cells and the plan are as the rounds and exchanges left them.
 pub fn run_nodes<R, D, G>(
     rt: &R,
     alloc: Global,
@@ -90,7 +93,7 @@ where
     )
 }
 
-/// Makes a plan ready for a run, in which nothing was seen of the cells yet.
+/// Makes a plan ready for a run: nothing is noted of the cells yet.
 fn prepare<W: Wire>(alloc: Global, plan: &mut NodePlan<W>) -> Result<(), NoMemory>
     requires { IsPlan plan.old }
     ensures same { IsSamePlan plan.old plan.new }
@@ -103,7 +106,7 @@ fn prepare<W: Wire>(alloc: Global, plan: &mut NodePlan<W>) -> Result<(), NoMemor
     Ok(())
 }
 
-/// [`run_nodes`], on a slice, over a plan that is ready.
+/// [`run_nodes`] on a slice of cells, over a plan that is ready.
 fn run_over<R, D, G>(
     rt: &R,
     alloc: Global,
@@ -150,13 +153,13 @@ where
     clear_links(plan);
     match play.end {
         Some(end) => Ok(end),
-        // Where every exchange took just what it sent, no stamp is so great.
+        // If every exchange took exactly what it sent, no stamp can be so great.
         None => unreachable!(),
     }
 }
 
 /// The first difference between what an exchange drained of a link and what arrived on it. Its
-/// envelopes are taken out of the kept links; it takes no memory.
+/// envelopes are taken out of the kept links. It takes no memory.
 fn compare(kept: &mut [KeptLink]) -> Option<Difference>
     ensures { MatchOption result (HaveHeld kept.old) (IsKeptDifference kept.old) }
 {
@@ -164,7 +167,7 @@ fn compare(kept: &mut [KeptLink]) -> Option<Difference>
     Some(found.into())
 }
 
-/// Takes all links off a plan.
+/// Removes all links from a plan.
 fn clear_links<W: Wire>(plan: &mut NodePlan<W>)
     requires agents { (0 < plan.old.agents) × (plan.old.agents ≤ variable_limit) }
     requires nodes { (0 < plan.old.nodes) × (plan.old.nodes ≤ node_limit) }

@@ -19,8 +19,8 @@ use kept_wires::KeptLink;
 use node_letters::LinkPassing;
 use std::alloc::Global;
 
-/// Drains each link between nodes to its end, and gives what was drained to the passings, which held
-/// nothing. It does not look at a link whose sender has done nothing since the last exchange.
+/// Drains each link between nodes completely, and gives what was drained to the passings, which are
+/// empty before. It leaves out links whose sender has done nothing since the last exchange.
 pub(crate) fn drain_all(
     alloc: Global,
     cells: &mut [Cell],
@@ -50,8 +50,8 @@ pub(crate) fn drain_all(
     Ok(())
 }
 
-/// Drains a link of all that its sender's cell has sent, if that has done something since the last
-/// exchange; else nothing is left on it.
+/// Drains all that the sender's cell has sent on a link. If that cell has done nothing since the
+/// last exchange, there is nothing to drain.
 fn drain_at(
     alloc: Global,
     cells: &mut [Cell],
@@ -81,9 +81,9 @@ fn drain_at(
     Ok(())
 }
 
-/// Feeds what arrived on each link to the cell that takes it, and keeps what was drained and what
-/// arrived. It takes both out of the passings. It does not look at a link on which nothing passed and
-/// nothing waits, if the receiver has done nothing since the last exchange.
+/// Feeds what arrived on each link to the cell that receives it, and keeps what was drained and
+/// what arrived. Both are taken out of the passings. It leaves out links on which nothing passed
+/// and nothing waits, if the receiver has done nothing since the last exchange.
 pub(crate) fn feed_all(
     alloc: Global,
     cells: &mut [Cell],
@@ -113,7 +113,7 @@ pub(crate) fn feed_all(
     Ok(())
 }
 
-/// Feeds what arrived on a link to the cell that takes it, and keeps it.
+/// Feeds what arrived on a link to the cell that receives it, and keeps it.
 fn feed_at(
     alloc: Global,
     cells: &mut [Cell],
@@ -148,7 +148,8 @@ fn feed_at(
     link.keep(drained, arrived)
 }
 
-/// Whether nothing passed on a link in this exchange, and nothing waits on it.
+/// Whether nothing passed on a link in this exchange, nothing waits on it, and its receiver has
+/// done nothing since the last exchange.
 fn rests(
     cells: &[Cell],
     seen: &[usize],

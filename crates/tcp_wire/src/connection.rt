@@ -1,4 +1,4 @@
-//! A new connection of which this process holds both ends.
+//! A new connection, with both ends in this process.
 
 use std::alloc::AllocGlobal;
 use std::io;
@@ -10,15 +10,15 @@ use std::time::{Clock, Duration, Instant};
 use tokio::net::{TcpListener, TcpStream};
 use tokio::runtime::LocalRuntime;
 
-/// For how many seconds a connection is waited for before it is refused.
+/// After how many seconds a connection that has not been made is refused.
 const MAX_OPENING: u64 = 30;
 
-/// The most connections of others that are closed before that of the dialled end comes. They come in
-/// the order in which they were made, and Linux lets 4,096 wait where it is not told otherwise.
+/// The most connections of others that are closed while the dialled one is awaited. Connections are
+/// accepted in the order in which they were made, and by default Linux lets 4,096 wait.
 const MAX_STRANGERS: u32 = 65_536;
 
-/// The two ends of a new connection on 127.0.0.1, at a port that the system chooses: the one that
-/// dialled, and the one that was accepted from its address. Whoever else connects to that port is
+/// The two ends of a new connection on 127.0.0.1, at a port that the system chooses: the end that
+/// dialled, and the end that was accepted from its address. Any other connection to that port is
 /// closed. It waits for at most [`MAX_OPENING`] seconds, and not at all once the dial has failed.
 pub(crate) fn connect<R>(rt: &R, runtime: &mut LocalRuntime) -> io::Result<(TcpStream, TcpStream)>
 where
@@ -34,7 +34,7 @@ where
     Ok((first, second))
 }
 
-// When a connection that is begun now is refused.
+// The time at which a connection that is begun now is refused.
 fn end_of_opening<R: Clock>(rt: &R) -> io::Result<Instant> {
     match Instant::now(rt)?.checked_add(Duration::from_secs(MAX_OPENING)) {
         Some(end) => Ok(end),
@@ -42,7 +42,7 @@ fn end_of_opening<R: Clock>(rt: &R) -> io::Result<Instant> {
     }
 }
 
-// A connection to this address, whether it is accepted yet or not.
+// A connection to this address, accepted or not.
 fn dial<R>(
     rt: &R,
     runtime: &mut LocalRuntime,
@@ -57,7 +57,7 @@ where
     runtime.block_on(rt, dialled)??
 }
 
-// The connection that was dialled from this address; those that came before it are closed.
+// The connection that was dialled from this address. Those that come before it are closed.
 fn accept_from<R>(
     rt: &R,
     runtime: &mut LocalRuntime,
@@ -86,7 +86,7 @@ where
     Err(Error::from(ErrorKind::ConnectionRefused))
 }
 
-// Whether this is the fault of a connection that was given up before it was accepted.
+// Whether the connection was given up before it was accepted.
 fn is_given_up(refused: &Error) -> bool {
     refused.kind() == ErrorKind::ConnectionAborted || refused.kind() == ErrorKind::ConnectionReset
 }

@@ -1,4 +1,4 @@
-//! Pairs of wires as connections on this machine.
+//! Pairs of wires, as connections on this machine.
 
 ghost use Rattle.std.specs.Prelude.{◌≡◌, ◌≤◌, ◌<◌, ◌↔◌, None, Ok, IfSome, IfOk, OnOk, IfErr};
 ghost use Rattle.dcop_edge.specs.Faults.{Rose};
@@ -18,11 +18,12 @@ use std::time::Clock;
 use tokio::runtime::LocalRuntime;
 use wire_edge::{DialFault, Dialer};
 
-/// Opens each pair of wires as one connection on 127.0.0.1: it dials, and then accepts until the peer
-/// has the address of the end that dialled; whoever else connects to that port is closed. A dial that
-/// fails is refused at once, and a connection that has not come after 30 seconds is refused then. Its
-/// first call of `pair` or `drive` makes the event loop of `tokio`. Every refusal is counted as a
-/// fault, want of memory included. It does not promise that its wires are joined.
+/// Opens each pair of wires as one connection on 127.0.0.1. It dials, and then accepts connections
+/// until one comes from the address that dialled; any other is closed. It refuses at once if the
+/// dial fails, and after 30 seconds if the connection has not come.
+///
+/// The first call of `pair` or `drive` makes the event loop of `tokio`. Every refusal is counted as
+/// a fault, also if memory runs out. The dialer does not promise that its wires are joined.
 #[derive(Drop)]
 pub struct TcpDialer {
     runtime: Option<LocalRuntime>,

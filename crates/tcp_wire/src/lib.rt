@@ -1,9 +1,9 @@
-//! Wires over sockets of this machine: the trusted edge of what nodes send each other.
+//! Wires over sockets of this machine: the trusted edge of what nodes send to each other.
 //!
-//! A [`TcpDialer`] opens each pair of wires as one connection on 127.0.0.1 and drives futures on the
-//! event loop of `tokio`, on the calling thread. A [`TcpWire`] tells its counts and nothing of its
-//! bytes: that a socket carries them is not proved. What is trusted is what the calls of `tokio` do,
-//! and nothing else.
+//! A [`TcpDialer`] opens each pair of wires as one connection on 127.0.0.1. It drives futures on
+//! the event loop of `tokio`, on the calling thread. A [`TcpWire`] tells its counts of waits and
+//! faults, and not its bytes: no clause says that a socket carries them. The calls of `tokio` are
+//! trusted to do what they say; nothing else is.
 #![tactic(auto)]
 
 mod connection;

@@ -9,8 +9,8 @@ use tokio::io::{AsyncRead, AsyncWrite};
 use tokio::net::TcpStream;
 use wire_edge::Wire;
 
-/// One end of a connection. An error of the socket, and the end of the stream, are faults. It tells
-/// nothing of what it has sent and received, and is not told to be joined to another.
+/// One end of a connection. An error of the socket is a fault, and so is the end of the stream. It
+/// does not tell what it has sent and received, and it is joined to no wire.
 #[derive(Drop)]
 pub struct TcpWire {
     stream: TcpStream,

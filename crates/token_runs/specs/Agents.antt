@@ -9,7 +9,7 @@ use Rattle.pseudotree.specs.declared.agent.Place.{Place}
 use Rattle.protocol_steps.specs.View.{View, OfToken, made_of, started_of, failed_of, place_of}
 use Rattle.protocol_steps.specs.Laws.{IsBeside}
 
--- what holds of the agent of variable i: it was made from what variable i knows without its tables, has started and not failed, and its parent is among its neighbours
+-- what holds of the agent of variable i: it was made from what variable i knows without its tables, it has started and not failed, and its parent is among its neighbours
 pub record IsAgentOf (p : Dcop) (i : ℕ) (v : View) : Type 0 where
   pub made : made_of v ≡ OfToken (acquaintance_of p i)
   pub started : started_of v ≡ true

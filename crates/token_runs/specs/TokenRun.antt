@@ -10,7 +10,7 @@ use Rattle.protocol_steps.specs.Network.{Network, start_state}
 use Rattle.protocol_steps.specs.Delivered.{delivered}
 use Rattle.protocol_steps.specs.Run.{run}
 
--- a run of the token agents of a problem, which ends in this network
+-- a run of the token agents of a problem that ends in this network
 abbrev pub IsTokenRun : Dcop → List Event → Network → Type 0
 IsTokenRun p es end = run (start_state (token_agents p)) es ≡ Some end
 
@@ -24,10 +24,10 @@ abbrev pub is_done : Message → Bool
 is_done (Done visited) = true
 is_done message = false
 
--- how many TOKEN messages were delivered
+-- the number of TOKEN messages that were delivered
 abbrev pub tokens : Network → ℕ
 tokens net = count_by is_token (delivered net)
 
--- how many DONE messages were delivered
+-- the number of DONE messages that were delivered
 abbrev pub dones : Network → ℕ
 dones net = count_by is_done (delivered net)

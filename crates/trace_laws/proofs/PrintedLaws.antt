@@ -1,4 +1,4 @@
--- A report that was printed with the log of its run is traced.
+-- A report that is printed with the log of its run is traced.
 use Rattle.std.proofs.Common.{◌≡◌, ℕ, List, drop, Some, None, Ok, sym, subst, ◌∙◌}
 use Rattle.dcop_base.specs.Whole.{IsProblem}
 use Rattle.protocol_steps.specs.Network.{Network, start_state}
@@ -30,7 +30,7 @@ module _ (asked : Asked) (text : List ℕ) (logged : IsLoggedFor asked.format te
   abbrev used : ℕ
   used = logged.printed.parts.used
 
-  -- the file that it was printed for
+  -- the file that the report was printed for has such a run
   own_run : IsFile logged.printed.file → TellsRun asked (drop used text) logged.printed.file
   own_run is_file =
       let file : TextFile = logged.printed.file in
@@ -45,7 +45,7 @@ module _ (asked : Asked) (text : List ℕ) (logged : IsLoggedFor asked.format te
         ran = first_ran net holds.end logged.log asked.to holds.run.leads;
       }
 
-  -- is any that declares the same
+  -- so has any file that declares the same
   any_run : (file : TextFile) → IsFile file → IsProblem file.problem → declared_by file ≡ logged.printed.parts.declared → TellsRun asked (drop used text) file
   any_run file is_file whole declared =
       let own = certified asked.format text logged.printed in

@@ -1,10 +1,10 @@
-//! The law on reports that were printed.
+//! The law of printed reports.
 
 ghost use Rattle.trace_laws.specs.Printed.{PrintedReportsAreTraced};
 
-/// Words of `dcop_trace` that are not refused, and a text that is no longer than an input may be: of a
-/// problem in the format that is asked for, and behind it of a report with a log that a method prints for
-/// it. These are accepted, whatever events are asked for.
+/// Words of `dcop_trace` that are not refused are accepted with a text of at most the length of an
+/// input: a problem in the format that the words ask for, followed by a report with a log that a
+/// method prints for it. This holds whatever events the words ask for.
 pub fn printed_reports_are_traced()
     ensures { PrintedReportsAreTraced }
 {}

@@ -1,9 +1,9 @@
-//! A law on the programs `dcop` and `dcop_trace`: what the one prints, the other traces.
+//! A law of the programs `dcop` and `dcop_trace`: what the one prints, the other traces.
 //!
-//! The text of a problem, and behind it the report with the log of a run that `dcop` prints for it, is
-//! accepted by `dcop_trace`: by the clause `complete` of `trace_top::trace`, a trace is written of it. The
-//! law is about definitions alone. It is the contract of a call that does nothing: who needs the law
-//! calls it.
+//! `dcop_trace` accepts the text of a problem followed by the report, with the log of a run, that
+//! `dcop` prints for it. By the clause `complete` of `trace_top::trace` a trace of that run is then
+//! written, unless a call fails or memory runs out. The law is about definitions alone. It is the
+//! contract of a call that does nothing: to use the law, call it.
 #![tactic(auto)]
 
 mod law;

@@ -18,7 +18,7 @@ use Rattle.solve_report.specs.Replay.{standing_words}
 use Rattle.trace_text.specs.Lines.{name_in, pair_words, took_words, sent_words, known_words, agent_lines, event_words}
 use Rattle.trace_text.specs.Told.{start_told, event_told}
 
--- what holds of a success holds of it still where more follows from it
+-- what holds of a success still holds if more follows from it
 pub on-ok : {A E : Type 0} (r : Result A E) (P Q : Type 0) → (P → Q) → OnOk r P → OnOk r Q
 on-ok (Ok x) P Q f h = f h
 on-ok (Err e) P Q f h = tt
@@ -92,7 +92,7 @@ agent-written old new names (Some view) value standing ended v s e h =
     let is_ended : ended_of view ≡ ended = cc e in
     (rw (← is_value, ← is_standing, ← is_ended) at h) ∙ ap (λ (text : List ℕ). old ++ text) (sym (agent-pieces names view))
 
--- first, second and third lines behind one another
+-- first, second and third lines, one after another
 lines-behind : (xs ys zs : List (List (List ℕ))) → flat_map line ((xs ++ ys) ++ zs) ≡ flat_map line xs ++ (flat_map line ys ++ flat_map line zs)
 lines-behind xs ys zs =
     flat_map-append line (xs ++ ys) zs

@@ -1,4 +1,4 @@
--- A log as it is played and told, event by event.
+-- A log as it is replayed and written, event by event.
 use Rattle.std.proofs.Common.{◌≡◌, ℕ, ◌+◌, ◌-◌, ◌<◌, ◌≤◌, zero, suc, Bool, true, false, not, cond, is_some, true≢false, Result, Ok, Err, IfOk, MatchOption, List, [], ◌∷◌, ◌++◌, map, take, drop, length, get_or, Option, Some, None, refl, sym, ap, subst, ◌∙◌, append_assoc, drop-cons, add-one, nat_le, if◌then◌else◌, arith}
 use Rattle.std.specs.List.{flat_map, slice_get, range_with_len}
 use Rattle.std.specs.Option.{option_map}
@@ -27,11 +27,11 @@ use Rattle.trace_text.specs.Lines.{took_words, sent_words, agent_lines, start_wo
 use Rattle.trace_text.specs.Trace.{start_of, start_lines, lines_of_event, event_lines}
 use Rattle.trace_text.specs.Told.{start_told, event_told, Plays, TellsOne, Played}
 
--- the view of an agent in a network that a core state is
+-- the view of an agent, in a core state of this network
 pub view_is : (p : Dcop) (net : Network) (core : CoreView) (i : ℕ) → IsCore p net core → view_at core i ≡ slice_get net.views i
 view_is p net core i is = ap (λ (vs : List View). slice_get vs i) (is.shows.views)
 
--- an event that is lawful is one of an agent that is there
+-- a lawful event is one of an agent that exists
 lawful_there : (ds : List Desk) (e : Event) (v : Option View) (x : Option Desk) → fault_at ds e v x ≡ None → (w : View) × (v ≡ Some w)
 lawful_there ds e None x h = absurd (none-some Nobody (sym h))
 lawful_there ds e (Some w) x h = (w, refl)
@@ -50,7 +50,7 @@ agent_there p net old new e is goes =
 pub there_after : (old new : CoreView) (e : LogEvent) → IsSomeCore old → Advances old (event_of e) new → e.agent < length new.seats
 there_after old new e some goes = agent_there some.0 some.1 old new (event_of e) some.2 goes
 
--- an event of a log that is played as one of a run
+-- an event of a log is played as an event of a run
 pub plays_as : (old new : CoreView) (plain : Event) (e : LogEvent) (found : Option EventFault) → plain ≡ event_of e
     → MatchOption found (Advances old plain new) (λ fault. Refuses old plain fault) → Plays old e new found
 plays_as old new plain e None is h = subst (λ (x : Event). Advances old x new) is h
@@ -76,7 +76,7 @@ not_some None true h t n = true≢false t
 not_some None false h t n = true≢false (sym h)
 not_some (Some fault) b h t n = none-some fault (sym n)
 
--- an event of a number below the first to be told is not told
+-- an event before the first one that is asked for is not written
 pub is_quiet : (from n : ℕ) → n < from → nat_le from n ≡ false
 is_quiet from n lt = lt-leb from n lt
 
@@ -108,7 +108,7 @@ module _ (p : Dcop) (first : Network) (names : List (List ℕ)) (from : ℕ) (lo
     inside : k < length es
     inside = let many = length-map log event_of in omega (arith, lt, many)
 
-    -- one event more, told as these lines
+    -- one more event, written as these lines
     more : (lines : List (List (List ℕ))) (new : List ℕ) → Advances core here new_core
         → (if nat_le from (k + 1) then lines_of_event names was.net (k + 1) e else []) ≡ lines → new ≡ text ++ flat_map line lines → Played p first names from log (k + 1) new_core old new
     more lines new goes told written =
@@ -127,12 +127,12 @@ module _ (p : Dcop) (first : Network) (names : List (List ℕ)) (from : ℕ) (lo
               ∙ was.told;
         }
 
-    -- one event more that is not told
+    -- one more event that is not written
     pub played_quietly : Advances core here new_core → nat_le from (k + 1) ≡ false → Played p first names from log (k + 1) new_core old text
     played_quietly goes quiet =
         more [] text goes (ap (λ (b : Bool). if b then lines_of_event names was.net (k + 1) e else []) quiet) (sym (append-nil text))
 
-    -- one event more that is told
+    -- one more event that is written
     pub played_aloud : (new : List ℕ) → Advances core here new_core → nat_le from (k + 1) ≡ true → TellsOne names core (k + 1) e new_core text new → Played p first names from log (k + 1) new_core old new
     played_aloud new goes aloud tells =
         let took : List (ℕ × Message) = tells.took in
@@ -160,13 +160,13 @@ module _ (p : Dcop) (first : Network) (names : List (List ℕ)) (from : ℕ) (lo
       unlawful = refuses p was.net was.core_is;
     }
 
-  -- the same under other names
+  -- the same if the state and the text have other names
   pub played_named : (k : ℕ) (core then_core : CoreView) (text then_text : List ℕ) → then_core ≡ core → then_text ≡ text
       → Played p first names from log k core old text → Played p first names from log k then_core old then_text
   played_named k core then_core text then_text a b was =
       subst (λ (v : CoreView). Played p first names from log k v old then_text) (sym a) (subst (λ (t : List ℕ). Played p first names from log k core old t) (sym b) was)
 
-  -- behind the last event
+  -- after the last event
   pub played_all : (k : ℕ) (core : CoreView) (text : List ℕ) → Played p first names from log k core old text → length log ≤ k
       → (end : Network) × (run first (events_of log) ≡ Some end) × (text ≡ old ++ flat_map line (event_lines names from first 1 log))
   played_all k core text was past =
@@ -179,7 +179,7 @@ module _ (p : Dcop) (first : Network) (names : List (List ℕ)) (from : ℕ) (lo
             ∙ was.told,
       )
 
--- what agent i of a start sends as it starts
+-- what agent `i` sends as it starts
 pub first_sent : (made : List View) (i : ℕ) (sent : List (ℕ × Message)) → i < length made → sent ≡ get_or (map (λ v. (step.start_of v).sends) made) i sent
     → sent_at (slice_get (start_state made).desks i) ≡ sent
 first_sent (v ∷ made) zero sent lt is = sym is
@@ -192,7 +192,7 @@ range_step k n lt = ap (λ (m : ℕ). range_with_len k m) (same k n lt)
     same : (k n : ℕ) → k < n → n - k ≡ suc (n - (k + 1))
     same k n lt = omega (arith, lt)
 
--- the starts that are left, from agent k on
+-- the starts that are left, from agent `k` on
 abbrev pub starts_from : List View → List (List ℕ) → ℕ → List (List (List ℕ))
 starts_from made names k = flat_map (start_of names (start_state made)) (range_with_len k (length made - k))
 
@@ -219,7 +219,7 @@ module _ (p : Dcop) (made : List View) (names : List (List ℕ)) (core : CoreVie
       let size = length-map made (λ v. (step.start_of v).view) in
       omega (arith, views, many, size)
 
-  -- one start more
+  -- one more start
   pub start_more : (k : ℕ) (sent : List (ℕ × Message)) (text new all : List ℕ) → k < length made → sent ≡ get_or (map (λ v. (step.start_of v).sends) made) k sent
       → new ≡ text ++ flat_map line (start_told names core k sent) → text ++ flat_map line (starts_from made names k) ≡ all → new ++ flat_map line (starts_from made names (k + 1)) ≡ all
   start_more k sent text new all lt sends written before =

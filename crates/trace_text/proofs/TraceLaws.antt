@@ -16,7 +16,7 @@ four-parts a b c d =
     sym (flat_map-append line ((a ++ b) ++ c) d
     ∙ ap (λ (text : List ℕ). text ++ flat_map line d) (flat_map-append line (a ++ b) c ∙ ap (λ (text : List ℕ). text ++ flat_map line c) (flat_map-append line a b)))
 
--- the head, the starts where they are told, the events, and the end
+-- the head, the starts if they are asked for, the events, and the end
 pub trace-written : (names : List (List ℕ)) (from : ℕ) (net : Network) (log : List LogEvent) (first second third text : List ℕ)
     → first ≡ flat_map line ((codes "status" ∷ codes "trace" ∷ []) ∷ (codes "events" ∷ decimal (length log) ∷ []) ∷ [])
     → second ≡ first ++ flat_map line (if from == 0 then start_lines names net else [])
@@ -34,10 +34,10 @@ trace-written names from net log first second third text h1 h2 h3 h4 =
     ∙ ap (λ (t : List ℕ). ((t ++ flat_map line starts) ++ flat_map line events) ++ flat_map line end) h1
     ∙ four-parts head starts events end
 
--- the starts are told
+-- the starts are written
 pub starts-told : (from : ℕ) (old new : List ℕ) (starts : List (List (List ℕ))) → from ≡ 0 → new ≡ old ++ flat_map line starts → new ≡ old ++ flat_map line (if from == 0 then starts else [])
 starts-told from old new starts zero h = h ∙ ap (λ (b : Bool). old ++ flat_map line (if b then starts else [])) (sym (eq-eqb from 0 zero))
 
--- the starts are not told
+-- the starts are not written
 pub starts-untold : (from : ℕ) (old new : List ℕ) (starts : List (List (List ℕ))) → (from ≡ 0 → ⊥) → new ≡ old → new ≡ old ++ flat_map line (if from == 0 then starts else [])
 starts-untold from old new starts more h = h ∙ sym (append-nil old) ∙ ap (λ (b : Bool). old ++ flat_map line (if b then starts else [])) (sym (ne_eqb from 0 more))

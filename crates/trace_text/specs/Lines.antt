@@ -17,7 +17,7 @@ abbrev pub pair_words : List (List ℕ) → Context → List (List ℕ)
 pair_words names [] = []
 pair_words names (p ∷ ps) = name_in names p.0 ∷ decimal p.1 ∷ pair_words names ps
 
--- what a message says; agents of ADOPT send those of the last four kinds alone
+-- what a message says; agents of ADOPT send only messages of the last four kinds
 abbrev pub message_words : List (List ℕ) → Message → List (List ℕ)
 message_words names (Token path) = []
 message_words names (Done visited) = []
@@ -36,12 +36,13 @@ took_words names letter = codes "took" ∷ name_in names letter.0 ∷ message_wo
 abbrev pub sent_words : List (List ℕ) → ℕ × Message → List (List ℕ)
 sent_words names parcel = codes "sent" ∷ name_in names parcel.0 ∷ message_words names parcel.1
 
--- the pairs of a context that is there
+-- the pairs of a context, if there is one
 abbrev pub known_words : List (List ℕ) → Option Context → List (List ℕ)
 known_words names None = []
 known_words names (Some context) = pair_words names context
 
--- what an agent has come to: the line `state ..`, and the line `context ..` of what it knows of others' values
+-- the state of an agent: the line `state ..`, and the line `context ..` of what it knows about
+-- other agents' values
 abbrev pub agent_lines : List (List ℕ) → Option View → List (List (List ℕ))
 agent_lines names None = []
 agent_lines names (Some v) =

@@ -1,8 +1,9 @@
-//! The text of a run of ADOPT, told message by message.
+//! The text of a run of ADOPT, message by message.
 //!
-//! [`write_trace`] plays the events of a log, and writes of each agent at its start, and of the
-//! agent of each event, what it took, what it has come to, what it knows of others' values, and what
-//! it sent (`specs/Trace.antt`; the words of each line are in `specs/Lines.antt`).
+//! [`write_trace`] plays the events of a log. For each agent at its start, and for the agent of
+//! each event, it writes what the agent took, the state it reached, what it knows about other
+//! agents' values, and what it sent. The text is defined in `specs/Trace.antt`, and the words of
+//! each line in `specs/Lines.antt`.
 #![tactic(auto)]
 
 mod lines;

@@ -1,4 +1,4 @@
-//! The lines of a trace: messages, what an agent has come to, and events.
+//! The lines of a trace: messages, states of agents, and events.
 
 ghost use Rattle.std.specs.Prelude.{◌≡◌, [], ◌∷◌, ◌<◌, ◌++◌, length, map, codes, OnOk};
 ghost use Rattle.std.specs.List.{flat_map};
@@ -19,7 +19,7 @@ use protocol_steps::{Letter, Message, Parcel};
 use run_log::LogEvent;
 use solve_report::{write_bound, write_standing};
 
-/// The name of a variable; empty where there is none of it.
+/// The name of a variable; empty if the list has none for it.
 fn name_in(names: &Names, var: VarId) -> &str
     ensures { result.now ≡ name_in names.now var }
 {
@@ -30,7 +30,7 @@ fn name_in(names: &Names, var: VarId) -> &str
     }
 }
 
-/// The start of an agent: `start NAME`, what it has come to, and what it sent.
+/// Writes the start of an agent: `start NAME`, its state, and what it sent.
 pub(crate) fn write_start(
     text: &mut String,
     names: &Names,
@@ -48,8 +48,8 @@ pub(crate) fn write_start(
     write_sent(text, names, sent)
 }
 
-/// An event of this number, behind which the agents stand so: `event K NAME STAMP`, what its agent
-/// took, what it has come to, and what it sent.
+/// Writes the event with this number, given the agents after it: `event K NAME STAMP`, what its
+/// agent took, its state, and what it sent.
 pub(crate) fn write_event(
     text: &mut String,
     names: &Names,
@@ -71,8 +71,8 @@ pub(crate) fn write_event(
     write_sent(text, names, exchange.sent.as_slice())
 }
 
-/// What an agent has come to: a line `state ..`, and a line `context ..` of what it knows of
-/// others' values.
+/// Writes the state of an agent: a line `state ..`, and a line `context ..` of what it knows about
+/// other agents' values.
 fn write_agent(
     text: &mut String,
     names: &Names,
@@ -90,8 +90,8 @@ fn write_agent(
     Ok(text.push_str("\n")?)
 }
 
-/// What an agent knows of others' values, each word behind a space; nothing of an agent that keeps
-/// no context.
+/// Writes what an agent knows about other agents' values, each word after a space; nothing for an
+/// agent that keeps no context.
 fn write_known(
     text: &mut String,
     names: &Names,
@@ -109,7 +109,7 @@ fn write_known(
     }
 }
 
-/// A line `took FROM MESSAGE` for each of these messages.
+/// Writes a line `took FROM MESSAGE` for each of these messages.
 fn write_took(text: &mut String, names: &Names, letters: &[Letter]) -> Result<(), NoMemory>
     ensures { OnOk result (string_bytes text.new
         ≡ string_bytes text.old ++ flat_map line (map (took_words names.now) letters.now)) }
@@ -130,7 +130,7 @@ fn write_letter(text: &mut String, names: &Names, letter: &Letter) -> Result<(),
     Ok(text.push_str("\n")?)
 }
 
-/// A line `sent TO MESSAGE` for each of these messages.
+/// Writes a line `sent TO MESSAGE` for each of these messages.
 fn write_sent(text: &mut String, names: &Names, parcels: &[Parcel]) -> Result<(), NoMemory>
     ensures { OnOk result (string_bytes text.new
         ≡ string_bytes text.old ++ flat_map line (map (sent_words names.now) parcels.now)) }
@@ -151,8 +151,8 @@ fn write_parcel(text: &mut String, names: &Names, parcel: &Parcel) -> Result<(),
     Ok(text.push_str("\n")?)
 }
 
-/// What a message says, each word behind a space; nothing of kinds that agents of ADOPT do not
-/// send.
+/// Writes what a message says, each word after a space; nothing for kinds that agents of ADOPT do
+/// not send.
 fn write_message(text: &mut String, names: &Names, message: &Message) -> Result<(), NoMemory>
     ensures { OnOk result (string_bytes text.new
         ≡ string_bytes text.old ++ spaced (message_words names.now message.now)) }
@@ -223,7 +223,7 @@ fn write_terminate(text: &mut String, names: &Names, context: &AgentContext) -> 
     write_pairs(text, names, context.pairs())
 }
 
-/// The name and the value of each pair, each behind a space.
+/// Writes the name and the value of each pair, each after a space.
 fn write_pairs(text: &mut String, names: &Names, pairs: &[(VarId, Val)]) -> Result<(), NoMemory>
     ensures { OnOk result (string_bytes text.new
         ≡ string_bytes text.old ++ spaced (pair_words names.now pairs.now)) }

@@ -20,18 +20,18 @@ use protocol_steps::{Event, EventFault, TakeList};
 use run_log::LogEvent;
 use std::alloc::Global;
 
-/// Plays the events of a log from a start, and gives the text that tells them, from the event of
-/// number `from` on, counted from 1; with 0 the starts of all agents are told before. A tree of the
-/// start is a pseudotree of the problem, and linked; an error is at most 2^62. Stamps are written,
-/// and not looked at.
+/// Plays the events of a log from a start, and gives their text from the event with number `from`
+/// on. Events count from 1; with 0 the starts of all agents are written first.
 ///
-/// The time is that of the agents' activations, and of what is written.
+/// A tree of the start is a pseudotree of the problem, and linked; an error is at most 2^62. Stamps
+/// are written, but not checked. The time is that of the agents' activations and of writing the
+/// text.
 ///
 /// # Errors
 ///
-/// [`ReplayFault::BadEvent`] exactly where the events are no run: the first one that is not lawful,
-/// by its number, counted from 1, and its first fault. [`ReplayFault::NoMemory`] where memory was
-/// wanted and not had.
+/// [`ReplayFault::BadEvent`] exactly if the events are no run: the number of the first event that
+/// is not lawful, counted from 1, and its first fault. [`ReplayFault::NoMemory`] if memory runs
+/// out.
 pub fn write_trace(
     alloc: Global,
     problem: &Problem,
@@ -55,7 +55,7 @@ pub fn write_trace(
     Ok(Bytes::from_vec(text.into_bytes()))
 }
 
-/// How many events the trace is of.
+/// Writes how many events the log has.
 fn write_head(text: &mut String, events: u64) -> Result<(), NoMemory>
     ensures { OnOk result (string_bytes text.new ≡ string_bytes text.old
         ++ flat_map line
@@ -71,7 +71,7 @@ fn write_end(text: &mut String) -> Result<(), NoMemory>
     Ok(text.push_str("end\n")?)
 }
 
-/// The starts of all agents, in order, in the core state where all have started.
+/// Writes the starts of all agents, in order, in the core state in which all have started.
 fn write_starts(
     alloc: Global,
     text: &mut String,
@@ -93,7 +93,7 @@ fn write_starts(
     Ok(())
 }
 
-/// Plays the events of a log, and tells those of a number from `from` on.
+/// Plays the events of a log, and writes those with a number from `from` on.
 fn write_events(
     alloc: Global,
     text: &mut String,
@@ -121,7 +121,7 @@ fn write_events(
     Ok(())
 }
 
-/// An event of a log as one of a run.
+/// An event of a log, as an event of a run.
 fn event_of(alloc: Global, event: &LogEvent) -> Result<Event, NoMemory>
     ensures { IfOk result (λ plain. plain ≡ event_of event.now) }
 {
@@ -131,7 +131,7 @@ fn event_of(alloc: Global, event: &LogEvent) -> Result<Event, NoMemory>
     })
 }
 
-/// Plays an event of a log. `Some` exactly where it is not lawful, with its first fault.
+/// Plays an event of a log. `Some` exactly if it is not lawful, with its first fault.
 fn play(
     alloc: Global,
     core: &mut CoreState,
@@ -144,7 +144,7 @@ fn play(
     core.happen(alloc, &plain)
 }
 
-/// Plays an event of a log, and tells it by this number. `Some` exactly where it is not lawful,
+/// Plays an event of a log, and writes it with this number. `Some` exactly if it is not lawful,
 /// with its first fault.
 fn tell(
     alloc: Global,

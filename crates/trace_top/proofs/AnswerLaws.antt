@@ -1,4 +1,4 @@
--- Which answer belongs to which words and input, and what its status says of the source.
+-- Which answer belongs to which words and input, and what its status says about the source.
 use Rattle.std.proofs.Common.{◌≡◌, ℕ, ◌<◌, List, drop, take, Option, Some, Result, Ok, Err, IfOk, ap, subst, sym, arith, refl}
 use Rattle.dcop_edge.specs.Faults.{Rose}
 use Rattle.dcop_base.specs.declared.memory.NoMemory.{NoMemory}
@@ -22,7 +22,7 @@ use Rattle.trace_top.specs.Showing.{trace_status_of}
 use Rattle.trace_top.proofs.LogLaws.{report-sound, report-well}
 use Rattle.trace_top.proofs.StatusLaws.{read-refused}
 
--- the answer to an input, where words are accepted
+-- the answer to an input, if the words are accepted
 pub input-answered : (words : List (List ℕ)) (asked : Asked) (before after : SourceState) (input : Input) (answer : TraceAnswer)
     → Ok asked ≡ trace_answer_to words → IsReadFrom input before after → IsInputAnswer asked input answer → IsAnswered words before after answer
 input-answered words asked before after input answer told read is = record {
@@ -31,7 +31,7 @@ input-answered words asked before after input answer told read is = record {
   belongs = subst (λ (r : Result Asked WordFault). IsAskedAnswer r input answer) told is;
 }
 
--- the same on all bytes that were read, unless memory was wanted
+-- the same on all bytes that were read, unless memory ran out
 pub text-answered : (words : List (List ℕ)) (asked : Asked) (before after : SourceState) (bytes slice : List ℕ) (result : Result TraceAnswer NoMemory)
     → Ok asked ≡ trace_answer_to words → IsReadFrom (Whole bytes) before after → slice ≡ bytes
     → IfOk result (IsTextAnswer slice asked (front_read asked.format slice)) → IfOk result (IsAnswered words before after)
@@ -66,13 +66,13 @@ asked-broken (Ok asked) answer is = ap trace_status_of is
 asked-broken (Err (words.Bad at kind)) answer is = cc is.0
 asked-broken (Err words.NoMemory) answer is = absurd is
 
--- an answer by a failed reading comes only where the source failed
+-- an answer by a failed reading comes only if the source failed
 pub rose-answered : (words : List (List ℕ)) (before after : SourceState) (answer : TraceAnswer) → IsAnswered words before after answer
     → trace_status_of answer ≡ ReadFault → Rose before.faults after.faults
 rose-answered words before after answer done fault =
     subst (λ (i : Input). IsReadFrom i before after) (asked-sound (trace_answer_to words) done.input answer done.belongs fault) done.read
 
--- and it comes wherever the source failed
+-- it comes whenever the source failed
 failed-input : (words : List (List ℕ)) (before after : SourceState) (input : Input) (answer : TraceAnswer) → IsReadFrom input before after → IsAskedAnswer (trace_answer_to words) input answer
     → before.faults < after.faults → trace_status_of answer ≡ ReadFault
 failed-input words before after Unread answer read is more = absurd (omega (arith, more, ap (λ (s : SourceState). s.faults) read))
@@ -84,7 +84,7 @@ pub fault-answered : (words : List (List ℕ)) (before after : SourceState) (ans
     → before.faults < after.faults → trace_status_of answer ≡ ReadFault
 fault-answered words before after answer done more = failed-input words before after done.input answer done.read done.belongs more
 
--- the trace of a text that is accepted goes well
+-- the trace of an accepted text goes well
 text-well : (words : List (List ℕ)) (text : List ℕ) (accepted : IsAccepted words text) (answer : TraceAnswer)
     → AnswersTrace accepted.parts.declared (lines_in (take accepted.parts.used text)) (drop accepted.parts.used text) accepted.asked answer → GoesWell (trace_status_of answer)
 text-well words text accepted answer is =
@@ -92,7 +92,7 @@ text-well words text accepted answer is =
     let behind = drop accepted.parts.used text in
     report-well is.file (lines_in (take accepted.parts.used text)) behind accepted.asked (report_read behind is.file) found.report found.log found.end answer is.is found.read found.given found.ran
 
--- all of a text that is told, and accepted, is read and goes well
+-- an accepted text whose source is known is read whole and goes well
 input-well : (words : List (List ℕ)) (text : List ℕ) (accepted : IsAccepted words text) (before after : SourceState) (input : Input) (answer : TraceAnswer)
     → before.left ≡ Some text → ¬ Rose before.faults after.faults → IsReadFrom input before after → IsInputAnswer accepted.asked input answer → GoesWell (trace_status_of answer)
 input-well words text accepted before after Unread answer told steady read is = absurd is

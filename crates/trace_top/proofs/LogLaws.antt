@@ -38,7 +38,7 @@ use Rattle.trace_top.specs.Answering.{IsTrace, IsTraceOf, IsReadTrace, AnswersTr
 use Rattle.trace_top.specs.Showing.{trace_status_of}
 use Rattle.trace_top.specs.Tracing.{GoesWell}
 
--- the answer that tells the first event that is not lawful
+-- the answer that reports the first event that is not lawful
 pub fault-traced : (file : TextFile) (from : ℕ) (net : Network) (log : List LogEvent) (names : List (List ℕ)) (fault : ReplayFault) (answer : Answer) → names ≡ file.names → IsFaultAnswer names fault answer
     → Replays net (events_of log) (Err fault) → IsTrace file from net log (Refused answer)
 fault-traced file from net log names (BadEvent at fault) answer same is first =
@@ -99,7 +99,7 @@ pub report-sound : (file : TextFile) (before : ℕ) (text : List ℕ) (asked : A
 report-sound file before text asked (Ok report) is = certificate-sound file before text asked report.error report.certificate is
 report-sound file before text asked (Err fault) is = cc
 
--- no event of a run is told as one that is not lawful
+-- no event of a run is reported as one that is not lawful
 no_fault : (net end : Network) (log : List LogEvent) (place : ℕ) (fault : EventFault) → run net (events_of log) ≡ Some end → ¬ FirstFault net (events_of log) place fault
 no_fault net end log place fault ran first =
     none-some (differences.Event (1 + place) fault) (sym (run-lawful 1 net end log ran).0 ∙ fault_told 1 net log place fault first)
@@ -156,7 +156,8 @@ module _ (file : TextFile) (from : ℕ) (net end : Network) (log : List LogEvent
   run_traced (Traced text) is = tt
   run_traced (Refused refusal) is = absurd (refusal_traced refusal is)
 
--- a report that was read, with a log whose events up to the last one asked for are a run, is traced
+-- a report is traced if it was read and has a log whose events, up to the last one asked for, are a
+-- run
 pub report-well : (file : TextFile) (before : ℕ) (text : List ℕ) (asked : Asked) (read : Result Report Fault) (report : Report) (log : List LogEvent) (end : Network) (answer : TraceAnswer)
     → IsReadTrace file before text asked read answer → read ≡ Ok report → report.certificate ≡ Some (certificates.Log log)
     → run (start_state (agents_for file report.error)) (events_of (log_up_to (Some asked.to) log)) ≡ Some end → GoesWell (trace_status_of answer)

@@ -1,4 +1,4 @@
--- One answer belongs to words and an input.
+-- Words and an input have one answer.
 use Rattle.std.proofs.Common.{◌≡◌, ℕ, ◌+◌, List, length, take, drop, Option, Some, None, Result, Ok, Err, sym, ap, ap₂, subst, ◌∙◌, arith}
 use Rattle.dcop_base.specs.Graph.{AreJoints}
 use Rattle.dcop_base.specs.Whole.{IsProblem}
@@ -55,7 +55,7 @@ one_file f g of_f of_g e =
     (AreJoints-unique (length g.problem.sizes) g.problem.tables f.problem.joints g.problem.joints
     (subst (λ (d : Declared). AreJoints (length d.sizes) d.tables f.problem.joints) e of_f.joints) of_g.joints)
 
--- the answer to these events is what the first fault of them says: a trace where there is none
+-- the answer to these events is the one that their first fault gives: a trace if there is none
 module _ (file : TextFile) (from : ℕ) (net : Network) (log : List LogEvent) where
   abbrev traced_by : Option Differs → TraceAnswer
   traced_by None = Traced (trace_text file.names from net log)

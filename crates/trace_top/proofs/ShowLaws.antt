@@ -8,35 +8,37 @@ use Rattle.trace_top.specs.Showing.{IsShown, IsCut, Shows, trace_status_of}
 use Rattle.trace_top.specs.declared.answer.TraceAnswer.{TraceAnswer}
 use Rattle.trace_top.proofs.StatusLaws.{told-status}
 
--- unless memory was wanted, the answer was shown or the sink failed
+-- unless memory ran out, the answer was shown or the sink failed
 pub shown-so : (answer : TraceAnswer) (sink sink' : SinkState) (faults faults' : ℕ) (status : Status) → Shows answer sink sink' faults faults' status → status ≢ NoMemory
     → IsShown answer sink sink' status ⊎ IsCut answer sink sink' status
 shown-so answer sink sink' faults faults' status (inl none) some = absurd (some none.0)
 shown-so answer sink sink' faults faults' status (inr (inl shown)) some = inl shown.0
 shown-so answer sink sink' faults faults' status (inr (inr cut)) some = inr cut.0
 
--- a fault of reading is the answer's
+-- a status of a failed reading is the answer's own
 pub read-so : (answer : TraceAnswer) (sink sink' : SinkState) (faults faults' : ℕ) (status : Status) → Shows answer sink sink' faults faults' status → status ≡ ReadFault
     → trace_status_of answer ≡ ReadFault
 read-so answer sink sink' faults faults' status (inl none) fault = let e = sym fault ∙ none.0 in cc
 read-so answer sink sink' faults faults' status (inr (inl shown)) fault = sym shown.0.same ∙ fault
 read-so answer sink sink' faults faults' status (inr (inr cut)) fault = let e = sym fault ∙ cut.0.fault in cc
 
--- a fault of writing is the sink's
+-- a status of a failed writing comes from the sink
 pub write-so : (answer : TraceAnswer) (sink sink' : SinkState) (faults faults' : ℕ) (status : Status) → Shows answer sink sink' faults faults' status → status ≡ WriteFault
     → Rose faults faults'
 write-so answer sink sink' faults faults' status (inl none) fault = let e = sym fault ∙ none.0 in cc
 write-so answer sink sink' faults faults' status (inr (inl shown)) fault = absurd (told-status answer (sym shown.0.same ∙ fault))
 write-so answer sink sink' faults faults' status (inr (inr cut)) fault = cut.1
 
--- where the answer tells a fault of reading, the status does, or one that goes before it
+-- if the answer's status is a failed reading, so is the call's, or it is one of the two that go
+-- before it
 pub source-so : (answer : TraceAnswer) (sink sink' : SinkState) (faults faults' : ℕ) (status : Status) → Shows answer sink sink' faults faults' status
     → trace_status_of answer ≡ ReadFault → (status ≡ ReadFault) ⊎ (status ≡ WriteFault) ⊎ (status ≡ NoMemory)
 source-so answer sink sink' faults faults' status (inl none) told = inr (inr none.0)
 source-so answer sink sink' faults faults' status (inr (inl shown)) told = inl (shown.0.same ∙ told)
 source-so answer sink sink' faults faults' status (inr (inr cut)) told = inr (inl cut.0.fault)
 
--- what holds of want of memory and of the answer's status holds of the status, where the sink did not fail
+-- if the sink did not fail, what holds for running out of memory and for the answer's status holds
+-- for the status
 pub status-so : (P : Status → Type 0) (answer : TraceAnswer) (sink sink' : SinkState) (faults faults' : ℕ) (status : Status) → Shows answer sink sink' faults faults' status
     → ¬ Rose faults faults' → P NoMemory → P (trace_status_of answer) → P status
 status-so P answer sink sink' faults faults' status (inl none) quiet wanted well = subst P (sym none.0) wanted

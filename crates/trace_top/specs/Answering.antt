@@ -1,4 +1,5 @@
--- Which answer of `dcop_trace` belongs to which words and input. Refusals are those of `dcop replay`.
+-- Which answer of `dcop_trace` belongs to which words and input; refusals are those of `dcop
+-- replay`.
 use Rattle.std.specs.Prelude.{◌≡◌, ℕ, ◌+◌, List, length, take, drop, Option, Some, Result, Ok, Err}
 use Rattle.dcop_base.specs.Whole.{IsProblem}
 use Rattle.protocol_steps.specs.Network.{Network, start_state}
@@ -35,23 +36,26 @@ use Rattle.trace_top.specs.declared.answer.TraceAnswer.{TraceAnswer}
 use Rattle.trace_top.specs.declared.answer.TraceAnswer.TheVariants.{Traced, Refused}
 use Rattle.trace_top.specs.declared.words.Asked.{Asked}
 
--- the answer to a trace of these events, the first so many of a log, from a network of a file's agents: its text from the event of number `from` on, or the first of them that is not lawful
+-- the answer to a trace of these events, the first of a log, from a network of a file's agents: its
+-- text from the event with number `from` on, or the first event that is not lawful
 abbrev pub IsTrace : TextFile → ℕ → Network → List LogEvent → TraceAnswer → Type 0
 IsTrace file from net log (Traced text) = (end : Network) × (run net (events_of log) ≡ Some end) × (text ≡ trace_text file.names from net log)
 IsTrace file from net log (Refused (answers.Verdict (No (Unlawful at fault)) names)) = (names ≡ file.names) × TellsFault net (events_of log) at fault
 IsTrace file from net log answer = ⊥
 
--- the answer to a report with this error and this certificate, whose text stands behind so many lines: a trace of its log by the ADOPT agents of the problem solved, or that there is none
+-- the answer to a report with this error and this certificate, whose text follows `before` lines: a
+-- trace of its log by the ADOPT agents of the problem solved, or that it has no log
 abbrev pub IsTraceOf : TextFile → ℕ → List ℕ → Asked → ℕ → Option Certificate → TraceAnswer → Type 0
 IsTraceOf file before text asked error (Some (Log log)) answer = IsTrace file asked.from (start_state (agents_for file error)) (log_up_to (Some asked.to) log) answer
 IsTraceOf file before text asked error certificate answer = answer ≡ Refused (answers.ReportText (before + certificate_line text) (number_of_report NoLog))
 
--- the answer to what the text of a report was read as: a trace of the report's log, or the first fault of the text, with lines that count on
+-- the answer to a report whose text is read as this: a trace of its log, or the first fault of the
+-- text, whose lines count on from `before`
 abbrev pub IsReadTrace : TextFile → ℕ → List ℕ → Asked → Result Report Fault → TraceAnswer → Type 0
 IsReadTrace file before text asked (Ok report) answer = IsTraceOf file before text asked report.error report.certificate answer
 IsReadTrace file before text asked (Err fault) answer = answer ≡ Refused (answers.ReportText (before + fault.line) (number_of_report fault.kind))
 
--- the answer to the text of a report, behind the text of a problem that has so many lines and declares this
+-- the answer to the text of a report that follows a problem with `before` lines that declares this
 pub record AnswersTrace (d : Declared) (before : ℕ) (text : List ℕ) (asked : Asked) (answer : TraceAnswer) : Type 0 where
   pub file : TextFile
   pub is_file : IsFile file
@@ -71,7 +75,7 @@ IsInputAnswer asked Broken answer = answer ≡ Refused answers.Read
 IsInputAnswer asked TooLong answer = answer ≡ Refused (answers.ProblemText 0 9 0)
 IsInputAnswer asked (Whole bytes) answer = IsTextAnswer bytes asked (front_read asked.format bytes) answer
 
--- the answer to what words ask, or to words that are refused
+-- the answer to what words ask for, or to words that are refused
 abbrev pub IsAskedAnswer : Result Asked WordFault → Input → TraceAnswer → Type 0
 IsAskedAnswer (Ok asked) input answer = IsInputAnswer asked input answer
 IsAskedAnswer (Err (words.Bad at kind)) input answer = (input ≡ Unread) × (answer ≡ Refused (answers.Words at (number_of_words kind)))
@@ -81,11 +85,11 @@ IsAskedAnswer (Err words.NoMemory) input answer = ⊥
 abbrev pub IsTraceAnswer : List (List ℕ) → Input → TraceAnswer → Type 0
 IsTraceAnswer words input answer = IsAskedAnswer (trace_answer_to words) input answer
 
--- one answer belongs to words and an input: the same words and the same bytes give the same text
+-- the same words and the same input have one answer, and so one text
 abbrev pub TraceAnswersAreOne : Type 0
 TraceAnswersAreOne = (words : List (List ℕ)) (input : Input) (a b : TraceAnswer) → IsTraceAnswer words input a → IsTraceAnswer words input b → a ≡ b
 
--- an answer that has a text
+-- this answer has a text
 abbrev pub IsTellable : TraceAnswer → Type 0
 IsTellable (Traced text) = Unit {0}
 IsTellable (Refused refusal) = HasText refusal

@@ -1,4 +1,4 @@
--- How an answer of `dcop_trace` is shown: as those of `dcop` are.
+-- How an answer of `dcop_trace` is shown, which is how answers of `dcop` are.
 use Rattle.std.specs.Prelude.{◌≡◌, ℕ, ◌⊎◌, true, List}
 use Rattle.dcop_edge.specs.Faults.{Rose}
 use Rattle.dcop_edge.specs.Sink.{Adds}
@@ -15,7 +15,7 @@ abbrev pub trace_answer_text : TraceAnswer → List ℕ
 trace_answer_text (Traced text) = text
 trace_answer_text (Refused refusal) = answer_text refusal
 
--- the status that goes with an answer
+-- the status of an answer
 abbrev pub trace_status_of : TraceAnswer → Status
 trace_status_of (Traced text) = statuses.Solved
 trace_status_of (Refused refusal) = status_of refusal
@@ -26,12 +26,13 @@ pub record IsShown (answer : TraceAnswer) (before after : SinkState) (status : S
   pub finished : after.finished ≡ true
   pub same : status ≡ trace_status_of answer
 
--- the sink failed behind a prefix of the text of an answer
+-- the sink failed after a prefix of the text of an answer
 pub record IsCut (answer : TraceAnswer) (before after : SinkState) (status : Status) : Type 0 where
   pub prefix : AddsPrefix before.held (trace_answer_text answer) after.held
   pub fault : status ≡ statuses.WriteFault
 
--- an answer was shown, to a sink that did not fail; or the sink failed, as its count of faults tells; or memory was wanted
+-- an answer was shown by a sink that did not fail; or the sink failed and its count of faults rose;
+-- or memory ran out and no fault was counted
 abbrev pub Shows : TraceAnswer → SinkState → SinkState → ℕ → ℕ → Status → Type 0
 Shows answer sink sink' faults faults' status =
     ((status ≡ statuses.NoMemory) × (faults' ≡ faults))

@@ -8,6 +8,6 @@ use solve_report::Answer;
 pub enum TraceAnswer {
     /// The text of a trace.
     Traced(Bytes),
-    /// A refusal, or the first event of the log that cannot happen, as `dcop replay` tells it.
+    /// A refusal, or the first event of the log that cannot happen, as `dcop replay` reports it.
     Refused(Answer),
 }

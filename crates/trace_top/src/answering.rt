@@ -33,8 +33,9 @@ use solve_words::WordFault;
 use std::alloc::Global;
 use trace_text::write_trace;
 
-/// The answer to words, and where they are accepted to all that the source has left. The words are
-/// tested before anything is read.
+/// Finds the answer to words, and reads all that the source has left if the words are accepted.
+///
+/// The words are tested before anything is read.
 pub(crate) fn answer_of<S: Source>(
     alloc: Global,
     words: &[String],
@@ -81,7 +82,7 @@ fn text_answer(alloc: Global, asked: Asked, bytes: &[u8]) -> Result<TraceAnswer,
     }
 }
 
-/// The answer to the text of a report on a file, which stands behind so many lines.
+/// The answer to the text of a report on a file, which follows `before` lines of the input.
 fn report_trace(
     alloc: Global,
     asked: Asked,
@@ -109,15 +110,15 @@ fn report_trace(
     }
 }
 
-/// The problem of every file is whole. One that is read is known to have such a problem, so this does
-/// no more.
+/// The problem of every file is whole. The type of a file that is read says so; this call only
+/// makes it known.
 fn whole_problem(file: &ProblemFile)
     ensures { IsProblem file.now.problem }
 {
     problem_is_whole(&file.problem);
 }
 
-/// The answer to a trace of these events from the event of this number on, for a requested error.
+/// The answer to a trace of these events from the event with this number on, for a requested error.
 fn traced(
     alloc: Global,
     from: u64,
@@ -139,8 +140,8 @@ fn traced(
     }
 }
 
-/// The text of the run that these events are, from the start of the ADOPT agents of the problem solved
-/// for a file on its depth-first tree, for a requested error.
+/// The text of the run of these events, from the start of the ADOPT agents of a file's problem
+/// solved, on its depth-first tree and for a requested error.
 fn trace_of(
     alloc: Global,
     file: &ProblemFile,
@@ -155,7 +156,7 @@ fn trace_of(
     trace_in(alloc, solved.problem(), &file.names, from, error, log)
 }
 
-/// The same of the agents of this problem.
+/// The same for the agents of this problem.
 fn trace_in(
     alloc: Global,
     problem: &Problem,

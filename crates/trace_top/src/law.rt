@@ -1,9 +1,9 @@
-//! The law of the answers: the contract of a call that does nothing. Who needs the law calls it.
+//! The law of the answers. It is the contract of a call that does nothing: to use the law, call it.
 
 ghost use Rattle.trace_top.specs.Answering.{TraceAnswersAreOne};
 
-/// The answer is one function of the words and the input: one answer belongs to the same words and
-/// the same bytes, so one text is written for them.
+/// The answer is one function of the words and the input: the same words and the same bytes have
+/// one answer, and so one text.
 pub fn trace_answers_are_one()
     ensures { TraceAnswersAreOne }
 {}

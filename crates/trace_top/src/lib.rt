@@ -1,8 +1,11 @@
-//! The top call of `dcop_trace`: words and a source of bytes in, the trace of a run or a refusal into a
-//! sink, and a status.
+//! The top call of `dcop_trace`: words and a source of bytes in, the trace of a run or a refusal
+//! into a sink, and a status.
 //!
-//! [`trace`] reads a problem and the report with a log behind it, plays the log as `dcop replay` does, and
-//! tells event by event what each agent took, has come to and sent.
+//! [`trace`] reads a problem and the report with a log after it, plays the log as `dcop replay`
+//! does, and writes event by event what each agent took, the state it reached and what it sent. Its
+//! clauses say which answer belongs to which words and input, that its whole text is written and
+//! the sink finished, and when each fault may come. The law [`trace_answers_are_one`] says that the
+//! same words and input have one answer.
 #![tactic(auto)]
 
 mod answer;

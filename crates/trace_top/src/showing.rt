@@ -11,9 +11,10 @@ use answer_edge::{Status, show, write_all};
 use dcop_edge::Sink;
 use std::alloc::Global;
 
-/// Writes the whole text of an answer, finishes the sink, and says how it went. With
-/// [`Status::WriteFault`] a prefix of the text is written, with [`Status::NoMemory`], where memory
-/// was wanted and not had, nothing.
+/// Writes the whole text of an answer, finishes the sink, and gives the status.
+///
+/// With [`Status::WriteFault`] a prefix of the text is written. With [`Status::NoMemory`], when
+/// memory runs out, nothing is written.
 pub(crate) fn show_answer<K: Sink>(alloc: Global, answer: &TraceAnswer, sink: &mut K) -> Status
     requires { IsTellable answer.now }
     ensures shows { Shows answer.now
@@ -28,7 +29,7 @@ pub(crate) fn show_answer<K: Sink>(alloc: Global, answer: &TraceAnswer, sink: &m
     }
 }
 
-/// [`show_answer`] of the text of a trace.
+/// [`show_answer`] for the text of a trace.
 fn show_trace<K: Sink>(text: &[u8], sink: &mut K) -> Status
     ensures shows { Shows (Traced text.now)
         (sink_state (K.held sink.old) (K.finished sink.old))

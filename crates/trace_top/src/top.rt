@@ -12,17 +12,20 @@ use answer_edge::Status;
 use dcop_edge::{Sink, Source};
 use std::alloc::Global;
 
-/// Answers these words, which are the arguments of the program: reads a problem and the report with a
-/// log behind it from the source, plays the log as a run of the ADOPT agents of the problem solved on its
-/// depth-first tree, writes the trace of that run to the sink, and says how it went. Words, texts and
-/// faults are refused as by the program `dcop`, and so is an event that cannot happen.
+/// Answers these words, which are the arguments of the program: reads a problem and the report with
+/// a log after it from the source, plays the log as a run of the ADOPT agents of the problem solved
+/// on its depth-first tree, writes the trace of that run to the sink, and gives the status.
 ///
-/// A trace tells of each agent at its start, and of the agent of each event that is asked for, what it
-/// took, what it has come to and what it sent. Stamps are written as the log has them, and not looked at.
+/// Words, texts and faults are refused as by the program `dcop`, and so is an event that cannot
+/// happen.
 ///
-/// [`Status::ReadFault`] and [`Status::WriteFault`] come only where the source or the sink failed
-/// in this call. With `WriteFault` a prefix of the answer is written, with [`Status::NoMemory`],
-/// where memory was wanted and not had, nothing, and otherwise the whole answer, and the sink is
+/// A trace has each agent at its start, and the agent of each event that is asked for: what it
+/// took, the state it reached and what it sent. Stamps are written as the log has them, but not
+/// checked.
+///
+/// [`Status::ReadFault`] and [`Status::WriteFault`] come only if the source or the sink failed in
+/// this call. With `WriteFault` a prefix of the answer is written. With [`Status::NoMemory`], when
+/// memory runs out, nothing is written. Otherwise the whole answer is written, and the sink is
 /// finished.
 pub fn trace<S: Source, K: Sink>(
     alloc: Global,

@@ -7,18 +7,19 @@ ghost use Rattle.trace_top.specs.Words.{trace_option_named, is_given, words_for,
 use dcop_base::number_of_word;
 use solve_words::{Format, WordFault, WordKind};
 
-/// The greatest number of an event that can be asked for.
+/// The greatest number of an event that words can ask for.
 const MOST_EVENTS: u64 = 1_000_000_000;
 
-/// What words ask.
+/// What words ask for.
 #[derive(Clone, Copy, Debug, PartialEq, Eq)]
 pub struct Asked {
-    /// The number of the first event that is told, counted from 1, 0 to 1,000,000,000; with 0 the
-    /// starts of all agents are told before.
+    /// The number of the first event that is written: 0 to 1,000,000,000, counted from 1. With 0
+    /// the starts of all agents are written first.
     pub from: u64,
-    /// The number of the last event that is told, where there are so many, 0 to 1,000,000,000.
+    /// The number of the last event that is played and written: 0 to 1,000,000,000. If the log has
+    /// fewer events, all are.
     pub to: u64,
-    /// The form of the problem.
+    /// The format of the problem.
     pub format: Format,
 }
 
@@ -34,7 +35,7 @@ pub enum TraceOption {
 }
 
 impl TraceOption {
-    /// The option that a word names; `None` exactly where no option has it.
+    /// The option with this name; `None` exactly if no option has it.
     fn named(word: &str) -> Option<TraceOption>
         ensures { result ≡ trace_option_named word.now }
     {
@@ -47,19 +48,19 @@ impl TraceOption {
     }
 }
 
-/// The values that were given.
+/// The values that the words have given so far.
 #[derive(Clone, Copy, Debug, PartialEq, Eq)]
 pub struct Given {
-    /// Of `--from`.
+    /// The number of `--from`.
     pub from: Option<u64>,
-    /// Of `--to`.
+    /// The number of `--to`.
     pub to: Option<u64>,
-    /// Of `--format`.
+    /// The format of `--format`.
     pub format: Option<Format>,
 }
 
 impl Given {
-    /// Whether a value was given for an option.
+    /// Whether a value is given for an option.
     fn has(self, option: TraceOption) -> bool
         ensures { result ≡ is_given option self }
     {
@@ -70,7 +71,7 @@ impl Given {
         }
     }
 
-    /// The place of the word behind the pairs that gave these values, counted from 1.
+    /// The place of the word after the pairs that gave these values, counted from 1.
     fn place_behind(self) -> u64
         ensures same { result ≡ place_behind self }
         ensures low { result ≤ 7 }
@@ -80,7 +81,8 @@ impl Given {
             + words_for(self.format.is_some())
     }
 
-    /// What is asked, with the default of each value that was not given: all events.
+    /// What is asked for, with the default of each value that was not given: all events, and
+    /// problem text.
     fn asked(self) -> Asked
         ensures { result ≡ asked_by self }
     {
@@ -92,7 +94,7 @@ impl Given {
     }
 }
 
-/// How many words gave a value: the option and the value, or none.
+/// How many words give a value: two, or none if it is not given.
 fn words_for(is_given: bool) -> u64
     ensures same { result ≡ words_for is_given }
     ensures low { result ≤ 2 }
@@ -100,9 +102,11 @@ fn words_for(is_given: bool) -> u64
     if is_given { 2 } else { 0 }
 }
 
-/// What words ask, or their first fault. The words are pairs of an option and its value, read from
-/// left to right: of each pair it is tested that the option exists, that it is new, that a value
-/// stands behind it, and that the value is a number in the option's range, or one of its choices.
+/// What words ask for, or their first fault.
+///
+/// The words are pairs of an option and its value, read from left to right. Of each pair the option
+/// must exist and be new, a value must follow it, and the value must be a number in the option's
+/// range or one of its choices.
 pub(crate) fn read_trace_words(words: &[String]) -> Result<Asked, WordFault>
     ensures { result ≡ trace_answer_to (map string_bytes words.now) }
 {
@@ -114,7 +118,7 @@ pub(crate) fn read_trace_words(words: &[String]) -> Result<Asked, WordFault>
     Ok(read_pairs(none, words)?.asked())
 }
 
-/// The values that are given with those of these words, or the first fault of the words.
+/// The values that are given after the pairs of these words, or the first fault of the words.
 fn read_pairs(given: Given, words: &[String]) -> Result<Given, WordFault>
     ensures { result ≡ pairs_told given (map string_bytes words.now) }
 {
@@ -129,7 +133,7 @@ fn read_pairs(given: Given, words: &[String]) -> Result<Given, WordFault>
     read_pairs(next, rest)
 }
 
-/// The option that a word names and that was not given before, or the fault of the word.
+/// The option that a word names, if it was not given already; otherwise the fault of the word.
 fn read_option(given: Given, name: &str) -> Result<TraceOption, WordFault>
     ensures { result ≡ option_told given name.now }
 {
@@ -143,7 +147,7 @@ fn read_option(given: Given, name: &str) -> Result<TraceOption, WordFault>
     Ok(option)
 }
 
-/// The values that are given with the one that a word gives an option, or the fault of the word.
+/// The values that are given after a word gives the value of an option, or the fault of the word.
 fn read_value(given: Given, option: TraceOption, word: &str) -> Result<Given, WordFault>
     ensures { result ≡ given_told given option word.now }
 {
@@ -164,7 +168,7 @@ fn read_value(given: Given, option: TraceOption, word: &str) -> Result<Given, Wo
     }
 }
 
-/// The number of an event that the word at this place tells, or the fault of the word.
+/// The number of an event that the word at this place gives, or its fault.
 fn read_number(at: u64, word: &str) -> Result<u64, WordFault>
     ensures { result ≡ number_told at word.now }
 {
@@ -177,7 +181,7 @@ fn read_number(at: u64, word: &str) -> Result<u64, WordFault>
     Ok(number)
 }
 
-/// The form that the word at this place names, or the fault of the word.
+/// The format that the word at this place names, or its fault.
 fn read_format(at: u64, word: &str) -> Result<Format, WordFault>
     ensures { result ≡ format_told at word.now }
 {
@@ -187,7 +191,7 @@ fn read_format(at: u64, word: &str) -> Result<Format, WordFault>
     }
 }
 
-/// The form of this name; `None` exactly where no form has it.
+/// The format with this name; `None` exactly if no format has it.
 fn format_named(word: &str) -> Option<Format>
     ensures { result ≡ format_named word.now }
 {
@@ -198,7 +202,7 @@ fn format_named(word: &str) -> Option<Format>
     }
 }
 
-/// The fault of the word at a place.
+/// The fault of the word at this place.
 fn bad(at: u64, kind: WordKind) -> WordFault
     ensures { result ≡ WordFault.Bad at kind }
 {

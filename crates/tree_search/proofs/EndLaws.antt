@@ -1,4 +1,4 @@
--- How a run ended in which a message is pending until all agents have ended.
+-- How a run ends in which a message is pending until all agents have ended.
 use Rattle.std.proofs.Common.{◌≡◌, ℕ, suc, ◌+◌, ◌<◌, ◌≤◌, true, false, List, [], ◌∷◌, map, length, Some, refl, sym, ap, ◌∙◌, arith}
 use Rattle.std.specs.List.{range_with_len, slice_get}
 use Rattle.std.proofs.lemmas.Bool.{true≢false}

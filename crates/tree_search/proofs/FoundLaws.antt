@@ -1,4 +1,4 @@
--- What token agents have found that have run under the budget of their messages.
+-- What token agents have found after a run under the budget of their messages.
 use Rattle.std.proofs.Common.{◌≡◌, ℕ, List, [], ◌∷◌, map, length, Option, Some, refl, sym, ap, ◌∙◌, arith}
 use Rattle.std.specs.List.{flat_map, range_with_len}
 use Rattle.std.specs.Option.{option_map}

@@ -14,16 +14,18 @@ use Rattle.tree_search.specs.declared.search.Found.{Found}
 abbrev pub places_found : Dcop → List (Option Place)
 places_found p = map (λ i. Some (place_found p i)) (range_with_len 0 (length p.sizes))
 
--- how many messages a search by tokens takes: one TOKEN to each variable but the root, and one DONE from it
+-- how many messages a search by tokens takes: one TOKEN to each variable except the root, and one
+-- DONE from it
 abbrev pub token_deliveries : Dcop → ℕ
 token_deliveries p = 2 * (length p.sizes - 1)
 
--- each agent of a problem has found its place in the depth-first tree, and they took so many messages as the search takes
+-- each agent of a problem has found its place in the depth-first tree, and the agents took as many
+-- messages as the search takes
 pub record HaveFound (p : Dcop) (outcome : Outcome) : Type 0 where
   pub places : outcome.places ≡ places_found p
   pub deliveries : outcome.deliveries ≡ token_deliveries p
 
--- the path in the place of an agent
+-- the path in the place of an agent; an empty path if it has no place
 abbrev pub path_on : Option Place → List ℕ
 path_on None = []
 path_on (Some place) = place.path

@@ -1,7 +1,7 @@
 //! The depth-first tree of a problem, as its token agents find it.
 //!
-//! The agents are run by others: [`tree_found`] says which tree follows from how their run ended,
-//! which is told by an [`Outcome`](protocol_steps::Outcome) of the network.
+//! Other crates run the agents. [`tree_found`] says which tree follows from the
+//! [`Outcome`](protocol_steps::Outcome) of their run.
 #![tactic(auto)]
 
 mod search;

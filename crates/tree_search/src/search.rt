@@ -21,8 +21,8 @@ pub struct Found {
     pub deliveries: u64,
 }
 
-/// The messages that the token agents of a problem take: one TOKEN to each variable but the root,
-/// and one DONE from it. So many are budget enough for them.
+/// How many messages the token agents of a problem take: one TOKEN to each variable except the
+/// root, and one DONE from it. As a budget it is enough for them, and it is at most 10,000,000.
 pub fn search_deliveries(problem: &Problem) -> u64
     ensures all { result ≡ token_deliveries problem.now }
     ensures few { result ≤ budget_limit }
@@ -30,11 +30,12 @@ pub fn search_deliveries(problem: &Problem) -> u64
     2 * (problem.sizes.as_slice().len() as u64 - 1)
 }
 
-/// The depth-first tree of a problem, which its token agents found.
+/// The depth-first tree of a problem, from the outcome of a run of its token agents under the
+/// budget [`search_deliveries`].
 ///
 /// # Errors
 ///
-/// [`NoMemory`] where memory was wanted and not had.
+/// [`NoMemory`] if memory runs out.
 pub fn tree_found(alloc: Global, problem: &Problem, outcome: &Outcome) -> Result<Found, NoMemory>
     requires { HaveRun (token_deliveries problem.now) (token_agents problem.now) outcome.now }
     ensures { IfOk result (IsFound problem.now) }
@@ -49,7 +50,7 @@ pub fn tree_found(alloc: Global, problem: &Problem, outcome: &Outcome) -> Result
     })
 }
 
-/// The paths that agents have found, in the same memory where they share it.
+/// The paths that the agents have found, in order. Memory that paths share stays shared.
 fn paths_found(alloc: Global, places: &OptionList<Place>) -> Result<Vec<VarList>, NoMemory>
     ensures { IfOk result (λ paths. paths.items ≡ map path_on places.now) }
 {
@@ -60,7 +61,7 @@ fn paths_found(alloc: Global, places: &OptionList<Place>) -> Result<Vec<VarList>
     Ok(paths)
 }
 
-/// The path that an agent has found; that of no variables before it has.
+/// The path that an agent has found; an empty path if it has found none.
 fn path_on(alloc: Global, place: Option<&Place>) -> Result<VarList, NoMemory>
     ensures { IfOk result (λ path. MatchOption place.entry (path ≡ path_on None)
         (λ place. path ≡ path_on (Some place.now))) }

@@ -1,11 +1,11 @@
--- How the place of a table's cell moves with the values of variables, which need not stand in its order.
+-- How the place of a table's cell moves with the values of variables that need not be in the table's order.
 use Rattle.std.specs.Prelude.{◌≡◌, ℕ, ◌+◌, ◌*◌, ◌-◌, ◌<◌, ◌≤◌, ◌==◌, List, [], ◌∷◌, map, length, drop, if◌then◌else◌, slice_index}
 use Rattle.std.specs.List.{All}
 use Rattle.dcop_base.specs.Limits.{amount_limit}
 use Rattle.dcop_base.specs.Table.{CostTable, AreWithin, product, cell_place}
 use Rattle.util_kernel.specs.Lanes.{plus}
 
--- how far one more of a variable moves the place of a cell: so many cells as the later variables have; 0 where the scope does not name it
+-- how far the place of a cell moves when a variable's value grows by one: by the number of cells over the later variables of the scope; 0 if the scope does not name the variable
 abbrev pub stride : List ℕ → List ℕ → ℕ → ℕ
 stride [] sizes var = 0
 stride (v ∷ vs) [] var = 0
@@ -15,29 +15,29 @@ stride (v ∷ vs) (s ∷ ss) var = if var == v then product ss else stride vs ss
 abbrev pub strides : CostTable → List ℕ → List ℕ
 strides t over = map (λ v. stride t.scope t.sizes v) over
 
--- how far values of variables with these strides move the place together
+-- how far the values of variables with these strides move the place together
 abbrev pub offset : List ℕ → List ℕ → ℕ
 offset [] values = 0
 offset (d ∷ ds) [] = 0
 offset (d ∷ ds) (v ∷ vs) = d * v + offset ds vs
 
--- the last value of each size
+-- the last value of a variable of each size
 abbrev pub last_values : List ℕ → List ℕ
 last_values sizes = map (λ s. s - 1) sizes
 
--- a row of variables with these strides and sizes: all from one on; so many cells, along which the place moves by one step from each to the next
+-- the variables with these strides and sizes form a row from `start` on: they have `width` cells, and the place moves by `step` from each cell to the next
 pub record IsRow (ds sizes : List ℕ) (start width step : ℕ) : Type 0 where
   pub within : start ≤ length sizes
   pub full : width ≡ product (drop start sizes)
   pub even : (values : List ℕ) → AreWithin (drop start sizes) values → offset (drop start ds) values ≡ step * cell_place (drop start sizes) values
 
--- cells of a row that gained the amounts that stand one step after the other
+-- each cell of a row gained, by the capped sum, the amount at `step` times its place, and no cell is above amount_limit
 pub record IsRowSum (from : List ℕ) (step : ℕ) (old new : List ℕ) : Type 0 where
   pub count : length new ≡ length old
   pub small : All (λ n. n ≤ amount_limit) new
   pub cells : (p : ℕ) → p < length old → slice_index new p ≡ plus (slice_index old p) (slice_index from (step * p))
 
--- rows of so many cells, one for each choice of values of these sizes, each of which is such a sum from the place on to which its values move
+-- there is a row of `width` cells for each choice of values of these sizes; each cell of a row gained, by the capped sum, the amount at the offset of the row's values plus `step` times its place in the row
 pub record IsBlockSum (from ds sizes : List ℕ) (width step : ℕ) (old new : List ℕ) : Type 0 where
   pub count : length new ≡ length old
   pub small : All (λ n. n ≤ amount_limit) new

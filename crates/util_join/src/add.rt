@@ -1,4 +1,4 @@
-//! The sum of a table into the cells of a joined one.
+//! Adding a table to the cells of a joined one.
 
 ghost use Rattle.std.specs.Prelude.{◌≡◌, ℕ, ◌+◌, ◌*◌, ◌-◌, ◌<◌, ◌≤◌, length, List, ◌∷◌, [], None};
 ghost use Rattle.std.specs.List.{All};
@@ -12,8 +12,8 @@ use crate::stride::stride_of;
 use dcop_base::{CAP, Table, VarId, product_of};
 use util_kernel::add_lanes;
 
-/// Adds a table to a joined table over these variables with these sizes and cells: to each cell the
-/// table's cell at the same values; a sum above [`CAP`] becomes [`CAP`].
+/// Adds a table to a joined table over these variables with these sizes and cells: each cell gains
+/// the table's cell at the same values. A sum above [`CAP`] becomes [`CAP`].
 pub(crate) fn add_cells(cells: &mut [u64], over: &[VarId], sizes: &[u16], table: &Table)
     requires whole { table_fault over.now sizes.now cells.old ≡ None }
     requires lies { LiesIn over.now sizes.now table.now }
@@ -27,8 +27,8 @@ pub(crate) fn add_cells(cells: &mut [u64], over: &[VarId], sizes: &[u16], table:
     add_block(cells, from, table, &over[..start], &sizes[..start], row);
 }
 
-/// Adds cells of a table, `from`, to the rows of a block, one for each choice of values of these
-/// variables, by the strides of the table.
+/// Adds the cells `from` of a table to the rows of a block, one for each choice of values of these
+/// variables, using the table's strides.
 fn add_block(
     cells: &mut [u64],
     from: &[u64],
@@ -66,7 +66,8 @@ fn add_block(
     }
 }
 
-/// Adds cells of a table, `from`, to the rows of so many values of one variable, by its stride.
+/// Adds the cells `from` of a table to the rows for the `size` values of one variable, using its
+/// stride.
 fn add_rows(cells: &mut [u64], from: &[u64], size: usize, stride: usize, row: Row)
     requires full { length cells.old ≡ size * row.width }
     requires some { 1 ≤ row.width }
@@ -86,7 +87,7 @@ fn add_rows(cells: &mut [u64], from: &[u64], size: usize, stride: usize, row: Ro
     }
 }
 
-/// [`add_rows`] where the place in the table moves by one cell along a row.
+/// [`add_rows`] when the place in the table moves by one cell along a row.
 fn add_near_rows(cells: &mut [u64], from: &[u64], size: usize, stride: usize, width: usize)
     requires full { length cells.old ≡ size * width }
     requires some { 1 ≤ width }

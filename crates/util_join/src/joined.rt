@@ -11,13 +11,13 @@ use dcop_base::{CellList, MAX_JOINED_CELLS, NoMemory, SizeList, Table, VarList};
 use std::alloc::{AllocError, Global};
 use std::marker::Model;
 
-/// Why [`Joined::new`] makes no table.
+/// Why [`Joined::new`] refuses to make a table.
 #[derive(Clone, Copy, Debug, PartialEq, Eq)]
 pub enum JoinFault {
-    /// The table would have more than [`MAX_JOINED_CELLS`] cells: so many, or [`u64::MAX`] where
-    /// they are more than that.
+    /// The table would have more than [`MAX_JOINED_CELLS`] cells. `cells` is their number, or
+    /// [`u64::MAX`] if there are more.
     TooWide { cells: u64 },
-    /// Memory was wanted and not had.
+    /// Memory ran out.
     NoMemory,
 }
 
@@ -32,8 +32,8 @@ impl From<AllocError> for JoinFault {
     }
 }
 
-/// A joined table in the making: a table over distinct variables, to which tables over some of them
-/// are added. Contracts see it as that table.
+/// A joined table that is being built: a table over distinct variables, to which tables over some
+/// of these variables are added. Contracts see it as a cost table.
 #[derive(Debug, Drop)]
 pub struct Joined {
     over: VarList,
@@ -50,12 +50,12 @@ impl Model for Joined {
 }
 
 impl Joined {
-    /// A table of zeros over these variables, of which each has the size at its place.
+    /// A table of zeros over these variables. Each has the size at the same place of `sizes`.
     ///
     /// # Errors
     ///
-    /// [`JoinFault::TooWide`] exactly above [`MAX_JOINED_CELLS`] cells; [`JoinFault::NoMemory`]
-    /// where memory was wanted and not had. The lists are gone then too.
+    /// [`JoinFault::TooWide`] exactly above [`MAX_JOINED_CELLS`] cells; [`JoinFault::NoMemory`] if
+    /// memory runs out. The lists are dropped in both cases.
     pub fn new(alloc: Global, over: VarList, sizes: SizeList) -> Result<Joined, JoinFault>
         requires distinct { has_repeat over ≡ false }
         requires sized { length sizes ≡ length over }
@@ -70,7 +70,7 @@ impl Joined {
         Ok(Joined { over, sizes, cells })
     }
 
-    /// Adds a table: each cell gains the table's cell at the same values; a sum above
+    /// Adds a table: each cell gains the table's cell at the same values. A sum above
     /// [`CAP`](dcop_base::CAP) becomes `CAP`.
     pub fn add(&mut self, table: &Table)
         requires { LiesIn self.old.scope self.old.sizes table.now }
@@ -84,7 +84,7 @@ impl Joined {
         );
     }
 
-    /// The table, with its memory.
+    /// The table. It keeps the memory of the cells.
     pub fn table(self) -> Table
         ensures { result ≡ self }
     {
@@ -96,7 +96,7 @@ impl Joined {
     }
 }
 
-/// How many cells a table of these sizes has, or [`u64::MAX`] where it has more.
+/// The number of cells of a table of these sizes, or [`u64::MAX`] if there are more.
 fn count_of(sizes: &[u16]) -> u64
     ensures { result ≡ min (product sizes.now) u64.MAX }
 {

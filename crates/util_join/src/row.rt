@@ -1,4 +1,4 @@
-//! Rows of cells, along which the place in a table moves evenly.
+//! Rows of cells along which the place in a table moves evenly.
 
 ghost use Rattle.std.specs.Prelude.{◌≡◌, ℕ, ◌*◌, ◌-◌, ◌<◌, ◌≤◌, length, List, ◌∷◌};
 ghost use Rattle.std.specs.List.{All};
@@ -10,13 +10,13 @@ use crate::stride::stride_of;
 use dcop_base::{CAP, Table, VarId};
 use util_kernel::{add_lanes, add_one_lanes};
 
-/// The last variables of a joined table, along whose cells the place in a table moves by one step
-/// from each to the next.
+/// The last variables of a joined table along whose cells the place in a table moves by a fixed
+/// step from each cell to the next.
 #[derive(Clone, Copy)]
 pub(crate) struct Row {
-    /// How many variables stand before them.
+    /// The number of variables before them.
     pub start: usize,
-    /// How many cells they have.
+    /// The number of their cells.
     pub width: usize,
     /// How far the place in the table moves from each cell to the next.
     pub step: usize,
@@ -54,8 +54,8 @@ pub(crate) fn row_of(table: &Table, over: &[VarId], sizes: &[u16]) -> Row
     extended(row, usize::from(*size), stride_of(table, *var))
 }
 
-/// The longest row of all variables, where this is the row of all but the first, which has this size
-/// and stride.
+/// The longest row of all variables. `row` is that of all but the first, which has this size and
+/// stride.
 fn extended(row: Row, size: usize, stride: usize) -> Row
     requires all { row.start ≡ 0 }
     requires few { size * row.width ≤ usize.MAX }
@@ -82,8 +82,8 @@ fn extended(row: Row, size: usize, stride: usize) -> Row
     }
 }
 
-/// Adds to each cell of a row the amount of `from` that stands `step` behind the one before, from
-/// the first on; a sum above [`CAP`] becomes [`CAP`].
+/// Adds amounts of `from` to the cells of a row: the first amount to the first cell, and for each
+/// next cell the amount `step` places further on. A sum above [`CAP`] becomes [`CAP`].
 pub(crate) fn add_row(cells: &mut [u64], from: &[u64], step: usize)
     requires some { 1 ≤ length cells.old }
     requires inside { step * (length cells.old - 1) < length from.now }
@@ -101,7 +101,7 @@ pub(crate) fn add_row(cells: &mut [u64], from: &[u64], step: usize)
     }
 }
 
-/// [`add_row`], one cell after the other.
+/// [`add_row`], one cell at a time.
 fn add_strided(cells: &mut [u64], from: &[u64], step: usize)
     requires inside { step * (length cells.old - 1) < length from.now }
     requires cells { All (λ n. n ≤ amount_limit) cells.old }

@@ -1,4 +1,4 @@
-//! Strides: how far the place of a table's cell moves with one more of a variable.
+//! Strides: how far the place of a table's cell moves when a variable's value grows by one.
 
 ghost use Rattle.std.specs.Prelude.{◌≡◌, ◌≤◌, min};
 ghost use Rattle.dcop_base.specs.Table.{product};
@@ -6,7 +6,7 @@ ghost use Rattle.util_join.specs.Strides.{stride};
 
 use dcop_base::{Table, VarId, product_of};
 
-/// The stride of a variable in a table; 0 where the table does not name it.
+/// The stride of a variable in a table; 0 if the table does not name it.
 pub(crate) fn stride_of(table: &Table, var: VarId) -> usize
     requires { product table.now.sizes ≤ usize.MAX }
     ensures { result ≡ stride table.now.scope table.now.sizes var }
@@ -14,7 +14,7 @@ pub(crate) fn stride_of(table: &Table, var: VarId) -> usize
     stride_in(table.scope.as_slice(), table.sizes.as_slice(), var)
 }
 
-/// The stride of a variable in a table of this scope with these sizes, or `usize::MAX` where it is
+/// The stride of a variable in a table of this scope with these sizes, or `usize::MAX` if it is
 /// more.
 fn stride_in(scope: &[VarId], sizes: &[u16], var: VarId) -> usize
     ensures { result ≡ min (stride scope.now sizes.now var) usize.MAX }

@@ -10,10 +10,10 @@ use crate::cap::{cap_all, may_exceed};
 use dcop_base::CAP;
 use std::simd::prelude::u64x4;
 
-/// How many amounts a block has.
+/// The number of amounts in a block.
 const LANES: usize = 4;
 
-/// Adds each amount of `from` to the one of `into` at its place; a sum above [`CAP`] becomes
+/// Adds each amount of `from` to the one at the same place of `into`. A sum above [`CAP`] becomes
 /// [`CAP`].
 pub fn add_lanes(into: &mut [u64], from: &[u64])
     requires equal { length into.old ≡ length from.now }
@@ -36,7 +36,7 @@ pub fn add_lanes(into: &mut [u64], from: &[u64])
     }
 }
 
-/// Adds the block of four from a place on, without a cap, and gives the sums.
+/// Adds the block of four that starts at `at`, without a cap, and returns the sums.
 fn add_block(into: &mut [u64], from: &[u64], at: usize) -> u64x4
     requires equal { length into.old ≡ length from.now }
     requires room { at + LANES ≤ length into.old }

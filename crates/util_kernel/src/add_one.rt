@@ -10,10 +10,10 @@ use crate::cap::{cap_all, may_exceed};
 use dcop_base::CAP;
 use std::simd::prelude::u64x4;
 
-/// How many amounts a block has.
+/// The number of amounts in a block.
 const LANES: usize = 4;
 
-/// Adds `cell` to each amount of `into`; a sum above [`CAP`] becomes [`CAP`].
+/// Adds `cell` to each amount of `into`. A sum above [`CAP`] becomes [`CAP`].
 pub fn add_one_lanes(into: &mut [u64], cell: u64)
     requires into { All (λ n. n ≤ amount_limit) into.old }
     requires cell { cell ≤ amount_limit }
@@ -34,7 +34,7 @@ pub fn add_one_lanes(into: &mut [u64], cell: u64)
     }
 }
 
-/// Adds one amount to the block of four from a place on, without a cap, and gives the sums.
+/// Adds one amount to the block of four that starts at `at`, without a cap, and returns the sums.
 fn add_one_block(into: &mut [u64], cell: u64, at: usize) -> u64x4
     requires room { at + LANES ≤ length into.old }
     requires into { All (λ n. n ≤ amount_limit) (chunk at LANES into.old) }

@@ -6,10 +6,10 @@ ghost use Rattle.std.specs.Simd.Lanes.{chunk, put_chunk};
 
 use std::simd::prelude::u64x8;
 
-/// How many amounts a block has.
+/// The number of amounts in a block.
 const LANES: usize = 8;
 
-/// Replaces each amount of `into` that is above the one of `from` at its place by that one.
+/// Replaces each amount of `into` by the one at the same place of `from` if that is less.
 pub fn least_lanes(into: &mut [u64], from: &[u64])
     requires { length into.old ≡ length from.now }
     ensures { into.new ≡ leasts into.old from.now }
@@ -25,7 +25,7 @@ pub fn least_lanes(into: &mut [u64], from: &[u64])
     }
 }
 
-/// Takes the lesser of two in the block of eight from a place on.
+/// Takes the lesser of each two amounts in the block of eight that starts at `at`.
 fn least_block(into: &mut [u64], from: &[u64], at: usize)
     requires equal { length into.old ≡ length from.now }
     requires room { at + LANES ≤ length into.old }

@@ -1,8 +1,8 @@
-//! Kernels over lists of amounts, four or eight at a time.
+//! Kernels over lists of amounts, which work on four or eight amounts at a time.
 //!
-//! Each gives, at every length, exactly what a plain loop over the elements gives: [`add_lanes`]
-//! their sums, [`least_lanes`] the lesser of each two, [`add_one_lanes`] the sums with one amount.
-//! They take no memory. Nothing is claimed of their speed.
+//! At every length each kernel gives exactly what a plain loop over the elements gives:
+//! [`add_lanes`] their sums, [`least_lanes`] the lesser of each two, [`add_one_lanes`] the sums
+//! with one amount. They allocate nothing. Contracts say nothing of their speed.
 #![tactic(auto)]
 
 mod add;

@@ -1,4 +1,4 @@
-//! Leasts over the runs of blocks of cells.
+//! The least cells over the runs of blocks of cells.
 
 ghost use Rattle.std.specs.Prelude.{◌≡◌, ℕ, ◌+◌, ◌*◌, ◌<◌, ◌≤◌, length, slice_index, OnOk, IfOk};
 ghost use Rattle.util_project.specs.Projection.{IsLeast};
@@ -9,14 +9,14 @@ use std::alloc::Global;
 use std::simd::prelude::*;
 use util_kernel::least_lanes;
 
-/// The shortest run that is taken eight cells at a time.
+/// The length of the shortest run that is processed eight cells at a time.
 const LANES: usize = 8;
 
-/// How many cells of a run are taken at a time where only its least one is sought.
+/// How many cells of a run are compared at a time when only its least one is sought.
 const FEW: usize = 4;
 
-/// Of so many blocks of cells, each of `size` runs of `inner` cells, the least of the runs of each
-/// block, cell by cell.
+/// For each of `blocks` blocks, which have `size` runs of `inner` cells each, the cell-wise least
+/// of its runs.
 pub(crate) fn least_runs(
     alloc: Global,
     cells: &[u64],
@@ -39,7 +39,7 @@ pub(crate) fn least_runs(
     Ok(kept)
 }
 
-/// [`least_runs`] where each run is one cell: the least cell of each block.
+/// [`least_runs`] for runs of one cell: the least cell of each block.
 fn least_cells(
     alloc: Global,
     cells: &[u64],
@@ -75,7 +75,7 @@ fn least_of(cells: &[u64]) -> u64
     least
 }
 
-/// The least of the cells of all whole blocks of [`FEW`], and how many cells these are.
+/// The least of the cells of all whole blocks of [`FEW`], and the number of these cells.
 fn least_of_blocks(cells: &[u64]) -> (u64, usize)
     requires { FEW ≤ length cells.now }
     ensures least { IsLeast (λ d. slice_index cells.now d) result.1 result.0 }
@@ -98,7 +98,7 @@ fn least_of_four(cells: u64x4) -> u64
     four[0].min(four[1]).min(four[2].min(four[3]))
 }
 
-/// Appends the least of the runs of a block.
+/// Appends the cell-wise least of the runs of a block.
 fn append_leasts(
     kept: &mut Vec<u64>,
     block: &[u64],
@@ -116,7 +116,7 @@ fn append_leasts(
     }
 }
 
-/// Appends the least of the runs of a block, one cell after the other.
+/// Appends the cell-wise least of the runs of a block, one cell at a time.
 fn append_by_cell(
     kept: &mut Vec<u64>,
     block: &[u64],
@@ -133,7 +133,7 @@ fn append_by_cell(
     Ok(())
 }
 
-/// The least of the cells at one place of the runs of a block.
+/// The least of the cells at the same place of each run of a block.
 fn least_at(block: &[u64], size: usize, inner: usize, place: usize) -> u64
     requires full { length block.now ≡ size * inner }
     requires runs { 1 ≤ size }
@@ -147,7 +147,7 @@ fn least_at(block: &[u64], size: usize, inner: usize, place: usize) -> u64
     least
 }
 
-/// Appends the first run of a block, and lowers it to the least of all runs.
+/// Appends the first run of a block, and lowers it to the cell-wise least of all runs.
 fn append_by_lanes(
     kept: &mut Vec<u64>,
     block: &[u64],
@@ -164,7 +164,7 @@ fn append_by_lanes(
     Ok(())
 }
 
-/// Lowers the first run of a block to the least of all runs, cell by cell.
+/// Lowers a copy of the first run of a block to the cell-wise least of all runs.
 fn lower(run: &mut [u64], block: &[u64], size: usize)
     requires full { length block.now ≡ size * length run.old }
     requires runs { 1 ≤ size }

@@ -1,8 +1,9 @@
-//! Projections of cost tables: the least over one variable, and the value at which it is.
+//! Projections of cost tables: the least cell over one variable, and the value at which it is
+//! reached.
 //!
-//! The cells of a table stand in blocks, one for each choice of values of the variables before the
-//! projected one; a block has a run of cells for each value of that variable. The projection keeps
-//! one run a block, the least of its runs cell by cell. Nothing is claimed of speed.
+//! The cells of a table are in blocks, one for each choice of values of the variables before the
+//! projected one. A block has a run of cells for each value of that variable. The projection keeps
+//! one run for each block: the cell-wise least of its runs. Contracts say nothing of speed.
 #![tactic(auto)]
 
 mod leasts;

@@ -10,8 +10,8 @@ ghost use Rattle.util_project.specs.Projection.{IsLowestLeast, cell_at_value, si
 use cost_table::{place_at, place_in};
 use dcop_base::{Table, Val, VarId, product_of};
 
-/// The lowest value of a variable at which the table's cell is least, where the other variables of
-/// its scope have these values, in scope order without the variable.
+/// The lowest value of a variable at which the table's cell is least. `values` are those of the
+/// other variables of its scope, in scope order.
 pub fn pick(table: &Table, var: VarId, values: &[Val]) -> Val
     requires stands { has table.now.scope var ≡ true }
     requires within { AreWithin (remove table.now.sizes (place_in table.now.scope var)) values.now }
@@ -36,7 +36,7 @@ pub fn lowest_of(costs: &[u64]) -> Val
     lowest(costs, 0, 1, size)
 }
 
-/// The lowest value at which a cell of the table of these parts is least.
+/// The lowest value at which a cell is least in the table that has these parts.
 fn pick_of(scope: &[VarId], sizes: &[u16], cells: &[u64], var: VarId, values: &[Val]) -> Val
     requires whole { table_fault scope.now sizes.now cells.now ≡ None }
     requires stands { has scope.now var ≡ true }
@@ -69,8 +69,8 @@ fn pick_at(sizes: &[u16], cells: &[u64], place: usize, values: &[Val]) -> Val
     lowest(cells, first, inner, size)
 }
 
-/// The lowest number below `size` at which the cell that stands so many strides behind the first
-/// one is least.
+/// The lowest number below `size` at which the cell that is this many strides after the first one
+/// is least.
 fn lowest(cells: &[u64], first: usize, stride: usize, size: u16) -> Val
     requires some { 1 ≤ size }
     requires inside { (d : ℕ) → d < size → first + d * stride < length cells.now }
@@ -85,7 +85,7 @@ fn lowest(cells: &[u64], first: usize, stride: usize, size: u16) -> Val
     Val(best)
 }
 
-/// Whether the cell at a number is less than the one at another number.
+/// Whether the cell at one number is less than the cell at another.
 fn is_less(cells: &[u64], first: usize, stride: usize, number: u16, other: u16) -> bool
     requires number { first + number * stride < length cells.now }
     requires other { first + other * stride < length cells.now }

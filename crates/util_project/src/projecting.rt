@@ -11,14 +11,14 @@ use cost_table::{place_in, scope_without, sizes_without};
 use dcop_base::{CellList, NoMemory, Table, VarId, product_of};
 use std::alloc::Global;
 
-/// The projection of a table by a variable of its scope: the table without the variable, of which
-/// each cell is the least over the variable's values. The other variables keep their order.
+/// The projection of a table by a variable of its scope: the table without the variable, whose
+/// cells are each the least over the variable's values. The other variables keep their order.
 ///
-/// This is the projection of DPOP (Petcu, Faltings, IJCAI 2005).
+/// This is the projection of UTIL propagation in DPOP (Petcu, Faltings, IJCAI 2005).
 ///
 /// # Errors
 ///
-/// [`NoMemory`] where memory was wanted and not had.
+/// [`NoMemory`] if memory runs out.
 pub fn project(alloc: Global, table: &Table, var: VarId) -> Result<Table, NoMemory>
     requires { has table.now.scope var ≡ true }
     ensures { IfOk result (λ less. IsProjection table.now var less) }
@@ -32,7 +32,7 @@ pub fn project(alloc: Global, table: &Table, var: VarId) -> Result<Table, NoMemo
     )
 }
 
-/// The projection of the table of these parts.
+/// The projection of the table that has these parts.
 fn project_of(
     alloc: Global,
     scope: &[VarId],
@@ -57,7 +57,7 @@ fn project_of(
     })
 }
 
-/// The leasts of the cells of a table of these sizes over the variable at this place.
+/// The least cells of a table of these sizes over the variable at this place.
 fn leasts_at(
     alloc: Global,
     sizes: &[u16],

@@ -12,11 +12,11 @@ use pseudotree::Tree;
 use std::alloc::Global;
 
 /// The tables that the agents of a tree have made, in preorder, each with its variable's parent and
-/// separator. `tables` has the table of each variable, in ascending order.
+/// separator. `tables` has one entry for each variable, in ascending order.
 ///
 /// # Errors
 ///
-/// [`NoMemory`] where memory was wanted and not had.
+/// [`NoMemory`] if memory runs out.
 pub fn utils_of(
     alloc: Global,
     tree: &Tree,
@@ -58,12 +58,12 @@ fn util_of(
     })
 }
 
-/// The cells of the table that the agent of a variable has made; none where it has made no table.
-/// `tables` has the table of each variable, in ascending order.
+/// The cells of the table that the agent of a variable has made; no cells if it has made no table.
+/// `tables` has one entry for each variable, in ascending order.
 ///
 /// # Errors
 ///
-/// [`NoMemory`] where memory was wanted and not had.
+/// [`NoMemory`] if memory runs out.
 #[tactic(auto, using(crate::proofs::CellLaws::cells_got))]
 pub fn cells_of(alloc: Global, var: VarId, tables: &OptionList<Table>) -> Result<CellList, NoMemory>
     ensures { IfOk result (λ cells. cells ≡ cells_on (slice_get tables.now var)) }

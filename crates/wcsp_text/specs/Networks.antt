@@ -1,4 +1,4 @@
--- What the words of a text say, up to its last function.
+-- What the words of a text mean, up to its last function.
 use Rattle.std.specs.Prelude.{ℕ, zero, suc, List, [], ◌∷◌, Option, Some, None, Result, Ok, Err, ◌==◌, nat_lt, if◌then◌else◌}
 use Rattle.dcop_base.specs.Faults.{is_bad_size}
 use Rattle.dcop_base.specs.Limits.{variable_limit}
@@ -9,7 +9,8 @@ use Rattle.wcsp_text.specs.Words.{Word}
 use Rattle.wcsp_text.specs.Numbers.{Place, number, fails, read_on, onto}
 use Rattle.wcsp_text.specs.Functions.{Function, functions_read}
 
--- a network: the cost that forbids, how many values each variable has, and the functions
+-- a network: the cost from which on an assignment is forbidden, the size of each variable, and the
+-- functions
 pub record Network : Type 0 where
   pub top : ℕ
   pub sizes : List ℕ
@@ -22,26 +23,27 @@ count_fault variables =
     else (if nat_lt variable_limit variables then Some (Problem 10)
     else None)
 
--- what goes on, unless there is a fault of the word before this place
+-- the later result, unless the word before this place has a fault
 abbrev pub unless : {A : Type 0} → Option WcspKind → Place → Result A Fault → Result A Fault
 unless (Some kind) p later = fails p kind
 unless None p later = later
 
--- so many sizes
+-- the result of reading `count` sizes
 abbrev pub sizes_read : ℕ → Place → Result (List ℕ × Place) Fault
 sizes_read zero p = Ok ([], p)
 sizes_read (suc count) p =
     read_on (number p.words) (λ size q.
     if is_bad_size size then fails q (Problem 2) else onto size (sizes_read count q))
 
--- the sizes of so many variables, then so many functions
+-- the result of reading the sizes of the variables, then the functions
 abbrev pub body_read : ℕ → ℕ → ℕ → Place → Result (Network × Place) Fault
 body_read top variables functions p =
     read_on (sizes_read variables p) (λ sizes q.
     read_on (functions_read sizes [] functions q) (λ fs r.
     Ok (record { top = top; sizes = sizes; functions = fs }, r)))
 
--- what stands behind the name: the number of variables, the greatest size, the number of functions and top, then sizes and functions
+-- the result of reading what follows the name: the number of variables, the greatest size, the
+-- number of functions and top, then the sizes and the functions
 abbrev pub named_read : Place → Result (Network × Place) Fault
 named_read p =
     read_on (number p.words) (λ variables q.
@@ -51,7 +53,7 @@ named_read p =
     read_on (number s.words) (λ top t.
     body_read top variables functions t)))))
 
--- the words of a text: a name, which may be any word, and what stands behind it
+-- the result of reading the words of a text: a name, which may be any word, and what follows it
 abbrev pub network_read : List Word → Result (Network × Place) Fault
 network_read [] = Err (record { after = 0; kind = NoEnd })
 network_read (name ∷ later) = named_read (record { after = name.after; words = later })

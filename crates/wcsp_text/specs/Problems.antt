@@ -1,4 +1,5 @@
--- The problem that is made of a network: its cells below top are kept, and one of at least top becomes more than all that are kept.
+-- The problem that is made from a network: cells below top are kept, and every other cell becomes a
+-- cost above all sums of kept cells.
 use Rattle.std.specs.Prelude.{ℕ, ◌+◌, List, map, nat_lt, nat_le, if◌then◌else◌, slice_index, min}
 use Rattle.std.specs.List.{filter, sum_by}
 use Rattle.dcop_base.specs.Table.{CostTable, greatest}
@@ -9,7 +10,7 @@ use Rattle.wcsp_text.specs.declared.fault.WcspKind.TheVariants.{Problem}
 use Rattle.wcsp_text.specs.Functions.{Function}
 use Rattle.wcsp_text.specs.Networks.{Network}
 
--- the greatest of the cells below top, 0 where there is none
+-- the greatest of the cells below top, or 0 if there is none
 abbrev pub greatest_below : ℕ → List ℕ → ℕ
 greatest_below top cells = greatest (filter (λ c. nat_lt c top) cells)
 
@@ -17,15 +18,15 @@ greatest_below top cells = greatest (filter (λ c. nat_lt c top) cells)
 abbrev pub soft_sum : ℕ → List Function → ℕ
 soft_sum top functions = sum_by (λ f. greatest_below top f.table.cells) functions
 
--- more than the cells below top can sum to
+-- a cost above every sum of cells below top, one cell of each function
 abbrev pub hard : Network → ℕ
 hard w = 1 + soft_sum w.top w.functions
 
--- the cost from which an assignment of the problem is worth top
+-- the cost from which on an assignment of the problem has the WCSP value top
 abbrev pub bar : Network → ℕ
 bar w = min (hard w) w.top
 
--- a cell, where one of at least top becomes hard
+-- a cell, or the hard cost if the cell is at least top
 abbrev pub raised : ℕ → ℕ → ℕ → ℕ
 raised top hard cell = if nat_le top cell then hard else cell
 
@@ -37,7 +38,7 @@ raised_table top hard t = record { scope = t.scope; sizes = t.sizes; cells = map
 abbrev pub tables : Network → List CostTable
 tables w = map (λ f. raised_table w.top (hard w) f.table) w.functions
 
--- the number by which a user knows a fault of a problem
+-- the number that a user sees for a fault of a problem
 abbrev pub number_of_fault : ProblemFault → ℕ
 number_of_fault problems.NoVariables = 1
 number_of_fault (problems.DomainSize var) = 2
@@ -51,7 +52,7 @@ number_of_fault (problems.TooManyCells table) = 9
 number_of_fault problems.TooManyVariables = 10
 number_of_fault problems.NoMemory = 0
 
--- the table at which a problem is refused
+-- the table at which a problem is refused, or 0 if the fault has no table
 abbrev pub table_of_fault : ProblemFault → ℕ
 table_of_fault (problems.ScopeLength table) = table
 table_of_fault (problems.ScopeRange table) = table
@@ -62,7 +63,7 @@ table_of_fault (problems.TooManyCells table) = table
 table_of_fault (problems.SumTooLarge table) = table
 table_of_fault _ = 0
 
--- a fault of the problem, told at the word of the function's arity
+-- a fault of the problem, reported at the word of the function's arity
 abbrev pub told_at : List Function → ProblemFault → Fault
 told_at functions fault = record {
   after = slice_index (map (λ f. f.after) functions) (table_of_fault fault);

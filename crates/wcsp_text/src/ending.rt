@@ -12,15 +12,15 @@ use crate::fault::{Fault, WcspKind, fault_before};
 use crate::word::next_word;
 use problem_text::{LF, LineEnd, line_behind};
 
-/// The line of a word behind which so many bytes of the text stand, and of the text's end at 0.
+/// The line of the word that `after` bytes of the text follow; 0 means the end of the text.
 pub fn line_of(bytes: &[u8], after: usize) -> u64
     ensures { result ≡ line_at bytes.now after }
 {
     line_behind(bytes.split_at(bytes.len().saturating_sub(after)).0)
 }
 
-/// How many bytes tell a network, of whose last word this stands behind: those up to and with the
-/// line of that word, on which no further word may stand.
+/// How many bytes of the text give a network whose last word this text follows: those up to and
+/// including the line of that word. No further word may be on that line.
 pub fn used_of(bytes: &[u8], after: &[u8]) -> Result<usize, LineEnd<Fault>>
     ensures { (w : Network) → Gives (λ used. (w, used)) result
         (ended bytes.now w (length after.now) (words after.now)) }
@@ -33,7 +33,7 @@ pub fn used_of(bytes: &[u8], after: &[u8]) -> Result<usize, LineEnd<Fault>>
     Ok(bytes_with_line(bytes, after.len()))
 }
 
-/// How many bytes a text has up to and with the line of a word behind which so many bytes stand.
+/// How many bytes a text has up to and including the line of the word that `after` bytes follow.
 fn bytes_with_line(bytes: &[u8], after: usize) -> usize
     ensures { result ≡ bytes_to bytes.now (line_at bytes.now after) }
 {

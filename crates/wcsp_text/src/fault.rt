@@ -14,7 +14,7 @@ pub enum WcspFault {
     /// The first fault of the text, with its line, which counts from 1.
     #[error("line {line} of the WCSP text")]
     Bad { line: u64, kind: WcspKind },
-    /// Memory was wanted and not had.
+    /// Memory ran out.
     #[error("out of memory")]
     NoMemory,
 }
@@ -30,22 +30,23 @@ impl From<NoMemory> for WcspFault {
     }
 }
 
-/// What is wrong with a word of a WCSP text, or with the text. There is no kind 6.
+/// What is wrong with a word of a WCSP text, or with the text. Kind 6 is not used.
 #[derive(Clone, Copy, Debug, PartialEq, Eq)]
 pub enum WcspKind {
-    /// Kind 1: a word that should be a number is none.
+    /// Kind 1: a word that must be a number is not one.
     BadNumber,
-    /// Kind 2: the text is over before its last word.
+    /// Kind 2: the text ends before its last word.
     NoEnd,
-    /// Kind 3: a variable is not below the number of variables, or stands twice in a scope.
+    /// Kind 3: a variable is not below the number of variables, or occurs twice in a scope.
     Index,
     /// Kind 4: a tuple's value is not below its variable's size.
     Value,
     /// Kind 5: an arity is above 4.
     Arity,
-    /// Kind 7: the sizes and functions make no problem. The number is that of the fault.
+    /// Kind 7: the sizes and functions do not form a problem. `number` is the number of the
+    /// problem's fault.
     Problem { number: u8 },
-    /// Kind 8: a further word stands on the line of the last word.
+    /// Kind 8: a further word is on the line of the last word.
     AfterEnd,
 }
 
@@ -65,7 +66,7 @@ impl WcspKind {
         }
     }
 
-    /// The number of the problem's fault where that is what is wrong, and 0 otherwise.
+    /// The number of the problem's fault if the kind is 7, and 0 otherwise.
     pub fn problem(self) -> u8
         ensures { result ≡ number_of_problem self }
     {
@@ -76,14 +77,14 @@ impl WcspKind {
     }
 }
 
-/// A fault, and how many bytes of the text stand behind its word.
+/// A fault, and how many bytes of the text follow its word.
 #[derive(Clone, Copy, Debug, PartialEq, Eq)]
 pub struct Fault {
     pub after: usize,
     pub kind: WcspKind,
 }
 
-/// The end of reading at a fault of the word behind which this text stands.
+/// The end of reading at a fault of the word that this text follows.
 pub fn fault_before(after: &[u8], kind: WcspKind) -> LineEnd<Fault>
     ensures { result ≡ ends.Fault (record { after = length after.now; kind = kind }) }
 {

@@ -23,7 +23,7 @@ use std::marker::Model;
 /// A function as a table over its scope, whose cells are those of the text.
 #[derive(Debug, Drop)]
 pub struct Function {
-    /// How many bytes of the text stand behind the word of its arity.
+    /// How many bytes of the text follow the word of its arity.
     pub after: usize,
     pub scope: VarList,
     pub sizes: SizeList,
@@ -40,21 +40,21 @@ impl Model for Function {
     ghost invariant = { λ f. IsWritten (record { scope = f.scope; sizes = f.sizes; cells = f.cells }) };
 }
 
-/// A function, and the text behind it.
+/// A function, and the text after it.
 #[derive(Debug, Drop)]
 pub struct ReadFunction<'a> {
     pub function: Function,
     pub after: &'a [u8],
 }
 
-/// Functions, and the text behind them.
+/// Functions, and the text after them.
 #[derive(Debug, Drop)]
 pub struct ReadFunctions<'a> {
     pub functions: Vec<Function>,
     pub after: &'a [u8],
 }
 
-/// So many functions of variables with these sizes.
+/// The `count` functions that a text begins with, over variables of these sizes.
 pub fn functions_of<'a>(
     alloc: Global,
     sizes: &[u16],
@@ -82,7 +82,7 @@ pub fn functions_of<'a>(
     })
 }
 
-/// The function that a text begins with, behind others that have so many cells.
+/// The function that a text begins with. The functions before it have `before` cells.
 fn function_of<'a>(
     alloc: Global,
     sizes: &[u16],
@@ -134,7 +134,7 @@ fn over_scope_of<'a>(
     })
 }
 
-/// How many cells the table over a scope has, whose variables have their own sizes.
+/// How many cells the table over a scope has; `own` are the sizes of the scope's variables.
 fn count_of(sizes: &[u16], scope: &[VarId], own: &[u16]) -> u64
     requires some { 0 < length sizes.now }
     requires own { own.now ≡ own_sizes sizes.now scope.now }
@@ -147,7 +147,7 @@ fn count_of(sizes: &[u16], scope: &[VarId], own: &[u16]) -> u64
     }
 }
 
-/// The function over a scope with these cells. One of no variables is a table on variable 0.
+/// The function over a scope with these cells. A function of no variables is a table on variable 0.
 fn function_with(
     alloc: Global,
     sizes: &[u16],

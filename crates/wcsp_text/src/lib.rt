@@ -1,10 +1,13 @@
-//! WCSP text: weighted constraint networks as files, read as problems.
+//! WCSP files: weighted constraint networks in the `wcsp` format, read as problems.
 //!
-//! A WCSP text tells a number of variables with their domain sizes, functions over them as tuples
-//! with costs, and a cost `top` that forbids. [`read_wcsp`] reads exactly these texts, word by
-//! word: it gives the file of a problem whose optimum has the least WCSP value, or the line and the
-//! kind of the text's first fault. Cells of at least `top` become a cost that no allowed assignment
-//! reaches, and [`ReadWcsp::bar`] tells the costs apart.
+//! A WCSP text gives variables with their domain sizes, functions over them as tuples with costs,
+//! and a cost `top`, from which on an assignment is forbidden. [`read_wcsp`] accepts exactly these
+//! texts, word by word. It returns the file of a problem whose optimum has the least WCSP value, or
+//! the line and the kind of the text's first fault. Cells of at least `top` become a cost above
+//! every sum of the cells below `top`; [`ReadWcsp::bar`] separates the costs that are WCSP values
+//! from those that mean `top`.
+//!
+//! It builds on `problem_text` for problem files and lines, and on `dcop_base` for problems.
 #![tactic(auto)]
 
 mod ending;

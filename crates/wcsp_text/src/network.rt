@@ -1,4 +1,4 @@
-//! Networks: what the words of a text say.
+//! Networks: what the words of a text mean.
 
 ghost use Rattle.std.specs.Prelude.{◌≡◌, ◌≤◌, ◌<◌, None, length, IfOk};
 ghost use Rattle.std.specs.List.{position};
@@ -18,7 +18,8 @@ use problem_text::LineEnd;
 use std::alloc::Global;
 use std::marker::Model;
 
-/// A network: the cost that forbids, how many values each variable has, and the functions.
+/// A network: the cost from which on an assignment is forbidden, the size of each variable, and the
+/// functions.
 #[derive(Debug, Drop)]
 pub struct Network {
     pub top: u64,
@@ -34,14 +35,14 @@ impl Model for Network {
     ghost view = { λ w. record { top = w.top; sizes = w.sizes.items; functions = w.functions.items } };
 }
 
-/// A network, and the text behind its last word.
+/// A network, and the text after its last word.
 #[derive(Debug, Drop)]
 pub struct ReadNetwork<'a> {
     pub network: Network,
     pub after: &'a [u8],
 }
 
-/// Sizes, and the text behind them.
+/// Sizes, and the text after them.
 #[derive(Debug, Drop)]
 struct ReadSizes<'a> {
     sizes: Vec<u16>,
@@ -61,7 +62,7 @@ pub fn network_of(alloc: Global, text: &[u8]) -> Result<ReadNetwork<'_>, LineEnd
     }
 }
 
-/// The network that stands behind its name.
+/// The network that follows its name.
 fn named_network(alloc: Global, text: &[u8]) -> Result<ReadNetwork<'_>, LineEnd<Fault>>
     ensures { Gives (λ r. (r.network, place r.after.now)) result (named_read (place text.now)) }
 {
@@ -94,7 +95,7 @@ fn fault_of_count(variables: u64) -> Option<WcspKind>
     None
 }
 
-/// The network of so many variables and functions with this top, of which a text tells the rest.
+/// The network with this top and these numbers of variables and functions. The text gives the rest.
 fn body_of(
     alloc: Global,
     top: u64,
@@ -119,7 +120,7 @@ fn body_of(
     })
 }
 
-/// So many sizes.
+/// The `count` sizes that a text begins with.
 fn sizes_in(alloc: Global, count: u64, text: &[u8]) -> Result<ReadSizes<'_>, LineEnd<Fault>>
     ensures read { Gives (λ r. (r.sizes.items, place r.after.now)) result
         (sizes_read count (place text.now)) }
@@ -139,7 +140,7 @@ fn sizes_in(alloc: Global, count: u64, text: &[u8]) -> Result<ReadSizes<'_>, Lin
     Ok(ReadSizes { sizes, after: rest })
 }
 
-/// Whether a size is no domain's.
+/// Whether a number is not a domain size.
 fn is_bad(size: u64) -> bool
     ensures { result ≡ is_bad_size size }
 {

@@ -10,7 +10,7 @@ use crate::word::next_word;
 use dcop_base::number_of_word;
 use problem_text::LineEnd;
 
-/// A number, and the text behind its word.
+/// A number, and the text after its word.
 #[derive(Clone, Copy, Debug)]
 pub struct Number<'a> {
     pub value: u64,

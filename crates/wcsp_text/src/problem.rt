@@ -1,4 +1,4 @@
-//! The problem that is made of a network.
+//! The problem that is made from a network.
 
 ghost use Rattle.std.specs.Prelude.{◌≡◌, map, min, IfOk, slice_index};
 ghost use Rattle.problem_text.specs.declared.line_end.LineEnd.TheVariants as ends;
@@ -14,14 +14,14 @@ use dcop_base::{CellList, NoMemory, Problem, ProblemFault, SizeList, Table, Tabl
 use problem_text::LineEnd;
 use std::alloc::Global;
 
-/// Tables, and for each how many bytes of the text stand behind the word of its arity.
+/// Tables, and for each how many bytes of the text follow the word of its arity.
 #[derive(Debug, Drop)]
 struct Tables {
     tables: Vec<Table>,
     afters: Vec<usize>,
 }
 
-/// The problem of a network with this cost for what is forbidden.
+/// The problem of a network, with `hard` as the cost of what is forbidden.
 pub fn problem_of(alloc: Global, network: Network, hard: u64) -> Result<Problem, LineEnd<Fault>>
     requires { hard ≡ min (hard_cost network) u64.MAX }
     ensures { MakesProblemOf network result }
@@ -62,7 +62,7 @@ fn tables_of(
     Ok(Tables { tables, afters })
 }
 
-/// The table of a function. It keeps the memory of the function's cells.
+/// The table of a function. It reuses the memory of the function's cells.
 fn table_of(alloc: Global, function: Function, top: u64, hard: u64) -> Result<Table, NoMemory>
     ensures { IfOk result (λ t. t ≡ capped_table top hard function.table) }
 {
@@ -101,7 +101,7 @@ fn told(fault: ProblemFault, afters: &[usize]) -> LineEnd<Fault>
     }
 }
 
-/// The fault of this number at a table.
+/// The fault with this number at a table.
 fn fault_at(afters: &[usize], table: u64, number: u8) -> LineEnd<Fault>
     ensures { result ≡ ends.Fault (record { after = slice_index afters.now table; kind = problem_kind number }) }
 {

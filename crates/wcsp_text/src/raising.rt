@@ -7,7 +7,7 @@ ghost use Rattle.wcsp_text.specs.Problems.{greatest_below, soft_sum, raised as r
 use crate::function::Function;
 use dcop_base::CAP;
 
-/// 1 more than the sum of the functions' greatest cells below `top`, or 2^64 - 1 where it is more.
+/// 1 plus the sum of the functions' greatest cells below `top`, or 2^64 - 1 if it is more.
 pub fn hard_of(functions: &[Function], top: u64) -> u64
     ensures { result ≡ min (1 + soft_sum top functions.now) u64.MAX }
 {
@@ -18,7 +18,7 @@ pub fn hard_of(functions: &[Function], top: u64) -> u64
     sum.saturating_add(1)
 }
 
-/// The greatest of the cells below `top`, 0 where there is none.
+/// The greatest of the cells below `top`, or 0 if there is none.
 fn greatest_soft(cells: &[u64], top: u64) -> u64
     ensures { result ≡ greatest_below top cells.now }
 {
@@ -31,7 +31,8 @@ fn greatest_soft(cells: &[u64], top: u64) -> u64
     greatest
 }
 
-/// Makes cells of at least `top` hard. A cell above [`CAP`] becomes that, as no problem has it.
+/// Makes cells of at least `top` hard. A cell above [`CAP`] then becomes [`CAP`], which no problem
+/// allows.
 pub fn raise(cells: &mut [u64], top: u64, hard: u64)
     ensures { cells.new ≡ map (λ c. min (raised_cell top hard c) amount_limit) cells.old }
 {
@@ -40,7 +41,7 @@ pub fn raise(cells: &mut [u64], top: u64, hard: u64)
     }
 }
 
-/// A cell, where one of at least `top` is hard.
+/// The cell, or `hard` if the cell is at least `top`.
 fn raised(cell: u64, top: u64, hard: u64) -> u64
     ensures { result ≡ raised_cell top hard cell }
 {

@@ -13,29 +13,29 @@ use dcop_base::{NoMemory, Problem, problem_is_whole};
 use problem_text::{LineEnd, ProblemFile};
 use std::alloc::Global;
 
-/// A file that was read of a WCSP text.
+/// A file that was read from a WCSP text.
 #[derive(Debug, Drop)]
 pub struct ReadWcsp {
     /// The problem, whose variables are named v0, v1 and so on, in version 2.
     pub file: ProblemFile,
-    /// The WCSP value of an assignment is its cost where that is below the bar, and top otherwise.
+    /// The WCSP value of an assignment is its cost if that is below the bar, and top otherwise.
     pub bar: u64,
-    /// How many bytes tell it, up to and with the line of the last word.
+    /// How many bytes the text has up to and including the line of the last word.
     pub used: usize,
 }
 
 /// Reads a WCSP text.
 ///
-/// A function becomes a table over its scope, in which a cell has the cost of the last tuple that
-/// names it, else the default cost; a function of no variables becomes a table on variable 0 with
-/// its cost in every cell. A cell of at least `top` becomes 1 more than the sum of the functions'
-/// greatest cells below `top`; the bar is the lesser of that and `top`. What stands behind the
-/// line of the last word is not looked at.
+/// A function becomes a table over its scope. A cell has the cost of the last tuple that names it,
+/// or the default cost if no tuple does. A function of no variables becomes a table on variable 0
+/// with its cost in every cell. A cell of at least `top` becomes 1 plus the sum of the functions'
+/// greatest cells below `top`; the bar is the lesser of that cost and `top`. The bytes after the
+/// line of the last word are not examined.
 ///
 /// # Errors
 ///
-/// [`WcspFault::Bad`] with the line and the kind of the first fault, in order of the words; and
-/// [`WcspFault::NoMemory`] where memory was wanted and not had.
+/// [`WcspFault::Bad`] with the line and the kind of the first fault, in the order of the words;
+/// [`WcspFault::NoMemory`] if memory runs out.
 pub fn read_wcsp(alloc: Global, bytes: &[u8]) -> Result<ReadWcsp, WcspFault>
     ensures reads { Reads bytes.now result }
     ensures values { IfOk result (λ r. HasValues bytes.now r) }
@@ -53,7 +53,7 @@ pub fn read_wcsp(alloc: Global, bytes: &[u8]) -> Result<ReadWcsp, WcspFault>
     }
 }
 
-/// The file that a text tells.
+/// The file that a text gives.
 fn file_in(alloc: Global, bytes: &[u8]) -> Result<ReadWcsp, LineEnd<Fault>>
     ensures { GivesFile bytes.now result }
 {

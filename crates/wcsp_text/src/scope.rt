@@ -14,14 +14,14 @@ use dcop_base::{MAX_VARIABLES, VarId, stands_in};
 use problem_text::LineEnd;
 use std::alloc::Global;
 
-/// A scope, and the text behind it.
+/// A scope, and the text after it.
 #[derive(Debug, Drop)]
 pub struct ReadScope<'a> {
     pub vars: Vec<VarId>,
     pub after: &'a [u8],
 }
 
-/// The scope of so many variables, each of them below the number of variables and none twice.
+/// The scope of `arity` variables: each is below the number of variables, and none occurs twice.
 pub fn scope_of<'a>(
     alloc: Global,
     variables: usize,

@@ -14,22 +14,22 @@ use dcop_base::product_of;
 use problem_text::LineEnd;
 use std::alloc::Global;
 
-/// The cell that a tuple's values name, and the text behind them.
+/// The position of the cell that a tuple's values name, and the text after them.
 #[derive(Clone, Copy, Debug)]
 struct Named<'a> {
     place: usize,
     after: &'a [u8],
 }
 
-/// The cells of a function, and the text behind its last tuple.
+/// The cells of a function, and the text after its last tuple.
 #[derive(Debug, Drop)]
 pub struct ReadCells<'a> {
     pub cells: Vec<u64>,
     pub after: &'a [u8],
 }
 
-/// The cells of a function whose variables have these sizes: each has the cost of the last tuple
-/// that names it, else the default cost.
+/// The cells of a function whose variables have these sizes. Each has the cost of the last tuple
+/// that names it, or the default cost if no tuple does.
 pub fn cells_of<'a>(
     alloc: Global,
     sizes: &[u16],
@@ -48,7 +48,7 @@ pub fn cells_of<'a>(
     Ok(ReadCells { cells, after })
 }
 
-/// Gives each cell the cost of the last of so many tuples that names it.
+/// Gives each cell the cost of the last of `count` tuples that names it.
 fn fill<'a>(
     sizes: &[u16],
     count: u64,
@@ -72,7 +72,7 @@ fn fill<'a>(
     Ok(rest)
 }
 
-/// The cell that the values name which a text begins with, one below each size.
+/// The cell named by the values that a text begins with: one value for each size, below it.
 fn named_cell<'a>(sizes: &[u16], text: &'a [u8]) -> Result<Named<'a>, LineEnd<Fault>>
     requires some { list_any (λ s. s == 0) sizes.now ≡ false }
     requires few { product sizes.now ≤ cell_limit }

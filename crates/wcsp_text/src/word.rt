@@ -4,9 +4,9 @@ ghost use Rattle.std.specs.Prelude.{◌≡◌, length, ◌∷◌, [], MatchOptio
 ghost use Rattle.std.specs.List.{position, position_or_len};
 ghost use Rattle.wcsp_text.specs.Words.{is_separator, words};
 
-/// The first word of a text and what stands behind it; `None` exactly where there is no word.
+/// The first word of a text and the text after it; `None` exactly when there is no word.
 ///
-/// Words are parted by spaces, tabs, LF and CR.
+/// Spaces, tabs, LF and CR separate words.
 pub fn next_word(text: &[u8]) -> Option<(&[u8], &[u8])>
     ensures { MatchOption result (words text.now ≡ [])
         (λ r. words text.now ≡ record { text = r.0.now; after = length r.1.now } ∷ words r.1.now) }
@@ -18,7 +18,7 @@ pub fn next_word(text: &[u8]) -> Option<(&[u8], &[u8])>
     Some(from_word.split_at(run_of(from_word)))
 }
 
-/// How many bytes that part words a text begins with.
+/// How many bytes that separate words a text begins with.
 fn gap_of(text: &[u8]) -> usize
     ensures { result ≡ position_or_len (λ b. not (is_separator b)) text.now }
 {

@@ -1,22 +1,24 @@
--- What a dialer's calls do to its count of faults, and what the wires of a new pair tell.
+-- How a dialer's calls change its count of faults, and what the wires of a new pair tell.
 use Rattle.std.specs.Prelude.{◌≡◌, ◌≤◌, ℕ, List, [], Option, Some, None, Result, Ok, Err}
 use Rattle.dcop_edge.specs.Faults.{Rose, one_more}
 use Rattle.wire_edge.specs.Wire.{Told}
 use Rattle.wire_edge.specs.declared.dialer.DialFault.{DialFault}
 use Rattle.wire_edge.specs.declared.dialer.DialFault.TheVariants.{Failed, NoMemory}
 
--- a call failed only where the count rose, and left the count as it was where it did not fail
+-- the count of faults rose if the call failed, and stayed as it was if the call succeeded or ran
+-- out of memory
 abbrev pub HasDialCause : {T : Type 0} → ℕ → ℕ → Result T DialFault → Type 0
 HasDialCause old new (Ok value) = new ≡ old
 HasDialCause old new (Err Failed) = (old ≤ new) × Rose old new
 HasDialCause old new (Err NoMemory) = new ≡ old
 
--- nothing, where it is told
+-- the bytes are not told, or there are none
 abbrev pub IsNothing : Option (List ℕ) → Type 0
 IsNothing None = Unit {0}
 IsNothing (Some text) = text ≡ []
 
--- the end of a new stream: all counts are 0, and where it is told nothing is sent or received yet
+-- the end of a new stream: all counts are 0, and if it tells its bytes it has sent and received
+-- none
 pub record IsNew (t : Told) : Type 0 where
   pub sent : IsNothing t.sent
   pub received : IsNothing t.received
@@ -24,12 +26,12 @@ pub record IsNew (t : Told) : Type 0 where
   pub read_waits : t.read_waits ≡ 0
   pub faults : t.faults ≡ 0
 
--- it tells that nothing is sent or received yet
+-- it tells its bytes, and it has sent and received none
 pub record TellsNothing (t : Told) : Type 0 where
   pub sent : t.sent ≡ Some []
   pub received : t.received ≡ Some []
 
--- a pair that was made is counted, and a call that failed is not
+-- the count of pairs goes up by one if a pair was made, and stays as it was if not
 abbrev pub CountsPair : {T : Type 0} → ℕ → Result T DialFault → ℕ → Type 0
 CountsPair old (Ok pair) new = new ≡ one_more old
 CountsPair old (Err fault) new = new ≡ old

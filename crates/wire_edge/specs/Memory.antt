@@ -11,7 +11,7 @@ use Rattle.wire_edge.specs.declared.alter.Alter.{Alter}
 use Rattle.wire_edge.specs.declared.alter.PollFail.{PollFail}
 use Rattle.wire_edge.specs.declared.memory.MemoryWire.{MemoryWire}
 
--- it names this end of this pair
+-- this end of this pair is the one that is named
 abbrev pub names_end : ℕ → Bool → ℕ → Bool → Bool
 names_end pair is_first named named_first = (named == pair) && cond named_first is_first (not is_first)
 
@@ -19,16 +19,18 @@ names_end pair is_first named named_first = (named == pair) && cond named_first 
 abbrev pub polls_of : ℕ → Bool → List PollFail → List ℕ
 polls_of pair is_first polls = map (λ p. p.poll) (filter (λ p. names_end pair is_first p.pair p.first_end) polls)
 
--- the changes of the bytes that one end sends
+-- the changes to the bytes that one end sends
 abbrev pub alters_of : ℕ → Bool → List Alter → List Alter
 alters_of pair is_first alters = filter (λ a. names_end pair is_first a.pair a.from_first) alters
 
--- the byte that goes out at a place in place of this one
+-- the byte that goes out at a position instead of this one: that of the first change for this
+-- position, else the byte itself
 abbrev pub altered : List Alter → ℕ → ℕ → ℕ
 altered [] place byte = byte
 altered (a ∷ rest) place byte = cond (a.place == place) a.byte (altered rest place byte)
 
--- what is told of the bytes sent: nothing where some are to be changed
+-- what is told of the bytes sent: nothing if some are to be changed; and what a wire in memory
+-- tells
 abbrev pub told_unless : List Alter → List ℕ → Option (List ℕ)
 told_unless [] sent = Some sent
 told_unless (a ∷ rest) sent = None
@@ -42,17 +44,17 @@ memory_told w = record {
   faults = w.calls.faults;
 }
 
--- two ends of one stream of which neither changes a byte
+-- two ends of one stream that both change no byte
 pub record CarryAll (a b : MemoryWire) : Type 0 where
   pub joined : AreJoined a.wire b.wire
   pub there : a.alters.items ≡ []
   pub back : b.alters.items ≡ []
 
--- two ends that are not of one stream, or the same end of one
+-- two ends that are not the two ends of one stream
 abbrev pub AreOthers : MemoryWire → MemoryWire → Type 0
 AreOthers a b = AreApart a.wire b.wire
 
--- the ends of the pair with this number, with what is to go wrong at each
+-- the two new ends of the pair with this number, each with the faults that are asked for at it
 pub record IsPair (pair : ℕ) (polls : List PollFail) (alters : List Alter) (a b : MemoryWire) : Type 0 where
   pub first_calls : a.calls ≡ no_calls (polls_of pair true polls)
   pub second_calls : b.calls ≡ no_calls (polls_of pair false polls)
@@ -61,27 +63,28 @@ pub record IsPair (pair : ℕ) (polls : List PollFail) (alters : List Alter) (a 
   pub first_written : a.written ≡ 0
   pub second_written : b.written ≡ 0
 
--- a poll failed exactly where it was to
+-- the poll failed exactly if it was asked to
 abbrev pub FailsWhere : Bool → Poll (Result ℕ Failed) → Type 0
 FailsWhere fails (Ready result) = is_err result ≡ fails
 FailsWhere fails Pending = fails ≡ false
 
--- the bytes that go out from a place on in place of these
+-- the bytes that go out instead of these, the first at this position
 abbrev pub all_altered : List Alter → ℕ → List ℕ → List ℕ
 all_altered alters place [] = []
 all_altered alters place (byte ∷ bytes) = altered alters place byte ∷ all_altered alters (place + 1) bytes
 
--- a count went up by so many, or stands at its last value
+-- the count went up by `count`, or is at its last value
 abbrev pub HasCounted : ℕ → ℕ → ℕ → Type 0
 HasCounted old count new = (new ≡ old + count) ⊎ (new ≡ count_limit)
 
--- a wire counts the bytes that it has sent
+-- a wire counts the bytes that it has sent, and counts none if a poll failed or waits
 abbrev pub CountsSent : MemoryWire → Poll (Result ℕ Failed) → MemoryWire → Type 0
 CountsSent a (Ready (Ok count)) b = HasCounted a.written count b.written
 CountsSent a (Ready (Err failed)) b = b.written ≡ a.written
 CountsSent a Pending b = b.written ≡ a.written
 
--- what a poll for writing sent: the bytes that it took, or what goes out in their place; a wire that changes any counts them
+-- what a poll for writing sent: the bytes that it took, each replaced if that is asked for; a wire
+-- that changes any byte counts them
 abbrev pub SendsAltered : MemoryWire → List ℕ → Poll (Result ℕ Failed) → MemoryWire → Type 0
 SendsAltered a bytes (Ready (Ok count)) b =
     (sent_by b.wire ≡ sent_by a.wire ++ all_altered a.alters.items a.written (take count bytes)) × ((a.alters.items ≡ []) ⊎ HasCounted a.written count b.written)

@@ -1,4 +1,4 @@
--- What a wire tells, and what each of its calls does to that.
+-- What a wire tells, and how each of its calls changes that.
 use Rattle.std.specs.Prelude.{◌≡◌, ◌<◌, ◌≤◌, ℕ, List, ◌++◌, length, take, Option, Some, None, Result, Ok, Err}
 use mathlib.Core.List.{IsPrefix}
 use Rattle.futures.specs.declared.task.Poll.{Poll}
@@ -6,7 +6,8 @@ use Rattle.futures.specs.declared.task.Poll.TheVariants.{Ready, Pending}
 use Rattle.dcop_edge.specs.Faults.{Rose}
 use Rattle.dcop_edge.specs.declared.fault.Failed.{Failed}
 
--- the bytes sent and received so far, where the wire tells them, and how often a write waited, a read waited, and a call failed
+-- the bytes sent and received so far, if the wire tells them; and how often a write waited, a read
+-- waited, and a call failed
 pub record Told : Type 0 where
   pub sent : Option (List ℕ)
   pub received : Option (List ℕ)
@@ -14,36 +15,38 @@ pub record Told : Type 0 where
   pub read_waits : ℕ
   pub faults : ℕ
 
--- more bytes behind those that are told
+-- the told bytes and then more; nothing if none are told
 abbrev pub told_more : Option (List ℕ) → List ℕ → Option (List ℕ)
 told_more None more = None
 told_more (Some text) more = Some (text ++ more)
 
--- a write took the first `count` bytes, and at least one where there are any
+-- a write took the first `count` bytes, at least one if there are any, and nothing else changed
 pub record Wrote (a : Told) (bytes : List ℕ) (count : ℕ) (b : Told) : Type 0 where
   pub within : count ≤ length bytes
   pub some : 0 < length bytes → 0 < count
   pub is : b ≡ record a { sent = told_more a.sent (take count bytes) }
 
--- a read gave `count` bytes, which stand in front in the buffer, and at least one where it has room for any
+-- a read put `count` bytes at the front of the buffer, at least one if it has room for any, and
+-- nothing else changed
 pub record Gave (a : Told) (buffer filled : List ℕ) (count : ℕ) (b : Told) : Type 0 where
   pub within : count ≤ length buffer
   pub some : 0 < length buffer → 0 < count
   pub is : b ≡ record a { received = told_more a.received (take count filled) }
 
--- a call failed: the count of faults rose, and nothing else changed
+-- a call failed: the count of faults rose, or is at its last value, and nothing else changed
 pub record Broke (a b : Told) : Type 0 where
   pub grew : a.faults ≤ b.faults
   pub rose : Rose a.faults b.faults
   pub is : b ≡ record a { faults = b.faults }
 
--- a write waits: the count of the waits of writes rose, and nothing else changed
+-- a write waits: the count of waits of writes rose, or is at its last value, and nothing else
+-- changed
 pub record WaitsToWrite (a b : Told) : Type 0 where
   pub grew : a.write_waits ≤ b.write_waits
   pub rose : Rose a.write_waits b.write_waits
   pub is : b ≡ record a { write_waits = b.write_waits }
 
--- a read waits
+-- a read waits: the count of waits of reads rose, or is at its last value, and nothing else changed
 pub record WaitsToRead (a b : Told) : Type 0 where
   pub grew : a.read_waits ≤ b.read_waits
   pub rose : Rose a.read_waits b.read_waits
@@ -61,7 +64,7 @@ AfterRead a buffer filled (Ready (Ok count)) b = Gave a buffer filled count b
 AfterRead a buffer filled (Ready (Err failed)) b = Broke a b
 AfterRead a buffer filled Pending b = WaitsToRead a b
 
--- what the one end has sent is told, and what the other has received, which is a prefix of it
+-- both wires tell their bytes, and what the one has received is a prefix of what the other has sent
 pub record Reaches (from to : Told) : Type 0 where
   pub sent : List ℕ
   pub received : List ℕ
@@ -69,7 +72,7 @@ pub record Reaches (from to : Told) : Type 0 where
   pub is_received : to.received ≡ Some received
   pub front : IsPrefix received sent
 
--- each of two ends has received a prefix of what the other has sent
+-- each of the two has received a prefix of what the other has sent
 pub record Reach (a b : Told) : Type 0 where
   pub there : Reaches a b
   pub back : Reaches b a

@@ -1,4 +1,4 @@
-//! What goes wrong on purpose on a stream in memory.
+//! Faults that a test asks for on a stream in memory.
 
 ghost use Rattle.std.specs.Prelude.{◌≡◌, IfOk};
 ghost use Rattle.wire_edge.specs.Memory.{names_end, polls_of, alters_of, altered};
@@ -6,32 +6,33 @@ ghost use Rattle.wire_edge.specs.Memory.{names_end, polls_of, alters_of, altered
 use dcop_base::NoMemory;
 use std::alloc::Global;
 
-/// Lets one poll of one end of a pair fail. Pairs, and the polls of an end, reads and writes together,
-/// count from 0.
+/// Makes one poll of one end of a pair fail. Pairs count from 0. The polls of an end, reads and
+/// writes together, also count from 0.
 #[derive(Clone, Copy, Debug, PartialEq, Eq)]
 pub struct PollFail {
-    /// The pair, in the order in which pairs were made.
+    /// The number of the pair, in the order in which pairs were made.
     pub pair: u32,
     /// Whether it is the first of the two ends.
     pub first_end: bool,
-    /// The poll of that end that fails.
+    /// The number of the poll that fails, at that end.
     pub poll: u64,
 }
 
-/// Replaces one byte of one direction of a pair. Pairs, and the places of a direction, count from 0.
+/// Replaces one byte of one direction of a pair. Pairs, and the positions in a direction, count
+/// from 0.
 #[derive(Clone, Copy, Debug, PartialEq, Eq)]
 pub struct Alter {
-    /// The pair, in the order in which pairs were made.
+    /// The number of the pair, in the order in which pairs were made.
     pub pair: u32,
     /// Whether it is the direction from the first end to the second.
     pub from_first: bool,
-    /// The place of the byte in the bytes sent that way.
+    /// The position of the byte among those sent in that direction.
     pub place: u64,
-    /// The byte that goes out in its place.
+    /// The byte that goes out instead.
     pub byte: u8,
 }
 
-// Whether what is named is this end of this pair.
+// Whether this end of this pair is the one that is named.
 fn names_end(pair: u64, is_first: bool, named: u32, named_first: bool) -> bool
     ensures { result ≡ names_end pair is_first named named_first }
 {
@@ -59,7 +60,7 @@ pub(crate) fn polls_of(
     Ok(found)
 }
 
-/// The changes of the bytes that this end sends. It takes memory.
+/// The changes to the bytes that this end sends. It takes memory.
 pub(crate) fn alters_of(
     alloc: Global,
     alters: &[Alter],
@@ -77,7 +78,7 @@ pub(crate) fn alters_of(
     Ok(found)
 }
 
-/// The byte that goes out at this place in place of `byte`.
+/// The byte that goes out at this position instead of `byte`.
 pub(crate) fn altered(alters: &[Alter], place: u64, byte: u8) -> u8
     ensures { result ≡ altered alters.now place byte }
 {

@@ -14,12 +14,12 @@ use std::sync::Wait;
 use std::thread::Threads;
 use std::time::Clock;
 
-/// Why a dialer refuses.
+/// Why a dialer refuses a call.
 #[derive(Clone, Copy, Debug, PartialEq, Eq)]
 pub enum DialFault {
-    /// The dialer failed: its count of faults rose in the call that answers this.
+    /// The dialer failed: its count of faults rose in this call, or was at its last value.
     Failed,
-    /// Memory was wanted and not had.
+    /// Memory ran out.
     NoMemory,
 }
 
@@ -53,22 +53,27 @@ impl<T: Drop> From<AllocFailed<T>> for DialFault {
     }
 }
 
-/// Makes pairs of wires, and drives a future over them to its end.
+/// Makes pairs of wires, and drives a future over them until it is ready.
 ///
-/// A dialer is honest where it promises that the two wires of each pair that it gives are joined.
-/// Every call keeps whether it is.
+/// A dialer is honest if it promises that the two wires of each pair that it gives are joined. No
+/// call changes whether it is.
 pub trait Dialer {
-    /// The wires that it gives.
+    /// The wires that it makes.
     type W: Wire;
 
-    /// How many of its calls failed, and how often it was charged for a wire that had failed.
+    /// The number of its calls that failed, and of charges for wires that had failed.
     ghost faults: { Self → ℕ };
 
     /// The two wires of each pair that it gives are joined.
     ghost is_honest: { Self → Type 0 };
 
-    /// The two ends of one new stream. Their counts are 0, and nothing is sent or received yet. It
-    /// may wait.
+    /// The two ends of a new stream. Their counts are 0, and those that tell their bytes have sent
+    /// and received nothing. It may wait.
+    ///
+    /// # Errors
+    ///
+    /// - [`DialFault::Failed`] if the dialer failed: its count of faults rises.
+    /// - [`DialFault::NoMemory`] if memory runs out.
     fn pair<R>(&mut self, rt: &R, alloc: Global) -> Result<(Self::W, Self::W), DialFault>
     where
         R: Threads + Wait + Clock + RandomSource + Net + AllocGlobal + Sync,
@@ -79,8 +84,13 @@ pub trait Dialer {
             (λ r. TellsNothing (Self.W.told r.0) × TellsNothing (Self.W.told r.1)) }
         ensures honest { is_honest self.old ↔ is_honest self.new };
 
-    /// Polls `future` until it is ready, and answers what it gives. The future may be polled at the
-    /// call; after a fault it is gone. It may wait.
+    /// Polls `future` until it is ready, and answers its output. The future can be polled when this
+    /// is called. It may wait.
+    ///
+    /// # Errors
+    ///
+    /// - [`DialFault::Failed`] if the dialer failed: its count of faults rises. The future is gone.
+    /// - [`DialFault::NoMemory`] if memory runs out. The future is gone.
     fn drive<R, F>(&mut self, rt: &R, alloc: Global, future: F) -> Result<F::Output, DialFault>
     where
         R: Threads + Wait + Clock + RandomSource + Net + AllocGlobal + Sync,
@@ -90,7 +100,7 @@ pub trait Dialer {
         ensures gives { IfOk result (F.gives future) }
         ensures honest { is_honest self.old ↔ is_honest self.new };
 
-    /// Counts one more fault exactly where a call of this wire has failed.
+    /// Raises the count of faults exactly when this wire's count of faults is above 0.
     fn charge(&mut self, wire: &Self::W)
         ensures none { (Self.W.told wire.now).faults ≡ 0 → faults self.new ≡ faults self.old }
         ensures some { 0 < (Self.W.told wire.now).faults

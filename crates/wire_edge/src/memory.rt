@@ -11,11 +11,10 @@ ghost use Rattle.wire_edge.specs.declared.dialer.DialFault.TheVariants.{NoMemory
 
 use crate::alter::{Alter, PollFail, altered, alters_of, polls_of};
 use crate::dialer::{DialFault, Dialer};
-use crate::fault::FailingCalls;
 use crate::steady::{SteadyWire, drive_here};
 use crate::wire::Wire;
 use dcop_base::NoMemory;
-use dcop_edge::Failed;
+use dcop_edge::{Failed, FailingCalls};
 use futures::Future;
 use futures::task::{Context, Poll};
 use std::alloc::{AllocGlobal, Global};
@@ -25,14 +24,14 @@ use std::sync::Wait;
 use std::thread::Threads;
 use std::time::Clock;
 
-/// One end of a stream in memory that fails at chosen polls and changes chosen bytes. Where it
-/// changes any, it sends one byte a poll and tells nothing of what it has sent.
+/// One end of a stream in memory that fails at chosen polls and changes chosen bytes. If it changes
+/// any byte, it sends one byte a poll and does not tell what it has sent.
 #[derive(Drop)]
 pub struct MemoryWire {
     pub(crate) wire: SteadyWire,
     pub(crate) calls: FailingCalls,
     pub(crate) alters: Vec<Alter>,
-    // how many bytes it has sent where it changes any
+    // how many bytes it has sent, if it changes any; at most 2^64 - 1
     pub(crate) written: u64,
 }
 
@@ -40,7 +39,7 @@ impl MemoryWire {
     ghost use Rattle.wire_edge.specs.Steady.{steady_told, AreJoined, KnowsWrote, known_room};
     ghost use Rattle.wire_edge.specs.Memory.{altered, CountsSent};
 
-    // Sends the first byte, or what goes out in its place.
+    // Sends the first byte, or the one that replaces it.
     fn write_one(&mut self, cx: &mut Context<'_>, byte: u8) -> Poll<Result<usize, Failed>>
         ensures one { AfterWrite (steady_told self.old.wire) (altered self.old.alters.items self.old.written byte ∷ []) result (steady_told self.new.wire) }
         ensures same { (self.new.alters ≡ self.old.alters) × (self.new.calls ≡ self.old.calls) }
@@ -139,7 +138,7 @@ impl Wire for MemoryWire {
     }
 }
 
-/// Makes pairs of [`MemoryWire`]. It is honest where it changes no byte.
+/// Makes pairs of [`MemoryWire`]. It is honest if it changes no byte.
 #[derive(Drop)]
 pub struct MemoryDialer {
     calls: FailingCalls,
@@ -153,8 +152,8 @@ impl MemoryDialer {
     ghost use Rattle.wire_edge.specs.Dialer.{CountsPair};
     ghost use Rattle.wire_edge.specs.Memory.{polls_of, alters_of, IsPair};
 
-    /// A dialer of which the calls of `pair` with the numbers in `fails`, counted from 0, fail, and
-    /// whose wires fail at the polls in `polls` and change the bytes in `alters`. It takes no memory.
+    /// A dialer whose calls of `pair` fail if their numbers, from 0, are in `fails`. Its wires fail
+    /// at the polls in `polls`, and change the bytes in `alters`. It takes no memory.
     pub fn new(fails: Vec<u64>, polls: Vec<PollFail>, alters: Vec<Alter>) -> Self
         ensures calls { result.calls ≡ no_calls fails.items }
         ensures polls { result.polls ≡ polls }
@@ -169,7 +168,7 @@ impl MemoryDialer {
         }
     }
 
-    // One end of a stream, with what is to go wrong at it.
+    // One end of a stream, with the faults that are asked for at it.
     fn end(&self, alloc: Global, wire: SteadyWire, is_first: bool) -> Result<MemoryWire, NoMemory>
         ensures wire { IfOk result (λ w. w.wire ≡ wire) }
         ensures calls { IfOk result

@@ -1,4 +1,4 @@
-//! A ring of bytes with both of its ends.
+//! A ring of bytes, with both of its ends.
 
 ghost use Rattle.std.specs.Prelude.{◌≡◌, ℕ, ◌+◌, ◌≤◌, ◌<◌, [], ◌++◌, length, take, IfOk};
 ghost use mathlib.Core.List.{IsPrefix};
@@ -8,10 +8,10 @@ use dcop_base::NoMemory;
 use rtrb::{Consumer, Producer, RingBuffer};
 use std::alloc::Global;
 
-/// How many bytes a ring holds.
+/// How many bytes a ring can hold.
 pub(crate) const RING_BYTES: usize = 4096;
 
-/// A ring of bytes. Both of its ends are here, so that a look at the other end shows what it holds.
+/// A ring of bytes. It has both ends, so looking at the other end shows what the ring holds.
 #[derive(Drop)]
 pub(crate) struct Ring {
     pub(crate) tail: Producer<u8>,
@@ -32,7 +32,7 @@ impl Ring {
         Ok(Ring { tail, head })
     }
 
-    /// Puts bytes in, for which slots are known to be free.
+    /// Puts bytes in. As many slots are known to be free.
     pub(crate) fn put(&mut self, bytes: &[u8])
         requires { length bytes.now ≤ free_in self.old }
         ensures put { put_into self.new ≡ put_into self.old ++ bytes.now }
@@ -42,7 +42,8 @@ impl Ring {
         let _fits = self.tail.push_entire_slice(bytes);
     }
 
-    /// Takes the oldest bytes out, as many as there are and have room in `into`; how many.
+    /// Takes the oldest bytes out, as many as there are and as fit in `into`. The answer is how
+    /// many.
     pub(crate) fn take(&mut self, into: &mut [u8]) -> usize
         ensures within { result ≤ length into.old }
         ensures length { length into.new ≡ length into.old }
@@ -54,7 +55,7 @@ impl Ring {
         self.head.pop_partial_slice(into)
     }
 
-    /// Lets both ends know all that the ring holds; how many slots are free.
+    /// Makes both ends know all that the ring holds. The answer is the number of free slots.
     pub(crate) fn look(&mut self) -> usize
         ensures holds { taken_from self.new ++ known_in self.new ≡ put_into self.new }
         ensures same { (taken_from self.new ≡ taken_from self.old) × (put_into self.new ≡ put_into self.old) }
@@ -66,8 +67,8 @@ impl Ring {
         free
     }
 
-    /// Moves what this ring holds into another one, as far as that has room; how many more bytes may
-    /// then be put into this one, so that both together hold at most as many as one.
+    /// Moves what this ring holds into another one, as far as that has room. The answer is how many
+    /// more bytes may be put into this ring so that both together hold no more than one can.
     pub(crate) fn pour(&mut self, to: &mut Ring) -> usize
         ensures same { (put_into self.new ≡ put_into self.old) × (taken_from to.new ≡ taken_from to.old) }
         ensures free { result ≤ free_in self.new }

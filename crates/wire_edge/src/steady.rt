@@ -24,15 +24,17 @@ use std::sync::Wait;
 use std::thread::Threads;
 use std::time::Clock;
 
-/// One end of a stream in memory. It never fails, and tells all that it has sent and received.
+/// One end of a stream in memory. It never fails, and it tells all bytes that it has sent and
+/// received.
 ///
-/// Each direction holds 4,096 bytes. An end sends into a ring of its own and receives from a ring of
-/// its own; [`Wire::beside`] moves what the one end sent into the ring from which the other receives.
+/// Each direction holds up to 4,096 bytes. An end sends into one ring of its own and receives from
+/// another. [`Wire::beside`] moves what one end has sent into the ring from which the other
+/// receives.
 #[derive(Drop)]
 pub struct SteadyWire {
     pub(crate) outgoing: Ring,
     pub(crate) incoming: Ring,
-    // how many more bytes this end may send until both ends are looked at again
+    // how many more bytes this end may send before `beside` is called again
     pub(crate) room: usize,
     pub(crate) pair: u64,
     pub(crate) is_first: bool,
@@ -45,7 +47,7 @@ impl SteadyWire {
     ghost use Rattle.wire_edge.specs.Ring.{put_into, taken_from, ring_bytes};
     ghost use Rattle.wire_edge.specs.Steady.{steady_told, AreJoined, IsIdle, stream_of, sent_by, received_by, known_room, known_bytes};
 
-    /// The first or the second end of the pair with this number. It takes memory.
+    /// The first or the second end of the stream with this number. It takes memory.
     fn new(alloc: Global, pair: u64, is_first: bool) -> Result<SteadyWire, NoMemory>
         ensures pair { IfOk result (λ w. (w.pair ≡ pair) × (w.is_first ≡ is_first)) }
         ensures empty { IfOk result (λ w. (sent_by w ≡ []) × (received_by w ≡ []) × (known_bytes w ≡ [])) }
@@ -146,7 +148,7 @@ impl Wire for SteadyWire {
     }
 }
 
-/// Makes pairs of [`SteadyWire`]. It never fails and is honest.
+/// Makes pairs of [`SteadyWire`]. It never fails, and it is honest.
 #[derive(Debug, Drop)]
 pub struct SteadyDialer {
     made: u64,
@@ -218,7 +220,7 @@ impl Dialer for SteadyDialer {
     {}
 }
 
-/// Polls the future on this thread until it is ready. A refusal of the executor is want of memory.
+/// Polls the future on this thread until it is ready. If the executor refuses, memory has run out.
 pub(crate) fn drive_here<R, F>(rt: &R, future: F) -> Result<F::Output, DialFault>
 where
     R: Wait + RandomSource + AllocGlobal,

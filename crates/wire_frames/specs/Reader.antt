@@ -1,4 +1,4 @@
--- A reader of frames: what it holds, and what its calls do to it.
+-- A reader of frames: what it holds, and how its methods change it.
 use Rattle.std.specs.Prelude.{◌≡◌, ℕ, ◌+◌, ◌≤◌, min, Bool, true, false, List, [], ◌∷◌, ◌++◌, length, Option, Some, None, Result, Ok, Err}
 use Rattle.std.specs.List.{All}
 use Rattle.dcop_base.specs.Limits.{count_limit}
@@ -6,7 +6,8 @@ use Rattle.wire_frames.specs.declared.fault.FrameFault.{FrameFault}
 use Rattle.wire_frames.specs.declared.fault.FrameFault.TheVariants.{TooLong, NoMemory}
 use Rattle.wire_frames.specs.Frame.{framed_all, EndsAt}
 
--- the greatest length that a reader takes, the payloads that it holds, the bytes after their frames, the place of those bytes in the stream, and whether a length field above the limit stands at their front
+-- the limit of payloads, the payloads that are held, the bytes after their frames, the position of
+-- those bytes in the stream, and whether they begin with a length field above the limit
 pub record Reader : Type 0 where
   pub limit : ℕ
   pub ready : List (List ℕ)
@@ -14,11 +15,12 @@ pub record Reader : Type 0 where
   pub place : ℕ
   pub stuck : Bool
 
--- a reader that has been given nothing
+-- a reader that has taken nothing
 abbrev pub fresh : ℕ → Reader
 fresh limit = record { limit = limit; ready = []; rest = []; place = 0; stuck = false }
 
--- a piece is taken: the payloads of the frames that are whole now are held, up to where the bytes end
+-- a piece is taken: the payloads of all frames that are now whole are added, and the rest and its
+-- position follow; a position from 2^64 - 1 up is kept as 2^64 - 1
 pub record Takes (before : Reader) (piece : List ℕ) (after : Reader) : Type 0 where
   pub payloads : List (List ℕ)
   pub whole : before.rest ++ piece ≡ framed_all payloads ++ after.rest
@@ -28,28 +30,30 @@ pub record Takes (before : Reader) (piece : List ℕ) (after : Reader) : Type 0 
   pub limit : after.limit ≡ before.limit
   pub ends : EndsAt after.limit after.rest after.stuck
 
--- a length field above the limit was met before, or is met in this piece
+-- a reader that had met a length field above the limit stays as it was; any other takes the piece
 abbrev pub Stops : Bool → Reader → List ℕ → Reader → Type 0
 Stops true before piece after = after ≡ before
 Stops false before piece after = Takes before piece after
 
--- what a feed does, by its answer: it takes the piece; it stops at a length field above the limit, and answers its place for good; or it wants memory, and nothing changes
+-- what feeding a piece does, by its answer: the piece is taken; or a length field above the limit
+-- is met, now or in an earlier piece, and its position is given; or memory runs out and nothing
+-- changes
 abbrev pub Feeds : Reader → List ℕ → Result (Unit {0}) FrameFault → Reader → Type 0
 Feeds before piece (Ok done) after = (before.stuck ≡ false) × (after.stuck ≡ false) × Takes before piece after
 Feeds before piece (Err (TooLong place)) after = (place ≡ after.place) × (after.stuck ≡ true) × Stops before.stuck before piece after
 Feeds before piece (Err NoMemory) after = (before.stuck ≡ false) × (after ≡ before)
 
--- the first of some payloads
+-- the first payload, if there is one
 abbrev pub first_of : List (List ℕ) → Option (List ℕ)
 first_of [] = None
 first_of (p ∷ ps) = Some p
 
--- what is left behind it
+-- the payloads after the first
 abbrev pub after_first : List (List ℕ) → List (List ℕ)
 after_first [] = []
 after_first (p ∷ ps) = ps
 
--- handing out: the first payload that is held, where there is one, and nothing else changes
+-- the first payload that is held is handed out, if there is one, and nothing else changes
 pub record Hands (before : Reader) (given : Option (List ℕ)) (after : Reader) : Type 0 where
   pub first : given ≡ first_of before.ready
   pub left : after ≡ record before { ready = after_first before.ready }

@@ -1,4 +1,4 @@
--- Whole streams: whatever pieces they come in, their frames are handed out in order.
+-- Whole streams: however they are cut, their frames are handed out in order.
 use Rattle.std.specs.Prelude.{◌≡◌, ℕ, ◌≤◌, min, Bool, List, [], ◌∷◌, ◌++◌, length, Option, Some, None, Result, Ok, Err}
 use Rattle.std.specs.List.{All}
 use Rattle.dcop_base.specs.Limits.{count_limit}
@@ -7,7 +7,7 @@ use Rattle.wire_frames.specs.declared.fault.FrameFault.TheVariants.{TooLong, NoM
 use Rattle.wire_frames.specs.Frame.{payload_limit, framed_all, EndsAt}
 use Rattle.wire_frames.specs.Reader.{Reader, fresh, Takes, Feeds, Hands}
 
--- what a reader was asked: to take a piece, with its answer, or to hand out a payload, with the one that it gave
+-- what a reader was asked to do and how it answered: to take a piece, or to hand out a payload
 pub data Deed : Type 0 where
   fed : List ℕ → Result (Unit {0}) FrameFault → Deed
   asked : Option (List ℕ) → Deed
@@ -17,12 +17,13 @@ abbrev pub Does : Deed → Reader → Reader → Type 0
 Does (fed piece answer) before after = Feeds before piece answer after
 Does (asked given) before after = Hands before given after
 
--- deeds, one after the other, lead from one reader to another
+-- these deeds, one after the other, lead from one reader to another
 abbrev pub Lead : List Deed → Reader → Reader → Type 0
 Lead [] before after = after ≡ before
 Lead (d ∷ ds) before after = (next : Reader) × Does d before next × Lead ds next after
 
--- the joined pieces; one whose feed wanted memory does not count, nor those after the first too long length field
+-- the pieces joined; without pieces whose feed ran out of memory, and without those after the first
+-- one that met a length field above the limit
 abbrev pub stream_of : List Deed → List ℕ
 stream_of [] = []
 stream_of (fed piece (Ok done) ∷ ds) = piece ++ stream_of ds
@@ -37,29 +38,32 @@ handed (fed piece answer ∷ ds) = handed ds
 handed (asked None ∷ ds) = handed ds
 handed (asked (Some payload) ∷ ds) = payload ∷ handed ds
 
--- a stream is the frames of these payloads, and then a rest, that is too long a length field or less than a frame
+-- the stream is the frames of these payloads, each within the limit, and then this rest: a length
+-- field above the limit, or less than a frame
 pub record Splits (limit : ℕ) (stream : List ℕ) (payloads : List (List ℕ)) (rest : List ℕ) (stuck : Bool) : Type 0 where
   pub whole : stream ≡ framed_all payloads ++ rest
   pub within : All (λ p. length p ≤ limit) payloads
   pub ends : EndsAt limit rest stuck
 
--- a reader stands after a stream of which these payloads were handed out
+-- the reader has read this stream, and has handed out these payloads of it; the rest of the stream
+-- is its own, and so is the position
 pub record HasRead (stream : List ℕ) (out : List (List ℕ)) (r : Reader) : Type 0 where
   pub splits : Splits r.limit stream (out ++ r.ready) r.rest r.stuck
   pub place : r.place ≡ min (length (framed_all (out ++ r.ready))) count_limit
 
--- however a stream is cut, what is handed out and what is still held are its frames in order, the rest is what is left of it, and the place is that of the rest
+-- however a stream is cut, its frames in order are the payloads handed out and those still held;
+-- what is left of it is the reader's rest, and its position is the reader's
 abbrev pub ReadsWhole : Type 0
 ReadsWhole = (limit : ℕ) (ds : List Deed) (r : Reader) → Lead ds (fresh limit) r → HasRead (stream_of ds) (handed ds) r × (r.limit ≡ limit)
 
--- a reader that takes one more piece stands after the longer stream
+-- if a reader has read a stream and takes a piece, it has read the longer stream
 abbrev pub TakesOn : Type 0
 TakesOn = (stream piece : List ℕ) (out : List (List ℕ)) (before after : Reader) → HasRead stream out before → Takes before piece after → HasRead (stream ++ piece) out after
 
--- a reader that hands out a payload has handed out one more
+-- if a reader has read a stream and hands out a payload, it has handed out one payload more
 abbrev pub HandsOn : Type 0
 HandsOn = (stream payload : List ℕ) (out : List (List ℕ)) (before after : Reader) → HasRead stream out before → Hands before (Some payload) after → HasRead stream (out ++ payload ∷ []) after
 
--- a stream is split in one way: its payloads, its rest, and how it ends
+-- a stream can be split in only one way: the payloads, the rest, and how it ends are the same
 abbrev pub SplitsOnce : Type 0
 SplitsOnce = (limit : ℕ) (stream : List ℕ) (ps qs : List (List ℕ)) (r s : List ℕ) (a b : Bool) → limit ≤ payload_limit → Splits limit stream ps r a → Splits limit stream qs s b → (ps ≡ qs) × (r ≡ s) × (a ≡ b)

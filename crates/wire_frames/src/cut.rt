@@ -9,25 +9,25 @@ use dcop_base::{Bytes, NoMemory};
 use std::alloc::Global;
 use std::collections::VecDeque;
 
-/// What stands at the front of bytes.
+/// What is at the front of bytes.
 enum Front<'a> {
     /// Less than a whole frame.
     Short,
     /// A length field above the limit.
     TooLong,
-    /// A frame: its payload, and the bytes behind it.
+    /// A whole frame: its payload, and the bytes after the frame.
     Whole(&'a [u8], &'a [u8]),
 }
 
-/// Where the whole frames of some bytes end, and whether a length field above the limit stands
-/// there.
+/// Where the whole frames of some bytes end, and whether a length field above the limit follows
+/// them.
 #[derive(Clone, Copy, Debug)]
 pub(crate) struct End {
     pub(crate) place: usize,
     pub(crate) is_too_long: bool,
 }
 
-/// The number that four bytes stand for, the highest first.
+/// The number that four bytes encode, big-endian.
 fn number_of(field: [u8; 4]) -> u32
     ensures value { result ≡ from_be_bytes w32 field }
     ensures code { to_be_bytes w32 result ≡ field }
@@ -35,7 +35,7 @@ fn number_of(field: [u8; 4]) -> u32
     u32::from_be_bytes(field)
 }
 
-/// The length field at the front of bytes; `None` where they are fewer than four.
+/// The length field at the front of bytes; `None` if there are fewer than four bytes.
 fn length_field(bytes: &[u8]) -> Option<u32>
     ensures value { result ≡ length_field bytes.now }
     ensures code { IfSome result (λ n. to_be_bytes w32 n ≡ take 4 bytes.now) }
@@ -46,7 +46,7 @@ fn length_field(bytes: &[u8]) -> Option<u32>
     }
 }
 
-/// What stands at the front of bytes.
+/// What is at the front of bytes.
 fn front_of(limit: u32, bytes: &[u8]) -> Front<'_>
     ensures { IsFront limit bytes.now result }
 {
@@ -64,7 +64,7 @@ fn front_of(limit: u32, bytes: &[u8]) -> Front<'_>
     Front::Whole(payload, rest)
 }
 
-/// Holds a payload behind those that are held.
+/// Adds a copy of a payload to those that are held.
 fn store(alloc: Global, ready: &mut VecDeque<Bytes>, payload: &[u8]) -> Result<(), NoMemory>
     ensures held { OnOk result (ready.new.items ≡ ready.old.items ++ payload.now ∷ []) }
     ensures kept { OnErr result (ready.new.items ≡ ready.old.items) }
@@ -74,7 +74,7 @@ fn store(alloc: Global, ready: &mut VecDeque<Bytes>, payload: &[u8]) -> Result<(
     Ok(())
 }
 
-/// Holds the payloads of all whole frames at the front of bytes.
+/// Adds the payloads of all whole frames at the front of bytes to those that are held.
 fn store_all(
     alloc: Global,
     limit: u32,
@@ -96,7 +96,7 @@ fn store_all(
     }
 }
 
-/// Where a rest of bytes begins in them.
+/// The end of the whole frames, given the bytes that are left after them.
 fn end_at(bytes: &[u8], rest: &[u8], is_too_long: bool) -> End
     requires { length rest.now ≤ length bytes.now }
     ensures place { result.place + length rest.now ≡ length bytes.now }
@@ -108,8 +108,8 @@ fn end_at(bytes: &[u8], rest: &[u8], is_too_long: bool) -> End
     }
 }
 
-/// Takes a piece behind the rest of a stream: holds the payloads of the frames that are whole now,
-/// and leaves what stands behind them. Where memory was wanted, nothing is changed.
+/// Adds a piece to the rest of a stream: the payloads of all frames that are now whole are held,
+/// and the bytes after these frames are the new rest. If memory runs out, nothing changes.
 pub(crate) fn cut(
     limit: u32,
     rest: &mut Vec<u8>,
@@ -134,7 +134,7 @@ pub(crate) fn cut(
     }
 }
 
-/// How many bytes of the frame at the front are still to come, where its length field is there.
+/// How many bytes the first frame still lacks; 0 if its length field is not there yet.
 fn missing(bytes: &[u8]) -> usize
     ensures { result ≡ missing bytes.now }
 {
@@ -144,7 +144,7 @@ fn missing(bytes: &[u8]) -> usize
     }
 }
 
-/// Drops so many bytes from the front.
+/// Drops the first `count` bytes.
 fn drop_front(bytes: &mut Vec<u8>, count: usize)
     requires { count ≤ length bytes.old.items }
     ensures { bytes.new.items ≡ drop count bytes.old.items }

@@ -6,16 +6,16 @@ ghost use Rattle.wire_frames.specs.declared.fault.FrameFault.TheVariants.{NoMemo
 use dcop_base::NoMemory;
 use std::alloc::{AllocError, AllocFailed};
 
-/// Why a stream goes no further, or a piece of it is not taken.
+/// Why a reader takes no more of a stream, or not this piece of it.
 #[derive(Clone, Copy, Debug, PartialEq, Eq)]
 pub enum FrameFault {
     /// A length field is above the reader's limit.
     TooLong {
-        /// The place of that field in the stream, from 0; 2^64 - 1 stands for each place from
-        /// there on.
+        /// The position of that field in the stream, from 0. Positions from 2^64 - 1 up are all
+        /// given as 2^64 - 1.
         place: u64,
     },
-    /// Memory was wanted and not had. No clause says when it comes.
+    /// Memory ran out. No clause says when.
     NoMemory,
 }
 

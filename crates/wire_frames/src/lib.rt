@@ -1,13 +1,15 @@
-//! Frames on a stream of bytes: each the length of a payload in four bytes, the highest first, and
-//! so many bytes.
+//! Frames on a stream of bytes. A frame is the length of its payload in four bytes, big-endian, and
+//! then the payload.
 //!
-//! [`frame`] writes the frame of a payload. A [`FrameReader`] takes a stream in whatever pieces it
-//! comes and hands out the payloads of its whole frames, in order, up to the first length field
-//! above its limit. Its meaning is a record of what it holds (`specs/Reader.antt`), and the clauses
-//! of its calls say what each does to that record. Over them stand laws of whole streams
-//! (`specs/Run.antt`), each the contract of a call that does nothing: however a stream is cut, what
-//! is handed out and what is still held are its frames ([`reads_whole`]), and no other payloads are
-//! ([`splits_once`]).
+//! [`frame`] writes the frame of a payload. A [`FrameReader`] takes a stream in pieces of any size.
+//! It hands out the payloads of the whole frames in order, up to the first length field above its
+//! limit.
+//!
+//! Contracts see a reader as a record of what it holds (`specs/Reader.antt`), and the clauses of
+//! its methods say how each changes this record. The laws of whole streams (`specs/Run.antt`) are
+//! contracts of functions that do nothing. [`reads_whole`] says that however a stream is cut, its
+//! frames are what was handed out and what is still held. [`splits_once`] says that no other
+//! payloads are.
 #![tactic(auto)]
 
 mod cut;

@@ -6,20 +6,20 @@ ghost use Rattle.wire_frames.specs.Frame.{payload_limit, framed};
 use dcop_base::{Bytes, NoMemory};
 use std::alloc::Global;
 
-/// The most bytes of a payload, 2^24.
+/// The greatest length of a payload in bytes, 2^24.
 pub const MAX_PAYLOAD: u32 = 16_777_216;
 
-/// The limit of the code is that of the definitions.
+/// The constant equals `payload_limit` of the definitions.
 pub fn payloads_agree()
     ensures { MAX_PAYLOAD ≡ payload_limit }
 {}
 
-/// The frame of a payload of at most [`MAX_PAYLOAD`] bytes: its length as a `u32`, the highest byte
-/// first, and its bytes.
+/// The frame of a payload of at most [`MAX_PAYLOAD`] bytes: its length as a `u32`, big-endian, and
+/// its bytes.
 ///
 /// # Errors
 ///
-/// [`NoMemory`] where memory was wanted and not had.
+/// [`NoMemory`] if memory runs out.
 pub fn frame(alloc: Global, payload: &[u8]) -> Result<Bytes, NoMemory>
     requires { length payload.now ≤ payload_limit }
     ensures { IfOk result (λ bytes. bytes ≡ framed payload.now) }

@@ -12,9 +12,10 @@ use std::alloc::Global;
 use std::collections::VecDeque;
 use std::marker::Model;
 
-/// A reader of frames, which takes a stream in pieces and hands out the payloads of its frames.
-/// Contracts see the record of its limit, the payloads that it holds, the bytes behind their frames,
-/// the place of those bytes in the stream, and whether a length field above the limit stands there.
+/// A reader of frames: it takes a stream in pieces and hands out the payloads of its frames.
+/// Contracts see a record: the limit, the payloads that are held, the bytes after their frames (the
+/// rest), the position of the rest in the stream, and whether the rest begins with a length field
+/// above the limit.
 #[derive(Debug, Drop)]
 pub struct FrameReader {
     limit: u32,
@@ -37,15 +38,15 @@ impl Model for FrameReader {
 }
 
 impl FrameReader {
-    /// A reader at the beginning of a stream, whose limit is [`MAX_PAYLOAD`].
+    /// A reader at the beginning of a stream. Its limit is [`MAX_PAYLOAD`].
     pub fn new(alloc: Global) -> FrameReader
         ensures { result ≡ fresh payload_limit }
     {
         FrameReader::with_limit(alloc, MAX_PAYLOAD)
     }
 
-    /// A reader at the beginning of a stream that takes payloads of at most `limit` bytes, where
-    /// `limit` is at most [`MAX_PAYLOAD`].
+    /// A reader at the beginning of a stream, for payloads of at most `limit` bytes. The limit is
+    /// at most [`MAX_PAYLOAD`].
     pub fn with_limit(alloc: Global, limit: u32) -> FrameReader
         requires { limit ≤ payload_limit }
         ensures { result ≡ fresh limit }
@@ -59,14 +60,14 @@ impl FrameReader {
         }
     }
 
-    /// Takes the next piece of the stream, and holds the payload of each frame that is whole now.
+    /// Takes the next piece of the stream, and holds the payloads of all frames that are now whole.
     ///
     /// # Errors
     ///
-    /// [`FrameFault::TooLong`] exactly where a length field is above the limit, or was before. The
-    /// feed that first answers it still holds the whole frames before that field; each later one
-    /// answers the same and changes nothing.
-    /// [`FrameFault::NoMemory`] where memory was wanted and not had; nothing is changed.
+    /// - [`FrameFault::TooLong`] exactly when this piece or an earlier one has brought a length
+    ///   field above the limit to the front of the rest. The first feed to answer it still holds
+    ///   the whole frames before that field. Each later feed answers the same and changes nothing.
+    /// - [`FrameFault::NoMemory`] if memory runs out; nothing changes.
     pub fn feed(&mut self, piece: &[u8]) -> Result<(), FrameFault>
         ensures fed { Feeds self.old piece.now result self.new }
         ensures ends { EndsAt self.new.limit self.new.rest self.new.stuck }
@@ -84,7 +85,7 @@ impl FrameReader {
         Ok(())
     }
 
-    /// Hands out the first payload that is held; `None` exactly where none is.
+    /// Hands out the first payload that is held; `None` exactly when none is held.
     pub fn next(&mut self) -> Option<Bytes>
         ensures handed { Hands self.old result self.new }
         ensures ends { EndsAt self.new.limit self.new.rest self.new.stuck }
@@ -92,8 +93,9 @@ impl FrameReader {
         self.ready.pop_front()
     }
 
-    /// How many bytes stand behind the whole frames: those of a frame that is not whole, or, once a
-    /// length field was above the limit, from that field to the end of the piece that brought it.
+    /// How many bytes follow the whole frames. They are part of a frame; or, after a length field
+    /// above the limit, they are all bytes from that field to the end of the piece that completed
+    /// it.
     pub fn rest(&self) -> u64
         ensures { result ≡ length self.now.rest }
     {

@@ -1,33 +1,36 @@
--- Both ends of a pump: what moved since some start, and what a pass over them did.
+-- Both ends of a pump: what moved since a start, and what a pass over both ends did.
 use Rattle.std.specs.Prelude.{◌≡◌, ◌<◌, ◌≤◌, ◌⊎◌, ℕ, List, take, Option, vec_len}
 use Rattle.dcop_edge.specs.Faults.{Rose}
 use Rattle.wire_edge.specs.Wire.{Told, told_more}
 use Rattle.wire_pump.specs.declared.ends.Lane.{Lane}
 use Rattle.wire_pump.specs.declared.ends.Ends.{Ends}
 
--- what the end that sends had sent, and the end that receives had received, when a lane was new
+-- what the sending end had sent, and the receiving end had received, when a direction was new;
+-- nothing of what is not told
 pub record Before : Type 0 where
   pub sent : Option (List ℕ)
   pub received : Option (List ℕ)
 
--- since then just the bytes of the lane that went out were sent, and just those that came in were received
+-- as far as bytes are told: since the start, exactly those bytes of this direction were sent that
+-- went out, and exactly those received that came in
 pub record HasMoved (before : Before) (from to : Told) (lane : Lane) : Type 0 where
   pub sent : from.sent ≡ told_more before.sent (take lane.went lane.bytes.items)
   pub received : to.received ≡ told_more before.received (take lane.came lane.buffer.items)
 
--- all went out, and as many came in
+-- all bytes of this direction went out, and as many came in
 pub record IsDone (lane : Lane) : Type 0 where
   pub sent : lane.went ≡ vec_len lane.bytes
   pub received : lane.came ≡ vec_len lane.buffer
 
--- an end's counts, later: its faults are as they were, its waits did not fall
+-- the counts of an end, later: its faults are as they were, and its counts of waits did not fall
 pub record CountsLater (a b : Told) : Type 0 where
   pub write_waits : a.write_waits ≤ b.write_waits
   pub read_waits : a.read_waits ≤ b.read_waits
   pub faults : b.faults ≡ a.faults
 
 module _ {W : Type 0} (told : W → Told) where
-  -- the same pump later: what had moved since any start has moved still, and more with it
+  -- the same pump later: what had moved since any start is still what has moved, with the same
+  -- lists; the counts are later ones
   pub record IsLater (a b : Ends W) : Type 0 where
     pub there : (before : Before) → HasMoved before (told a.first) (told a.second) a.there → HasMoved before (told b.first) (told b.second) b.there
     pub back : (before : Before) → HasMoved before (told a.second) (told a.first) a.back → HasMoved before (told b.second) (told b.first) b.back
@@ -36,29 +39,30 @@ module _ {W : Type 0} (told : W → Told) where
     pub first : CountsLater (told a.first) (told b.first)
     pub second : CountsLater (told a.second) (told b.second)
 
-  -- since then the waits rose of writes at each end that has bytes still to send, and of reads at each end that has some still to receive
+  -- each end that still has bytes to send has waited for a write since then, and each that still
+  -- has bytes to receive has waited for a read; a count at its last value stays there
   pub record Waits (a b : Ends W) : Type 0 where
     pub first_writes : b.there.went < vec_len b.there.bytes → Rose (told a.first).write_waits (told b.first).write_waits
     pub second_writes : b.back.went < vec_len b.back.bytes → Rose (told a.second).write_waits (told b.second).write_waits
     pub second_reads : b.there.came < vec_len b.there.bytes → Rose (told a.second).read_waits (told b.second).read_waits
     pub first_reads : b.back.came < vec_len b.back.bytes → Rose (told a.first).read_waits (told b.first).read_waits
 
-  -- since then one of the two failed
+  -- neither count of faults fell since then, and one rose or is at its last value
   pub record FailsAt (a b : Ends W) : Type 0 where
     pub first : (told a.first).faults ≤ (told b.first).faults
     pub second : (told a.second).faults ≤ (told b.second).faults
     pub rose : Rose (told a.first).faults (told b.first).faults ⊎ Rose (told a.second).faults (told b.second).faults
 
--- both lanes are done
+-- both directions are done
 pub record HasEnded {W : Type 0} (e : Ends W) : Type 0 where
   pub there : IsDone e.there
   pub back : IsDone e.back
 
--- something is still to go out or to come in
+-- some bytes have still to go out or to come in
 abbrev pub IsOpen : {W : Type 0} → Ends W → Type 0
 IsOpen e = (e.there.went < vec_len e.there.bytes) ⊎ ((e.back.went < vec_len e.back.bytes) ⊎ ((e.there.came < vec_len e.there.bytes) ⊎ (e.back.came < vec_len e.back.bytes)))
 
--- where something is, this holds
+-- if any bytes have still to go out or to come in, then `P` holds
 pub record IsOpenOnly {W : Type 0} (e : Ends W) (P : Type 0) : Type 0 where
   pub there_went : e.there.went < vec_len e.there.bytes → P
   pub back_went : e.back.went < vec_len e.back.bytes → P

@@ -1,4 +1,4 @@
--- What a pump gives: the bytes of both lists went out, and as many came in, or one of its wires failed.
+-- What a pump gives: both lists were sent and as many bytes received, or one of its wires failed.
 use Rattle.std.specs.Prelude.{◌≡◌, ◌≤◌, ◌⊎◌, ℕ, List, length, Option, Some, None, Result, Ok, Err}
 use Rattle.dcop_edge.specs.Faults.{Rose}
 use Rattle.wire_edge.specs.Wire.{Told, told_more, Reach}
@@ -7,13 +7,14 @@ use Rattle.wire_pump.specs.declared.ends.Ends.{Ends}
 use Rattle.wire_pump.specs.declared.pump.Pumped.{Pumped}
 use Rattle.wire_pump.specs.declared.pump.PumpFail.{PumpFail}
 
--- these bytes went out at one end behind what it had sent before, and those came in at the other, as many
+-- as far as the wires tell their bytes, these bytes were sent at one end after what it had sent
+-- before, and those were received at the other; there are as many of both
 pub record HasPassed (before : Before) (from to : Told) (bytes got : List ℕ) : Type 0 where
   pub sent : from.sent ≡ told_more before.sent bytes
   pub received : to.received ≡ told_more before.received got
   pub same_length : length got ≡ length bytes
 
--- all that the one end has sent is told, and the other has received it
+-- both wires tell their bytes, and the one has received all that the other has sent
 pub record HasAll (from to : Told) : Type 0 where
   pub text : List ℕ
   pub sent : from.sent ≡ Some text
@@ -25,7 +26,8 @@ pub record HaveAll (a b : Told) : Type 0 where
   pub back : HasAll b a
 
 module _ {W : Type 0} (told : W → Told) (is_joined : W → W → Type 0) where
-  -- from some state on a pump came to its end
+  -- from this state on the pump ran to its end: what both directions had moved since any start
+  -- became all of it; wires that were joined still are
   pub record EndsFrom (e : Ends W) (p : Pumped W) : Type 0 where
     pub there : (before : Before) → HasMoved before (told e.first) (told e.second) e.there → HasPassed before (told p.first) (told p.second) e.there.bytes.items p.at_second
     pub back : (before : Before) → HasMoved before (told e.second) (told e.first) e.back → HasPassed before (told p.second) (told p.first) e.back.bytes.items p.at_first
@@ -33,7 +35,7 @@ module _ {W : Type 0} (told : W → Told) (is_joined : W → W → Type 0) where
     pub second : CountsLater (told e.second) (told p.second)
     pub joined : is_joined e.first e.second → is_joined p.first p.second × Reach (told p.first) (told p.second)
 
-  -- since some state one of the two wires failed
+  -- since this state one of the two wires failed; wires that were joined still are
   pub record FailsFrom (e : Ends W) (f : PumpFail W) : Type 0 where
     pub first : (told e.first).faults ≤ (told f.first).faults
     pub second : (told e.second).faults ≤ (told f.second).faults
@@ -45,7 +47,10 @@ module _ {W : Type 0} (told : W → Told) (is_joined : W → W → Type 0) where
   GivesFrom e (Ok p) = EndsFrom e p
   GivesFrom e (Err f) = FailsFrom e f
 
-  -- two lists were pumped over two wires: both went out, each side has as many bytes as were given to the other; over joined wires they are those bytes
+  -- two lists were pumped over two wires: as far as the wires tell their bytes, both lists were
+  -- sent; as many bytes were received at the other ends. If the wires are joined and each had
+  -- received all that the other had sent, those bytes are the lists, and each has again received
+  -- all
   pub record HasPumped (first second : W) (to_second to_first : List ℕ) (p : Pumped W) : Type 0 where
     pub there : HasPassed (record { sent = (told first).sent; received = (told second).received }) (told p.first) (told p.second) to_second p.at_second
     pub back : HasPassed (record { sent = (told second).sent; received = (told first).received }) (told p.second) (told p.first) to_first p.at_first
@@ -54,19 +59,20 @@ module _ {W : Type 0} (told : W → Told) (is_joined : W → W → Type 0) where
     pub joined : is_joined first second → is_joined p.first p.second
     pub equal : is_joined first second → HaveAll (told first) (told second) → (p.at_second ≡ to_second) × (p.at_first ≡ to_first) × HaveAll (told p.first) (told p.second)
 
-  -- one of two wires failed since the pump over them was made
+  -- one of the two wires failed since the pump over them was made; wires that were joined still are
   pub record HasFailed (first second : W) (f : PumpFail W) : Type 0 where
     pub first_grew : (told first).faults ≤ (told f.first).faults
     pub second_grew : (told second).faults ≤ (told f.second).faults
     pub rose : Rose (told first).faults (told f.first).faults ⊎ Rose (told second).faults (told f.second).faults
     pub joined : is_joined first second → is_joined f.first f.second
 
-  -- what the pump of two lists over two wires gives
+  -- what the pump of two lists over two wires may give
   abbrev pub EndsPump : W → W → List ℕ → List ℕ → Result (Pumped W) (PumpFail W) → Type 0
   EndsPump first second to_second to_first (Ok p) = HasPumped first second to_second to_first p
   EndsPump first second to_second to_first (Err f) = HasFailed first second f
 
--- a state before a poll and one after it that is pending: each open direction waited
+-- between the state before a poll and the one after it, when it is pending: each direction that is
+-- not done waited
 abbrev pub WaitsSince : {W : Type 0} → (W → Told) → Option (Ends W) → Option (Ends W) → Type 0
 WaitsSince told (Some a) (Some b) = Waits told a b
 WaitsSince told a None = ⊥

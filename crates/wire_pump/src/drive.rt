@@ -1,4 +1,4 @@
-//! A pump from its start to its end, by a dialer.
+//! Running a pump to its end, by a dialer.
 
 ghost use Rattle.std.specs.Prelude.{◌↔◌, IfOk};
 ghost use Rattle.wire_edge.specs.Dialer.{HasDialCause};
@@ -14,9 +14,15 @@ use std::thread::Threads;
 use std::time::Clock;
 use wire_edge::{DialFault, Dialer};
 
-/// Pumps both lists over two wires of this dialer, which drives the [`Pump`] to its end. A wire that
-/// failed is not charged. After a fault of the dialer, or want of memory, the wires are gone. It may
-/// wait.
+/// Sends both lists over two wires of this dialer, which drives the [`Pump`] until it is done. A
+/// wire that failed is not charged to the dialer. It may wait.
+///
+/// # Errors
+///
+/// - [`DialFault::Failed`] if the dialer failed: its count of faults rises. The wires are gone.
+/// - [`DialFault::NoMemory`] if memory runs out. The wires are gone.
+///
+/// If a wire failed, the inner result is a [`PumpFail`] with both wires.
 pub fn pump_by<R, D>(
     rt: &R,
     alloc: Global,

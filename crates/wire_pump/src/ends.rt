@@ -1,4 +1,4 @@
-//! Both ends of a stream, with what is to go each way.
+//! Both ends of a stream, with what is to go in each direction.
 
 ghost use Rattle.std.specs.Prelude.{◌≡◌, ◌<◌, ◌≤◌, vec_len, IfOk, IfErr};
 ghost use Rattle.std.specs.Bool.{OnTrue, OnFalse};
@@ -12,8 +12,8 @@ use futures::task::Context;
 use std::alloc::Global;
 use wire_edge::Wire;
 
-/// What goes one way: the bytes to be sent, how many went out, and room for as many, with how many
-/// of them came in at the other end.
+/// One direction: the bytes to send, how many of them were sent, a buffer of the same length, and
+/// how many bytes were received into it at the other end.
 #[derive(Drop)]
 pub(crate) struct Lane {
     pub(crate) bytes: Vec<u8>,
@@ -28,7 +28,7 @@ pub(crate) struct Lane {
 impl Lane {
     ghost use Rattle.wire_pump.specs.Lane.{AfterSend, AfterReceive};
 
-    /// None of these bytes went out. It takes memory.
+    /// Nothing of these bytes was sent. It takes memory.
     pub(crate) fn new(alloc: Global, bytes: Bytes) -> Result<Lane, NoMemory>
         ensures { IfOk result (λ l. (l.bytes.items ≡ bytes) × (l.went ≡ 0) × (l.came ≡ 0)) }
     {
@@ -42,7 +42,7 @@ impl Lane {
         })
     }
 
-    // Sends what is left, as far as the wire goes on.
+    // Sends what is left, until the wire takes no more now.
     fn send<W: Wire>(&mut self, wire: &mut W, cx: &mut Context<'_>) -> Result<(), Failed>
         ensures sent { AfterSend (W.told wire.old) self.old.bytes.items self.old.went result (W.told wire.new) self.new.went }
         ensures same { (self.new.bytes ≡ self.old.bytes) × (self.new.buffer ≡ self.old.buffer) × (self.new.came ≡ self.old.came) }
@@ -54,7 +54,7 @@ impl Lane {
         send(wire, cx, &self.bytes, &mut self.went)
     }
 
-    // Receives what is left, as far as the wire goes on.
+    // Receives what is left, until the wire has no more now.
     fn receive<W: Wire>(&mut self, wire: &mut W, cx: &mut Context<'_>) -> Result<(), Failed>
         ensures received { AfterReceive (W.told wire.old) self.old.buffer.items self.old.came result (W.told wire.new) self.new.buffer.items self.new.came }
         ensures same { (self.new.bytes ≡ self.old.bytes) × (self.new.went ≡ self.old.went) }
@@ -67,7 +67,7 @@ impl Lane {
     }
 }
 
-/// Both ends, and what goes from the first to the second (`there`) and back.
+/// Both ends, and the two directions: `there` from the first to the second, and `back`.
 #[derive(Drop)]
 pub(crate) struct Ends<W: Drop> {
     pub(crate) first: W,
@@ -79,7 +79,7 @@ pub(crate) struct Ends<W: Drop> {
 impl<W: Wire> Ends<W> {
     ghost use Rattle.wire_pump.specs.Ends.{IsLater, Waits, HasEnded, IsOpen, IsOpenOnly, FailsAt};
 
-    /// Sends and receives at both ends, as far as the wires go on.
+    /// Sends and receives at both ends, until the wires go no further now.
     pub(crate) fn pass(&mut self, cx: &mut Context<'_>) -> Result<(), Failed>
         ensures later { IfOk result (λ done. IsLater W.told self.old self.new) }
         ensures waits { IfOk result (λ done. Waits W.told self.old self.new) }
@@ -99,7 +99,7 @@ impl<W: Wire> Ends<W> {
         Ok(())
     }
 
-    /// Whether all went out and came in.
+    /// Whether all bytes were sent and as many were received, in both directions.
     pub(crate) fn is_done(&self) -> bool
         ensures done { OnTrue result (HasEnded self.now) }
         ensures open { OnFalse result (IsOpen self.now) }

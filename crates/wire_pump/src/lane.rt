@@ -1,4 +1,4 @@
-//! One direction of a pump: sending and receiving as far as a wire goes on.
+//! One direction of a pump: sending and receiving until a wire goes no further now.
 
 ghost use Rattle.std.specs.Prelude.{◌≡◌, ◌<◌, ◌≤◌, length, take, drop, IfOk};
 ghost use Rattle.futures.specs.Poll.{OnPending};
@@ -10,8 +10,8 @@ use dcop_edge::Failed;
 use futures::task::{Context, Poll};
 use wire_edge::Wire;
 
-/// Sends the bytes from the place `went` on, until all are out or the wire can take no more now.
-/// `went` tells how many are out.
+/// Sends the bytes from position `went` on, until all are sent or the wire takes no more now.
+/// `went` is then how many were sent.
 pub(crate) fn send<W: Wire>(
     wire: &mut W,
     cx: &mut Context<'_>,
@@ -36,8 +36,8 @@ pub(crate) fn send<W: Wire>(
     Ok(())
 }
 
-/// Receives bytes into the buffer from the place `came` on, until it is full or the wire has none
-/// now. `came` tells how many came.
+/// Receives bytes into the buffer from position `came` on, until it is full or the wire has no more
+/// now. `came` is then how many were received.
 pub(crate) fn receive<W: Wire>(
     wire: &mut W,
     cx: &mut Context<'_>,
@@ -62,7 +62,7 @@ pub(crate) fn receive<W: Wire>(
     Ok(())
 }
 
-// One poll for writing the bytes from the place `at` on.
+// One poll for writing the bytes from position `at` on.
 fn write_at<W: Wire>(
     wire: &mut W,
     cx: &mut Context<'_>,
@@ -80,7 +80,7 @@ fn write_at<W: Wire>(
     wire.poll_write(cx, rest)
 }
 
-// One poll for reading into the buffer from the place `at` on.
+// One poll for reading into the buffer from position `at` on.
 fn read_at<W: Wire>(
     wire: &mut W,
     cx: &mut Context<'_>,

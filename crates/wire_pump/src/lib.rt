@@ -1,9 +1,10 @@
-//! Two lists of bytes through the two ends of a stream, both ways in one task.
+//! Two lists of bytes over the two ends of a stream, both directions in one task.
 //!
-//! A [`Pump`] is a future over two [`Wire`](wire_edge::Wire)s. It sends one list at each end and
-//! receives at the other as many bytes as were given to this one, so neither end waits for the other
-//! to be done. At its end all bytes went out and each side has as many as were given to the other;
-//! over joined wires they are those bytes.
+//! A [`Pump`] is a future over two [`Wire`](wire_edge::Wire)s. It sends one list at each end, and
+//! receives at the other end as many bytes. Neither end waits until the other is done. When the
+//! pump is done, each side has as many bytes as were given to the other. If the wires tell their
+//! bytes, exactly the given lists were sent. If the wires are joined, and each had received all
+//! that the other had sent, then the bytes received are those that were given.
 #![tactic(auto)]
 
 mod drive;

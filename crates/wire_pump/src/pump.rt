@@ -11,21 +11,21 @@ use futures::task::{Context, Poll};
 use std::alloc::Global;
 use wire_edge::Wire;
 
-/// What a pump gives at its end: both wires, and the bytes that came in at each, as many as were
-/// given to the other.
+/// What a pump gives when it is done: both wires, and the bytes that were received at each. They
+/// are as many as were given to the other.
 #[derive(Drop)]
 pub struct Pumped<W: Drop> {
     /// The first wire.
     pub first: W,
     /// The second wire.
     pub second: W,
-    /// What came in at the second wire.
+    /// The bytes that were received at the second wire.
     pub at_second: Bytes,
-    /// What came in at the first wire.
+    /// The bytes that were received at the first wire.
     pub at_first: Bytes,
 }
 
-/// A wire of the pump failed: its count of faults rose. Both wires are handed back.
+/// A wire of the pump failed: its count of faults rose. It has both wires.
 #[derive(Drop)]
 pub struct PumpFail<W: Drop> {
     /// The first wire.
@@ -34,8 +34,9 @@ pub struct PumpFail<W: Drop> {
     pub second: W,
 }
 
-/// A future that sends one list at each of two wires and receives as many bytes at the other, both
-/// ways in one task. Polling it takes no memory. It is polled until it is ready, and not again.
+/// A future that sends one list at each of two wires, and receives as many bytes at the other. Both
+/// directions run in one task. Polling takes no memory. It must not be polled again after it is
+/// ready.
 #[derive(Drop)]
 pub struct Pump<W: Drop> {
     pub(crate) state: Option<Ends<W>>,
@@ -44,8 +45,12 @@ pub struct Pump<W: Drop> {
 impl<W: Wire> Pump<W> {
     ghost use Rattle.wire_pump.specs.Pump.{GivesFrom, EndsPump};
 
-    /// A pump that sends `to_second` at the first wire and `to_first` at the second. It takes
-    /// memory, that for the bytes to be read included; where there is none, the wires are gone.
+    /// A pump that sends `to_second` at the first wire and `to_first` at the second. It takes all
+    /// its memory here, also that for the bytes to be received.
+    ///
+    /// # Errors
+    ///
+    /// [`NoMemory`] if memory runs out. The wires are gone.
     #[tactic(auto, using(crate::proofs::PumpLaws::new_gives))]
     pub fn new(
         alloc: Global,
@@ -71,7 +76,7 @@ impl<W: Wire> Pump<W> {
     }
 }
 
-// What a poll of a pump in this state came to: an end, or the state from which it goes on.
+// The outcome of one poll of a pump: its end, or the state from which it goes on.
 enum Turn<W: Drop> {
     Done(Result<Pumped<W>, PumpFail<W>>),
     Open(Ends<W>),
@@ -80,7 +85,7 @@ enum Turn<W: Drop> {
 impl<W: Wire> Turn<W> {
     ghost use Rattle.wire_pump.specs.Turn.{AfterTurn, OnOpen};
 
-    // Sends and receives as far as the wires go on.
+    // Sends and receives until the wires go no further now.
     #[tactic(auto, using(crate::proofs::PumpLaws::armed))]
     fn take(mut ends: Ends<W>, cx: &mut Context<'_>) -> Turn<W>
         ensures turned { AfterTurn W.told W.is_joined ends result }
@@ -100,7 +105,7 @@ impl<W: Wire> Turn<W> {
     }
 }
 
-// Both wires, and what came in where all did.
+// Both wires, and what was received, once everything was.
 fn hand_back<W: Wire>(first: W, second: W, there: Lane, back: Lane) -> Pumped<W>
     ensures wires { (result.first ≡ first) × (result.second ≡ second) }
     ensures bytes { (result.at_second ≡ there.buffer.items) × (result.at_first ≡ back.buffer.items) }

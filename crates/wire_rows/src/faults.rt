@@ -1,4 +1,4 @@
-//! The rows: a run over sockets, and one fault at a time in memory, at each place that it may have.
+//! The rows: a run over sockets, and runs in memory with one fault, at each place in turn.
 
 use crate::solving::{Answer, answer_over};
 use anyhow::{Result, bail};
@@ -13,7 +13,8 @@ use wire_edge::{Alter, MemoryDialer, PollFail};
 /// No row has as many polls or bytes.
 const MOST: u64 = 1_000;
 
-/// How many runs over sockets of this machine are answered as over wires without a fault: the only one.
+/// How many runs over sockets of this machine are answered as over wires without a fault: the one
+/// that is made.
 pub(crate) fn over_sockets<R>(rt: &R) -> Result<u64>
 where
     R: Threads + Wait + Clock + RandomSource + Net + AllocGlobal + Sync,
@@ -25,8 +26,8 @@ where
     }
 }
 
-/// How many polls this end makes where none fails. Where any one of them fails, the answer is that a
-/// link failed.
+/// How many polls this end makes if none fails. If any one of them fails, the answer is that a link
+/// failed.
 pub(crate) fn failing_polls<R>(rt: &R, first_end: bool) -> Result<u64>
 where
     R: Threads + Wait + Clock + RandomSource + Net + AllocGlobal + Sync,
@@ -41,7 +42,7 @@ where
     bail!("more polls than {MOST}")
 }
 
-/// How many bytes this end sends. Where the last bit of any one of them is altered, the answer is that
+/// How many bytes this end sends. If the last bit of any one of them is altered, the answer is that
 /// something differs.
 pub(crate) fn altered_bytes<R>(rt: &R, from_first: bool) -> Result<u64>
 where
@@ -58,8 +59,8 @@ where
     bail!("more bytes than {MOST}")
 }
 
-// The byte that this end sends at this place: the least one that goes out there unnoticed. Behind the
-// last place any byte does.
+// The byte that this end sends at this place: the least byte that can be put there without a
+// difference. After the last place any byte can.
 fn byte_at<R>(rt: &R, from_first: bool, place: u64) -> Result<u8>
 where
     R: Threads + Wait + Clock + RandomSource + Net + AllocGlobal + Sync,
@@ -74,7 +75,7 @@ where
     bail!("every byte at {place} differs")
 }
 
-// The answer where this poll of this end fails.
+// The answer if this poll of this end fails.
 fn answer_with_failing<R>(rt: &R, first_end: bool, poll: u64) -> Result<Answer>
 where
     R: Threads + Wait + Clock + RandomSource + Net + AllocGlobal + Sync,
@@ -90,7 +91,7 @@ where
     answer_over(rt, &mut dialer)
 }
 
-// The answer where this byte goes out at this place of what this end sends.
+// The answer if this byte replaces the one at this place of what this end sends.
 fn answer_with_byte<R>(rt: &R, from_first: bool, place: u64, byte: u8) -> Result<Answer>
 where
     R: Threads + Wait + Clock + RandomSource + Net + AllocGlobal + Sync,

@@ -1,6 +1,6 @@
-//! Solves a small problem in two nodes: over sockets, and over wires in memory with one poll failing or
-//! one byte altered, in turn for each poll and each byte. Prints a line for each row and end: its name
-//! and how many there were, or which of them went otherwise than the row says.
+//! Solves a small problem in two nodes: over sockets; and over wires in memory, with one poll
+//! failing or one byte altered, in turn for each poll and each byte. Prints a line for each row and
+//! end: its name and how many there were, or which of them did not go as the row says.
 #![tactic(auto)]
 
 mod faults;

@@ -20,21 +20,21 @@ const PAIR: &str = "dcop 1\nvar x 2\nvar y 2\ntable x y : 5 3 2 7\nend\n";
 const SOLVED: &str =
     "status solved\nmethod dpop\nerror 0\ndeliveries 2\ncost 2\nlower 2\nupper 2\nvalue x 1\nvalue y 0\nend\n";
 
-/// The answer where a wire failed.
+/// The answer if a wire failed.
 const LINK: &str = "refused link\n";
 
 /// How two nodes answer.
 #[derive(Clone, Copy)]
 pub(crate) enum Answer {
-    /// With exit 0 and the whole text as it is without a fault.
+    /// With exit code 0 and the whole text that is written without a fault.
     Solved,
-    /// With exit 8: a link failed.
+    /// With exit code 8: a link failed.
     Link,
-    /// With exit 9: what came is not what was sent.
+    /// With exit code 9: what was received is not what was sent.
     Differs,
 }
 
-/// The answer over wires of this dialer; an error where it is none of the three.
+/// The answer over wires of this dialer; an error if it is none of the three.
 pub(crate) fn answer_over<R, D>(rt: &R, dialer: &mut D) -> Result<Answer>
 where
     R: Threads + Wait + Clock + RandomSource + Net + AllocGlobal + Sync,
@@ -64,7 +64,7 @@ fn kind_of(code: u8, text: &[u8]) -> Option<Answer> {
     }
 }
 
-// Whether a text tells what differs, of a message or of the bytes.
+// Whether a text reports a difference, of a message or of bytes.
 fn tells_difference(text: &[u8]) -> bool {
     text.starts_with(b"refused differs ") || text.starts_with(b"refused bytes ")
 }

@@ -24,19 +24,19 @@ pub struct Case {
     pub words: Vec<String>,
     /// What the input is joined from, in order.
     pub pieces: Vec<Piece>,
-    /// What is then altered in the input, in order.
+    /// What is altered in the joined input, in order.
     pub changes: Vec<Change>,
-    /// The numbers of the reads that fail, from 0.
+    /// The numbers of the reads that fail, counted from 0.
     pub failing_reads: Vec<u64>,
-    /// The numbers of the writes that fail, from 0, the finish counted among them.
+    /// The numbers of the writes that fail, counted from 0; the finish counts as one.
     pub failing_writes: Vec<u64>,
-    /// The numbers of the pairs of wires whose dialling fails, from 0.
+    /// The numbers of the pairs of wires whose dialling fails, counted from 0.
     pub failing_dials: Vec<u64>,
     /// The polls of wires that fail.
     pub failing_polls: Vec<PollFail>,
     /// The bytes that are altered on wires.
     pub alters: Vec<Alter>,
-    /// What is expected, of the whole input or of prefixes of it.
+    /// What is expected of the whole input or of prefixes of it.
     pub answers: Vec<Answer>,
 }
 
@@ -45,13 +45,13 @@ pub struct Case {
 pub enum Piece {
     /// The bytes of a file, or the output that a case expects.
     File(String),
-    /// What `dcop_order` without words writes for such bytes.
+    /// What `dcop_order` without words writes for these bytes.
     Ordered(String),
-    /// A text, so many times.
+    /// A text, repeated this many times.
     Text(Vec<u8>, u64),
 }
 
-/// A text that stands once in the input, and what comes in its place.
+/// A text that the input has exactly once, and its replacement.
 #[derive(Drop)]
 pub struct Change {
     pub from: Vec<u8>,
@@ -61,7 +61,8 @@ pub struct Change {
 /// What is expected.
 #[derive(Drop)]
 pub struct Answer {
-    /// Of which prefixes, the first and the last length of them; the whole input where it is none.
+    /// The first and the last length of the prefixes that this is expected of; `None` for the whole
+    /// input.
     pub lengths: Option<(usize, usize)>,
     pub status: u8,
     pub output: Output,
@@ -70,11 +71,11 @@ pub struct Answer {
 /// What is expected of an output.
 #[derive(Drop)]
 pub enum Output {
-    /// Nothing is said of it.
+    /// Nothing is expected.
     Any,
     /// It is this text.
     Whole(Vec<u8>),
-    /// The lines of this text stand in it, in this order.
+    /// It has the lines of this text, in this order.
     Lines(Vec<u8>),
 }
 

@@ -1,10 +1,10 @@
 //! Texts as a case file writes them: `\r`, `\n`, `\\`, `\xHH` for any byte, and a `\` at the end of
-//! a line for a text that goes on without LF.
+//! a line whose text does not end with LF there.
 
 use anyhow::{Result, bail};
 use std::alloc::{AllocError, Global};
 
-/// Where a reader of escapes stands.
+/// The state of a reader of escapes.
 #[derive(Clone, Copy)]
 enum At {
     Plain,
@@ -13,7 +13,7 @@ enum At {
     SecondDigit(u8),
 }
 
-/// Adds the bytes of a text that is written with escapes; whether it ends in a lone `\`.
+/// Adds the bytes of a text that is written with escapes. Gives whether it ends with a lone `\`.
 pub fn add_escaped(bytes: &mut Vec<u8>, written: &str) -> Result<bool> {
     let mut at = At::Plain;
     for byte in written.as_bytes() {

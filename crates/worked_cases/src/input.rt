@@ -9,7 +9,7 @@ use std::alloc::Global;
 use std::fs;
 use std::rt::Files;
 
-/// The case that this file says.
+/// The case in this file.
 pub fn case_at<R: Files + AllocGlobal>(rt: &R, path: &str) -> Result<Case> {
     let text = fs::read_to_string(rt, path)?;
     read_case(rt.alloc(), text.as_str())
@@ -60,7 +60,7 @@ fn ordered(alloc: Global, text: Vec<u8>) -> Result<Vec<u8>> {
     Ok(sink.bytes().to_vec(alloc)?)
 }
 
-/// The input with one text in the place of another, which has to stand in it exactly once.
+/// The input with one text replaced by another; it has to have that text exactly once.
 fn changed(alloc: Global, input: &[u8], change: &Change) -> Result<Vec<u8>> {
     let Some((before, behind)) = split_once(input, &change.from) else {
         bail!("what is replaced is not there");
@@ -74,7 +74,7 @@ fn changed(alloc: Global, input: &[u8], change: &Change) -> Result<Vec<u8>> {
     Ok(bytes)
 }
 
-/// What stands before and behind the first place of a text.
+/// What comes before and after the first place of a text.
 fn split_once<'a>(bytes: &'a [u8], text: &[u8]) -> Option<(&'a [u8], &'a [u8])> {
     for place in 0..bytes.len() {
         let (before, from) = bytes.split_at(place);

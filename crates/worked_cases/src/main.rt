@@ -1,9 +1,9 @@
-//! Runs the worked cases through [`solve_top::solve`], [`order_top::order`], [`search_top::search`] or
-//! [`trace_top::trace`], and prints each answer that differs from what its case says, then how many
-//! cases there are and how often they were run.
+//! Runs the worked cases through [`solve_top::solve`], [`order_top::order`], [`search_top::search`]
+//! or [`trace_top::trace`]. Prints each answer that differs from what its case says, then how many
+//! cases there are and how many runs were made.
 //!
-//! A case is a text file `cases/NAME.case` in the folder that the program runs in, which is `data`;
-//! the crate's README.md says how one is written.
+//! A case is a text file `cases/NAME.case` in the folder that the program runs in, which is `data`.
+//! The crate's README.md says how to write one.
 #![tactic(auto)]
 
 mod case;

@@ -17,7 +17,7 @@ use std::time::Clock;
 use trace_top::trace;
 use wire_edge::{MemoryDialer, SteadyDialer};
 
-/// How often cases were run, and how many of these runs differ.
+/// How many runs of cases were made, and how many of these differ.
 #[derive(Clone, Copy, Default)]
 pub struct Tally {
     pub runs: u64,
@@ -88,7 +88,7 @@ fn found_on<R: Threads + Wait + Clock + RandomSource + Net + AllocGlobal + Sync>
     })
 }
 
-/// How `dcop` answers a case: over wires that never fail, unless the case lets some fail or alters a
+/// How `dcop` answers a case. Its wires never fail, unless the case makes some fail or alters a
 /// byte on one.
 fn solved<R: Threads + Wait + Clock + RandomSource + Net + AllocGlobal + Sync>(
     rt: &R,
@@ -121,7 +121,7 @@ fn is_as_expected(answer: &Answer, found: &Found) -> bool {
     }
 }
 
-/// Whether the lines of the second text stand in the first one, in this order.
+/// Whether the first text has the lines of the second one, in this order.
 fn has_lines(text: &[u8], lines: &[u8]) -> bool {
     let mut expected = lines.split(|byte| *byte == b'\n');
     let mut next = expected.next();

@@ -1,4 +1,4 @@
-//! Case files, read.
+//! Reading case files.
 
 use crate::case::{Answer, Case, Change, Output, Piece, Program};
 use crate::escape::add_escaped;
@@ -14,7 +14,7 @@ enum Place {
     Output,
 }
 
-/// A case file that is read as far as some line.
+/// A case file that is read up to some line.
 #[derive(Drop)]
 struct Reading {
     alloc: Global,
@@ -23,7 +23,7 @@ struct Reading {
     lengths: Option<(usize, usize)>,
 }
 
-/// The case that the text of a file says. Errors tell the line.
+/// The case that the text of a file says. Errors name the line.
 pub fn read_case(alloc: Global, text: &str) -> Result<Case> {
     let mut reading = Reading {
         alloc,
@@ -42,7 +42,7 @@ pub fn read_case(alloc: Global, text: &str) -> Result<Case> {
 }
 
 impl Reading {
-    /// Takes one line more.
+    /// Takes one more line.
     fn line(&mut self, line: &str) -> Result<()> {
         if line.is_empty() || line.starts_with('#') {
             self.place = Place::Nothing;
@@ -61,7 +61,7 @@ impl Reading {
         }
     }
 
-    /// Takes a line of text for what was opened before.
+    /// Takes a line of text for what was opened last.
     fn text(&mut self, written: &str) -> Result<()> {
         match (
             self.place,
@@ -117,7 +117,7 @@ impl Reading {
         Ok(())
     }
 
-    /// Takes the names of files, or opens a text where there is none.
+    /// Takes the names of files, or opens a text if there are none.
     fn input(&mut self, value: &str) -> Result<()> {
         if value.is_empty() {
             return self.input_text(1);
@@ -214,7 +214,8 @@ fn poll_fail(value: &str) -> Result<PollFail> {
     })
 }
 
-/// The byte that `PAIR first PLACE BYTE` or `PAIR second PLACE BYTE` alters, with the end that sends.
+/// The byte that `PAIR first PLACE BYTE` or `PAIR second PLACE BYTE` alters, and the end that sends
+/// it.
 fn alter(value: &str) -> Result<Alter> {
     let Some((from, byte)) = value.rsplit_once(' ') else {
         bail!("no byte");

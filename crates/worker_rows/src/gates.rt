@@ -1,11 +1,11 @@
-//! Gates that tell how two agents were visited.
+//! Gates that record how two agents were visited.
 
 use dcop_base::VarId;
 use dcop_edge::Gate;
 use std::sync::atomic::{AtomicU64, Ordering};
 use std::thread::yield_now;
 
-/// How often a visit looks for the other agent.
+/// How many times a visit looks for the other agent.
 const MOST_LOOKS: u32 = 100_000_000;
 
 /// Two numbers, one for each agent.
@@ -56,7 +56,7 @@ impl CountingGate {
         }
     }
 
-    /// How often each of the two was visited.
+    /// How many times each of the two was visited.
     pub(crate) fn visits(&self) -> (u64, u64) {
         (
             self.visits.first.load(Ordering::SeqCst),
@@ -71,8 +71,7 @@ impl Gate for CountingGate {
     }
 }
 
-/// Holds each agent at its visits until the other one has come to a visit too, or it was looked for so
-/// often.
+/// Holds each agent at its visits until the other one is at a visit too, or for `MOST_LOOKS` looks.
 #[derive(Drop)]
 pub(crate) struct MeetingGate {
     came: Pair,
@@ -80,7 +79,7 @@ pub(crate) struct MeetingGate {
 }
 
 impl MeetingGate {
-    /// No agent has come.
+    /// A gate at which no agent has arrived.
     pub(crate) fn new() -> Self {
         MeetingGate {
             came: Pair::new(),

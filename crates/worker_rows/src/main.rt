@@ -1,5 +1,5 @@
-//! Runs the two agents of a small problem by workers, and prints a line for each row: its name and its
-//! count, or that it went otherwise than the row says.
+//! Runs the two agents of a small problem by workers, and prints a line for each row: its name and
+//! its count, or that the run did not go as the row says.
 #![tactic(auto)]
 
 mod gates;
@@ -24,7 +24,7 @@ fn main(rt: HostRuntime) -> io::Result<()> {
     print_visits(&rt, "tree")
 }
 
-// How many visits of two workers on these words saw no other agent.
+// Prints how many visits of two workers on these words saw no other agent.
 fn print_missed<R>(rt: &R, row: &str, words: &str) -> io::Result<()>
 where
     R: Print + Threads + Wait + Clock + RandomSource + Net + AllocGlobal + Sync,
@@ -35,7 +35,7 @@ where
     }
 }
 
-// How often each agent is visited on these words.
+// Prints how many times each agent is visited on these words.
 fn print_visits<R>(rt: &R, words: &str) -> io::Result<()>
 where
     R: Print + Threads + Wait + Clock + RandomSource + Net + AllocGlobal + Sync,

@@ -13,12 +13,12 @@ use wire_edge::SteadyDialer;
 /// The problem.
 const PAIR: &str = "dcop 1\nvar x 2\nvar y 2\ntable x y : 5 3 2 7\nend\n";
 
-/// What is answered to it by dpop.
+/// The answer to it by DPOP.
 const SOLVED: &str =
     "status solved\nmethod dpop\nerror 0\ndeliveries 2\ncost 2\nlower 2\nupper 2\nvalue x 1\nvalue y 0\nend\n";
 
-/// How many visits of agents went on without the other one, where two workers solve the problem on
-/// these words; None where the answer is another one.
+/// How many visits of agents went on without the other one when two workers solve the problem on
+/// these words; `None` if the answer is another one.
 pub(crate) fn missed_by_two_workers<R>(rt: &R, words: &str) -> Option<u64>
 where
     R: Threads + Wait + Clock + RandomSource + Net + AllocGlobal + Sync,
@@ -31,7 +31,7 @@ where
     Some(gate.missed())
 }
 
-/// How often each agent is visited by one worker on these words; None where they are refused.
+/// How many times each agent is visited by one worker on these words; `None` if they are refused.
 pub(crate) fn visits_of<R>(rt: &R, words: &str) -> Option<(u64, u64)>
 where
     R: Threads + Wait + Clock + RandomSource + Net + AllocGlobal + Sync,
@@ -41,7 +41,7 @@ where
     Some(gate.visits())
 }
 
-// What these words come to, where they are served.
+// The answer to these words, if they are accepted.
 fn answer_to<R, G>(rt: &R, words: &str, gate: &G) -> Option<Vec<u8>>
 where
     R: Threads + Wait + Clock + RandomSource + Net + AllocGlobal + Sync,

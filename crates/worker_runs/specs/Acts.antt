@@ -10,7 +10,7 @@ use Rattle.protocol_steps.specs.Deeds.{takes_of, greatest_of, posted_to, gained_
 use Rattle.worker_runs.specs.Cells.{CellState, peers, grown}
 use Rattle.worker_runs.specs.Visits.{IsFrom, IsTo}
 
--- an activation of agent `me` that its account allows: it has not ended, takes something of ascending peers, and sends to peers; its stamp is right
+-- an activation of agent `me` that its account allows: the agent has not ended, takes at least one message from each of some peers, in ascending order of the peers, and sends only to peers; its stamp is right
 pub record IsAct (me : ℕ) (among : List ℕ) (x : Account) (d : Deed) : Type 0 where
   pub own : d.agent ≡ me
   pub live : ended_of x.view ≡ false
@@ -20,16 +20,16 @@ pub record IsAct (me : ℕ) (among : List ℕ) (x : Account) (d : Deed) : Type 0
   pub receivers : All (IsTo among) (step_of x.view (letters_of d.gains)).sends
   pub right : d.stamp ≡ max x.stamp (greatest_of d.gains) + 1
 
--- the same of several activations, one after another
+-- the same for several activations, one after another
 abbrev pub AreActs : ℕ → List ℕ → Account → List Deed → Type 0
 AreActs me among x [] = Unit {0}
 AreActs me among x (d ∷ ds) = IsAct me among x d × AreActs me among (do_one x d) ds
 
--- the account of a cell as it stands, before it sends or takes more
+-- the account of a cell at this moment, without what it has sent or taken so far
 abbrev pub moment : CellState → Account
 moment c = record { view = c.view; stamp = c.stamp; posted = []; gains = [] }
 
--- what a cell sends and takes in these activations, and its view and stamp after them
+-- what a cell sends and takes in these activations, with its view and stamp after them
 abbrev pub moved : CellState → List Deed → Account
 moved c ds = fold do_one (moment c) ds
 
@@ -41,7 +41,7 @@ entry_of d = record { stamp = d.stamp; takes = takes_of d.gains }
 abbrev pub journal_of : List Deed → List Entry
 journal_of ds = map entry_of ds
 
--- a cell after these activations, and nothing else
+-- a cell after these activations and nothing else
 pub record IsLater (before : CellState) (deeds : List Deed) (after : CellState) : Type 0 where
   pub acts : AreActs before.me (peers before.taken) (moment before) deeds
   pub me : after.me ≡ before.me

@@ -30,13 +30,13 @@ journals_of cells = map (λ c. c.journal) cells
 abbrev pub plain : List (ℕ × Message) → List Message
 plain es = map (λ e. e.1) es
 
--- the link from agent j to agent i, by the cells of both: what was taken is a first part of what was sent, and the network has the same messages and the same number taken
+-- the link from agent j to agent i, by the cells of both: what was taken is the first part of what was sent, and the network has the same messages on it and the same number taken
 pub record IsLinkIn (net : Network) (i j : ℕ) (to from : CellState) : Type 0 where
   pub prefix : IsPrefix (lane j to.taken) (lane i from.sent)
   pub sent : link net.desks j i ≡ plain (lane i from.sent)
   pub taken : taken_at net.desks i j ≡ length (lane j to.taken)
 
--- the stamps of the journals of agents that were made so are right, by what each took of each on its link: the activations that both tell are what the agents' accounts allow, and send what stands on the links, with their stamps
+-- the stamps in the journals of agents made with these views are right: given what each cell took on its links, the activations that the journals give are allowed by the agents' accounts and send exactly what the cells sent, with the stamps; and the stamps of each journal ascend
 pub record AreRightStamps (made : List View) (cells : List CellState) : Type 0 where
   pub now : ℕ → Account
   pub starts : AreStarts made now
@@ -48,7 +48,7 @@ pub record AreRightStamps (made : List View) (cells : List CellState) : Type 0 w
       → lane j c.sent ≡ posted_to j (fold do_one (now i) (deeds_from i (taken i) (journal_at (journals_of cells) i))).posted
   pub ascend : (i : ℕ) → AscendsAbove 0 (journal_at (journals_of cells) i)
 
--- cells have made a run of agents that were made so, which ends in this network: it has the cells' views and links; the journals' stamps are right; the merge of the journals is such a run; and the journals are in rounds under the budget
+-- cells have made a run of agents made with these views, and it ends in this network: the network has the cells' views and links, and as many deliveries; the journals' stamps are right; every merge of the journals is a run to this network; and the journals are in rounds under the budget
 pub record IsRunOfCells (budget : ℕ) (made : List View) (cells : List CellState) (end : Network) : Type 0 where
   pub views : end.views ≡ map (λ c. c.view) cells
   pub sized : length end.desks ≡ length cells
@@ -67,17 +67,17 @@ abbrev pub NothingWaits : List CellState → Type 0
 NothingWaits cells = (i j : ℕ) (to from : CellState) → slice_get cells i ≡ Some to → slice_get cells j ≡ Some from → ended_of to.view ≡ false
     → lane j to.taken ≡ lane i from.sent
 
--- how cells have ended under a budget: all agents have ended; or some have not and the deliveries are at least the budget; or they are fewer and nothing waits
+-- how cells ended under a budget: all agents have ended; or some have not, and the deliveries are at least the budget; or some have not, the deliveries are below the budget, and nothing waits
 abbrev pub IsCellEnd : ℕ → List CellState → RunEnd → Type 0
 IsCellEnd budget cells (AllEnded n) = (n ≡ total cells) × (all_ended cells ≡ true)
 IsCellEnd budget cells (Spent n) = (n ≡ total cells) × (all_ended cells ≡ false) × (budget ≤ total cells)
 IsCellEnd budget cells (Still n) = (n ≡ total cells) × (all_ended cells ≡ false) × (total cells < budget) × NothingWaits cells
 
--- cells have made a run of agents that were made so, under a budget, which ended so
+-- cells have made a run of agents made with these views, under a budget, and the run ended in this way
 abbrev pub MakesARun : ℕ → List View → List CellState → RunEnd → Type 0
 MakesARun budget made cells answer = (end : Network) × IsRunOfCells budget made cells end × IsRunEnd budget end answer
 
--- an outcome tells of these cells: each agent's value, the table and the place that it made, where it did, the standing of agent 0, how many messages were taken, and whether all agents have ended
+-- the outcome is that of these cells: each agent's value, the tables that were made and the places that were found, the bounds and the threshold of agent 0, the number of messages taken, and whether all agents have ended
 pub record IsCellOutcome (cells : List CellState) (outcome : Outcome) : Type 0 where
   pub values : outcome.values ≡ map (λ c. value_of c.view) cells
   pub tables : outcome.tables ≡ map (λ c. table_of c.view) cells

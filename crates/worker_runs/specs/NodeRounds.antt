@@ -1,4 +1,4 @@
--- Rounds of cells in several nodes: a round settles the links inside each node alone.
+-- Rounds of cells in several nodes: a round settles only the links inside each node.
 use Rattle.std.specs.Prelude.{◌≡◌, ◌≢◌, ℕ, ◌*◌, ◌/◌, ◌<◌, List, length, Some, slice_get}
 use Rattle.protocol_steps.specs.Rounds.{most_events}
 use Rattle.worker_runs.specs.Cells.{CellState, known_from, EachAre}
@@ -6,11 +6,11 @@ use Rattle.worker_runs.specs.Visits.{IsQuiet}
 use Rattle.worker_runs.specs.Sprints.{IsSprint}
 use Rattle.worker_runs.specs.CellRounds.{IsSettled, AreSettled, IsCellRound}
 
--- the node of agent i, of so many agents in so many nodes
+-- the node of agent i when there are `agents` agents in `nodes` nodes
 abbrev pub home : ℕ → ℕ → ℕ → ℕ
 home nodes agents i = i * nodes / agents
 
--- every link inside a node was settled: nothing else changed, and between nodes not even what is known
+-- every link inside a node was settled; nothing else changed, not even what cells know of the links between nodes
 pub record IsSettling (node : ℕ → ℕ) (before after : List CellState) : Type 0 where
   pub quiet : EachAre IsQuiet before after
   pub settled : (i j : ℕ) (to from : CellState) → slice_get after i ≡ Some to → slice_get after j ≡ Some from → node i ≡ node j → IsSettled i j to from
@@ -23,7 +23,7 @@ pub record IsPartRound (node : ℕ → ℕ) (before after : List CellState) : Ty
   pub settling : IsSettling node before middle
   pub sprints : EachAre (IsSprint most_events) middle after
 
--- with one node every link is settled
+-- with one node, settling the links inside nodes settles every link
 pub record OneNodeIsAll : Type 0 where
   pub settling : (before after : List CellState) → IsSettling (home 1 (length before)) before after → EachAre IsQuiet before after × AreSettled after
   pub round : (before after : List CellState) → IsPartRound (home 1 (length before)) before after → IsCellRound before after

@@ -1,4 +1,4 @@
--- Playing cells in rounds until all agents have ended, the budget is spent, or a round takes nothing.
+-- Cells are played in rounds until all agents have ended, the budget is spent, or a round takes nothing.
 use Rattle.std.specs.Prelude.{◌≡◌, ℕ, ◌<◌, false, List}
 use Rattle.protocol_steps.specs.declared.run_end.RunEnd.{RunEnd}
 use Rattle.protocol_steps.specs.declared.run_end.RunEnd.TheVariants.{Still}
@@ -13,7 +13,7 @@ pub record ArePlayed (budget : ℕ) (started now : List CellState) : Type 0 wher
   pub rounds : List (List CellState)
   pub are : AreCellRounds budget started rounds now
 
--- how cells are played, and what they have made at the end, when every link is settled once more
+-- how cells are played round by round, and the run that they have made at the end, when every link is settled once more
 pub record PlayedCellsMakeRuns : Type 0 where
   pub none : (budget : ℕ) (cells : List CellState) → ArePlayed budget cells cells
   pub more : (budget : ℕ) (started now next : List CellState) → ArePlayed budget started now → total now < budget → IsCellRound now next → ArePlayed budget started next

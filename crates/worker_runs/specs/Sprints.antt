@@ -1,4 +1,4 @@
--- Sprints: what visits of one cell in one round make of it.
+-- Sprints: what the visits of one cell in one round add up to.
 use Rattle.std.specs.Prelude.{◌≡◌, ℕ, ◌+◌, ◌≤◌, true, false, List, length}
 use Rattle.std.specs.List.{All}
 use Rattle.protocol_steps.specs.View.{ended_of}
@@ -8,11 +8,11 @@ use Rattle.worker_runs.specs.Cells.{CellState, known_from}
 use Rattle.worker_runs.specs.Visits.{IsFew, IsVisit}
 use Rattle.worker_runs.specs.Acts.{moved, IsLater}
 
--- of one link an activation takes no more than the share of a link
+-- from each sender an activation takes at most link_share messages
 abbrev pub TakesFew : Deed → Type 0
 TakesFew d = All IsFew d.gains
 
--- some visits of a cell, at most so many: its activations, each of at most 64 messages of a link, which together took of each link at least what the cell knew to wait there, where its agent had not ended before
+-- at most `visits` visits of a cell: its activations, each of at most 64 messages from a sender; together they took from each link at least what the cell knew to be waiting there, unless its agent had already ended
 pub record IsSprint (visits : ℕ) (before after : CellState) : Type 0 where
   pub deeds : List Deed
   pub later : IsLater before deeds after
@@ -20,7 +20,7 @@ pub record IsSprint (visits : ℕ) (before after : CellState) : Type 0 where
   pub bounded : All TakesFew deeds
   pub served : ended_of before.view ≡ false → (j : ℕ) → known_from j before.known ≤ length (gained_from j (moved before deeds).gains)
 
--- how sprints are made of visits
+-- how visits make up sprints
 pub record SprintsAreVisits : Type 0 where
   pub first : (before after : CellState) (count : ℕ) → ended_of before.view ≡ false → IsVisit before count after → IsSprint 1 before after
   pub next : (visits count : ℕ) (before middle after : CellState) → IsSprint visits before middle → IsVisit middle count after → IsSprint (visits + 1) before after

@@ -10,7 +10,7 @@ use Rattle.protocol_steps.specs.Deeds.{takes_of, greatest_of, posted_to, gained_
 use Rattle.protocol_steps.specs.Rounds.{link_share}
 use Rattle.worker_runs.specs.Cells.{CellState, peers, lane, grown, known_from}
 
--- of one link no more is taken than the share of a link
+-- at most link_share messages are taken from one sender
 abbrev pub IsFew : Gain → Type 0
 IsFew g = length g.envelopes ≤ link_share
 
@@ -22,7 +22,7 @@ IsFrom among g = Contains among g.from
 abbrev pub IsTo : List ℕ → ℕ × Message → Type 0
 IsTo among p = Contains among p.0
 
--- a cell has started its agent, which was made so: its stamp is 0, its journal is empty, what the start sends stands on its links with stamp 0, and nothing is taken
+-- a cell has started its agent, made with this view: its stamp is 0, its journal is empty, what the start sends is on its links with stamp 0, and nothing is taken
 pub record IsStarted (made : View) (after : CellState) : Type 0 where
   pub viewed : after.view ≡ (start_of made).view
   pub stamped : after.stamp ≡ 0
@@ -40,7 +40,7 @@ pub record IsQuiet (before after : CellState) : Type 0 where
   pub sent : after.sent ≡ before.sent
   pub taken : after.taken ≡ before.taken
 
--- a cell has taken this, and its agent, which had not ended, has made one step on it: the stamp is 1 plus the greatest of the cell's last one and of those taken, the entry is in the journal, and each parcel is on its link with the stamp
+-- a cell has taken these messages, and its agent, which had not ended, has made one step on them: the stamp is 1 plus the greatest of the cell's last stamp and those taken, the entry is in the journal, and each parcel is on its link with the stamp
 pub record IsEvent (before : CellState) (gains : List Gain) (after : CellState) : Type 0 where
   pub live : ended_of before.view ≡ false
   pub some : has_nothing (takes_of gains) ≡ false
@@ -54,7 +54,7 @@ pub record IsEvent (before : CellState) (gains : List Gain) (after : CellState) 
   pub sent : after.sent ≡ grown (λ j. posted_to j (post after.stamp (step_of before.view (letters_of gains)).sends)) before.sent
   pub taken : after.taken ≡ grown (λ j. gained_from j gains) before.taken
 
--- a visit that took so many messages: of each link at most 64, and at least those that the cell knew to wait there; where it took none, nothing changed but what the cell knows
+-- a visit that took `count` messages: from each link at least those that the cell knew to be waiting there, and from each sender at most 64; if it took none, nothing changed but what the cell knows
 pub record IsVisit (before : CellState) (count : ℕ) (after : CellState) : Type 0 where
   pub gains : List Gain
   pub counted : count ≡ sum_by (λ g. length g.envelopes) gains

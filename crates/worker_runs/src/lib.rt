@@ -1,14 +1,14 @@
-//! Workers make a run: what cells that are visited in rounds have made is a run of their agents.
+//! Workers make a run: what cells that are visited in rounds have done is a run of their agents.
 //!
 //! A cell is here a plain value: its agent's view, its stamp, its journal, and all messages that it
-//! sent to and took from each peer, with their stamps. A visit is one activation on what was found
-//! on the cell's links, or none; a round settles every link and then visits each cell a few times,
-//! in no order between cells. From what each cell tells of itself alone, and from links that are
-//! settled between rounds, the laws show one run of the whole network: its events are the cells'
-//! entries by stamp and then agent, and it is in rounds under the budget.
+//! sent to each peer and took from each, with their stamps. A visit is one activation on what was
+//! found on the cell's links, or none. A round settles every link and then visits each cell up to
+//! 32 times, with no order between cells. Given only what each cell records of itself, and that
+//! links are settled between rounds, the laws show one run of the whole network. Its events are the
+//! cells' entries ordered by stamp and then agent, and it is in rounds under the budget.
 //!
-//! The laws are about definitions alone. Each is the contract of a call that does nothing: who
-//! needs the law calls it.
+//! The laws are about definitions alone. Each is the contract of a call that does nothing: code
+//! that needs the law calls it.
 #![tactic(auto)]
 
 mod law;

@@ -14,8 +14,12 @@ use crate::machine::start_once;
 use dcop_base::NoMemory;
 
 impl Cell {
-    /// Starts the agent. What it sends carries the stamp 0. It takes memory; after [`NoMemory`]
-    /// the cell has begun and failed, and each visit answers [`VisitFault::NoMemory`].
+    /// Starts the agent. What it sends carries the stamp 0.
+    ///
+    /// # Errors
+    ///
+    /// [`NoMemory`] if memory runs out. The cell has then begun and failed, and each visit returns
+    /// [`VisitFault::NoMemory`].
     pub fn begin(&mut self) -> Result<(), NoMemory>
         requires cell { IsCell (λ b. meaning b) self.old }
         requires fresh { begun_in self.old ≡ false }
@@ -36,7 +40,7 @@ impl Cell {
         outcome
     }
 
-    /// Starts the machine, and sends what it sends.
+    /// Starts the machine, and sends its parcels on the links.
     fn try_begin(&mut self) -> Result<(), NoMemory>
         requires cell { IsSound false self.old.fault (state_of (λ b. meaning b) self.old) }
         ensures tails { AreSameTails self.old.tails.items self.new.tails.items }

@@ -1,4 +1,4 @@
-//! What a cell makes of what it took.
+//! What a cell does with what it took.
 
 ghost use Rattle.std.specs.Prelude.{◌≡◌, ◌≤◌, ◌∷◌, [], ◌++◌, OnOk, Err};
 ghost use Rattle.std.specs.List.Sorted.{IsStrictlyIncreasing};
@@ -23,7 +23,7 @@ use protocol_steps::{Batch, Entry, Journal, TakeList};
 use std::alloc::Global;
 use std::mem;
 
-/// Adds an entry to a journal.
+/// Appends an entry to a journal.
 fn note(alloc: Global, journal: &mut Journal, entry: Entry) -> Result<(), NoMemory>
     ensures { OnOk result (journal.new ≡ journal.old ++ entry ∷ []) }
 {
@@ -34,7 +34,8 @@ fn note(alloc: Global, journal: &mut Journal, entry: Entry) -> Result<(), NoMemo
 }
 
 impl Cell {
-    /// One activation of the machine on what was taken; it marks to whom the machine sends something.
+    /// Activates the machine once on what was taken, and marks each agent to which the machine
+    /// sends something.
     pub(super) fn handle(&mut self, taken: Taken, marks: &mut [bool]) -> Result<(), VisitFault>
         requires ready { MayReact (meaning self.old.machine) }
         requires batch { IsBatch (meaning self.old.machine) taken.letters.items }

@@ -14,8 +14,9 @@ use protocol_steps::{Journal, Machine};
 use std::alloc::Global;
 
 impl Cell {
-    /// The cell of agent `me`, which has not started, over links on which nothing was sent. Tails
-    /// and heads name its neighbours, ascending, each once. It takes no memory.
+    /// Makes the cell of agent `me`, which has not started, over links on which nothing was sent.
+    /// Tails and heads name exactly its neighbours, each once, in ascending order. It allocates no
+    /// memory.
     pub fn new(
         alloc: Global,
         machine: Box<dyn Machine + Send>,

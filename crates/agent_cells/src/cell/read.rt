@@ -31,15 +31,16 @@ impl Cell {
         self.machine.value()
     }
 
-    /// The bounds and the threshold of an ADOPT agent; 0, none and 0 of another kind.
+    /// The lower bound, the upper bound and the threshold of an ADOPT agent; 0, none and 0 for an
+    /// agent of another kind.
     pub fn standing(&self) -> Standing
         ensures { result ≡ standing_of (state_of (λ b. meaning b) self.now).view }
     {
         self.machine.standing()
     }
 
-    /// The UTIL table that a DPOP agent made; `None` exactly before it has joined, and for other
-    /// kinds.
+    /// The UTIL table that a DPOP agent has made; `None` exactly if the agent has not joined its
+    /// tables or is of another kind.
     pub fn table(&self) -> Option<&Table>
         ensures { MatchOption result (table_of (state_of (λ b. meaning b) self.now).view ≡ None)
             (λ t. table_of (state_of (λ b. meaning b) self.now).view ≡ Some t.now) }
@@ -47,8 +48,8 @@ impl Cell {
         self.machine.table()
     }
 
-    /// The place of a token agent that has ended, without the path's sizes; `None` exactly before
-    /// that, and for other kinds.
+    /// The place of a token agent that has ended, without the domain sizes of its path; `None`
+    /// exactly if the agent has not ended or is of another kind.
     pub fn place(&self) -> Option<&Place>
         ensures { MatchOption result (place_of (state_of (λ b. meaning b) self.now).view ≡ None)
             (λ p. place_of (state_of (λ b. meaning b) self.now).view ≡ Some p.now) }
@@ -56,7 +57,7 @@ impl Cell {
         self.machine.place()
     }
 
-    /// What the agent did, visit by visit.
+    /// The journal of the agent: an entry for each of its steps, in order.
     pub fn journal(&self) -> &Journal
         ensures { result.now ≡ (state_of (λ b. meaning b) self.now).journal }
     {

@@ -14,12 +14,13 @@ use dcop_base::VarId;
 use fifo_links::{LinkHead, LinkTail};
 
 impl Cell {
-    /// Settles the link from this cell to the other, in one thread: moves what stands in its
-    /// backlog into its ring while there is room. Answers how many messages are in the ring, all of
-    /// which the other cell then knows. Nothing but the link changes. It takes no memory.
+    /// Settles the link from this cell to the other, in one thread: messages move from its backlog
+    /// into its ring while there are free slots. Returns how many messages are in the ring; the
+    /// other cell then knows of all of them. Nothing else changes. It allocates no memory.
     ///
-    /// The other cell is looked for at place `near_tail` of this one's neighbours first, and this cell
-    /// at place `near_head` of the other's; what is not there is found by halving.
+    /// The other cell is looked for among the neighbours of this cell, at place `near_tail` first,
+    /// and this cell among the neighbours of the other, at place `near_head` first. If it is not
+    /// there, it is found by binary search.
     pub fn settle_to(&mut self, near_tail: usize, other: &mut Cell, near_head: usize) -> u32
         requires cell { IsCell (λ b. meaning b) self.old }
         requires other_cell { IsCell (λ b. meaning b) other.old }
@@ -49,8 +50,8 @@ impl Cell {
         )
     }
 
-    /// Settles the link from this cell to a neighbour whose end is outside a cell, as
-    /// [`Cell::settle_to`].
+    /// Settles the link from this cell to a neighbour whose end is in no cell, as
+    /// [`Cell::settle_to`] does.
     pub fn settle_tail(&mut self, to: VarId, head: &mut LinkHead<Sealed>) -> u32
         requires cell { IsCell (λ b. meaning b) self.old }
         requires joined { TailJoins (tails_in self.old) to head.old }
@@ -67,8 +68,8 @@ impl Cell {
         settle_tail_to(self.tails.as_mut_slice(), to, 0, head)
     }
 
-    /// Settles the link to this cell from a neighbour whose end is outside a cell, as
-    /// [`Cell::settle_to`].
+    /// Settles the link to this cell from a neighbour whose end is in no cell, as
+    /// [`Cell::settle_to`] does.
     pub fn settle_head(&mut self, from: VarId, tail: &mut LinkTail<Sealed>) -> u32
         requires cell { IsCell (λ b. meaning b) self.old }
         requires joined { HeadJoins (heads_in self.old) from tail.old }

@@ -16,13 +16,16 @@ use dcop_edge::Gate;
 
 impl Cell {
     /// Passes the gate, takes all that it finds on each link, at most 64 messages of each, lets the
-    /// agent react once, and sends what it sends with the next stamp. Answers how many messages it
-    /// took; it is 0 only where none was known to wait, and then nothing has changed but what it
-    /// knows of its links. It takes memory where it finds something.
+    /// agent react once, and sends what it sends with the next stamp. Returns how many messages it
+    /// took. The number is 0 only if no message was known to wait; then nothing has changed except
+    /// what the cell knows of its links. It allocates memory if it finds something.
     ///
-    /// [`VisitFault::StampEnd`] comes exactly where something was taken and the greatest of the
-    /// cell's stamp and the taken ones is `CAP`; then the agent does not react and nothing is sent.
-    /// After a fault the cell has failed, and answers the same fault to every later visit.
+    /// # Errors
+    ///
+    /// [`VisitFault::NoMemory`] if memory runs out. [`VisitFault::StampEnd`] only if something was
+    /// taken and the greatest of the cell's stamp and the taken stamps is `CAP`; the agent has then
+    /// not reacted and nothing was sent. After a fault the cell has failed, and returns the same
+    /// fault at every later visit.
     pub fn visit<G: Gate>(&mut self, gate: &G) -> Result<u64, VisitFault>
         requires cell { IsCell (λ b. meaning b) self.old }
         requires begun { begun_in self.old ≡ true }
@@ -43,8 +46,8 @@ impl Cell {
         self.visit_marking(gate, &mut [])
     }
 
-    /// [`Cell::visit`], which also marks each agent to which it sends something: the mark at place j
-    /// stands for agent j. What was marked stays marked, and agents for which there is no mark are
+    /// Does what [`Cell::visit`] does, and marks each agent to which it sends something: the mark
+    /// at place j belongs to agent j. A mark that is set stays set. Agents without a mark are
     /// passed over.
     pub fn visit_marking<G: Gate>(
         &mut self,

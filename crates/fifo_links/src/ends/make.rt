@@ -10,8 +10,12 @@ use rtrb::RingBuffer;
 use std::alloc::Global;
 use std::collections::VecDeque;
 
-/// The two ends of a new link, on which nothing was sent. It takes the memory of the ring, and
-/// none for a backlog.
+/// Makes a link on which nothing was sent, and returns its two ends. It allocates the ring, and no
+/// memory for a backlog.
+///
+/// # Errors
+///
+/// [`NoMemory`] if memory runs out.
 pub fn link<T: Send + Drop>(alloc: Global) -> Result<(LinkTail<T>, LinkHead<T>), NoMemory>
     ensures ends { IfOk result (λ l. AreEnds l.0 l.1) }
     ensures sent { IfOk result (λ l. sent_on l.0 ≡ []) }

@@ -6,11 +6,11 @@ ghost use Rattle.fifo_links.specs.Link.{sent_on, backlog_of, entered_by, room_of
 use super::LinkTail;
 
 impl<T: Send + Drop> LinkTail<T> {
-    /// Sends an item. What stands in the backlog enters the ring first, while there is room; then
-    /// the item enters it, or joins the backlog where the ring is full.
+    /// Sends an item. Items of the backlog enter the ring first, while it has free slots. Then the
+    /// item enters the ring, or joins the backlog if the ring is full.
     ///
-    /// The item comes back only for want of memory, and then nothing was sent. It takes no memory
-    /// where the backlog is empty and the ring is known to have room, and then it succeeds.
+    /// The item is returned only if memory runs out, and then nothing was sent. If the backlog is
+    /// empty and the ring is known to have a free slot, the call succeeds and allocates no memory.
     pub fn push(&mut self, item: T) -> Result<(), T>
         ensures end { SameTail self.old self.new }
         ensures sent { OnOk result (sent_on self.new ≡ sent_on self.old ++ item ∷ []) }
@@ -28,7 +28,7 @@ impl<T: Send + Drop> LinkTail<T> {
             .map_err(|refused| refused.value)
     }
 
-    /// Moves the backlog into the ring while there is room.
+    /// Moves items from the backlog into the ring while it has free slots.
     pub(super) fn refill(&mut self)
         ensures end { SameTail self.old self.new }
         ensures sent { sent_on self.new ≡ sent_on self.old }

@@ -5,10 +5,10 @@ ghost use Rattle.fifo_links.specs.Link.{AreEnds, sent_on, taken_from, known_to, 
 
 use super::{LinkHead, LinkTail};
 
-/// Moves the backlog into the ring while there is room, and answers how many items are in the
-/// ring. Then what was taken, the ring and the backlog are together what was sent; the backlog is
-/// empty or the ring full; and the head knows every item in the ring, so that the next `take_all`
-/// takes them all. It takes no memory.
+/// Moves items from the backlog into the ring while it has free slots, and returns how many items
+/// are in the ring. After the call, what was taken, the ring and the backlog are, in this order,
+/// all that was sent. The backlog is empty or the ring is full. The head knows of every item in the
+/// ring, so the next `take_all` takes them all. It allocates no memory.
 pub fn settle<T: Send + Drop>(tail: &mut LinkTail<T>, head: &mut LinkHead<T>) -> u32
     requires ends { AreEnds tail.old head.old }
     ensures tail { SameTail tail.old tail.new }

@@ -8,8 +8,8 @@ ghost use Rattle.fifo_links.specs.Link.{taken_from, known_to, HasTaken, SameHead
 use super::{LinkHead, SLOTS};
 
 impl<T: Send + Drop> LinkHead<T> {
-    /// Whether it finds nothing in the ring. Nothing is taken; what it finds it knows from then on. A
-    /// tail in another thread may send at any time. It takes no memory.
+    /// Whether the head finds nothing in the ring. Nothing is taken. From then on the head knows of
+    /// what it found. A tail in another thread may send at any time. It allocates no memory.
     pub fn is_empty(&mut self) -> bool
         ensures end { SameHead self.old self.new }
         ensures taken { taken_from self.new ≡ taken_from self.old }
@@ -20,9 +20,9 @@ impl<T: Send + Drop> LinkHead<T> {
         self.ring.slots() == 0
     }
 
-    /// Takes what it finds in the ring, oldest first, at most 64 items, and adds it to `into`.
-    /// Answers how many it took. It takes at least what was known to be there, so it answers 0
-    /// only where no item was known. It takes no memory: `into` has room for 64 more.
+    /// Takes what it finds in the ring, oldest first, at most 64 items, and appends it to `into`,
+    /// which must have room for 64 more. Returns how many items it took. It takes at least the
+    /// items that it knew of, so it returns 0 only if it knew of none. It allocates no memory.
     #[tactic(auto, using(crate::proofs::TakingLaws::taking_none, crate::proofs::TakingLaws::taking_more, crate::proofs::TakingLaws::taking_empty, crate::proofs::TakingLaws::taking_all))]
     pub fn take_all(&mut self, into: &mut Vec<T>) -> u32
         requires room { vec_len into.old + ring_slots ≤ vec_capacity into.old }

@@ -2,7 +2,7 @@ use Rattle.std.proofs.Common.{◌≡◌, ℕ, ◌+◌, ◌≤◌, List, length, 
 use Rattle.problem_text.specs.Lines.{Line, lines, numbered, with_words}
 use Rattle.answer_edge.proofs.after_end.line_after.Given as goal
 
--- the first of these lines with words that ends behind so many bytes
+-- the first of these lines that has words and ends after more than `used` bytes
 abbrev pub first_after : ℕ → ℕ → ℕ → List (List ℕ) → Option Line
 first_after used number at ls = find (λ line. nat_lt used line.used) (with_words (numbered number at ls))
 

@@ -3,7 +3,7 @@ use Rattle.std.proofs.lemmas.List.{take_all}
 use Rattle.delivery_core.proofs.CalmLaws.{none_from, first_from}
 use Rattle.delivery_core.proofs.arrivals.first_busy.Goals as goal
 
--- what is behind a place, to the end
+-- the list from a place to its end
 rest_is : (bytes : List ℕ) (from : ℕ) → take (length bytes - from) (drop from bytes) ≡ drop from bytes
 rest_is bytes from = take_all (length bytes - from) (drop from bytes) (omega (arith, length-drop from bytes))
 

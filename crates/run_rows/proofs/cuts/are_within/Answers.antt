@@ -3,7 +3,7 @@ use Rattle.std.proofs.lemmas.Bool.{cases_lt}
 use Rattle.std.proofs.lemmas.List.{get_or_default}
 use Rattle.run_rows.proofs.cuts.are_within.Goals as goal
 
--- one size more is within the limit
+-- one more size is within the limit
 within-next : (sizes : List ℕ) (limit n : ℕ) → ((k d : ℕ) → k < n → get_or sizes k d ≤ limit) → n < length sizes → (e : ℕ) → get_or sizes n e ≤ limit → (k d : ℕ) → k < n + 1 → get_or sizes k d ≤ limit
 within-next sizes limit n before inside e here k d lt = elim (cases_lt k n) [
   | inl earlier ↦ before k d earlier

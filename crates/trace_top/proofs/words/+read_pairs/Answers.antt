@@ -5,11 +5,11 @@ use Rattle.trace_top.specs.declared.words.Given.{Given}
 use Rattle.trace_top.specs.Words.{unless_fault, option_told, given_told, pairs_told}
 use Rattle.trace_top.proofs.words.+read_pairs.Goals as goal
 
--- what follows from an option that a word tells
+-- what follows from an option that a word names
 abbrev value_next : Given → TraceOption → List ℕ → List (List ℕ) → Result Given WordFault
 value_next given option value words = unless_fault (given_told given option value) (λ next. pairs_told next words)
 
--- behind a pair without a fault the words go on with its value
+-- after a pair without a fault, the words go on with its value
 pair_taken : (given next : Given) (words behind rest : List (List ℕ)) (name value : List ℕ) (option : TraceOption) → words ≡ name ∷ behind → behind ≡ value ∷ rest
     → option_told given name ≡ Ok option → given_told given option value ≡ Ok next → pairs_told next rest ≡ pairs_told given words
 pair_taken given next words behind rest name value option cut more told good =
