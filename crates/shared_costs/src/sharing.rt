@@ -7,7 +7,7 @@ ghost use Rattle.dcop_base.specs.Table.{has};
 ghost use Rattle.cost_table.specs.Cells.{place_in};
 ghost use Rattle.shared_costs.specs.Moves.{AreLows};
 ghost use Rattle.shared_costs.specs.Rows.{AreNaming, AreLowRows, ArePotOf, IsParting};
-ghost use Rattle.shared_costs.specs.Sharing.{IsSharing};
+ghost use Rattle.shared_costs.specs.Sharing.{IsShare, IsSharing};
 ghost use Rattle.shared_costs.specs.Tables.{AreTablesOver, IsTableOver};
 
 use crate::table::SharedTable;
@@ -36,7 +36,8 @@ pub fn share(
     requires tables { AreTablesOver sizes.now tables.old }
     requires places { All (λ k. k < length tables.old) places.now }
     requires var { var < length sizes.now }
-    ensures { OnOk result (IsSharing sizes.now tables.old tables.new) }
+    ensures share { OnOk result (IsShare sizes.now var tables.old tables.new) }
+    ensures sharing { OnOk result (IsSharing sizes.now tables.old tables.new) }
 {
     let places = naming_places(alloc, tables, places, var)?;
     let rows = low_rows(alloc, sizes, tables, places.as_slice(), var)?;
@@ -174,7 +175,7 @@ fn give(
     requires pot { ArePotOf lows.now.rows.items (slice_index sizes.now var)
         (length lows.now.places.items) pot.old }
     requires parts { length parts.old ≡ slice_index sizes.now var }
-    ensures { IsSharing sizes.now tables.old tables.new }
+    ensures { IsShare sizes.now var tables.old tables.new }
 {
     let places = lows.places.as_slice();
     let rows = lows.rows.as_slice();
