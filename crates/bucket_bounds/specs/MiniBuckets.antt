@@ -15,12 +15,12 @@ pub record IsSentOf (p room : ℕ) (parts sent : List CostTable) (fixed replaced
   pub each : AllZip (λ t less. IsProjection t p less) parts projections
   pub kept : AreKept room projections sent fixed replaced
 
--- a bucket of variable p: its tables and the bounds that came to it were parted into groups within the limit, and it sends what is kept of these parts, with room for this many cells
+-- a bucket of variable p: its tables and the bounds that came to it were parted into groups within the limit, with p shared among them, and it sends what is kept of these parts, with room for this many cells
 pub record IsMiniBucket (sizes : List ℕ) (limit p room : ℕ) (bucket : Bucket) : Type 0 where
   pub within : p < length sizes
   pub tables : All (IsItem sizes p) bucket.tables
   pub parts : List CostTable
-  pub parted : AreParts sizes limit (bucket.tables ++ bucket.came) parts
+  pub parted : AreParts sizes limit p (bucket.tables ++ bucket.came) parts
   pub groups : bucket.groups ≡ length parts
   pub sent : IsSentOf p room parts bucket.sent bucket.fixed bucket.replaced
 

@@ -1,10 +1,10 @@
--- The parts of a bucket: joined tables of its groups, with costs shared among them.
+-- The parts of a bucket: joined tables of its groups, with its variable shared among them.
 use Rattle.std.specs.Prelude.{◌≡◌, ℕ, ◌≤◌, ◌⊎◌, List, length}
 use Rattle.std.specs.List.{AllZip, flat_map}
 use Rattle.std.specs.List.Sorted.{IsPermutation}
 use Rattle.dcop_base.specs.Table.{CostTable}
 use Rattle.dcop_base.specs.Values.{cell_with, cost_with}
-use Rattle.shared_costs.specs.Sharing.{IsSharing}
+use Rattle.shared_costs.specs.Sharing.{IsShare}
 use Rattle.shared_costs.specs.Tables.{IsTableOver}
 use Rattle.shared_costs.specs.Values.{AreValues}
 use Rattle.bucket_bounds.specs.Parting.{IsScopeOf}
@@ -20,11 +20,11 @@ pub record IsJoinOf (sizes : List ℕ) (group : List CostTable) (joined : CostTa
 abbrev pub IsNarrow : ℕ → List CostTable → CostTable → Type 0
 IsNarrow limit group joined = (length group ≡ 1) ⊎ (length joined.cells ≤ limit)
 
--- tables that were parted into groups, each of one table or not too wide, joined group by group, with costs shared among the joined tables
-pub record AreParts (sizes : List ℕ) (limit : ℕ) (tables parts : List CostTable) : Type 0 where
+-- tables that were parted into groups, each of one table or not too wide, and joined group by group, with variable p shared among the joined tables
+pub record AreParts (sizes : List ℕ) (limit p : ℕ) (tables parts : List CostTable) : Type 0 where
   pub groups : List (List CostTable)
   pub parted : IsPermutation tables (flat_map (λ group. group) groups)
   pub joined : List CostTable
   pub joins : AllZip (IsJoinOf sizes) groups joined
   pub narrow : AllZip (IsNarrow limit) groups joined
-  pub shared : IsSharing sizes joined parts
+  pub shared : IsShare sizes p joined parts

@@ -82,7 +82,7 @@ fn parts_of(
     requires capped { AreUncapped sizes.now (tables.now ++ came.now) }
     requires limit { limit ≤ joined_limit }
     ensures parts { IfOk result
-        (λ parts. AreParts sizes.now limit (tables.now ++ came.now) parts.items) }
+        (λ parts. AreParts sizes.now limit var (tables.now ++ came.now) parts.items) }
     ensures parted { IfOk result
         (λ parts. 2 ≤ length parts.items → AreTooWide sizes.now limit (tables.now ++ came.now)) }
 {

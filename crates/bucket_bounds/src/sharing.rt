@@ -2,7 +2,7 @@
 
 ghost use Rattle.std.specs.Prelude.{◌≡◌, ◌<◌, length, IfOk, OnOk};
 ghost use Rattle.std.specs.List.{All};
-ghost use Rattle.shared_costs.specs.Sharing.{IsSharing};
+ghost use Rattle.shared_costs.specs.Sharing.{IsShare};
 ghost use Rattle.shared_costs.specs.Tables.{AreTablesOver};
 
 use dcop_base::{NoMemory, Table, VarId};
@@ -18,7 +18,7 @@ pub(crate) fn shared_tables(
 ) -> Result<Vec<Table>, NoMemory>
     requires tables { AreTablesOver sizes.now tables.items }
     requires var { var < length sizes.now }
-    ensures { IfOk result (λ shared. IsSharing sizes.now tables.items shared.items) }
+    ensures { IfOk result (λ shared. IsShare sizes.now var tables.items shared.items) }
 {
     if tables.len() < 2 {
         return Ok(tables);
@@ -37,7 +37,7 @@ fn share_all(
 ) -> Result<(), NoMemory>
     requires tables { AreTablesOver sizes.now tables.old }
     requires var { var < length sizes.now }
-    ensures { OnOk result (IsSharing sizes.now tables.old tables.new) }
+    ensures { OnOk result (IsShare sizes.now var tables.old tables.new) }
 {
     let places = places_below(alloc, tables.len())?;
     share(alloc, sizes, tables, places.as_slice(), var, 0)
