@@ -19,6 +19,7 @@ pub record AreGrounds (sizes : List ℕ) (scale : ℕ) (buckets : List Bucket) :
   pub bounds : AreBounds sizes (tables_in buckets) buckets
   pub scaled : 1 ≤ scale
   pub whole : (value : ℕ → ℕ) → AreValues sizes value → (cost : ℕ) × (scaled_cost buckets value ≡ scale * cost)
+  pub some : 1 ≤ length sizes
   pub few : length sizes ≤ variable_limit
   pub sized : All (λ s. (1 ≤ s) × (s ≤ size_limit)) sizes
 

@@ -53,6 +53,6 @@ Visits [] buckets rules depth value old new = (cost : ℕ) × (scaled_cost bucke
 Visits (size ∷ sizes) buckets rules depth value old new =
     VisitsEach rules (λ a. estimate (depth + 1) buckets (with_own depth a value)) size (λ a before after. Visits sizes buckets rules (depth + 1) (with_own depth a value) before after) old new
 
--- a whole search: the estimate at depth 0 is passed over, and nothing is visited; or it goes from the first variable on
+-- a whole search: it visits from the first variable on
 abbrev pub HasVisited : List ℕ → List Bucket → Rules → Far → Far → Type 0
-HasVisited sizes buckets rules old new = PassesOver rules (estimate 0 buckets (λ v. 0)) old new ⊎ Visits sizes buckets rules 0 (λ v. 0) old new
+HasVisited sizes buckets rules old new = Visits sizes buckets rules 0 (λ v. 0) old new

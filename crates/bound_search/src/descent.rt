@@ -34,7 +34,7 @@ pub(crate) fn descend(
     requires depth { depth ≤ length sizes.now }
     requires within { AreWithin sizes.now values.old }
     requires least { least ≡ estimate depth buckets.now (slice_index values.old) }
-    requires room { least < progress.old.room }
+    requires room { depth ≡ length sizes.now → least < progress.old.room }
     requires few { progress.old.best ≡ None
         → progress.old.nodes + (length sizes.now - depth) ≤ u64.MAX }
     requires rows { sum (drop depth sizes.now) ≤ length rows.old }

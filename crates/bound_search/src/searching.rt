@@ -98,7 +98,7 @@ pub fn search(
     })
 }
 
-/// Searches all assignments, unless the estimate at depth 0 is passed over already.
+/// Searches all assignments.
 fn search_from_top(
     alloc: Global,
     sizes: &[u16],
@@ -108,7 +108,7 @@ fn search_from_top(
     progress: &mut Progress,
 ) -> Result<(), NoMemory>
     requires grounds { AreGrounds sizes.now rules.scale buckets.now }
-    requires new { (progress.old.lower ≡ u64.MAX) × (progress.old.spent ≡ false) }
+    requires new { progress.old.spent ≡ false }
     requires few { progress.old.nodes ≤ 4611686018427387904 }
     requires standing { IsStanding sizes.now buckets.now rules found.old progress.old }
     ensures standing { OnOk result (IsStanding sizes.now buckets.now rules found.new progress.new) }
@@ -119,10 +119,6 @@ fn search_from_top(
     let mut values = vec![in alloc; Val(0); sizes.len()]?;
     let mut rows = vec![in alloc; 0; total_of(sizes)]?;
     let first = first_estimate(buckets);
-    if first >= progress.room {
-        progress.lower = first;
-        return Ok(());
-    }
     descend(
         sizes,
         buckets,
