@@ -1,2 +1,4 @@
 mod SameLaws
+mod HistorySteps
 mod DifferLaws
+mod LowestLaws

@@ -1,18 +1,27 @@
--- The lowest link that differs, among the first links of a list.
+-- The lowest link that differs, among the first links of a list, and its first difference.
 use Rattle.std.specs.Prelude.{◌≡◌, ℕ, ◌<◌, Option, Some, None, slice_get, List}
+use Rattle.protocol_steps.specs.declared.message.Message.{Message}
 use Rattle.node_runs.specs.Wires.{Wire, HasHeld}
-use Rattle.kept_wires.specs.declared.differ.Place.{Place}
 use Rattle.kept_wires.specs.Differences.{FirstDiffer, ComesBefore}
 
--- it is at this place, and this is its first difference
-pub record IsLowest (ws : List Wire) (count : ℕ) (p : Place) : Type 0 where
+-- the link at this position differs, and none of the first `count` links that come before it does
+pub record IsLowest (ws : List Wire) (count link : ℕ) : Type 0 where
   pub wire : Wire
-  pub within : p.link < count
-  pub is : slice_get ws p.link ≡ Some wire
-  pub first : FirstDiffer wire.passages p.number p.place p.at
+  pub within : link < count
+  pub is : slice_get ws link ≡ Some wire
+  pub differs : ¬ HasHeld wire
   pub lowest : (k : ℕ) (v : Wire) → k < count → slice_get ws k ≡ Some v → ComesBefore v wire → HasHeld v
 
--- it is this one, or none of them differs
-abbrev pub IsLowestOf : List Wire → ℕ → Option Place → Type 0
-IsLowestOf ws count (Some p) = IsLowest ws count p
+-- it is this one, or none of the first `count` links differs
+abbrev pub IsLowestOf : List Wire → ℕ → Option ℕ → Type 0
+IsLowestOf ws count (Some link) = IsLowest ws count link
 IsLowestOf ws count None = (k : ℕ) (v : Wire) → k < count → slice_get ws k ≡ Some v → HasHeld v
+
+-- this is the first difference of the link: `at` is how many messages it had drained before, and
+-- these are the two envelopes
+pub record IsDifferenceOf (w : Wire) (at : ℕ) (sent taken : Option (ℕ × Message)) : Type 0 where
+  pub number : ℕ
+  pub place : ℕ
+  pub first : FirstDiffer w.passages number place at
+  pub sent_is : sent ≡ slice_get first.passage.drained place
+  pub taken_is : taken ≡ slice_get first.passage.arrived place

@@ -1,3 +1,5 @@
 pub mod Keeping
 pub mod Differences
+pub mod Firsts
+pub mod Passed
 pub mod Found

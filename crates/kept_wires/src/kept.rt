@@ -1,79 +1,46 @@
-//! What one link has passed, exchange by exchange.
+//! What one link has passed, and its first difference.
 
-ghost use Rattle.std.specs.Prelude.{◌≡◌, ◌<◌, ◌∷◌, ◌++◌, [], length, Some, OnOk, OnErr, slice_get};
-ghost use Rattle.node_runs.specs.Wires.{HasPassed};
+ghost use Rattle.std.specs.Prelude.{◌≡◌, ◌↔◌, [], ◌∷◌, ◌++◌, true, min, MatchOption};
+ghost use Rattle.std.specs.List.{All};
+ghost use Rattle.dcop_base.specs.Limits.{count_limit};
+ghost use Rattle.node_runs.specs.Wires.{IsSame, HasHeld, HasPassed};
+ghost use Rattle.kept_wires.specs.Differences.{drained_by};
+ghost use Rattle.kept_wires.specs.Found.{IsDifferenceOf};
 ghost use Rattle.kept_wires.specs.Keeping.{keeps};
 
-use dcop_base::{NoMemory, VarId};
+use crate::first::FirstDifference;
+use crate::history::History;
+use crate::passage::KeptPassage;
+use crate::place::place_of;
+use dcop_base::VarId;
 use protocol_steps::Envelope;
-use std::alloc::Global;
 use std::marker::Model;
 
-/// What one exchange did on one link: the envelopes that it drained in the sender's node, and those
-/// that arrived in the receiver's. Contracts see the two lists.
-#[derive(Drop)]
-pub struct KeptPassage {
-    drained: Vec<Envelope>,
-    arrived: Vec<Envelope>,
-}
-
-impl Model for KeptPassage {
-    ghost use Rattle.node_runs.specs.Wires.{Passage};
-
-    ghost Value = { Passage };
-
-    ghost view = { λ p. record { drained = p.drained.items; arrived = p.arrived.items } };
-}
-
-impl KeptPassage {
-    /// A passage with these two lists.
-    pub fn new(drained: Vec<Envelope>, arrived: Vec<Envelope>) -> KeptPassage
-        ensures drained { result.drained ≡ drained.items }
-        ensures arrived { result.arrived ≡ arrived.items }
-    {
-        KeptPassage { drained, arrived }
-    }
-
-    /// What was drained, oldest first.
-    pub fn drained(&self) -> &[Envelope]
-        ensures { result.now ≡ self.now.drained }
-    {
-        self.drained.as_slice()
-    }
-
-    /// What arrived, oldest first.
-    pub fn arrived(&self) -> &[Envelope]
-        ensures { result.now ≡ self.now.arrived }
-    {
-        self.arrived.as_slice()
-    }
-
-    // Takes the envelopes at this position out of the two lists.
-    fn take_out(&mut self, place: usize) -> (Option<Envelope>, Option<Envelope>)
-        ensures drained { result.0 ≡ slice_get self.old.drained place }
-        ensures arrived { result.1 ≡ slice_get self.old.arrived place }
-    {
-        let drained = take_at(&mut self.drained, place);
-        let arrived = take_at(&mut self.arrived, place);
-        (drained, arrived)
-    }
-}
-
-/// A link from an agent to one in another node, with all its passages, oldest first: one for each
-/// exchange that found anything on it. Contracts see it as a `Wire` of `node_runs`.
+/// A link from an agent to one in another node, with its first difference: the first place at which
+/// what arrived is not what was drained in the same exchange. Contracts see a `Wire` of
+/// `node_runs`, with all that the link has passed. Its memory does not grow with the number of
+/// passages.
 #[derive(Drop)]
 pub struct KeptLink {
     from: VarId,
     to: VarId,
-    passages: Vec<KeptPassage>,
+    // How many envelopes were drained before the exchange with the first difference.
+    drained: u64,
+    // What was passed before that exchange; each exchange took what it drained.
+    held: History<KeptPassage>,
+    first: Option<FirstDifference>,
+    ghost same: { All IsSame held.items },
+    ghost counted: { drained ≡ min (drained_by held.items) count_limit },
 }
 
 impl Model for KeptLink {
+    ghost use Rattle.std.specs.Prelude.{◌++◌};
     ghost use Rattle.node_runs.specs.Wires.{Wire};
+    ghost use Rattle.kept_wires.specs.Passed.{passed_since};
 
     ghost Value = { Wire };
 
-    ghost view = { λ l. record { receiver = l.to; sender = l.from; passages = l.passages.items } };
+    ghost view = { λ l. record { receiver = l.to; sender = l.from; passages = l.held.items ++ passed_since l.first } };
 }
 
 /// The first place at which the envelopes that arrived on a link are not those that were drained in
@@ -95,15 +62,17 @@ pub struct LinkDifference {
 }
 
 impl KeptLink {
-    /// A link that has passed nothing. It takes no memory.
-    pub fn new(alloc: Global, from: VarId, to: VarId) -> KeptLink
+    /// A link that has passed nothing.
+    pub fn new(from: VarId, to: VarId) -> KeptLink
         ensures ends { (result.sender ≡ from) × (result.receiver ≡ to) }
         ensures passages { result.passages ≡ [] }
     {
         KeptLink {
             from,
             to,
-            passages: Vec::new(alloc),
+            drained: 0,
+            held: History::new(),
+            first: None,
         }
     }
 
@@ -121,51 +90,64 @@ impl KeptLink {
         self.to
     }
 
-    /// The passages, oldest first.
-    pub fn passages(&self) -> &[KeptPassage]
-        ensures { result.now ≡ self.now.passages }
-    {
-        self.passages.as_slice()
-    }
-
-    /// Keeps what an exchange drained and what arrived. If both are empty, it keeps nothing.
-    ///
-    /// # Errors
-    ///
-    /// [`NoMemory`] if memory runs out. The link stays as it was.
-    pub fn keep(&mut self, drained: Vec<Envelope>, arrived: Vec<Envelope>) -> Result<(), NoMemory>
-        ensures kept { OnOk result (self.new ≡ keeps self.old drained.items arrived.items) }
-        ensures passed { OnOk result (HasPassed self.old self.new) }
-        ensures same { OnErr result (self.new ≡ self.old) }
+    /// Compares what an exchange drained with what arrived. If the link has no difference yet, it
+    /// keeps the first one here; nothing else is kept. It takes no memory.
+    pub fn keep(&mut self, drained: Vec<Envelope>, arrived: Vec<Envelope>)
+        ensures kept { self.new ≡ keeps self.old drained.items arrived.items }
+        ensures passed { HasPassed self.old self.new }
     {
         if drained.is_empty() && arrived.is_empty() {
-            return Ok(());
+            return;
         }
-        self.passages.push(KeptPassage::new(drained, arrived))?;
-        Ok(())
+        self.pass(KeptPassage::new(drained, arrived));
     }
 
-    /// Takes the envelopes at a position out of a passage.
-    pub(crate) fn take_out(
-        &mut self,
-        number: usize,
-        place: usize,
-    ) -> (Option<Envelope>, Option<Envelope>)
-        requires { number < length self.old.passages }
-        ensures drained { (p : _) → slice_get self.old.passages number ≡ Some p → result.0 ≡ slice_get p.drained place }
-        ensures arrived { (p : _) → slice_get self.old.passages number ≡ Some p → result.1 ≡ slice_get p.arrived place }
+    // Adds this passage to those that the link has passed.
+    fn pass(&mut self, passage: KeptPassage)
+        ensures ends { (self.new.sender ≡ self.old.sender) × (self.new.receiver ≡ self.old.receiver) }
+        ensures passages { self.new.passages ≡ self.old.passages ++ passage ∷ [] }
     {
-        self.passages[number].take_out(place)
+        if let Some(first) = &mut self.first {
+            first.pass(&passage);
+            return;
+        }
+        match place_of(passage.drained(), passage.arrived()) {
+            Some(place) => self.first = Some(FirstDifference::new(passage, place)),
+            None => {
+                let more = passage.drained().len() as u64;
+                self.drained = self.drained.saturating_add(more);
+                self.held = self.held.and(&passage);
+            }
+        }
     }
-}
 
-// Takes the envelope at this position out of a list.
-fn take_at(list: &mut Vec<Envelope>, place: usize) -> Option<Envelope>
-    ensures { result ≡ slice_get list.old.items place }
-{
-    if place < list.len() {
-        Some(list.swap_remove(place))
-    } else {
-        None
+    /// Whether each exchange took on the link exactly what it drained there.
+    pub(crate) fn has_held(&self) -> bool
+        ensures { (result ≡ true) ↔ HasHeld self.now }
+    {
+        self.first.is_none()
+    }
+
+    /// The first difference of the link. `None` exactly when each exchange took on it what it
+    /// drained. It takes no memory.
+    pub(crate) fn into_difference(self) -> Option<LinkDifference>
+        ensures { MatchOption result (HasHeld self)
+            (λ d. (d.from ≡ self.sender) × (d.to ≡ self.receiver) × IsDifferenceOf self d.at d.sent d.taken) }
+    {
+        let KeptLink {
+            from,
+            to,
+            drained,
+            first,
+            ..
+        } = self;
+        let first = first?;
+        Some(LinkDifference {
+            from,
+            to,
+            at: drained.saturating_add(first.place as u64),
+            sent: first.sent,
+            taken: first.taken,
+        })
     }
 }

@@ -128,7 +128,7 @@ impl<W: Wire> NodePlan<W> {
             &mut self.kept,
             &mut self.ends,
             place,
-            KeptLink::new(alloc, from, to),
+            KeptLink::new(from, to),
             InnerEnds {
                 drain,
                 feed,

@@ -34,10 +34,11 @@ use std::time::Clock;
 use wire_edge::{Dialer, Wire};
 
 /// Starts the agents of all cells in order, and plays the cells in rounds with this many workers.
-/// An exchange between the nodes follows the start and each round. The run ends as one of
-/// `agent_workers` does, under this budget of deliveries. At the end every link is settled once
-/// more. Then what each exchange drained and what arrived is compared, exchange by exchange. It
-/// takes memory, but not for the comparison, and may wait.
+/// An exchange between the nodes follows the start and each round. What an exchange drained of a
+/// link and what arrived is compared as it passes, and each link keeps its first difference. The
+/// run ends as one of `agent_workers` does, under this budget of deliveries. At the end every link
+/// is settled once more, and the first difference is looked for. It takes memory, but not for the
+/// comparison, and may wait.
 ///
 /// # Errors
 ///
@@ -46,7 +47,8 @@ use wire_edge::{Dialer, Wire};
 ///   honest dialer.
 /// - [`NodeFault::NoMemory`] if memory runs out.
 ///
-/// After a fault the cells and the plan are as the rounds and exchanges left them.
+/// After a fault the cells and the plan are as the rounds and exchanges left them, except for the
+/// link whose difference is answered: it is like a new one.
 pub fn run_nodes<R, D, G>(
     rt: &R,
     alloc: Global,
@@ -158,8 +160,8 @@ where
     }
 }
 
-/// The first difference between what an exchange drained of a link and what arrived on it. Its
-/// envelopes are taken out of the kept links. It takes no memory.
+/// The first difference between what an exchange drained of a link and what arrived on it. Its link
+/// is then like a new one. It takes no memory.
 fn compare(kept: &mut [KeptLink]) -> Option<Difference>
     ensures { MatchOption result (HaveHeld kept.old) (IsKeptDifference kept.old) }
 {

@@ -81,9 +81,9 @@ fn drain_at(
     Ok(())
 }
 
-/// Feeds what arrived on each link to the cell that receives it, and keeps what was drained and
-/// what arrived. Both are taken out of the passings. It leaves out links on which nothing passed
-/// and nothing waits, if the receiver has done nothing since the last exchange.
+/// Feeds what arrived on each link to the cell that receives it. The link compares it with what was
+/// drained. Both are taken out of the passings. It leaves out links on which nothing passed and
+/// nothing waits, if the receiver has done nothing since the last exchange.
 pub(crate) fn feed_all(
     alloc: Global,
     cells: &mut [Cell],
@@ -113,7 +113,8 @@ pub(crate) fn feed_all(
     Ok(())
 }
 
-/// Feeds what arrived on a link to the cell that receives it, and keeps it.
+/// Feeds what arrived on a link to the cell that receives it. The link compares it with what was
+/// drained.
 fn feed_at(
     alloc: Global,
     cells: &mut [Cell],
@@ -145,7 +146,8 @@ fn feed_at(
         &mut ends.feed,
         arrived.as_slice(),
     )?;
-    link.keep(drained, arrived)
+    link.keep(drained, arrived);
+    Ok(())
 }
 
 /// Whether nothing passed on a link in this exchange, nothing waits on it, and its receiver has

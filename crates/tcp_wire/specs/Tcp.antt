@@ -6,7 +6,15 @@ use Rattle.tcp_wire.specs.declared.wire.TcpWire.{TcpWire}
 use Rattle.tcp_wire.specs.declared.dialer.TcpDialer.{TcpDialer}
 
 abbrev pub tcp_told : TcpWire → Told
-tcp_told w = record { sent = None; received = None; write_waits = w.write_waits; read_waits = w.read_waits; faults = w.faults }
+tcp_told w = record {
+  sent = None;
+  received = None;
+  sent_count = w.sent_count;
+  received_count = w.received_count;
+  write_waits = w.write_waits;
+  read_waits = w.read_waits;
+  faults = w.faults;
+}
 
 -- no two wires over sockets are joined
 abbrev pub tcp_joined : TcpWire → TcpWire → Type 0

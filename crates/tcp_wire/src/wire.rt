@@ -10,10 +10,12 @@ use tokio::net::TcpStream;
 use wire_edge::Wire;
 
 /// One end of a connection. An error of the socket is a fault, and so is the end of the stream. It
-/// does not tell what it has sent and received, and it is joined to no wire.
+/// tells how many bytes it has sent and received, and not which. It is joined to no wire.
 #[derive(Drop)]
 pub struct TcpWire {
     stream: TcpStream,
+    pub(crate) sent_count: u64,
+    pub(crate) received_count: u64,
     pub(crate) write_waits: u64,
     pub(crate) read_waits: u64,
     pub(crate) faults: u64,
@@ -22,10 +24,13 @@ pub struct TcpWire {
 impl TcpWire {
     /// A wire over this connection.
     pub(crate) fn new(stream: TcpStream) -> Self
-        ensures { (result.write_waits ≡ 0) × (result.read_waits ≡ 0) × (result.faults ≡ 0) }
+        ensures counts { (result.write_waits ≡ 0) × (result.read_waits ≡ 0) × (result.faults ≡ 0) }
+        ensures bytes { (result.sent_count ≡ 0) × (result.received_count ≡ 0) }
     {
         TcpWire {
             stream,
+            sent_count: 0,
+            received_count: 0,
             write_waits: 0,
             read_waits: 0,
             faults: 0,
@@ -36,6 +41,7 @@ impl TcpWire {
     fn fault(&mut self) -> Failed
         ensures rose { (self.old.faults ≤ self.new.faults) × Rose self.old.faults self.new.faults }
         ensures same { (self.new.write_waits ≡ self.old.write_waits) × (self.new.read_waits ≡ self.old.read_waits) }
+        ensures bytes { (self.new.sent_count ≡ self.old.sent_count) × (self.new.received_count ≡ self.old.received_count) }
     {
         self.faults = self.faults.saturating_add(1);
         Failed
@@ -57,6 +63,7 @@ impl Wire for TcpWire {
                 if count == 0 && !bytes.is_empty() {
                     return Poll::Ready(Err(self.fault()));
                 }
+                self.sent_count = self.sent_count.saturating_add(count as u64);
                 Poll::Ready(Ok(count))
             }
             Poll::Ready(Err(_refused)) => Poll::Ready(Err(self.fault())),
@@ -74,6 +81,7 @@ impl Wire for TcpWire {
                 if count == 0 && room > 0 {
                     return Poll::Ready(Err(self.fault()));
                 }
+                self.received_count = self.received_count.saturating_add(count as u64);
                 Poll::Ready(Ok(count))
             }
             Poll::Ready(Err(_refused)) => Poll::Ready(Err(self.fault())),

@@ -22,6 +22,8 @@ IsNothing (Some text) = text ≡ []
 pub record IsNew (t : Told) : Type 0 where
   pub sent : IsNothing t.sent
   pub received : IsNothing t.received
+  pub sent_count : t.sent_count ≡ 0
+  pub received_count : t.received_count ≡ 0
   pub write_waits : t.write_waits ≡ 0
   pub read_waits : t.read_waits ≡ 0
   pub faults : t.faults ≡ 0

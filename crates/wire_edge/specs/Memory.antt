@@ -39,6 +39,8 @@ abbrev pub memory_told : MemoryWire → Told
 memory_told w = record {
   sent = told_unless w.alters.items (sent_by w.wire);
   received = Some (received_by w.wire);
+  sent_count = w.wire.sent_count;
+  received_count = w.wire.received_count;
   write_waits = w.wire.write_waits;
   read_waits = w.wire.read_waits;
   faults = w.calls.faults;

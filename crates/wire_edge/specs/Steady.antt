@@ -29,6 +29,8 @@ abbrev pub steady_told : SteadyWire → Told
 steady_told w = record {
   sent = Some (sent_by w);
   received = Some (received_by w);
+  sent_count = w.sent_count;
+  received_count = w.received_count;
   write_waits = w.write_waits;
   read_waits = w.read_waits;
   faults = 0;

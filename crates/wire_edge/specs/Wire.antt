@@ -1,16 +1,19 @@
 -- What a wire tells, and how each of its calls changes that.
-use Rattle.std.specs.Prelude.{◌≡◌, ◌<◌, ◌≤◌, ℕ, List, ◌++◌, length, take, Option, Some, None, Result, Ok, Err}
+use Rattle.std.specs.Prelude.{◌≡◌, ◌+◌, ◌<◌, ◌≤◌, ℕ, min, max, List, ◌++◌, length, take, Option, Some, None, Result, Ok, Err}
 use mathlib.Core.List.{IsPrefix}
 use Rattle.futures.specs.declared.task.Poll.{Poll}
 use Rattle.futures.specs.declared.task.Poll.TheVariants.{Ready, Pending}
+use Rattle.dcop_base.specs.Limits.{count_limit}
 use Rattle.dcop_edge.specs.Faults.{Rose}
 use Rattle.dcop_edge.specs.declared.fault.Failed.{Failed}
 
--- the bytes sent and received so far, if the wire tells them; and how often a write waited, a read
--- waited, and a call failed
+-- the bytes sent and received so far, if the wire tells them; how many were sent and received; and
+-- how often a write waited, a read waited, and a call failed
 pub record Told : Type 0 where
   pub sent : Option (List ℕ)
   pub received : Option (List ℕ)
+  pub sent_count : ℕ
+  pub received_count : ℕ
   pub write_waits : ℕ
   pub read_waits : ℕ
   pub faults : ℕ
@@ -20,18 +23,25 @@ abbrev pub told_more : Option (List ℕ) → List ℕ → Option (List ℕ)
 told_more None more = None
 told_more (Some text) more = Some (text ++ more)
 
--- a write took the first `count` bytes, at least one if there are any, and nothing else changed
+-- a count that goes up by `more`, to 2^64 - 1 at most, and does not fall
+abbrev pub counted_more : ℕ → ℕ → ℕ
+counted_more n more = max n (min (n + more) count_limit)
+
+-- a write took the first `count` bytes, at least one if there are any, and counted them; nothing
+-- else changed
 pub record Wrote (a : Told) (bytes : List ℕ) (count : ℕ) (b : Told) : Type 0 where
   pub within : count ≤ length bytes
   pub some : 0 < length bytes → 0 < count
-  pub is : b ≡ record a { sent = told_more a.sent (take count bytes) }
+  pub counted : b.sent_count ≡ counted_more a.sent_count count
+  pub is : b ≡ record a { sent = told_more a.sent (take count bytes); sent_count = b.sent_count }
 
 -- a read put `count` bytes at the front of the buffer, at least one if it has room for any, and
--- nothing else changed
+-- counted them; nothing else changed
 pub record Gave (a : Told) (buffer filled : List ℕ) (count : ℕ) (b : Told) : Type 0 where
   pub within : count ≤ length buffer
   pub some : 0 < length buffer → 0 < count
-  pub is : b ≡ record a { received = told_more a.received (take count filled) }
+  pub counted : b.received_count ≡ counted_more a.received_count count
+  pub is : b ≡ record a { received = told_more a.received (take count filled); received_count = b.received_count }
 
 -- a call failed: the count of faults rose, or is at its last value, and nothing else changed
 pub record Broke (a b : Told) : Type 0 where

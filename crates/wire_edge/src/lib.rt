@@ -1,9 +1,10 @@
 //! Wires, given as values: a stream of bytes in both directions, polled at each of its two ends.
 //!
 //! A [`Wire`] is one end. For proofs alone, it tells the bytes that it has sent and received, if
-//! they are known. It counts how often a write waited, how often a read waited, and how often a
-//! call failed. A poll is pending only if its count of waits rose and the task is registered. A
-//! count that reaches 2^64 - 1 stays there: from then on "rose" says nothing.
+//! they are known. It counts the bytes that it has sent and received, how often a write waited, how
+//! often a read waited, and how often a call failed. A poll is pending only if its count of waits
+//! rose and the task is registered. A count that reaches 2^64 - 1 stays there: from then on "rose"
+//! says nothing.
 //!
 //! Two wires can be joined. [`Wire::beside`] then shows that what each has received is a prefix of
 //! what the other has sent.

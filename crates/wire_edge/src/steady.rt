@@ -38,6 +38,8 @@ pub struct SteadyWire {
     pub(crate) room: usize,
     pub(crate) pair: u64,
     pub(crate) is_first: bool,
+    pub(crate) sent_count: u64,
+    pub(crate) received_count: u64,
     pub(crate) write_waits: u64,
     pub(crate) read_waits: u64,
     ghost free: { room ≤ free_in outgoing },
@@ -54,6 +56,7 @@ impl SteadyWire {
         ensures poured { IfOk result (λ w. (taken_from w.outgoing ≡ []) × (put_into w.incoming ≡ [])) }
         ensures room { IfOk result (λ w. known_room w ≡ ring_bytes) }
         ensures counts { IfOk result (λ w. (w.write_waits ≡ 0) × (w.read_waits ≡ 0)) }
+        ensures bytes { IfOk result (λ w. (w.sent_count ≡ 0) × (w.received_count ≡ 0)) }
     {
         Ok(SteadyWire {
             outgoing: Ring::new(alloc)?,
@@ -61,6 +64,8 @@ impl SteadyWire {
             room: RING_BYTES,
             pair,
             is_first,
+            sent_count: 0,
+            received_count: 0,
             write_waits: 0,
             read_waits: 0,
         })
@@ -107,6 +112,7 @@ impl Wire for SteadyWire {
         }
         self.room -= count;
         self.outgoing.put(&bytes[..count]);
+        self.sent_count = self.sent_count.saturating_add(count as u64);
         Poll::Ready(Ok(count))
     }
 
@@ -125,6 +131,7 @@ impl Wire for SteadyWire {
             self.read_waits = self.read_waits.saturating_add(1);
             return cx.yield_now();
         }
+        self.received_count = self.received_count.saturating_add(count as u64);
         Poll::Ready(Ok(count))
     }
 

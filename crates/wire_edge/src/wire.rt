@@ -24,7 +24,7 @@ pub trait Wire: Drop {
     ghost are_apart: { Self → Self → Type 0 };
 
     /// Takes bytes from the front of `bytes` and sends them. The answer is how many: at least one
-    /// if there are any.
+    /// if there are any. The count of bytes sent rises by as many.
     ///
     /// It is pending if it can take none now. Then the task is registered or already woken, and the
     /// count of waits of writes rose.
@@ -40,7 +40,7 @@ pub trait Wire: Drop {
         ensures kept { Keeps cx.old cx.new };
 
     /// Puts the next bytes that came into the front of `into`. The answer is how many: at least one
-    /// if `into` has room for any.
+    /// if `into` has room for any. The count of bytes received rises by as many.
     ///
     /// It is pending if there are none now. Then the task is registered or already woken, and the
     /// count of waits of reads rose.

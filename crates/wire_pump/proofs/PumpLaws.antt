@@ -2,8 +2,8 @@
 use Rattle.std.proofs.Common.{◌≡◌, ◌≤◌, ◌⊎◌, ℕ, List, [], ◌∷◌, ◌++◌, length, take, Option, Some, None, Result, Ok, Err, IfOk, is_err, true, false, refl, ap, sym, subst, ◌∙◌, inl, inr, append_assoc, append-nil, arith, length-append}
 use Rattle.std.proofs.lemmas.List.{take_all, append_cancel_left}
 use Rattle.dcop_edge.specs.Faults.{Rose}
-use Rattle.wire_edge.specs.Wire.{Told, told_more, Reach, Reaches}
-use Rattle.wire_pump.specs.Ends.{Before, HasMoved, IsDone, CountsLater, IsLater, HasEnded, IsOpen, IsOpenOnly}
+use Rattle.wire_edge.specs.Wire.{Told, told_more, counted_more, Reach, Reaches}
+use Rattle.wire_pump.specs.Ends.{Before, start_of, HasMoved, IsDone, CountsLater, IsLater, HasEnded, IsOpen, IsOpenOnly}
 use Rattle.wire_pump.specs.Pump.{HasPassed, HasAll, EndsFrom, GivesFrom, EndsPump}
 use Rattle.wire_pump.specs.Turn.{GoesOn}
 use Rattle.wire_pump.specs.declared.ends.Lane.{Lane}
@@ -30,6 +30,8 @@ lane_passed : (before : Before) (from to : Told) (lane : Lane) → HasMoved befo
 lane_passed before from to lane m d = record {
   sent = m.sent ∙ ap (λ (xs : List ℕ). told_more before.sent xs) (take_done lane.went lane.bytes.items (d.sent ∙ lane.bytes.ok.0));
   received = m.received ∙ ap (λ (xs : List ℕ). told_more before.received xs) (take_done lane.came lane.buffer.items (d.received ∙ lane.buffer.ok.0));
+  sent_count = m.sent_count ∙ ap (counted_more before.sent_count) (d.sent ∙ lane.bytes.ok.0);
+  received_count = m.received_count ∙ ap (counted_more before.received_count) (d.received ∙ lane.buffer.ok.0);
   same_length = sym lane.buffer.ok.0 ∙ lane.room ∙ lane.bytes.ok.0;
 }
 
@@ -51,10 +53,15 @@ told_nil : (before : Option (List ℕ)) → before ≡ told_more before []
 told_nil None = refl
 told_nil (Some text) = ap Some (sym (append-nil text))
 
-moved_none : (from to : Told) (lane : Lane) → lane.went ≡ 0 → lane.came ≡ 0 → HasMoved (record { sent = from.sent; received = to.received }) from to lane
+counted_none : (count more : ℕ) → more ≡ 0 → count ≡ counted_more count more
+counted_none count more none = omega (arith, none)
+
+moved_none : (from to : Told) (lane : Lane) → lane.went ≡ 0 → lane.came ≡ 0 → HasMoved (start_of from to) from to lane
 moved_none from to lane went came = record {
   sent = subst (λ (n : ℕ). from.sent ≡ told_more from.sent (take n lane.bytes.items)) (sym went) (told_nil from.sent);
   received = subst (λ (n : ℕ). to.received ≡ told_more to.received (take n lane.buffer.items)) (sym came) (told_nil to.received);
+  sent_count = counted_none from.sent_count lane.went went;
+  received_count = counted_none to.received_count lane.came came;
 }
 
 abbrev some_or_nil : Option (List ℕ) → List ℕ
@@ -73,7 +80,7 @@ prefix_whole text bytes got rest e len =
     sym (append-nil got) ∙ ap (λ (xs : List ℕ). got ++ xs) (sym none) ∙ same
 
 -- over joined wires what came is what went
-lane_equal : (first second from to : Told) (bytes got : List ℕ) → HasAll first second → HasPassed (record { sent = first.sent; received = second.received }) from to bytes got → Reaches from to
+lane_equal : (first second from to : Told) (bytes got : List ℕ) → HasAll first second → HasPassed (start_of first second) from to bytes got → Reaches from to
     → (got ≡ bytes) × HasAll from to
 lane_equal first second from to bytes got h p r =
     let sent : from.sent ≡ Some (h.text ++ bytes) = p.sent ∙ ap (λ (o : Option (List ℕ)). told_more o bytes) h.sent in
@@ -130,12 +137,12 @@ module _ {W : Type 0} (told : W → Told) (is_joined : W → W → Type 0) where
   pub new_gives : (e : Ends W) (to_second to_first : List ℕ) (out : Result (Pumped W) (PumpFail W)) → e.there.bytes.items ≡ to_second → e.there.went ≡ 0 → e.there.came ≡ 0
       → e.back.bytes.items ≡ to_first → e.back.went ≡ 0 → e.back.came ≡ 0 → GivesFrom told is_joined e out → EndsPump told is_joined e.first e.second to_second to_first out
   new_gives e to_second to_first (Ok p) there_bytes there_went there_came back_bytes back_went back_came q =
-      let there : HasPassed (record { sent = (told e.first).sent; received = (told e.second).received }) (told p.first) (told p.second) to_second p.at_second =
-      subst (λ (xs : List ℕ). HasPassed (record { sent = (told e.first).sent; received = (told e.second).received }) (told p.first) (told p.second) xs p.at_second) there_bytes
-      (q.there (record { sent = (told e.first).sent; received = (told e.second).received }) (moved_none (told e.first) (told e.second) e.there there_went there_came)) in
-      let back : HasPassed (record { sent = (told e.second).sent; received = (told e.first).received }) (told p.second) (told p.first) to_first p.at_first =
-      subst (λ (xs : List ℕ). HasPassed (record { sent = (told e.second).sent; received = (told e.first).received }) (told p.second) (told p.first) xs p.at_first) back_bytes
-      (q.back (record { sent = (told e.second).sent; received = (told e.first).received }) (moved_none (told e.second) (told e.first) e.back back_went back_came)) in
+      let there : HasPassed (start_of (told e.first) (told e.second)) (told p.first) (told p.second) to_second p.at_second =
+      subst (λ (xs : List ℕ). HasPassed (start_of (told e.first) (told e.second)) (told p.first) (told p.second) xs p.at_second) there_bytes
+      (q.there (start_of (told e.first) (told e.second)) (moved_none (told e.first) (told e.second) e.there there_went there_came)) in
+      let back : HasPassed (start_of (told e.second) (told e.first)) (told p.second) (told p.first) to_first p.at_first =
+      subst (λ (xs : List ℕ). HasPassed (start_of (told e.second) (told e.first)) (told p.second) (told p.first) xs p.at_first) back_bytes
+      (q.back (start_of (told e.second) (told e.first)) (moved_none (told e.second) (told e.first) e.back back_went back_came)) in
       record {
         there = there;
         back = back;

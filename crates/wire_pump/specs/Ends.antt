@@ -1,21 +1,29 @@
 -- Both ends of a pump: what moved since a start, and what a pass over both ends did.
 use Rattle.std.specs.Prelude.{◌≡◌, ◌<◌, ◌≤◌, ◌⊎◌, ℕ, List, take, Option, vec_len}
 use Rattle.dcop_edge.specs.Faults.{Rose}
-use Rattle.wire_edge.specs.Wire.{Told, told_more}
+use Rattle.wire_edge.specs.Wire.{Told, told_more, counted_more}
 use Rattle.wire_pump.specs.declared.ends.Lane.{Lane}
 use Rattle.wire_pump.specs.declared.ends.Ends.{Ends}
 
--- what the sending end had sent, and the receiving end had received, when a direction was new;
--- nothing of what is not told
+-- what the sending end had sent, and the receiving end had received, when a direction was new: the
+-- bytes, if they are told, and how many they were
 pub record Before : Type 0 where
   pub sent : Option (List ℕ)
   pub received : Option (List ℕ)
+  pub sent_count : ℕ
+  pub received_count : ℕ
 
--- as far as bytes are told: since the start, exactly those bytes of this direction were sent that
--- went out, and exactly those received that came in
+-- this of two ends, the sending one first
+abbrev pub start_of : Told → Told → Before
+start_of from to = record { sent = from.sent; received = to.received; sent_count = from.sent_count; received_count = to.received_count }
+
+-- since the start, those bytes of this direction were sent that went out, and those received that
+-- came in: exactly these if the bytes are told, and as many if the counts are below 2^64 - 1
 pub record HasMoved (before : Before) (from to : Told) (lane : Lane) : Type 0 where
   pub sent : from.sent ≡ told_more before.sent (take lane.went lane.bytes.items)
   pub received : to.received ≡ told_more before.received (take lane.came lane.buffer.items)
+  pub sent_count : from.sent_count ≡ counted_more before.sent_count lane.went
+  pub received_count : to.received_count ≡ counted_more before.received_count lane.came
 
 -- all bytes of this direction went out, and as many came in
 pub record IsDone (lane : Lane) : Type 0 where

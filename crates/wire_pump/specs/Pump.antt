@@ -1,17 +1,20 @@
 -- What a pump gives: both lists were sent and as many bytes received, or one of its wires failed.
 use Rattle.std.specs.Prelude.{◌≡◌, ◌≤◌, ◌⊎◌, ℕ, List, length, Option, Some, None, Result, Ok, Err}
 use Rattle.dcop_edge.specs.Faults.{Rose}
-use Rattle.wire_edge.specs.Wire.{Told, told_more, Reach}
-use Rattle.wire_pump.specs.Ends.{Before, HasMoved, CountsLater, Waits}
+use Rattle.wire_edge.specs.Wire.{Told, told_more, counted_more, Reach}
+use Rattle.wire_pump.specs.Ends.{Before, start_of, HasMoved, CountsLater, Waits}
 use Rattle.wire_pump.specs.declared.ends.Ends.{Ends}
 use Rattle.wire_pump.specs.declared.pump.Pumped.{Pumped}
 use Rattle.wire_pump.specs.declared.pump.PumpFail.{PumpFail}
 
--- as far as the wires tell their bytes, these bytes were sent at one end after what it had sent
--- before, and those were received at the other; there are as many of both
+-- these bytes were sent at one end after what it had sent before, and those were received at the
+-- other: exactly these if the wires tell their bytes, and as many if the counts are below 2^64 - 1;
+-- there are as many of both
 pub record HasPassed (before : Before) (from to : Told) (bytes got : List ℕ) : Type 0 where
   pub sent : from.sent ≡ told_more before.sent bytes
   pub received : to.received ≡ told_more before.received got
+  pub sent_count : from.sent_count ≡ counted_more before.sent_count (length bytes)
+  pub received_count : to.received_count ≡ counted_more before.received_count (length got)
   pub same_length : length got ≡ length bytes
 
 -- both wires tell their bytes, and the one has received all that the other has sent
@@ -47,13 +50,13 @@ module _ {W : Type 0} (told : W → Told) (is_joined : W → W → Type 0) where
   GivesFrom e (Ok p) = EndsFrom e p
   GivesFrom e (Err f) = FailsFrom e f
 
-  -- two lists were pumped over two wires: as far as the wires tell their bytes, both lists were
-  -- sent; as many bytes were received at the other ends. If the wires are joined and each had
-  -- received all that the other had sent, those bytes are the lists, and each has again received
-  -- all
+  -- two lists were pumped over two wires: both were sent, as far as the wires tell their bytes and
+  -- count them, and as many bytes were received at the other ends. If the wires are joined and each
+  -- had received all that the other had sent, those bytes are the lists, and each has again
+  -- received all
   pub record HasPumped (first second : W) (to_second to_first : List ℕ) (p : Pumped W) : Type 0 where
-    pub there : HasPassed (record { sent = (told first).sent; received = (told second).received }) (told p.first) (told p.second) to_second p.at_second
-    pub back : HasPassed (record { sent = (told second).sent; received = (told first).received }) (told p.second) (told p.first) to_first p.at_first
+    pub there : HasPassed (start_of (told first) (told second)) (told p.first) (told p.second) to_second p.at_second
+    pub back : HasPassed (start_of (told second) (told first)) (told p.second) (told p.first) to_first p.at_first
     pub first_counts : CountsLater (told first) (told p.first)
     pub second_counts : CountsLater (told second) (told p.second)
     pub joined : is_joined first second → is_joined p.first p.second

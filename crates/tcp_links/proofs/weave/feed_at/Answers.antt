@@ -1,6 +1,6 @@
 use Rattle.std.proofs.Common.{◌∙◌, ap₂, refl}
 use Rattle.kept_wires.specs.Keeping.{keeps}
-use Rattle.tcp_links.proofs.WeaveLaws.{one_quiet, one_knows_so, feed_can, fed_link, on_ok, inside_list}
+use Rattle.tcp_links.proofs.WeaveLaws.{one_quiet, one_knows_so, feed_can, fed_link, inside_list}
 use Rattle.tcp_links.proofs.weave.feed_at.Goals as goal
 
 pub feed_link-requires-clause-cell : goal.feed_link-requires-clause-cell
@@ -33,6 +33,5 @@ returns-clause-known g c =
 
 pub returns-clause-fed : goal.returns-clause-fed
 returns-clause-fed g c =
-    on_ok c.keep.result c.keep.ensures.kept (λ kept x at.
-    fed_link (λ b. (goal.Machine-dyn g (b.vtable, b.value)).meaning b.value) c.args.cells.now c.slot-at.result c.from-from.result x c.feed_link.new.cell c.args.link.now c.keep.new.self c.args.ends.now _ c.args.passing.now c.as_slice.result.now (c.slot-at.ensures ∙ c.to-to.ensures) c.from-from.ensures c.requires.inside at
-    c.feed_link.ensures.end (c.as_slice.ensures.value ∙ c.take_lists-drained.ensures.lists.1) c.in_ok-ends.ensures.fed c.in_ok-ends.ensures.waits c.in_ok-ends.ensures.none refl (kept ∙ ap₂ (keeps c.args.link.now) c.take_lists-drained.ensures.lists.0 c.take_lists-drained.ensures.lists.1))
+    λ x at. fed_link (λ b. (goal.Machine-dyn g (b.vtable, b.value)).meaning b.value) c.args.cells.now c.slot-at.result c.from-from.result x c.feed_link.new.cell c.args.link.now c.keep.new.self c.args.ends.now _ c.args.passing.now c.as_slice.result.now (c.slot-at.ensures ∙ c.to-to.ensures) c.from-from.ensures c.requires.inside at
+    c.feed_link.ensures.end (c.as_slice.ensures.value ∙ c.take_lists-drained.ensures.lists.1) c.in_ok-ends.ensures.fed c.in_ok-ends.ensures.waits c.in_ok-ends.ensures.none refl (c.keep.ensures.kept ∙ ap₂ (keeps c.args.link.now) c.take_lists-drained.ensures.lists.0 c.take_lists-drained.ensures.lists.1)
