@@ -1,6 +1,6 @@
 -- Plans of nodes: one link more, and the wires of an honest dialer.
-use Rattle.std.proofs.Common.{◌≡◌, ◌≢◌, ℕ, ◌+◌, ◌<◌, ◌≤◌, List, [], length, sym, ap, subst, ◌∙◌, arith}
-use Rattle.std.specs.List.{All, insert}
+use Rattle.std.proofs.Common.{◌≡◌, ◌≢◌, ℕ, zero, suc, ◌+◌, ◌<◌, ◌≤◌, List, [], ◌∷◌, length, refl, sym, ap, subst, ◌∙◌, arith}
+use Rattle.std.specs.List.{All, insert, remove}
 use Rattle.std.proofs.lemmas.List.Edits.{length-insert}
 use Rattle.protocol_steps.specs.declared.message.Message.{Message}
 use Rattle.worker_runs.specs.NodeRounds.{home}
@@ -15,6 +15,13 @@ use Rattle.tcp_links.specs.declared.plan.InnerEnds.{InnerEnds}
 use Rattle.tcp_links.specs.declared.plan.NodePlan.{NodePlan}
 use Rattle.tcp_links.specs.Plans.{pair_count, IsBetween, AreOrdered, fresh_link, BelongsAt, IsPlan, IsNewLink}
 use Rattle.tcp_links.proofs.OrderLaws.{all_insert, ordered_insert, apart_ordered}
+
+-- an item that was inserted is taken out again
+pub remove_insert : {X : Type 0} (xs : List X) (i : ℕ) (x : X) → i ≤ length xs → remove (insert xs i x) i ≡ xs
+remove_insert [] zero x le = refl
+remove_insert (y ∷ ys) zero x le = refl
+remove_insert [] (suc i) x le = absurd (omega (arith, le))
+remove_insert (y ∷ ys) (suc i) x le = ap (λ (zs : List _). y ∷ zs) (remove_insert ys i x (omega (arith, le)))
 
 -- wires on which nothing was sent have received all
 pub nothing_all : (a b : Told) → TellsNothing a → TellsNothing b → HaveAll a b

@@ -209,9 +209,9 @@ fn add_link(
     ensures same { OnErr result ((kept.new.items ≡ kept.old.items) × (ends.new.items ≡ ends.old.items)) }
 {
     ends.insert(place, inner)?;
-    if kept.insert(place, link).is_err() {
+    if let Err(refused) = kept.insert(place, link) {
         ends.remove(place);
-        return Err(NoMemory);
+        return Err(NoMemory::from(refused));
     }
     Ok(())
 }
