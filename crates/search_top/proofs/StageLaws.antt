@@ -1,5 +1,6 @@
 -- What stages of a search come to, one behind the other.
 use Rattle.std.proofs.Common.{◌≡◌, ℕ, zero, suc, ◌+◌, ◌<◌, ◌≤◌, ◌⊎◌, max, min, Bool, true, false, List, length, Option, Some, None, Result, Ok, Err, IfOk, refl, sym, subst, ◌∙◌, inl, inr, arith}
+use Rattle.std.specs.List.{All}
 use Rattle.std.proofs.lemmas.Bool.{cases_Bool}
 use Rattle.dcop_base.specs.Limits.{joined_limit}
 use Rattle.dcop_base.specs.Problem.{Dcop, cost}
@@ -8,6 +9,7 @@ use Rattle.shared_costs.specs.Shared.{AreSharedCosts}
 use Rattle.shared_costs.specs.declared.shared.SharedCosts.{SharedCosts}
 use Rattle.bucket_bounds.specs.Bounds.{AreBounds, kept_cells}
 use Rattle.bucket_bounds.specs.MiniBuckets.{AreMiniBuckets}
+use Rattle.bucket_bounds.specs.Parting.{IsPartedDuly}
 use Rattle.bucket_bounds.specs.declared.bucket.Bucket.{Bucket}
 use Rattle.bound_search.specs.Known.{IsKnown, IsNoWorse, IsBelow}
 use Rattle.bound_search.specs.Searched.{HasEnded, IsSpent, EndsSo, IsSearched, most_nodes}
@@ -94,18 +96,19 @@ min_is a b few = omega (arith, few)
 -- a stage, by what was made in it
 pub stage_made : (p : Dcop) (shared : SharedCosts) (asked : Asked) (budget limit : ℕ) (before : Outcome) (buckets : List Bucket) (known : Known) (own : Ended) (lower : ℕ) (spent : Bool)
     → before.ended.spent ≡ true → budget ≤ asked.budget → limit ≤ joined_limit → AreBounds p.sizes shared.depths buckets
-    → AreMiniBuckets p.sizes (min limit joined_limit) asked.cells 0 buckets → kept_cells buckets ≤ asked.cells
+    → AreMiniBuckets p.sizes (min limit joined_limit) asked.cells 0 buckets → All (IsPartedDuly p.sizes (min limit joined_limit)) buckets → kept_cells buckets ≤ asked.cells
     → IsSearched p shared.scale buckets asked.error budget before.known known own → lower ≡ max own.lower before.ended.lower
     → (spent ≡ true → (own.spent ≡ true) × IsApart asked.error known.best lower)
     → (spent ≡ false → (own.spent ≡ false) ⊎ ((sum : ℕ) × (known.best ≡ Some sum) × (sum ≤ lower + asked.error)))
     → IsStage p shared asked budget limit before (record { known = known; ended = record { lower = lower; spent = spent } })
-stage_made p shared asked budget limit before buckets known own lower spent needed within joined bounds mini kept searched greatest apart ended = record {
+stage_made p shared asked budget limit before buckets known own lower spent needed within joined bounds mini parted kept searched greatest apart ended = record {
   needed = needed;
   within = within;
   buckets = buckets;
   bounds = bounds;
   joined = joined;
   mini = subst (λ (n : ℕ). AreMiniBuckets p.sizes n asked.cells 0 buckets) (min_is limit joined_limit joined) mini;
+  parted = subst (λ (n : ℕ). All (IsPartedDuly p.sizes n) buckets) (min_is limit joined_limit joined) parted;
   kept = kept;
   own = own;
   searched = searched;

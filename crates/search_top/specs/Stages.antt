@@ -1,10 +1,12 @@
 -- The stages of a search, on the problem that is solved.
 use Rattle.std.specs.Prelude.{◌≡◌, ℕ, zero, suc, ◌+◌, ◌<◌, ◌≤◌, max, true, false, List, Option, IfSome}
+use Rattle.std.specs.List.{All}
 use Rattle.dcop_base.specs.Limits.{joined_limit}
 use Rattle.dcop_base.specs.Problem.{Dcop}
 use Rattle.shared_costs.specs.declared.shared.SharedCosts.{SharedCosts}
 use Rattle.bucket_bounds.specs.Bounds.{AreBounds, kept_cells}
 use Rattle.bucket_bounds.specs.MiniBuckets.{AreMiniBuckets}
+use Rattle.bucket_bounds.specs.Parting.{IsPartedDuly}
 use Rattle.bucket_bounds.specs.declared.bucket.Bucket.{Bucket}
 use Rattle.bound_search.specs.Searched.{HasEnded, IsSearched}
 use Rattle.bound_search.specs.declared.searching.Ended.{Ended}
@@ -23,7 +25,7 @@ pub record IsNothingYet (best : Option ℕ) (o : Outcome) : Type 0 where
   pub lower : o.ended.lower ≡ 0
   pub spent : o.ended.spent ≡ true
 
--- a stage with this budget and this limit of a joined table's cells, after stages that had not ended: a search from what is known so far, by mini-bucket bounds of the shared costs that keep at most `--cells` cells; the greatest lower bound of the stages stays, and they are spent if this search is and the best known cost is more than the error above that bound
+-- a stage with this budget and this limit of a joined table's cells, after stages that had not ended: a search from what is known so far, by mini-bucket bounds of the shared costs, which are parted only if they are too wide for the limit and keep at most `--cells` cells; the greatest lower bound of the stages stays, and they are spent if this search is and the best known cost is more than the error above that bound
 pub record IsStage (p : Dcop) (shared : SharedCosts) (asked : Asked) (budget limit : ℕ) (before after : Outcome) : Type 0 where
   pub needed : before.ended.spent ≡ true
   pub within : budget ≤ asked.budget
@@ -31,6 +33,7 @@ pub record IsStage (p : Dcop) (shared : SharedCosts) (asked : Asked) (budget lim
   pub bounds : AreBounds p.sizes shared.depths buckets
   pub joined : limit ≤ joined_limit
   pub mini : AreMiniBuckets p.sizes limit asked.cells 0 buckets
+  pub parted : All (IsPartedDuly p.sizes limit) buckets
   pub kept : kept_cells buckets ≤ asked.cells
   pub own : Ended
   pub searched : IsSearched p shared.scale buckets asked.error budget before.known after.known own
