@@ -1,6 +1,7 @@
 -- Turns that pass over nobody who was sent something.
-use Rattle.std.proofs.Common.{◌≡◌, ℕ, zero, suc, ◌+◌, ◌<◌, ◌≤◌, Bool, true, false, Result, Ok, Err, List, [], ◌∷◌, ◌++◌, map, take, drop, length, set, get_or, Some, slice_get, refl, sym, ap, subst, ◌∙◌, inl, inr, arith}
+use Rattle.std.proofs.Common.{◌≡◌, ℕ, zero, suc, max, ◌+◌, ◌<◌, ◌≤◌, Bool, true, false, Result, Ok, Err, List, [], ◌∷◌, ◌++◌, map, take, drop, length, set, get_or, Some, slice_get, refl, sym, ap, subst, ◌∙◌, inl, inr, arith}
 use Rattle.std.specs.Prelude.{IfOk, OnOk}
+use Rattle.std.specs.Int.{div_ceil}
 use Rattle.std.proofs.lemmas.Bool.{cases_lt}
 use Rattle.std.proofs.lemmas.Option.{slice_get_within, slice_get-get_or}
 use Rattle.std.proofs.lemmas.List.{map-set, set-get_or, take-set-le, take-append-drop}
@@ -13,9 +14,10 @@ use Rattle.agent_cells.specs.declared.cell.Cell.{Cell}
 use Rattle.agent_cells.specs.declared.fault.VisitFault.{VisitFault}
 use Rattle.agent_cells.specs.State.{state_of}
 use Rattle.worker_runs.specs.CellRounds.{total}
+use Rattle.worker_runs.specs.NodeRounds.{IsSettling}
 use Rattle.agent_workers.specs.Joined.{states_of}
 use Rattle.agent_workers.specs.Turns.{HasTurned, AreTurning}
-use Rattle.agent_workers.specs.Watched.{IsUnmarked, AreUnmarked, all_due, MarksReceivers, MarksWaiting, PassesUnmarked, PassesNone, AreTurns, IsPlayedInTurns}
+use Rattle.agent_workers.specs.Watched.{IsUnmarked, AreUnmarked, all_due, MarksReceivers, MarksWaiting, PassesUnmarked, PassesNone, AreTurns, IsPlayedInTurns, IsTurnRound}
 use Rattle.agent_workers.proofs.PlayLaws.{set_back}
 
 -- two lists that agree from a place on
@@ -40,6 +42,12 @@ found_set before now p i y le = ap (λ zs. zs ++ drop i before) (take-set-le i n
 
 pub map_set_same : {A Y : Type 0} (f : A → Y) (now : List A) (p : ℕ) (d y : A) → f y ≡ f (get_or now p d) → map f (set now p y) ≡ map f now
 map_set_same f now p d y e = map-set f now p y ∙ ap (λ z. set (map f now) p z) e ∙ sym (map-set f now p (get_or now p d)) ∙ ap (map f) (set-get_or now p d)
+
+-- one worker plays all cells as one part
+pub one_part_size : (size all workers : ℕ) → workers ≡ 1 → size ≡ max (div_ceil all workers) 1 → all ≤ size
+one_part_size size all workers one is =
+    let parts : div_ceil all workers ≡ all = ap (λ n. div_ceil all n) one ∙ omega arith in
+    omega (arith, parts, is)
 
 module _ {X : Type 0} {F : X → Type 0} (M : DynBox X Global F → View) where
   pub waiting_none : (words : List ℕ) (cells : List (Cell X F)) → MarksWaiting M words 0 cells cells
@@ -192,3 +200,12 @@ module _ {X : Type 0} {F : X → Type 0} (M : DynBox X Global F → View) where
   pub visited_on : (all : Bool) (words : List ℕ) (before after : List (Cell X F)) (r : Result ℕ VisitFault) → IfOk r (λ n. AreTurning M true (length before) n before after) → OnOk r (PassesUnmarked M all words (length before) before after)
   visited_on all words before after (Ok n) t = all_visited all words (length before) n before after t
   visited_on all words before after (Err f) t = tt
+
+  -- a part that a call has played, and a round of it
+  pub turns_call : (alone : Bool) (a x given left : List (Cell X F)) (r : Result ℕ VisitFault) → given ≡ a → left ≡ x → alone ≡ true → OnOk r (IsPlayedInTurns M alone given left) → OnOk r (IsPlayedInTurns M true a x)
+  turns_call alone a x given left r is was all p =
+      subst (λ (b : Bool). OnOk r (IsPlayedInTurns M b a x)) all (subst (λ (ys : List (Cell X F)). OnOk r (IsPlayedInTurns M alone a ys)) was (subst (λ (xs : List (Cell X F)). OnOk r (IsPlayedInTurns M alone xs left)) is p))
+
+  pub turn_round : (node : ℕ → ℕ) (before mid after : List (Cell X F)) (r : Result ℕ VisitFault) → IsSettling node (states_of M before) (states_of M mid) → OnOk r (IsPlayedInTurns M true mid after) → OnOk r (IsTurnRound M node before after)
+  turn_round node before mid after (Ok n) s p = record { middle = mid; settling = s; turns = p }
+  turn_round node before mid after (Err f) s p = tt

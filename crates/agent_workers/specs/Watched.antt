@@ -1,5 +1,5 @@
 -- Who is visited in the turns of a part: whoever was sent something since the last visit.
-use Rattle.std.specs.Prelude.{◌≡◌, ◌≢◌, ◌⊎◌, ℕ, zero, suc, ◌<◌, ◌≤◌, ◌/◌, ◌%◌, Bool, false, not, ◌||◌, ◌==◌, List, ◌++◌, map, take, drop, Some, slice_get, slice_index}
+use Rattle.std.specs.Prelude.{◌≡◌, ◌≢◌, ◌⊎◌, ℕ, zero, suc, ◌<◌, ◌≤◌, ◌/◌, ◌%◌, Bool, true, false, not, ◌||◌, ◌==◌, List, ◌++◌, map, take, drop, Some, slice_get, slice_index}
 use Rattle.std.specs.Int.{bit_at}
 use Rattle.std.specs.declared.dyn_box.DynBox.{DynBox}
 use Rattle.std.specs.declared.alloc.Global.{Global}
@@ -9,6 +9,7 @@ use Rattle.protocol_steps.specs.View.{View}
 use Rattle.protocol_steps.specs.Rounds.{most_events}
 use Rattle.worker_runs.specs.Cells.{Lane, lane}
 use Rattle.worker_runs.specs.CellRounds.{total}
+use Rattle.worker_runs.specs.NodeRounds.{IsSettling}
 use Rattle.agent_cells.specs.declared.cell.Cell.{Cell}
 use Rattle.agent_cells.specs.State.{state_of}
 use Rattle.agent_workers.specs.Joined.{states_of}
@@ -75,3 +76,10 @@ module _ {X : Type 0} {F : X → Type 0} where
     pub most : turns ≤ most_events
     pub are : AreTurns meaning alone turns first earlier last
     pub ends : turns < most_events → total (states_of meaning last) ≡ total (states_of meaning earlier)
+
+  -- a round of one part: every link inside a node is settled, and then the part, which has all
+  -- cells, is played in turns
+  pub record IsTurnRound (meaning : DynBox X Global F → View) (node : ℕ → ℕ) (before after : List (Cell X F)) : Type 0 where
+    pub middle : List (Cell X F)
+    pub settling : IsSettling node (states_of meaning before) (states_of meaning middle)
+    pub turns : IsPlayedInTurns meaning true middle after

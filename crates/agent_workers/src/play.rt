@@ -40,6 +40,7 @@ pub(crate) fn play_cells<R: Threads + Sync, G: Gate>(
     requires few { length cells.old ≤ variable_limit }
     ensures ready { EachBecomes (λ a b. StaysReady (λ b. meaning (b.vtable, b.value)) a b) cells.old cells.new }
     ensures ok { IfOk result (λ n. HavePlayed (λ b. meaning (b.vtable, b.value)) n cells.old cells.new) }
+    ensures turns { length cells.old ≤ size → OnOk result (IsPlayedInTurns (λ b. meaning (b.vtable, b.value)) true cells.old cells.new) }
     ensures err { IfErr result (λ f. SomeFailed f cells.new) }
     ensures end { IfErr result (λ f. f ≡ stamp_end → EachIs (λ c. fault_in c ≡ None) cells.old
         → AreBrokenOff (λ b. meaning (b.vtable, b.value)) HasGoneOn sprint_limit (states_of (λ b. meaning (b.vtable, b.value)) cells.old) cells.new) }
@@ -52,6 +53,7 @@ pub(crate) fn play_cells<R: Threads + Sync, G: Gate>(
         ensures err { IfErr result (λ f. SomeFailed f part.exit.now) }
         ensures end { IfErr result (λ f. f ≡ stamp_end → EachIs (λ c. fault_in c ≡ None) part.entry.now
             → AreBrokenOff (λ b. meaning (b.vtable, b.value)) HasGoneOn sprint_limit (states_of (λ b. meaning (b.vtable, b.value)) part.entry.now) part.exit.now) }
+        ensures turns { OnOk result (IsPlayedInTurns (λ b. meaning (b.vtable, b.value)) alone part.entry.now part.exit.now) }
     { play_part(gate, alone, part) };
     play_parts(rt, &play, size, busy, cells)
 }
