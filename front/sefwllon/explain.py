@@ -167,7 +167,7 @@ def of_difference(told: list[str]) -> str:
         case ["event", number, kind] if kind in EVENTS:
             return f"event {number} {EVENTS[kind]}"
         case ["event", number, "too-many", name, "left", left, "right", right]:
-            return f"event {number} takes {left} messages from {name}, but only {right} are there"
+            return f"event {number} takes {left} messages from {name}, but only {right} {'is' if right == '1' else 'are'} there"
         case ["stamp", number, "left", left, "right", right]:
             return f"event {number} has the stamp {left}, but it must be {right}"
         case ["status", status]:
@@ -203,7 +203,7 @@ def hint(line: str, kind: int, number: int, text: str) -> str:
     if kind == 1 and text.lstrip()[:1] in "{<":
         return " The file seems to be that of another tool: see `sefwllon from`."
     if kind == 2 and any(w != ":" and ":" in w for w in words):
-        return " The colon needs blanks on both sides."
+        return " Write blanks on both sides of the colon."
     if kind == 2 and words[:1] == ["var"]:
         if words[2:3] == [":"] and re.match(r"\s*dcop\s+1\b", text):
             return " Names of values are for `dcop 2`: write it in place of `dcop 1`."

@@ -535,7 +535,7 @@ class Telling(Case):
             ("dcop 1\nvar a 2\n", "refused text line 3 kind 6", "`end` is missing"),
             ("", "refused text line 1 kind 6", "The file is empty"),
             ("dcop 2\nVar a 2\n", "refused text line 2 kind 2", "small letters"),
-            ("dcop 2\nrow a 2\n", "refused text line 2 kind 2", "and not with `row`"),
+            ("dcop 2\nrow a 2\n", "refused text line 2 kind 2", ", not with `row`"),
             ("dcop 1\nvar a : x y\n", "refused text line 2 kind 2", "for `dcop 2`"),
             ("dcop 2\nvar a 2\ntable a : +1 2\n", "refused text line 3 kind 3", "Leave out the sign of `+1`"),
             ("dcop 2\nvar a 2\ntable a : 1 12345678901234567890\n", "refused text line 3 kind 3", "too long"),
@@ -550,7 +550,7 @@ class Telling(Case):
             self.assertIn(part, why)
         self.assertIn("one turn of cut", explain("refused wide total cells 5000000 limit 4194304"))
         self.assertIn("without a certificate", explain("refused wide total cells 5000000 limit 4194304"))
-        self.assertIn("build a later one", explain("refused words at 1 kind 10"))
+        self.assertIn("build it again", explain("refused words at 1 kind 10"))
 
     def test_a_wcsp_is_explained_by_its_own_lines(self):
         good, bad = self.file("good.wcsp", TORN), self.file("bad.wcsp", TORN.replace("1 1 60", "1 1 -60", 1))
@@ -598,7 +598,7 @@ class Telling(Case):
         self.assertEqual((status, counts), (0, {"lower": 8, "upper": 6}))
         status, _, why = self.front("draw", "bounds", pair, report, fake="logs stuck")
         self.assertEqual(status, 3)
-        self.assertIn("event 3 takes 3 messages from y, and 1 are there", why)
+        self.assertIn("event 3 takes 3 messages from y, but only 1 is there", why)
         status, _, why = self.front("draw", pair, report, fake="")
         self.assertIn("has no `replay` yet", why)
 
