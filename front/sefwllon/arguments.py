@@ -44,14 +44,14 @@ def cells(word: str) -> int:
 def share(word: str) -> Fraction:
     """A part in a hundred, as 2%."""
     if not re.fullmatch(r"\d{1,6}(\.\d{1,6})?\s*%", word):
-        raise argparse.ArgumentTypeError(f"{word} is no gap as 2% or 0.5%; by how much a cost may miss the best is told by --error")
+        raise argparse.ArgumentTypeError(f"{word} is not a gap such as 2% or 0.5%; use --error for an amount by which the cost may miss the best")
     return Fraction(word.rstrip("% ")) / 100
 
 
 def seconds(word: str) -> float:
     match = re.fullmatch(r"(\d+(?:\.\d+)?)(ms|s|m|h)?", word)
     if not match:
-        raise argparse.ArgumentTypeError(f"{word} is no time as 30s, 500ms or 2m")
+        raise argparse.ArgumentTypeError(f"{word} is not a time such as 30s, 500ms or 2m")
     return float(match[1]) * {"ms": 0.001, "m": 60, "h": 3600}.get(match[2], 1)
 
 
@@ -60,13 +60,18 @@ def add_time(command: argparse.ArgumentParser) -> None:
 
 
 def add_busy(command: argparse.ArgumentParser) -> None:
-    command.add_argument("--busy", action="append", metavar="PERSON=ICS", help="somebody is busy, or a room taken, as this calendar says; once for each")
+    command.add_argument(
+        "--busy",
+        action="append",
+        metavar="PERSON=ICS",
+        help="a person is busy, or a room is taken, at the times in this calendar; give it once for each person or room",
+    )
 
 
 def add_solving(command: argparse.ArgumentParser) -> None:
     """The words of a command that solves."""
     add_time(command)
-    command.add_argument("--gap", type=share, metavar="2%", help="stop as soon as the answer is known to be within so much of the best")
+    command.add_argument("--gap", type=share, metavar="2%", help="stop when the answer is known to miss the best by at most this part of its cost")
     command.add_argument("--workers", type=threads, default=1, metavar="N", help="threads of dcop, 1 to 64")
     command.add_argument("--json", action="store_true", help="the answer as JSON")
-    command.add_argument("--report", metavar="OUT", help="keep the answer there, with its certificate where it has one: check and cost read it")
+    command.add_argument("--report", metavar="OUT", help="keep the answer in this file, with its certificate if it has one: check and cost read it")

@@ -276,10 +276,10 @@ def flat(costs: Iterable[Any], sizes: list[int], told: str) -> list[Any]:
         return found
     for depth, size in enumerate(sizes):
         if len(found) != math.prod(sizes[: depth + 1]):
-            raise Trouble(f"{told} needs {' x '.join(map(str, sizes))} costs, and the list has not so many")
+            raise Trouble(f"{told} needs {' x '.join(map(str, sizes))} costs, but the list has a different number")
         if depth + 1 < len(sizes):
             if not all(map(is_list, found)) or any(len(list(part)) != sizes[depth + 1] for part in found):
-                raise Trouble(f"{told} needs {' x '.join(map(str, sizes))} costs, and the list has not so many")
+                raise Trouble(f"{told} needs {' x '.join(map(str, sizes))} costs, but the list has a different number")
             found = [cost for part in found for cost in part]
     return found
 

@@ -61,7 +61,7 @@ class Solving(Case):
         for does, why in (
             ("echo hello", "no report of `dcop solve`"),
             ("kill -SEGV $$", "ended by the signal 11"),
-            ("echo refused text line x kind y; exit 3", "That is no refusal of dcop"),
+            ("echo refused text line x kind y; exit 3", "That is not a refusal of dcop"),
             ("head -c 300 /dev/zero", "no report of `dcop solve`"),
         ):
             program = self.file("dcop", f"#!/bin/sh\n{does}\n")
@@ -535,11 +535,11 @@ class Telling(Case):
             ("dcop 1\nvar a 2\n", "refused text line 3 kind 6", "`end` is missing"),
             ("", "refused text line 1 kind 6", "The file is empty"),
             ("dcop 2\nVar a 2\n", "refused text line 2 kind 2", "small letters"),
-            ("dcop 2\nrow a 2\n", "refused text line 2 kind 2", "and not with `row`"),
+            ("dcop 2\nrow a 2\n", "refused text line 2 kind 2", ", not with `row`"),
             ("dcop 1\nvar a : x y\n", "refused text line 2 kind 2", "for `dcop 2`"),
             ("dcop 2\nvar a 2\ntable a : +1 2\n", "refused text line 3 kind 3", "Leave out the sign of `+1`"),
             ("dcop 2\nvar a 2\ntable a : 1 12345678901234567890\n", "refused text line 3 kind 3", "too long"),
-            ("dcop 1\nvar a 2\ntable a : 1\n", "refused text line 3 kind 7 problem 6", "has 1 and needs 2"),
+            ("dcop 1\nvar a 2\ntable a : 1\n", "refused text line 3 kind 7 problem 6", "has 1 costs and needs 2"),
             ("dcop 1\nvar a 2\ntable A : 1 1\n", "refused text line 3 kind 4", "capital letters"),
         ):
             self.assertIn(why, explain(answer, text))
@@ -550,7 +550,7 @@ class Telling(Case):
             self.assertIn(part, why)
         self.assertIn("one turn of cut", explain("refused wide total cells 5000000 limit 4194304"))
         self.assertIn("without a certificate", explain("refused wide total cells 5000000 limit 4194304"))
-        self.assertIn("build a later one", explain("refused words at 1 kind 10"))
+        self.assertIn("build it again", explain("refused words at 1 kind 10"))
 
     def test_a_wcsp_is_explained_by_its_own_lines(self):
         good, bad = self.file("good.wcsp", TORN), self.file("bad.wcsp", TORN.replace("1 1 60", "1 1 -60", 1))
@@ -598,7 +598,7 @@ class Telling(Case):
         self.assertEqual((status, counts), (0, {"lower": 8, "upper": 6}))
         status, _, why = self.front("draw", "bounds", pair, report, fake="logs stuck")
         self.assertEqual(status, 3)
-        self.assertIn("event 3 takes 3 messages from y, and 1 are there", why)
+        self.assertIn("event 3 takes 3 messages from y, but only 1 is there", why)
         status, _, why = self.front("draw", pair, report, fake="")
         self.assertIn("has no `replay` yet", why)
 
@@ -662,7 +662,7 @@ class Telling(Case):
         self.front("solve", pair, "--report", report)
         self.assertEqual(self.front("check", pair, report)[:2], (0, "yes, verified: cost 2, and none is better\n"))
         status, told, _ = self.front("check", pair, report, fake="forges")
-        self.assertEqual((status, told), (1, "no: the report says `cost 1`, and 2 is right (`differs cost left 1 right 2`)\n"))
+        self.assertEqual((status, told), (1, "no: the report says `cost 1`, but 2 is right (`differs cost left 1 right 2`)\n"))
         self.assertIn("costs at least 2, and with value 0 it costs 1", differs("status no\ndiffers cell d 0 0 left 2 right 1\nend\n"))
         self.assertIn("in turn 3 the table of d", differs("differs turn 3 scope d"))
         why = explain("refused report line 5 kind 8", "dcop 1\nvar x 2\nend\nstatus solved\nvalue x 2\n")
@@ -688,7 +688,7 @@ class Telling(Case):
         text = "# a\ndcop 1\n\nvar a 2 # b\nvar a 2\nend\n"
         status, _, why = self.front("solve", self.file("p.dcop", text), program=REAL)
         self.assertEqual(status, 3)
-        self.assertIn("Line 5: `var a 2`\nThe name stands a second time", why)
+        self.assertIn("Line 5: `var a 2`\nThe name is already taken", why)
 
     def test_times_are_read(self):
         for words in (("--workers", "65"), ("--workers", "0"), ("--error", "-1"), ("--workers", "²")):

@@ -108,7 +108,7 @@ class Generate(Lab):
         Path(self.folder, "grid-0-0000.dcop").write_text(PAIR)
         status, _, why = self.front("generate", "grid", "-o", self.folder)
         self.assertEqual(status, 3)
-        self.assertIn("grid-0-0000.dcop is there already and has another problem: name another folder by -o", why)
+        self.assertIn("grid-0-0000.dcop exists already and has another problem: name another folder by -o", why)
         self.assertEqual(Path(self.folder, "grid-0-0000.dcop").read_text(), PAIR)
 
     def test_wrong_numbers_are_told(self):
@@ -208,7 +208,7 @@ class Sweep(Lab):
             ((problems, "-o", self.out, "--methods", "dpop:tries=3"), "dpop:tries=3: tries=3 is no option of dpop"),
             ((problems, "-o", self.out, "--methods", "adopt:error=x"), "adopt:error=x: the error x is no number"),
             ((problems, "-o", self.out, "--methods", "dpop,dpop"), "--methods names dpop twice"),
-            ((f"{problems}/p0.dcop", "-o", f"{problems}/p0.dcop"), "would be appended to, and it is what is read"),
+            ((f"{problems}/p0.dcop", "-o", f"{problems}/p0.dcop"), "is one of the files that are read, so no rows are appended to it"),
         ):
             status, _, why = self.front("sweep", *words, **PROGRAMS)
             self.assertEqual((status, wanted in why), (3, True), why)

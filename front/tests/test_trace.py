@@ -141,7 +141,7 @@ class Told(Case):
         wrong = self.file("report", report.replace("event y 2 x 4", "event y 2 x 5"))
         status, _, why = self.front("trace", str(PROBLEMS / "pair.dcop"), wrong, program=REAL, trace=TRACE)
         self.assertEqual(status, 3)
-        self.assertIn("takes 5 messages from x, and 4 are there", why)
+        self.assertIn("takes 5 messages from x, but only 4 are there", why)
         with self.assertRaisesRegex(Trouble, "the log is that of no run: "):
             list(traced(TRACE, text + report.replace("event y 2 x 4", "event y 2 x 5")))
 

@@ -21,8 +21,8 @@ def add(commands: Commands) -> None:
     check = commands.add_parser(
         "check",
         help="say whether a report holds",
-        description="Says whether a report holds: by its certificate, and where it has none, by asking whether anything is better than it "
-        "says. A report that `meetings` made with --keep or --busy is checked with the same. Exit status: 0 yes, 1 no, 4 not decided.",
+        description="Says whether a report holds: by its certificate, or, if it has none, by a search for something better than it says. "
+        "A report that `meetings` made with --keep or --busy is checked with the same options. Exit status: 0 yes, 1 no, 4 not decided.",
     )
     check.add_argument("file", metavar="FILE")
     check.add_argument("report", metavar="REPORT")

@@ -24,11 +24,11 @@ from ..translate import Translation, number
 
 
 def add(commands: Commands) -> None:
-    cost = commands.add_parser("cost", help="what an assignment costs: words NAME=VALUE, or files of them, or a report")
+    cost = commands.add_parser("cost", help="what an assignment costs, given as NAME=VALUE words, as a file of these, or as a report")
     cost.add_argument("file", metavar="FILE")
     cost.add_argument("assignment", metavar="NAME=VALUE|ASSIGNMENT|REPORT", nargs="+")
     cost.add_argument("--bound", type=amount, metavar="B", help="say how far the cost is from this bound")
-    cost.add_argument("--report", metavar="REPORT", help="say how far the cost may be from the best one, by this report")
+    cost.add_argument("--report", metavar="REPORT", help="say how far the cost may be from the best one, according to this report")
     add_besides(cost)
     cost.add_argument("--json", action="store_true", help="the answer as JSON")
     add_time(cost)

@@ -23,21 +23,21 @@ from ..translate import Translation, number
 def add(commands: Commands) -> None:
     picture = commands.add_parser(
         "draw",
-        help="a picture as SVG: of the problem's graph, of its tree, of a run's bounds",
-        description="Draws a problem as SVG: graph (also without this word), with the values of a report where one is named; "
-        "tree, with separators and table sizes; bounds, those of the root over the messages, by a report with a log "
-        "(also without this word, where the report has one).",
+        help="a picture as SVG: the graph of the problem, its tree, or the bounds of a run",
+        description="Draws a problem as SVG. `graph` draws which variables share a table, with the values of a report if one is "
+        "named. `tree` draws the agents' tree, with separators and table sizes. `bounds` draws the root's bounds over the "
+        "messages, and needs a report with a log. Without any of these words, it draws the bounds if the report has a log, else the graph.",
         usage="sefwllon draw [-h] [--points N] [graph|tree|bounds] FILE [REPORT]",
     )
     picture.add_argument("words", metavar="[graph|tree|bounds] FILE [REPORT]", nargs="+")
-    picture.add_argument("--points", type=natural, metavar="N", help="at how many moments the bounds are told, at most; 64 where dcop_trace is not there")
+    picture.add_argument("--points", type=natural, metavar="N", help="draw the bounds at N moments at most; without dcop_trace the default is 64")
     picture.set_defaults(run=run)
 
 
 def run(options: argparse.Namespace) -> int:
     what = options.words.pop(0) if options.words[0] in ("graph", "tree", "bounds") else None
     if not 1 <= len(options.words) <= 2:
-        raise Trouble("draw takes a FILE, and a REPORT behind it where there is one")
+        raise Trouble("draw takes a FILE and, after it, a REPORT if there is one")
     file, *reports = options.words
     options.text = read_text(file)
     programs = Programs()
@@ -50,7 +50,7 @@ def run(options: argparse.Namespace) -> int:
     elif what == "graph":
         picture = graph_of(told, report)
     elif report is None:
-        raise Trouble("the bounds of a run are drawn from a report with a log: name it behind the file")
+        raise Trouble("the bounds of a run are drawn from a report with a log: name it after the file")
     else:
         test_alone(file, report)
         report = certified(report) or report
@@ -90,7 +90,7 @@ def bounds_of(programs: Programs, told: Translation, report: str, title: str, po
         raise Trouble("the report has no log: make it with `sefwllon solve --method adopt --report OUT`")
     read = checked_report(programs, problem, report)
     if not programs.trace:
-        complain(f"{missing('dcop_trace')}; without it the log is replayed many times, and the bounds are told at {points or replaying.POINTS} moments at most")
+        complain(f"{missing('dcop_trace')}; without it the log is replayed many times, and the bounds are shown at {points or replaying.POINTS} moments at most")
     with Progress(told) as progress:
         moments = replaying.moments(programs, problem, report, None if points is None else max(2, points), progress.replayed)
     return draw.bounds(moments, lambda total: number(told.own_cost(total)), f"{bounds_title(told, read, title)} ({programs.verified})", read.cost)

@@ -16,7 +16,7 @@ from ..telling import SOLVED, TEXT
 def add(commands: Commands) -> None:
     why = commands.add_parser("explain", help="say in sentences why a file is refused")
     why.add_argument("file", metavar="FILE")
-    why.add_argument("answer", metavar="ANSWER", nargs="?", help="what dcop printed; without it dcop is asked")
+    why.add_argument("answer", metavar="ANSWER", nargs="?", help="a file with what dcop printed; if it is left out, dcop is run")
     why.set_defaults(run=run)
 
 

@@ -15,9 +15,9 @@ from ..telling import SOLVED, TEXT
 def add(commands: Commands) -> None:
     generate = commands.add_parser(
         "generate",
-        help="make problems from numbers, of the kinds that papers compare methods by",
-        description="Writes problems of a kind into a folder, as files of dcop. The same words write the same files. The graphs are those of "
-        "networkx (Debian's python3-networkx).",
+        help="make random problems, of the kinds that papers use to compare methods",
+        description="Writes problems of a kind into a folder, as files of dcop. The same command writes the same files. The graphs are made "
+        "by networkx (Debian's python3-networkx).",
     )
     kinds = generate.add_subparsers(title="kinds", required=True, metavar="KIND")
     for kind in KINDS.values():
@@ -32,9 +32,9 @@ def add_kind(command: argparse.ArgumentParser, kind: Kind) -> None:
         usual = "..".join(map(str, number.usual)) if isinstance(number.usual, tuple) else number.usual
         words = {"metavar": "A..B" if isinstance(number.usual, tuple) else "N"}
         command.add_argument(f"--{number.name}", type=number.read, default=number.usual, help=f"{number.says} ({usual})", **words)
-    command.add_argument("--seed", type=natural, default=0, metavar="N", help="the number that all follows from (0)")
+    command.add_argument("--seed", type=natural, default=0, metavar="N", help="the number from which the problems are made (0)")
     command.add_argument("--count", type=natural, default=1, metavar="N", help="how many problems (1)")
-    command.add_argument("-o", "--out", default=".", metavar="FOLDER", help="where they go (here)")
+    command.add_argument("-o", "--out", default=".", metavar="FOLDER", help="the folder for the files (the current one)")
     command.set_defaults(run=run, kind=kind)
 
 
@@ -53,7 +53,7 @@ def put(path: Path, text: str) -> None:
     """Writes a problem; another one that stands there is kept."""
     try:
         if path.exists() and path.read_bytes() != text.encode():
-            raise Trouble(f"{path} is there already and has another problem: name another folder by -o, or take it away")
+            raise Trouble(f"{path} exists already and has another problem: name another folder by -o, or delete the file")
     except OSError as fault:
         raise Trouble(f"{path} can't be read: {fault.strerror}") from None
     write(str(path), text)

@@ -17,10 +17,10 @@ def add(commands: Commands) -> None:
         help="pictures and tables of a sweep's rows",
         description="Draws the rows of `sefwllon sweep` as SVG and PNG: how many problems were solved within which time, the gap over time, the "
         "messages over the size, one method against another. Writes tables by method and by size, as CSV and LaTeX. The pictures are "
-        "those of matplotlib (Debian's python3-matplotlib).",
+        "made by matplotlib (Debian's python3-matplotlib).",
     )
     plot.add_argument("results", metavar="CSV", nargs="+", help="rows of sefwllon sweep")
-    plot.add_argument("-o", "--out", default=".", metavar="FOLDER", help="where they go (here)")
+    plot.add_argument("-o", "--out", default=".", metavar="FOLDER", help="the folder for the files (the current one)")
     plot.set_defaults(run=run)
 
 

@@ -13,7 +13,7 @@ def add(commands: Commands) -> None:
         "serve",
         help="answer over HTTP, on this machine alone, until it is stopped",
         description="Answers over HTTP at 127.0.0.1 until it is stopped by SIGTERM or ctrl-C. The first line that it prints is the "
-        "link, in which the token stands; the page `service` behind it says what can be asked. SEFWLLON_TOKEN sets the token.",
+        "link, which contains the token; the page `service` below the link lists all requests. SEFWLLON_TOKEN sets the token.",
     )
     add_limits(serve)
     serve.set_defaults(run=run)
@@ -21,11 +21,11 @@ def add(commands: Commands) -> None:
 
 def add_limits(command: argparse.ArgumentParser) -> None:
     """The words that the page and the service share."""
-    command.add_argument("--port", type=port, default=0, metavar="N", help="the port, 1024 to 65535; a free one where none is named")
-    command.add_argument("--processes", type=natural, metavar="N", help="how many requests are worked on at a time; half the processors")
-    command.add_argument("--waiting", type=natural, default=64, metavar="N", help="how many may wait; others are refused (64)")
-    command.add_argument("--most-time", type=seconds, default=600.0, metavar="10m", help="how long one may take at most (10m)")
-    command.add_argument("--most-bytes", type=natural, default=8 * 2**20, metavar="N", help="how long one may be at most (8388608)")
+    command.add_argument("--port", type=port, default=0, metavar="N", help="the port, 1024 to 65535; the default is a free port")
+    command.add_argument("--processes", type=natural, metavar="N", help="how many requests are worked on at a time (half the number of processors)")
+    command.add_argument("--waiting", type=natural, default=64, metavar="N", help="how many requests may wait; further ones are refused (64)")
+    command.add_argument("--most-time", type=seconds, default=600.0, metavar="10m", help="how long a request may take (10m)")
+    command.add_argument("--most-bytes", type=natural, default=8 * 2**20, metavar="N", help="how many bytes a request may have (8388608)")
 
 
 def port(word: str) -> int:

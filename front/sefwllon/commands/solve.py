@@ -17,21 +17,21 @@ from ..telling import TEXT, as_json, as_text, status_of
 def add(commands: Commands) -> None:
     solve = commands.add_parser("solve", help="solve a problem: .dcop, .wcsp, pyDCOP .yaml, meetings .csv, .uai, FRODO .xml")
     solve.add_argument("file", metavar="FILE")
-    solve.add_argument("--error", type=distance, default=Fraction(0), metavar="E", help="by how much the cost may miss the best (adopt, search)")
+    solve.add_argument("--error", type=distance, default=Fraction(0), metavar="E", help="by how much the cost may miss the best sum")
     solve.add_argument(
         "--method",
         choices=METHODS,
         default="auto",
-        help="auto, which is meant where none is named, tries dpop, order (dpop in an order by dcop_order) and search (dcop_search, in "
-        "growing budgets, also of a smaller problem in which values stand for one another), one behind the other; cut (dpop with some variables fixed in turn) and adopt are tried where they are "
-        "named, or where dcop_search is not there",
+        help="auto, the default, tries dpop, order (dpop in an order from dcop_order) and search (dcop_search with growing budgets, also on a "
+        "smaller problem in which several values count as one), one after the other. cut (dpop with some variables fixed in turn) and "
+        "adopt are tried only if they are named, or if dcop_search is missing",
     )
-    solve.add_argument("--cells", type=cells, metavar="N", help="cells that a joined table of cut, or all bounds of search, may have at most")
-    solve.add_argument("--certificate", choices=("yes", "no"), default="yes", help="whether certificates are made and checked; yes by itself")
+    solve.add_argument("--cells", type=cells, metavar="N", help="the most cells of a joined table (cut), or of all bounds (search)")
+    solve.add_argument("--certificate", choices=("yes", "no"), default="yes", help="whether certificates are made and checked (yes)")
     solve.add_argument(
         "--cluster",
         metavar="ADDRESS",
-        help="share the search out among the workers of the Dask scheduler at this address, or with `local` among this machine's processors",
+        help="share the search among the workers of the Dask scheduler at this address, or, with `local`, among this machine's processors",
     )
     add_solving(solve)
     solve.set_defaults(run=run)

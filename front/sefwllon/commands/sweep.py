@@ -19,8 +19,8 @@ def add(commands: Commands) -> None:
     sweep = commands.add_parser(
         "sweep",
         help="many runs: each method on each problem, a row for each in a CSV",
-        description="Runs each method on each problem, and appends a row to a CSV for each run. A sweep that was stopped goes on with the "
-        "same command: a run whose row is there is not done again.",
+        description="Runs each method on each problem, and appends a row to a CSV for each run. If a sweep was stopped, the same command "
+        "goes on with it: a run whose row is in the CSV is not done again.",
     )
     sweep.add_argument("problems", metavar="PROBLEM", nargs="+", help="a file of any kind that solve takes, or a folder of such files")
     sweep.add_argument(
@@ -29,8 +29,8 @@ def add(commands: Commands) -> None:
         metavar="M,M",
         help="plain, dpop, order, search, cut, adopt, auto, with options as in adopt:error=5:budget=1000 (dpop,order,search)",
     )
-    sweep.add_argument("--time", type=seconds, default=10.0, metavar="10s", help="how much processor time a run may take (10s)")
-    sweep.add_argument("-o", "--out", default="results.csv", metavar="CSV", help="where the rows go (results.csv)")
+    sweep.add_argument("--time", type=seconds, default=10.0, metavar="10s", help="the processor time that a run may take (10s)")
+    sweep.add_argument("-o", "--out", default="results.csv", metavar="CSV", help="the file for the rows (results.csv)")
     add_place(sweep)
     sweep.set_defaults(run=run)
 
@@ -38,7 +38,7 @@ def add(commands: Commands) -> None:
 def add_place(command: argparse.ArgumentParser) -> None:
     """The words that say where runs are done."""
     command.add_argument("--cluster", metavar="ADDRESS", help="run on the workers of the Dask scheduler at this address")
-    command.add_argument("--processes", type=natural, metavar="N", help="processes on this machine, without --cluster; one for each processor")
+    command.add_argument("--processes", type=natural, metavar="N", help="processes on this machine, without --cluster (one for each processor)")
 
 
 def run(options: argparse.Namespace) -> int:
@@ -50,7 +50,7 @@ def run(options: argparse.Namespace) -> int:
         raise Trouble("--time and --processes are above 0")
     methods, files = read_methods(options.methods), files_of(options.problems)
     if Path(options.out).exists() and any(path.exists() and path.samefile(options.out) for path in files):
-        raise Trouble(f"{options.out} would be appended to, and it is what is read: name another file by -o")
+        raise Trouble(f"{options.out} is one of the files that are read, so no rows are appended to it: name another file by -o")
     programs, sums = programs_of(methods, Programs())
     plan, failed, stopped = Plan(files, methods, options.time, sums), [], ""
     with Results(options.out) as results:

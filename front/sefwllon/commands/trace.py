@@ -32,16 +32,16 @@ def add(commands: Commands) -> None:
     trace = commands.add_parser(
         "trace",
         help="a run of the agents, message by message",
-        description="Tells a run of the agents, message by message. A run of ADOPT is told from a report with a log, by dcop_trace: what each agent "
-        "took, has come to and sent. A run of DPOP is told from a report with its tables: which tables go up, and which values come down. "
-        "dcop check has to say yes to the report first.",
+        description="Prints a run of the agents, message by message. For a run of ADOPT it needs a report with a log, and dcop_trace: it prints what "
+        "each agent took, its state, and what it sent. For a run of DPOP it needs a report with tables: it prints which tables go up, and "
+        "which values come down. dcop check must accept the report first.",
     )
     trace.add_argument("file", metavar="FILE")
     trace.add_argument("report", metavar="REPORT")
-    trace.add_argument("--from", dest="first", type=natural, default=0, metavar="K", help="the first event that is told; 0 is the start")
-    trace.add_argument("--to", dest="last", type=natural, default=LAST, metavar="K", help="the last event that is told")
+    trace.add_argument("--from", dest="first", type=natural, default=0, metavar="K", help="the first event that is printed; 0 is the start")
+    trace.add_argument("--to", dest="last", type=natural, default=LAST, metavar="K", help="the last event that is printed")
     trace.add_argument("--json", action="store_true", help="the run as JSON, a line for each step")
-    trace.add_argument("-o", "--out", metavar="SVG", help="draw it as a sequence diagram into this file")
+    trace.add_argument("-o", "--out", metavar="SVG", help="draw the run as a sequence diagram into this file")
     trace.set_defaults(run=run)
 
 
@@ -79,7 +79,7 @@ class Run:
         read = read_report(report, problem)
         self.is_adopt = read.certificate == "log"
         if self.is_adopt and not programs.trace:
-            raise Trouble(f"{missing('dcop_trace')}; it tells what the messages of ADOPT say")
+            raise Trouble(f"{missing('dcop_trace')}; it prints the messages of ADOPT")
         if not self.is_adopt and (read.method, read.certificate) != ("dpop", "tables"):
             raise Trouble(untold(read))
         self.read = checked_report(programs, problem, report)
@@ -143,4 +143,4 @@ def untold(read: Report) -> str:
     if read.method not in ("adopt", "dpop"):
         return f"trace tells runs of ADOPT and of DPOP, and this report is by {read.method}"
     words = "--method adopt" if read.method == "adopt" else "--method dpop"
-    return f"the report has no certificate, from which the run is told: make it with `sefwllon solve {words} --report OUT`"
+    return f"the report has no certificate, which is needed to show the run: make the report with `sefwllon solve {words} --report OUT`"

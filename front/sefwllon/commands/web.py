@@ -15,12 +15,12 @@ def add(commands: Commands) -> None:
     web = commands.add_parser(
         "web",
         help="a page in the browser: timetables, problems, runs",
-        description="Opens a page in the browser, served at 127.0.0.1 for this user alone: make timetables in tables, look at problems "
-        "and at how agents solve them. It is there until ctrl-C.",
+        description="Opens a page in the browser, served at 127.0.0.1 for this user only: make timetables in tables, look at problems "
+        "and at how agents solve them. Ctrl-C ends it.",
     )
-    web.add_argument("file", metavar="FILE", nargs="?", help="what the page begins with: a .csv of meetings, or a problem")
+    web.add_argument("file", metavar="FILE", nargs="?", help="what the page shows first: a .csv of meetings, or a problem")
     add_limits(web)
-    web.add_argument("--no-browser", action="store_true", help="print the link, and open no browser")
+    web.add_argument("--no-browser", action="store_true", help="only print the link")
     web.set_defaults(run=run)
 
 

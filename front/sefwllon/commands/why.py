@@ -22,9 +22,9 @@ from ..timetable.session import Plan, Session, opened
 def add(commands: Commands) -> None:
     why = commands.add_parser(
         "why",
-        help="what it would cost that a meeting stands in a slot, and whom it meets there",
-        description="Says what it would cost that a meeting stands in a slot: the best timetable with that held, beside the best one, and which "
-        "meetings move for it. Where it can't be, it is told which meetings, people and lines stand in the way.",
+        help="what it would cost to put a meeting in a slot, and which meetings are in the way",
+        description="Says what it would cost to put a meeting in a slot: it compares the best timetable with the meeting in that slot with the "
+        "best one of all, and says which meetings move. If the meeting can't be there, it says which meetings, people and lines prevent it.",
     )
     why.add_argument("file", metavar="CSV")
     why.add_argument("meeting", metavar="MEETING")

@@ -36,7 +36,7 @@ def of_plan(plan: Plan, options: argparse.Namespace) -> tuple[str, ...]:
 
 def add_besides(command: argparse.ArgumentParser) -> None:
     """The words that name what `meetings` was given besides the file."""
-    command.add_argument("--keep", metavar="OLD", help="the earlier timetable that `meetings --keep OLD` was given for the report")
+    command.add_argument("--keep", metavar="OLD", help="the earlier timetable with which `meetings --keep OLD` made the report")
     add_busy(command)
 
 
