@@ -9,17 +9,19 @@
 # for 1, 4 and 16 workers, with a cache for all ten and with a cache of one entry, the time of a request
 # and the most memory that the server had; and the time of a call of `dcop` on the same problems. Then 64
 # clients ask for one problem of 1,000 variables without tables, whose reply is of 41 kB: for 1 and 16 workers
-# it prints the replies of a second, best of two runs, and their ratio; four processes ask, which throw away
-# what they read but for each first reply. Then,
+# it prints the replies of a second, best of two runs, and their ratio. There a plain program asks, which `rustc`
+# builds from bench/serve/, so that asking takes little of the processors: it compares the first reply to each
+# client, and drops the others. Then,
 # for 1 and 6 workers and both caches, one server serves ten runs, each of 6 clients with 990 requests:
-# behind each it prints the memory that the server holds and the most that it held, and behind all how
-# much it holds at the end, as a ratio to what it held behind the second run. Every reply is compared
-# with what `dcop` writes.
+# after each it prints the memory that the server holds and the most that it held, and after all how
+# much it holds at the end, as a ratio to what it held after the second run. The replies of all other parts are
+# compared with what `dcop` writes.
 set -eu
 server=${1:?usage: bench/serve.sh SERVER PROGRAM [PORT]}
 program=${2:?usage: bench/serve.sh SERVER PROGRAM [PORT]}
 port=${3:-20000}
 . "$(dirname "$0")/common.sh"
+rustc -O --edition 2024 -o "$folder/asker" "$top/bench/serve/asker.rs"
 python3 - "$server" "$program" "$port" "$folder" <<'PY'
 import os, random, socket, struct, subprocess, sys, threading, time
 from timing import best
@@ -130,77 +132,32 @@ for workers in 1, 4, 16:
         print(f"workers {workers}, entries {entries}: {took / count * 1e6:.1f} us a request, {most:.1f} MB")
         at += 1
 
-# Long replies, all of them kept. The processes that ask read into one buffer, and compare the first reply.
-ASKERS, LONG = 4, 1000
+# Long replies, all of them kept.
+LONG = 1000
 text = "\n".join(["dcop 1", *(f"var v{i:031} 2" for i in range(LONG)), "end", ""]).encode()
 path = f"{folder}/long"
 with open(path, "wb") as file:
     file.write(text)
 _, _, reply = best([program, "solve", "--method", "dpop"], path)
-request, long_reply = frame(text), frame(reply)
-ASKER = """
-import socket, sys, threading
-at, clients, count, size = map(int, sys.argv[1:5])
-request, reply = open(sys.argv[5], "rb").read(), open(sys.argv[6], "rb").read()
-links = [socket.create_connection(("127.0.0.1", at), 600) for _ in range(clients)]
-for link in links:
-    link.setsockopt(socket.IPPROTO_TCP, socket.TCP_NODELAY, 1)
-print("connected", flush=True)
-sys.stdin.readline()
-wrong = []
-def first(link):
-    link.sendall(request)
-    got = b""
-    while len(got) < size:
-        got += link.recv(size - len(got))
-    if got != reply:
-        wrong.append(link)
-def rest(link):
-    for _ in range(count - 1):
-        link.sendall(request)
-        left = size
-        while left:
-            got = link.recv_into(room, left, socket.MSG_TRUNC)
-            if got == 0:
-                wrong.append(link)
-                return
-            left -= got
-room = bytearray(size)
-def all_of(link):
-    first(link)
-    rest(link)
-    link.close()
-threads = [threading.Thread(target=all_of, args=(link,)) for link in links]
-for thread in threads:
-    thread.start()
-for thread in threads:
-    thread.join()
-sys.exit(1 if wrong else 0)
-"""
-for name, data in ("request", request), ("reply", long_reply):
+for name, payload in ("request", text), ("reply", reply):
     with open(f"{folder}/{name}", "wb") as file:
-        file.write(data)
+        file.write(frame(payload))
 
 
 # The replies of a second, where so many workers answer so many clients, each so often.
 def long_rate(at, workers, count):
-    words = [server, str(at), str(CLIENTS), "16", str(workers)]
-    child = subprocess.Popen(words, stdout=subprocess.PIPE)
+    child = subprocess.Popen([server, str(at), str(CLIENTS), "16", str(workers)], stdout=subprocess.PIPE)
     connected(at).close()
-    sizes = [(CLIENTS - 1) // ASKERS + (number < (CLIENTS - 1) % ASKERS) for number in range(ASKERS)]
-    askers = [subprocess.Popen([sys.executable, "-c", ASKER, str(at), str(size), str(count), str(len(long_reply)), f"{folder}/request", f"{folder}/reply"],
-                               stdin=subprocess.PIPE, stdout=subprocess.PIPE) for size in sizes]
-    for asker in askers:
-        assert asker.stdout.readline() == b"connected\n"
+    words = [f"{folder}/asker", str(at), str(CLIENTS - 1), str(count), f"{folder}/request", f"{folder}/reply"]
+    asker = subprocess.Popen(words, stdin=subprocess.PIPE, stdout=subprocess.PIPE)
+    assert asker.stdout.readline() == b"connected\n"
     begun = time.perf_counter()
-    for asker in askers:
-        asker.stdin.write(b"go\n")
-        asker.stdin.close()
-    codes = [asker.wait() for asker in askers]
+    asker.communicate(b"go\n")
     took = time.perf_counter() - begun
     told = child.communicate()[0].decode()
-    assert codes == [0] * ASKERS and child.returncode == 0 and f"served {(CLIENTS - 1) * count}\n" in told, (codes, told[-200:])
-    return (CLIENTS - 1) * count / took
+    count *= CLIENTS - 1
+    assert asker.returncode == 0 and child.returncode == 0 and f"served {count}\n" in told, (asker.returncode, told[-200:])
+    return count / took
 
 
 rates = {}

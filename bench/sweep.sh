@@ -5,7 +5,8 @@
 # DCOP and SEARCH are the built programs `dcop` and `dcop_search`, without them those of crates/*/out. It needs networkx, and measures
 # a Dask cluster of this machine too if distributed is there. Run it on an idle machine: seconds are of the clock.
 # First 1,000 runs of about 10 ms each, by DPOP on as many colourings; goal: at most 1.5 times their processor time, over all
-# processors. Then `solve --cluster local:4` against `local:1` on the hardest problem of bench/search.sh that one process solves, the best of
+# processors. That of a run is what `dcop solve` takes; the sweep also runs `dcop tree` for each, of which the figures of messages are made.
+# The front's modules are compiled first, as those of each command are that was run before. Then `solve --cluster local:4` against `local:1` on the hardest problem of bench/search.sh that one process solves, the best of
 # three each; goal: at least 2.5 times as fast. Ends with status 1 if a goal is missed.
 set -eu
 . "$(dirname "$0")/common.sh"
@@ -14,6 +15,7 @@ export SEFWLLON_SEARCH=$(realpath -m "${2:-$top/crates/dcop_search/out/dcop_sear
 for program in "$SEFWLLON_DCOP" "$SEFWLLON_SEARCH"; do
     [ -x "$program" ] || { echo "there is no program $program"; exit 1; }
 done
-export PYTHONPATH="$PYTHONPATH:$top/front"
+export PYTHONPATH="$PYTHONPATH:$top/front" PYTHONPYCACHEPREFIX="$folder/compiled"
+unset PYTHONDONTWRITEBYTECODE
 "$top/front/python.sh" "$top/bench/search_problems.py" "$folder" pairs20
 "$top/front/python.sh" "$top/bench/sweep_measured.py" "$folder"

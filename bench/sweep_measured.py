@@ -2,6 +2,7 @@
 
 from __future__ import annotations
 
+import compileall
 import importlib.util
 import json
 import os
@@ -10,6 +11,7 @@ import sys
 import time
 from pathlib import Path
 
+import sefwllon
 from sefwllon.lab.pool import processors
 from sefwllon.lab.rows import read_rows
 
@@ -71,6 +73,7 @@ def main() -> int:
     folder = Path(sys.argv[1])
     print(f"load {load()} before")
     command("generate", "colouring", *COLOURING, "--count", str(RUNS), "-o", str(folder / "problems"))
+    compileall.compile_dir(str(Path(sefwllon.__file__).parent), quiet=1)
     times = swept(folder, "this machine")
     gains = [shared(folder, "local:1", 1) / shared(folder, "local:4", 4)]
     if importlib.util.find_spec("distributed"):

@@ -59,6 +59,10 @@ def add_time(command: argparse.ArgumentParser) -> None:
     command.add_argument("--time", type=seconds, metavar="30s", help="stop after this time, from the start of the command, with the best so far")
 
 
+def add_busy(command: argparse.ArgumentParser) -> None:
+    command.add_argument("--busy", action="append", metavar="PERSON=ICS", help="somebody is busy, or a room taken, as this calendar says; once for each")
+
+
 def add_solving(command: argparse.ArgumentParser) -> None:
     """The words of a command that solves."""
     add_time(command)

@@ -80,12 +80,13 @@ def solved(programs: Programs, told: Translation, options: argparse.Namespace, e
         return solver.solve()
 
 
-def kept(best: Best, problem: Problem) -> str:
+def kept(best: Best, problem: Problem, besides: tuple[str, ...] = ()) -> str:
     """The report of an answer, which `check` and `cost` read: that of `dcop` with its certificate where it says what was printed,
-    and else one that says it and what it rests on, with the certificate behind it where there is one."""
+    and else one that says it and what it rests on, with the certificate behind it where there is one. The latter also says what
+    the problem was made with besides the file."""
     assert best.values is not None and best.cost is not None and best.lower is not None and best.upper is not None
     goal = problem.goal
-    if best.certified is not None and best.certified_values == best.values and best.checked == best.bound(goal):
+    if not besides and best.certified is not None and best.certified_values == best.values and best.checked == best.bound(goal):
         return best.certified
     status = "solved" if best.solved else "spent"
     report = Report(
@@ -99,6 +100,7 @@ def kept(best: Best, problem: Problem) -> str:
         best.values,
         nodes=best.nodes,
         rests=best.rests(goal),
+        besides=besides,
     )
     return written(problem, report) + (best.certified or "")
 

@@ -33,6 +33,8 @@ COMMANDS = (
     "manual",
 )
 """The modules of `commands`, in the order in which help names what they add."""
+OTHERS = ("convert", "manual")
+"""Those of them that add commands of other names than their own."""
 
 
 def main(arguments: list[str] | None = None) -> int:
@@ -42,7 +44,8 @@ def main(arguments: list[str] | None = None) -> int:
         if hasattr(stream, "reconfigure"):
             stream.reconfigure(errors="backslashreplace")
     try:
-        options = parser().parse_args(arguments)
+        words = sys.argv[1:] if arguments is None else arguments
+        options = parser(*words[:1]).parse_args(words)
     except SystemExit:
         if say(""):
             raise
@@ -71,7 +74,8 @@ def main(arguments: list[str] | None = None) -> int:
         return TEXT
 
 
-def parser() -> argparse.ArgumentParser:
+def parser(command: str = "") -> argparse.ArgumentParser:
+    """What reads the words of a command, or of all: where a command is named, its module alone is imported."""
     top = argparse.ArgumentParser(
         prog="sefwllon",
         description="Solves distributed constraint problems, and says what was verified.",
@@ -80,6 +84,6 @@ def parser() -> argparse.ArgumentParser:
     top.add_argument("--version", action="version", version=f"sefwllon {__version__}")
     commands = top.add_subparsers(title="commands", required=True, metavar="COMMAND")
     top.set_defaults(text="")
-    for name in COMMANDS:
+    for name in (command,) if command in COMMANDS and command not in OTHERS else COMMANDS:
         import_module(f".commands.{name}", __package__).add(commands)
     return top

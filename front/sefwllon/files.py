@@ -3,22 +3,23 @@
 from __future__ import annotations
 
 import sys
+from importlib import import_module
 from pathlib import Path
 
-from . import frodo, pydcop, timetable, wcsp
 from .problem import MOST_BYTES, TextFault, Trouble, parse
 from .programs import Programs
 from .solving import refusal
+from .source import Source
 from .translate import Translation, plain, translate
 
 READERS = {
-    "pydcop": pydcop.read,
-    "meetings": lambda text, title: timetable.source(timetable.read(text), title),
-    "wcsp": wcsp.read_wcsp,
-    "uai": wcsp.read_uai,
-    "frodo": frodo.read,
+    "pydcop": ("pydcop", "read"),
+    "meetings": ("timetable", "read_source"),
+    "wcsp": ("wcsp", "read_wcsp"),
+    "uai": ("wcsp", "read_uai"),
+    "frodo": ("frodo", "read"),
 }
-"""How a file of another tool is read, by its kind."""
+"""What reads a file of another tool, by its kind: a module, which is imported once it is needed, and a function of it."""
 
 KINDS = {".yaml": "pydcop", ".yml": "pydcop", ".csv": "meetings", ".wcsp": "wcsp", ".uai": "uai", ".xml": "frodo", ".xcsp": "frodo"}
 """Which kind a file is of, by how its name ends."""
@@ -42,11 +43,18 @@ def read_text(name: str) -> str:
         return data.decode("utf-8", "replace")
 
 
+def read(kind: str, text: str, title: str) -> Source:
+    """The problem of another tool's file, as its user wrote it."""
+    module, function = READERS[kind]
+    source: Source = getattr(import_module(f".{module}", __package__), function)(text, title)
+    return source
+
+
 def load(name: str, text: str, programs: Programs | None = None) -> Translation:
     """The problem of a file, whatever its kind."""
     kind = KINDS.get(Path(name).suffix.lower())
     if kind:
-        return translate(READERS[kind](text, Path(name).name))
+        return translate(read(kind, text, Path(name).name))
     try:
         return plain(parse(text))
     except TextFault:

@@ -105,7 +105,7 @@ class Problem:
         for table in self.tables:
             scope = " ".join(self.variables[v].name for v in table.scope)
             words = {cost: str(cost) for cost in set(table.costs)}
-            lines.append(f"table {scope} : {' '.join([words[cost] for cost in table.costs])}")
+            lines.append(f"table {scope} : {' '.join(map(words.__getitem__, table.costs))}")
         lines.append("end")
         return "\n".join(lines) + "\n"
 
@@ -118,18 +118,20 @@ class Problem:
         for variable in self.variables:
             if not 1 <= variable.size <= MOST_VALUES:
                 raise Trouble(f"{variable.name} has {variable.size} values; dcop takes 1 to {MOST_VALUES}")
+        greatest = []
         for table in self.tables:
             if not 1 <= len(table.scope) <= MOST_SCOPE:
                 names = ", ".join(self.variables[v].name for v in table.scope)
                 raise Trouble(
                     f"a constraint names {len(table.scope)} variables ({names}); dcop takes up to {MOST_SCOPE}"
                 )
-            if max(table.costs) > MOST_COST:
-                raise Trouble(f"a cost is {max(table.costs)}; dcop takes costs up to 2^50 = {MOST_COST}")
+            greatest.append(max(table.costs))
+            if greatest[-1] > MOST_COST:
+                raise Trouble(f"a cost is {greatest[-1]}; dcop takes costs up to 2^50 = {MOST_COST}")
         cells = sum(len(table.costs) for table in self.tables)
         if cells > MOST_CELLS:
             raise Trouble(f"the tables have {cells} costs together; dcop takes {MOST_CELLS}")
-        if sum(max(table.costs) for table in self.tables) > MOST_SUM:
+        if sum(greatest) > MOST_SUM:
             raise Trouble("the greatest costs of all tables sum to more than 2^62, which is the most that dcop takes")
 
 

@@ -23,6 +23,8 @@ class Report:
     nodes: int = 0
     rests: str | None = None
     """What the front said that it rests on, where it wrote the report."""
+    besides: tuple[str, ...] = ()
+    """What it was made with besides the file, in words as `keep`."""
 
     @property
     def exact(self) -> bool:
@@ -61,11 +63,19 @@ def certified(text: str) -> str | None:
     return told if parted(told)[1] else None
 
 
+def made_with(text: str) -> tuple[str, ...]:
+    """What a report says that it was made with besides the file."""
+    found = (line.split()[1:] for line in parted(printed(text))[0].splitlines() if line.split()[:1] == ["with"])
+    return tuple(next(found, ()))
+
+
 def written(problem: Problem, report: Report) -> str:
     """A report as the front writes it, where there is none of `dcop` that says the same."""
     lines = [f"status {report.status}", f"method {report.method}"]
     lines += ["goal max"] if problem.goal == "max" else []
-    lines += [f"rests {report.rests}", f"error {report.error}"]
+    lines.append(f"rests {report.rests}")
+    lines += [f"with {' '.join(report.besides)}"] if report.besides else []
+    lines.append(f"error {report.error}")
     lines.append(f"nodes {report.nodes}" if report.method in ("search", "smaller") else f"deliveries {report.deliveries}")
     lines += [f"cost {report.cost}", f"lower {report.lower}", f"upper {report.upper}"]
     lines += [f"value {v.name} {v.value_name(value)}" for v, value in zip(problem.variables, report.values)]
@@ -100,7 +110,7 @@ def read_report(text: str, problem: Problem) -> Report:
         raise Trouble("that is no report of `dcop solve`") from None
     if len(values) != len(problem.variables):
         raise Trouble(f"the report has {len(values)} values for {len(problem.variables)} variables")
-    return Report(status, method, values=values, certificate=certificate, rests=rests, **count)
+    return Report(status, method, values=values, certificate=certificate, rests=rests, besides=made_with(told), **count)
 
 
 def fitted(problem: Problem, report: str) -> Problem:

@@ -6,6 +6,8 @@ from collections.abc import Sequence
 from dataclasses import dataclass, field
 from fractions import Fraction
 
+Cost = Fraction | int | None
+"""The cost of a combination of values, or FORBIDDEN."""
 FORBIDDEN = None
 """The cost of a combination of values that must not be chosen."""
 
@@ -16,7 +18,7 @@ class Constraint:
 
     name: str
     scope: tuple[int, ...]
-    costs: Sequence[Fraction | int | None]
+    costs: Sequence[Cost]
 
 
 @dataclass(frozen=True)

@@ -3,16 +3,15 @@
 from __future__ import annotations
 
 import re
-from collections.abc import Sequence
+from collections.abc import Iterable, Mapping, Sequence
 from contextlib import suppress
 from dataclasses import dataclass, field, replace
 from fractions import Fraction
-from itertools import product
 from math import lcm, prod
 from typing import cast
 
 from .problem import MOST_CELLS, MOST_NAME, MOST_SCOPE, Problem, Table, Trouble, Variable, is_name
-from .source import FORBIDDEN, Constraint, Counter, Source, Tupled
+from .source import FORBIDDEN, Constraint, Cost, Counter, Source, Tupled
 from .wide import narrowed
 
 _ROUNDED = 10**6
@@ -133,18 +132,19 @@ def translate(source: Source) -> Translation:
     forbidden gets one cost that is above all others together."""
     source = without_forbidden_values(narrowed(source))
     check_shape(source)
-    scale, rounded = scale_of(source)
+    kinds = [set(constraint.costs) for constraint in source.constraints]
+    scale, rounded = scale_of(kinds)
     names = distinct_names(source.names)
     variables = [
         Variable(name, len(values), value_names(values)) for name, values in zip(names, source.values)
     ]
-    whole, shift = whole_costs(source, scale)
-    greatest = sum(max((c for c in set(costs) if c is not None), default=0) for costs in whole)
-    forbids = {at for at, costs in enumerate(whole) if None in costs}
-    hard_cost = greatest + 1 if forbids else 0
+    whole, shift = whole_costs(kinds, scale)
+    greatest = sum(max((c for c in told.values() if c is not None), default=0) for told in whole)
+    hard = {at: forbidden(source.constraints[at].costs) for at, its in enumerate(kinds) if FORBIDDEN in its}
+    hard_cost = greatest + 1 if hard else 0
     tables = []
-    for at, (constraint, costs) in enumerate(zip(source.constraints, whole)):
-        tables.append(Table(constraint.scope, settled(costs, at in forbids, hard_cost, source.goal)))
+    for at, (constraint, told) in enumerate(zip(source.constraints, whole)):
+        tables.append(Table(constraint.scope, settled(constraint.costs, told, hard.get(at, []), hard_cost, source.goal)))
     problem = Problem(source.goal, variables, tables)
     result = Translation(
         problem,
@@ -153,8 +153,8 @@ def translate(source: Source) -> Translation:
         scale,
         shift,
         rounded,
-        {at: frozenset(forbidden(whole[at])) for at in sorted(forbids)},
-        {at: source.constraints[at].name for at in forbids},
+        {at: frozenset(cells) for at, cells in hard.items()},
+        {at: source.constraints[at].name for at in hard},
         hard_cost,
         source,
     )
@@ -163,22 +163,27 @@ def translate(source: Source) -> Translation:
     return result
 
 
-def forbidden(costs: Sequence[int | None]) -> list[int]:
+def forbidden(costs: Sequence[Cost]) -> list[int]:
     """Which cells are forbidden."""
     found, at = [], -1
     with suppress(ValueError):
         while True:
-            at = costs.index(None, at + 1)
+            at = costs.index(FORBIDDEN, at + 1)
             found.append(at)
     return found
 
 
-def settled(costs: Sequence[int | None], forbids: bool, hard_cost: int, goal: str) -> tuple[int, ...]:
-    if not forbids:
-        return tuple(c for c in costs if c is not None)
-    told = {c: c if goal == "min" else c + hard_cost for c in set(costs) if c is not None}
-    told[None] = hard_cost if goal == "min" else 0  # type: ignore[index]
-    return tuple([told[c] for c in costs])  # type: ignore[index]
+def settled(costs: Sequence[Cost], whole: Mapping[Cost, int | None], hard: list[int], hard_cost: int, goal: str) -> tuple[int, ...]:
+    """The cells of a table, by its costs as whole numbers and the cells that are forbidden. These have the hard cost; for a greatest sum
+    all others have it besides."""
+    extra = hard_cost if hard and goal == "max" else 0
+    told = {c: hard_cost - extra if it is None else it + extra for c, it in whole.items()}
+    if any(type(c) is not int or c != it for c, it in told.items() if c is not FORBIDDEN):
+        return tuple(map(told.__getitem__, costs))
+    cells = list(cast("Sequence[int]", costs))
+    for at in hard:
+        cells[at] = told[FORBIDDEN]
+    return tuple(cells)
 
 
 def check_shape(source: Source) -> None:
@@ -207,23 +212,21 @@ def without_forbidden_values(source: Source) -> Source:
                 raise Trouble(f"every value of {name} is forbidden, the last by {constraint.name}, so there is no solution")
     constraints = []
     for constraint in source.constraints:
-        sizes = [len(source.values[v]) for v in constraint.scope]
-        costs = []
-        for choice in product(*(kept[v] for v in constraint.scope)):
-            place = 0
-            for value, size in zip(choice, sizes):
-                place = place * size + value
-            costs.append(constraint.costs[place])
+        places = [0]
+        for v in constraint.scope:
+            size = len(source.values[v])
+            places = [place * size + value for place in places for value in kept[v]]
+        costs = constraint.costs if len(places) == len(constraint.costs) else [constraint.costs[place] for place in places]
         constraints.append(Constraint(constraint.name, constraint.scope, costs))
     values = [[values[v] for v in keep] for values, keep in zip(source.values, kept)]
     return replace(source, values=values, constraints=constraints)
 
 
-def scale_of(source: Source) -> tuple[int, bool]:
+def scale_of(kinds: Iterable[Iterable[Cost]]) -> tuple[int, bool]:
     """By what the costs are multiplied to be whole numbers, and whether they are rounded then."""
     scale = 1
-    for constraint in source.constraints:
-        for cost in set(constraint.costs):
+    for its in kinds:
+        for cost in its:
             if cost is not None:
                 scale = lcm(scale, cost.denominator)
                 if scale > 10**9:
@@ -231,17 +234,15 @@ def scale_of(source: Source) -> tuple[int, bool]:
     return scale, False
 
 
-def whole_costs(source: Source, scale: int) -> tuple[list[Sequence[int | None]], Fraction]:
-    """The costs of each constraint as whole numbers from 0 up, and what they were shifted by, unscaled."""
-    whole: list[Sequence[int | None]] = []
+def whole_costs(kinds: Iterable[Iterable[Cost]], scale: int) -> tuple[list[dict[Cost, int | None]], Fraction]:
+    """What each cost of each constraint is as a whole number from 0 up, and what they were shifted by, unscaled."""
+    whole = []
     shift = Fraction(0)
-    for constraint in source.constraints:
-        scaled = {c: None if c is None else round(c * scale) for c in set(constraint.costs)}
+    for its in kinds:
+        scaled = {c: None if c is None else round(c * scale) for c in its}
         least = min((c for c in scaled.values() if c is not None), default=0)
         shift += Fraction(least, scale)
-        moved = {c: None if told is None else told - least for c, told in scaled.items()}
-        same = all(type(c) is int and c == told for c, told in moved.items() if c is not None)
-        whole.append(cast("Sequence[int | None]", constraint.costs) if same else [moved[c] for c in constraint.costs])
+        whole.append({c: None if told is None else told - least for c, told in scaled.items()})
     return whole, shift
 
 

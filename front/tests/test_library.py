@@ -249,7 +249,7 @@ class Real(unittest.TestCase):
                     self.assertEqual(failed, 0, told.getvalue())
 
     def test_the_scripts_of_the_document(self):
-        self.assertEqual(len(scripts()), 3)
+        self.assertEqual(len(scripts()), 2)
         self.assertEqual(len(scripts()), DOCUMENT.read_text().count("```python"))
         for script, printed in scripts():
             with self.subTest(script[:80]):

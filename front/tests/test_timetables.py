@@ -23,7 +23,7 @@ from sefwllon.files import load
 from sefwllon.parts import parts_of, solved_apart
 from sefwllon.problem import Trouble
 from sefwllon.programs import Programs
-from sefwllon.timetable import busy, calendars, impossible, make, rules, slips, telling
+from sefwllon.timetable import busy, calendars, earlier, impossible, make, rules, slips, telling
 from sefwllon.timetable.session import Plan, Session
 from sefwllon.translate import Translation, translate
 
@@ -515,6 +515,92 @@ class Keeping(Case):
         self.assertEqual(status, 3)
         self.assertIn("has none of these meetings", why)
 
+    def kept_report(self) -> tuple[str, str, str]:
+        """A week in which a meeting is held elsewhere, the timetable that was kept, and the report that `meetings` made with it."""
+        old = self.file("old.txt", self.front("meetings", self.file("week.csv", WEEK))[1])
+        week, report = self.file("held.csv", WEEK + "fixed,Design,Tue 9\n"), self.file("held.report", "")
+        _, told, _ = self.front("meetings", week, "--keep", old, "--report", report)
+        self.assertIn(f"\nnote: `sefwllon check {week} {report} --keep {old}` checks the report\n", told)
+        self.assertIn("\nwith keep\n", Path(report).read_text())
+        return week, old, report
+
+    def test_a_report_of_moves_is_checked_with_the_timetable_that_was_kept(self):
+        week, old, report = self.kept_report()
+        told = self.front("meetings", week, "--keep", old)[1].splitlines()
+        head = told[0].removesuffix(" (verified)")
+        self.assertRegex(head, "^[23] meetings move, and no timetable moves fewer; cost [0-9]+, and none of those is better$")
+        moved = [line for line in told if line.startswith("moved: ")]
+        status, verdict, _ = self.front("check", week, report, "--keep", old)
+        self.assertEqual((status, verdict.splitlines()), (0, [f"yes, verified: {head}", *moved]))
+        answer = json.loads(self.front("check", week, report, "--keep", old, "--json")[1])
+        cost = int(re.search("cost ([0-9]+)", head)[1])
+        self.assertEqual((answer["answer"], answer["cost"], answer["bound"], answer["moved"]), ("yes", cost, cost, [line.split()[1] for line in moved]))
+
+    def test_a_report_of_moves_that_is_altered_does_not_hold(self):
+        week, old, report = self.kept_report()
+        text = Path(report).read_text()
+        for wrong in (re.sub(r"^cost (\d+)", lambda it: f"cost {int(it[1]) - 1}", text, 1, re.M), text.replace("value Retro Wed_10", "value Retro Mon_11", 1)):
+            status, told, _ = self.front("check", week, self.file("wrong.report", wrong), "--keep", old)
+            self.assertEqual((status, told[:4]), (1, "no: "))
+            self.assertTrue(told.endswith("; this report is about what --keep named when it was made\n"), told)
+
+    def test_a_report_says_what_it_was_made_with(self):
+        week, old, report = self.kept_report()
+        for words in (("check", week, report), ("cost", week, report, "--report", report)):
+            status, told, why = self.front(*words)
+            self.assertEqual((status, told, why), (3, "", "sefwllon: this report was made with --keep: name the old timetable by --keep OLD\n"))
+        _, _, why = self.front("trace", week, report)
+        self.assertIn("`meetings --problem OUT` writes its problem beside it", why)
+        plain = self.file("plain.report", "")
+        self.front("meetings", week, "--report", plain)
+        self.assertNotIn("\nwith ", Path(plain).read_text())
+        self.assertEqual(self.front("check", week, plain)[0], 0)
+        status, told, _ = self.front("check", week, plain, "--keep", old)
+        self.assertEqual(status, 1)
+        self.assertTrue(told.endswith("; this report does not say that it was made with --keep\n"), told)
+
+    def test_the_problem_of_moves_needs_no_timetable(self):
+        week, old, report = self.kept_report()
+        problem = self.file("held.problem", "")
+        self.front("meetings", week, "--keep", old, "--problem", problem)
+        self.assertEqual(self.front("check", problem, report)[0], 0)
+        status, _, why = self.front("check", problem, report, "--keep", old)
+        self.assertEqual(status, 3)
+        self.assertIn("is no timetable: --keep goes with a timetable's CSV", why)
+
+    def test_cost_says_what_moves_and_how_far_that_is_from_the_best(self):
+        week, old, report = self.kept_report()
+        head, *rest = self.front("meetings", week, "--keep", old)[1].splitlines()
+        cost, moved = re.search("cost [0-9]+", head)[0], [line for line in rest if line.startswith("moved: ")]
+        self.assertEqual(self.front("cost", week, report)[1], f"{cost}\n")
+        _, told, _ = self.front("cost", week, report, "--keep", old)
+        self.assertEqual(told.splitlines(), [*moved, f"{len(moved)} meetings move; {cost}"])
+        _, told, _ = self.front("cost", week, report, "--keep", old, "--report", report)
+        self.assertEqual(told.splitlines(), [*moved, head])
+        worse = ("Kickoff=Wed 10", "Design=Tue 9", "Budget=Mon 9", "Retro=Mon 11")
+        _, told, _ = self.front("cost", week, *worse, "--keep", old, "--report", report)
+        self.assertEqual(told.splitlines()[-1], "4 meetings move, and one may move fewer; cost 7")
+
+    def test_a_certified_report_after_another_is_not_what_is_kept(self):
+        two = "value m a\nend\nstatus solved\nvalue m b\ncertificate tables\nend\n"
+        told = timetable.read(TWO + "meeting,m,Ann\n")
+        self.assertEqual(earlier.read(told, two, "old").places, {"m": "a"})
+
+    @real_test
+    def test_a_report_of_scarce_rooms_is_checked_with_its_problem(self):
+        text = "slot,a\nslot,b\nslot,c\n" + "".join(f"meeting,m{at},p{at}\nlike,m{at},a,{at + 1}\n" for at in range(6)) + "room,Blue\nroom,Red\n"
+        week, report, problem = self.file("week.csv", text), self.file("report", ""), self.file("problem", "")
+        _, told, _ = self.front("meetings", week, "--report", report, program=REAL)
+        self.assertIn("since rooms were scarce: `--problem OUT` writes its problem, and `sefwllon check OUT", told)
+        self.assertIn("\nwith rooms\n", Path(report).read_text())
+        _, told, _ = self.front("meetings", week, "--report", report, "--problem", problem, program=REAL)
+        self.assertIn(f"since rooms were scarce: `sefwllon check {problem} {report}` checks it\n", told)
+        status, _, why = self.front("check", week, report, program=REAL)
+        self.assertEqual(status, 3)
+        self.assertIn("since rooms were scarce: `meetings --problem OUT` writes its problem", why)
+        self.assertEqual(self.front("check", problem, report, program=REAL)[:2], (0, "yes, verified: cost 10, and none is better\n"))
+        self.assertEqual(self.front("cost", week, report, program=REAL)[1], "cost 10\n")
+
     def test_a_move_outweighs_all_wishes(self):
         text = TWO + "slot,c,2026-03-02 11:00\nmeeting,m,Ann\nmeeting,n,Ann\nlike,m,c,1000000\nlike,n,a,7\n"
         _, told, _ = self.front("meetings", self.file("week.csv", text), "--keep", self.file("old", "a  m  (Ann)\na  n  (Ann)\n"))
@@ -688,12 +774,34 @@ class Calendars(Case):
         calendar = self.file("ann.ics", head + entry("DTSTART:20260302T000000", "DTEND:20260308T000000") + tail)
         _, told, _ = self.front("meetings", self.file("week.csv", week), "--busy", f"Ann={calendar}")
         self.assertIn("\nd8  m  (Ann)\n", told)
+        words, report = ("--busy", f"Ann={calendar}"), self.file("week.report", "")
+        busy_week = self.file("week.csv", week)
+        _, told, _ = self.front("meetings", busy_week, *words, "--report", report)
+        self.assertIn(f"\nnote: `sefwllon check {busy_week} {report} --busy Ann={calendar}` checks the report\n", told)
+        self.assertEqual(self.front("check", busy_week, report, *words)[:2], (0, "yes, verified: cost 0, and none is better\n"))
+        self.assertEqual(self.front("check", busy_week, report)[0::2], (3, "sefwllon: this report was made with --busy: name the calendars by --busy PERSON=ICS\n"))
         _, told, _ = self.front("why", self.file("week.csv", week), "m", "d3", "--busy", f"Ann={calendar}")
         self.assertEqual(told, "m can't be in d3: Ann can't: a calendar\n")
         for words, why in (((f"Zoe={calendar}",), "Zoe takes part in no meeting"), ((calendar,), "is no calendar of somebody"), ((f"Ann={self.file('x.ics', 'BEGIN:VCALENDAR')}",), "")):
             status, _, told = self.front("meetings", self.file("week.csv", week), "--busy", *words)
             self.assertEqual(status, 3 if why else status)
             self.assertIn(why, told)
+
+    def test_what_a_calendar_lacks_is_told(self):
+        zone, people = "zone,Europe/Berlin\n", "".join(f"person,{name},{name}@example.org\n" for name in ("Ida", "Jon", "Kim", "Lea"))
+        no_mail = "note: the calendar has no address of {}: a line person,{},MAIL gives one\n"
+        no_zone = "note: the calendar's times have no zone: a line zone,Europe/Berlin gives one\n"
+        for text, wanted in (
+            (WEEK, [no_mail.format("Ida, Jon, Kim, Lea", "Ida"), no_zone]),
+            (zone + WEEK + "person,Ida,i@example.org\n", [no_mail.format("Jon, Kim, Lea", "Jon")]),
+            (WEEK + people, [no_zone]),
+            (zone + WEEK + people, []),
+        ):
+            told = self.front("meetings", self.file("week.csv", text), "--ics", self.file("week.ics", ""))[1]
+            self.assertEqual([line for line in told.splitlines(True) if line.startswith("note: the calendar")], wanted)
+        self.assertNotIn("calendar", self.front("meetings", self.file("week.csv", WEEK))[1])
+        answer = json.loads(self.front("meetings", self.file("week.csv", WEEK), "--ics", self.file("week.ics", ""), "--json")[1])
+        self.assertEqual([note.split(":")[0] for note in answer["notes"]], ["the calendar has no address of Ida, Jon, Kim, Lea", "the calendar's times have no zone"])
 
     def test_a_missing_library_is_told(self):
         with mock.patch.dict("sys.modules", icalendar=None):

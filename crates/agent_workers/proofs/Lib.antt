@@ -3,6 +3,9 @@ pub mod CellLaws
 pub mod JoinLaws
 pub mod SettleLaws
 pub mod PlayLaws
+mod WatchLaws
+mod SentLaws
+mod TurnLaws
 mod PartLaws
 mod BrokenLaws
 mod BreakLaws

@@ -24,6 +24,7 @@ pub(crate) fn play_parts<
     requires few { TakesFew F.Fn play.now }
     requires within { length all.old * sprint_limit ≤ count_limit }
     ensures parts { IsPlayedByParts F.Fn play.now all.old result all.new }
+    ensures whole { length all.old ≤ size → IsCall F.Fn play.now all.old result all.new }
     ensures few { IfOk result (λ n. n ≤ length all.old * sprint_limit) }
 {
     if all.len() <= size {

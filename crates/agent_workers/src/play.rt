@@ -1,6 +1,6 @@
 //! Playing cells: turns, sprints of turns, and concurrent parts.
 
-ghost use Rattle.std.specs.Prelude.{◌≡◌, ◌≤◌, ◌<◌, length, true, false, IfOk, IfErr, None, Some};
+ghost use Rattle.std.specs.Prelude.{◌≡◌, ◌≤◌, ◌<◌, length, true, false, IfOk, OnOk, IfErr, None, Some};
 ghost use Rattle.dcop_base.specs.Limits.{variable_limit};
 ghost use Rattle.protocol_steps.specs.Rounds.{most_events};
 ghost use Rattle.agent_cells.specs.declared.fault.VisitFault.TheVariants.{StampEnd as stamp_end};
@@ -8,6 +8,7 @@ ghost use Rattle.agent_cells.specs.Failed.{HasReachedEnd};
 ghost use Rattle.agent_cells.specs.State.{state_of, fault_in};
 ghost use Rattle.agent_workers.specs.Joined.{states_of, EachIs, EachBecomes};
 ghost use Rattle.agent_workers.specs.Turns.{visit_limit, sprint_limit, IsReady, StaysReady, HasTurned, SomeFailed, AreTurning, HavePlayed};
+ghost use Rattle.agent_workers.specs.Watched.{MarksReceivers, all_due, MarksWaiting, PassesUnmarked, IsPlayedInTurns};
 ghost use Rattle.agent_workers.specs.Broken.{HasGoneOn, AreBrokenOff};
 
 use crate::parts::play_parts;
@@ -39,6 +40,7 @@ pub(crate) fn play_cells<R: Threads + Sync, G: Gate>(
     requires few { length cells.old ≤ variable_limit }
     ensures ready { EachBecomes (λ a b. StaysReady (λ b. meaning (b.vtable, b.value)) a b) cells.old cells.new }
     ensures ok { IfOk result (λ n. HavePlayed (λ b. meaning (b.vtable, b.value)) n cells.old cells.new) }
+    ensures turns { length cells.old ≤ size → OnOk result (IsPlayedInTurns (λ b. meaning (b.vtable, b.value)) true cells.old cells.new) }
     ensures err { IfErr result (λ f. SomeFailed f cells.new) }
     ensures end { IfErr result (λ f. f ≡ stamp_end → EachIs (λ c. fault_in c ≡ None) cells.old
         → AreBrokenOff (λ b. meaning (b.vtable, b.value)) HasGoneOn sprint_limit (states_of (λ b. meaning (b.vtable, b.value)) cells.old) cells.new) }
@@ -51,6 +53,7 @@ pub(crate) fn play_cells<R: Threads + Sync, G: Gate>(
         ensures err { IfErr result (λ f. SomeFailed f part.exit.now) }
         ensures end { IfErr result (λ f. f ≡ stamp_end → EachIs (λ c. fault_in c ≡ None) part.entry.now
             → AreBrokenOff (λ b. meaning (b.vtable, b.value)) HasGoneOn sprint_limit (states_of (λ b. meaning (b.vtable, b.value)) part.entry.now) part.exit.now) }
+        ensures turns { OnOk result (IsPlayedInTurns (λ b. meaning (b.vtable, b.value)) alone part.entry.now part.exit.now) }
     { play_part(gate, alone, part) };
     play_parts(rt, &play, size, busy, cells)
 }
@@ -58,11 +61,19 @@ pub(crate) fn play_cells<R: Threads + Sync, G: Gate>(
 /// Plays a part: turn after turn, until one takes nothing, at most 32. Returns how many messages
 /// were taken.
 ///
-/// If the part is `alone`, all cells are in it, and during a round nothing is sent on a link except
-/// by visits of these cells. The first turn visits each cell. A visit takes all that it finds,
-/// since it takes as much of a link as its ring holds. From then on, something can wait only for a
-/// cell to which a visit after its own last one sent something. A later turn visits only these
-/// cells; the others are passed over and pass no gate.
+/// The clause `turns` says whom a turn visits. The first turn visits each cell that has not ended.
+/// So does each later turn, unless the part is `alone`: it has all cells, and during a round
+/// nothing is sent on a link except by visits of these cells. Then a turn passes over a cell only
+/// if nothing was sent to it since the turn before came to its place. Such a cell passes no gate.
+///
+/// The marks of a [`Watch`] decide this. A visit marks each agent to which it sends something, and
+/// only a cell's own turn takes its mark away.
+///
+/// Two things are no clause. What another thread sends during a turn has no place in the order of
+/// these visits; so a part that is not `alone` visits all its cells in each turn. And a visit need
+/// not find what was sent before it: it takes at least what its cell knows to wait, and the
+/// settling of the next round shows what is left. A visit that finds nothing leaves the cell as it
+/// was, so contracts tell it from no visit only by what the cell knows.
 pub(crate) fn play_part<G: Gate>(
     gate: &G,
     alone: bool,
@@ -72,6 +83,7 @@ pub(crate) fn play_part<G: Gate>(
     requires few { length cells.old ≤ variable_limit }
     ensures ready { EachBecomes (λ a b. StaysReady (λ b. meaning (b.vtable, b.value)) a b) cells.old cells.new }
     ensures ok { IfOk result (λ n. HavePlayed (λ b. meaning (b.vtable, b.value)) n cells.old cells.new) }
+    ensures turns { OnOk result (IsPlayedInTurns (λ b. meaning (b.vtable, b.value)) alone cells.old cells.new) }
     ensures err { IfErr result (λ f. SomeFailed f cells.new) }
     ensures end { IfErr result (λ f. f ≡ stamp_end → EachIs (λ c. fault_in c ≡ None) cells.old
         → AreBrokenOff (λ b. meaning (b.vtable, b.value)) HasGoneOn sprint_limit (states_of (λ b. meaning (b.vtable, b.value)) cells.old) cells.new) }
@@ -92,13 +104,14 @@ pub(crate) fn play_part<G: Gate>(
 /// Whether this turn visits all cells that have not ended. The first turn does. If the part is not
 /// `alone`, each turn does, since something may arrive for any cell at any time.
 fn visits_all(turn: usize, alone: bool) -> bool
-    ensures { turn ≡ 0 → result ≡ true }
+    ensures first { turn ≡ 0 → result ≡ true }
+    ensures due { result ≡ all_due turn alone }
 {
     turn == 0 || !alone
 }
 
 /// Plays a turn: visits each cell that has not ended once, in order. If not `all` are to be
-/// visited, it visits only those for which something waits. Returns how many messages were taken.
+/// visited, it visits only those that are marked. Returns how many messages were taken.
 fn take_turn<G: Gate>(
     gate: &G,
     all: bool,
@@ -109,6 +122,8 @@ fn take_turn<G: Gate>(
     requires few { length cells.old ≤ variable_limit }
     ensures ready { EachBecomes (λ a b. StaysReady (λ b. meaning (b.vtable, b.value)) a b) cells.old cells.new }
     ensures ok { IfOk result (λ n. AreTurning (λ b. meaning (b.vtable, b.value)) all (length cells.old) n cells.old cells.new) }
+    ensures turn { OnOk result (PassesUnmarked (λ b. meaning (b.vtable, b.value)) all watch.old.waits (length cells.old) cells.old cells.new) }
+    ensures marks { OnOk result (MarksWaiting (λ b. meaning (b.vtable, b.value)) watch.new.waits (length cells.old) cells.old cells.new) }
     ensures err { IfErr result (λ f. SomeFailed f cells.new) }
     ensures end { IfErr result (λ f. f ≡ stamp_end → EachIs (λ c. fault_in c ≡ None) cells.old
         → AreBrokenOff (λ b. meaning (b.vtable, b.value)) HasGoneOn visit_limit (states_of (λ b. meaning (b.vtable, b.value)) cells.old) cells.new) }
@@ -125,6 +140,7 @@ fn visit_all<G: Gate>(gate: &G, watch: &mut Watch, cells: &mut [Cell]) -> Result
     requires few { length cells.old ≤ variable_limit }
     ensures ready { EachBecomes (λ a b. StaysReady (λ b. meaning (b.vtable, b.value)) a b) cells.old cells.new }
     ensures ok { IfOk result (λ n. AreTurning (λ b. meaning (b.vtable, b.value)) true (length cells.old) n cells.old cells.new) }
+    ensures marks { OnOk result (MarksWaiting (λ b. meaning (b.vtable, b.value)) watch.new.waits (length cells.old) cells.old cells.new) }
     ensures err { IfErr result (λ f. SomeFailed f cells.new) }
     ensures end { IfErr result (λ f. f ≡ stamp_end → EachIs (λ c. fault_in c ≡ None) cells.old
         → AreBrokenOff (λ b. meaning (b.vtable, b.value)) HasGoneOn visit_limit (states_of (λ b. meaning (b.vtable, b.value)) cells.old) cells.new) }
@@ -136,9 +152,8 @@ fn visit_all<G: Gate>(gate: &G, watch: &mut Watch, cells: &mut [Cell]) -> Result
     Ok(taken)
 }
 
-/// Visits each cell that has not ended and for which something waits once, in order, including a
-/// cell to which a visit before it in this turn sends something. Returns how many messages were
-/// taken.
+/// Visits each marked cell that has not ended once, in order, including a cell that a visit before
+/// it in this turn has marked. Returns how many messages were taken.
 fn visit_waiting<G: Gate>(
     gate: &G,
     watch: &mut Watch,
@@ -148,6 +163,8 @@ fn visit_waiting<G: Gate>(
     requires few { length cells.old ≤ variable_limit }
     ensures ready { EachBecomes (λ a b. StaysReady (λ b. meaning (b.vtable, b.value)) a b) cells.old cells.new }
     ensures ok { IfOk result (λ n. AreTurning (λ b. meaning (b.vtable, b.value)) false (length cells.old) n cells.old cells.new) }
+    ensures turn { OnOk result (PassesUnmarked (λ b. meaning (b.vtable, b.value)) false watch.old.waits (length cells.old) cells.old cells.new) }
+    ensures marks { OnOk result (MarksWaiting (λ b. meaning (b.vtable, b.value)) watch.new.waits (length cells.old) cells.old cells.new) }
     ensures err { IfErr result (λ f. SomeFailed f cells.new) }
     ensures end { IfErr result (λ f. f ≡ stamp_end → EachIs (λ c. fault_in c ≡ None) cells.old
         → AreBrokenOff (λ b. meaning (b.vtable, b.value)) HasGoneOn visit_limit (states_of (λ b. meaning (b.vtable, b.value)) cells.old) cells.new) }
@@ -161,7 +178,8 @@ fn visit_waiting<G: Gate>(
     Ok(taken)
 }
 
-/// Visits the cell at this place, if it has not ended. Returns how many messages were taken.
+/// Visits the cell at this place, if it has not ended, takes its mark away, and marks each agent to
+/// which the visit sends something. Returns how many messages were taken.
 fn visit_once<G: Gate>(
     gate: &G,
     place: usize,
@@ -171,6 +189,8 @@ fn visit_once<G: Gate>(
     requires ready { IsReady (λ b. meaning (b.vtable, b.value)) cell.old }
     ensures ready { StaysReady (λ b. meaning (b.vtable, b.value)) cell.old cell.new }
     ensures ok { IfOk result (λ n. HasTurned (λ b. meaning (b.vtable, b.value)) n cell.old cell.new) }
+    ensures marks { OnOk result (MarksReceivers place watch.old.waits watch.new.waits
+        (state_of (λ b. meaning (b.vtable, b.value)) cell.old).sent (state_of (λ b. meaning (b.vtable, b.value)) cell.new).sent) }
     ensures err { IfErr result (λ f. fault_in cell.new ≡ Some f) }
     ensures end { IfErr result (λ f. f ≡ stamp_end → fault_in cell.old ≡ None
         → HasReachedEnd (state_of (λ b. meaning (b.vtable, b.value)) cell.old) (state_of (λ b. meaning (b.vtable, b.value)) cell.new)) }
@@ -179,7 +199,7 @@ fn visit_once<G: Gate>(
     if cell.ended() {
         return Ok(0);
     }
-    let taken = cell.visit_marking(gate, watch.marks())?;
+    let taken = cell.visit_marking(gate, &mut watch.marks)?;
     if taken > 0 {
         watch.keep(cell);
     }

@@ -8,6 +8,7 @@ ghost use Rattle.agent_cells.specs.declared.fault.VisitFault.TheVariants.{StampE
 ghost use Rattle.agent_cells.specs.State.{fault_in};
 ghost use Rattle.agent_workers.specs.Joined.{states_of, EachIs, EachBecomes, HasBegun, IsSameCell, IsJoined};
 ghost use Rattle.agent_workers.specs.Turns.{sprint_limit, SomeFailed};
+ghost use Rattle.agent_workers.specs.Watched.{IsTurnRound};
 ghost use Rattle.agent_workers.specs.Broken.{AreBrokenOff};
 
 use crate::play::play_cells;
@@ -27,6 +28,12 @@ pub type CellsList = Vec<Cell>;
 /// after a turn that took nothing. Parts after the last one for which something may wait are played
 /// one after another, in one thread. Returns how many messages were taken. It allocates memory.
 ///
+/// With one worker, the clause `turns` says whom a turn visits: a turn after the first passes over
+/// a cell only if nothing was sent to it since the turn before came to its place. With several
+/// workers each part visits all its cells in each turn, which is a clause of the part and not of
+/// the round. What one part sends to another during a turn has no place in the order of the visits,
+/// so no clause speaks of it.
+///
 /// After a fault the cells are as their visits left them, and a cell has failed with this fault.
 pub fn round<R: Threads + Sync, G: Gate>(
     rt: &R,
@@ -43,6 +50,7 @@ pub fn round<R: Threads + Sync, G: Gate>(
     ensures same { EachBecomes (λ a b. IsSameCell a b) cells.old.items cells.new.items }
     ensures round { OnOk result (IsPartRound (home nodes (length cells.old.items))
         (states_of (λ b. meaning (b.vtable, b.value)) cells.old.items) (states_of (λ b. meaning (b.vtable, b.value)) cells.new.items)) }
+    ensures turns { workers ≡ 1 → OnOk result (IsTurnRound (λ b. meaning (b.vtable, b.value)) (home nodes (length cells.old.items)) cells.old.items cells.new.items) }
     ensures counted { IfOk result (λ n. total (states_of (λ b. meaning (b.vtable, b.value)) cells.new.items) ≡ total (states_of (λ b. meaning (b.vtable, b.value)) cells.old.items) + n) }
     ensures most { IfOk result (λ n. n ≤ length cells.old.items * sprint_limit) }
     ensures fine { OnOk result (EachBecomes (λ a b. fault_in a ≡ None → fault_in b ≡ None) cells.old.items cells.new.items) }
@@ -67,6 +75,7 @@ pub fn play_round<R: Threads + Sync, G: Gate>(
     ensures same { EachBecomes (λ a b. IsSameCell a b) cells.old cells.new }
     ensures round { OnOk result (IsPartRound (home nodes (length cells.old))
         (states_of (λ b. meaning (b.vtable, b.value)) cells.old) (states_of (λ b. meaning (b.vtable, b.value)) cells.new)) }
+    ensures turns { workers ≡ 1 → OnOk result (IsTurnRound (λ b. meaning (b.vtable, b.value)) (home nodes (length cells.old)) cells.old cells.new) }
     ensures counted { IfOk result (λ n. total (states_of (λ b. meaning (b.vtable, b.value)) cells.new) ≡ total (states_of (λ b. meaning (b.vtable, b.value)) cells.old) + n) }
     ensures most { IfOk result (λ n. n ≤ length cells.old * sprint_limit) }
     ensures fine { OnOk result (EachBecomes (λ a b. fault_in a ≡ None → fault_in b ≡ None) cells.old cells.new) }

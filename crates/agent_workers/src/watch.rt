@@ -1,6 +1,10 @@
 //! The cells for which something may wait.
 
-ghost use Rattle.std.specs.Prelude.{◌≤◌, ◌<◌, IfSome};
+ghost use Rattle.std.specs.Prelude.{◌≡◌, ◌≢◌, ◌≤◌, ◌<◌, ℕ, length, false, IfSome, MatchOption, Some, slice_get, slice_index_or};
+ghost use Rattle.dcop_base.specs.Limits.{variable_limit};
+ghost use Rattle.worker_runs.specs.Cells.{peers};
+ghost use Rattle.agent_cells.specs.State.{state_of};
+ghost use Rattle.agent_workers.specs.Watched.{IsUnmarked, AreUnmarked};
 
 use agent_cells::Cell;
 use dcop_base::MAX_VARIABLES;
@@ -12,14 +16,13 @@ const BITS: usize = 64;
 const WORDS: usize = 16;
 
 /// What a part that has all cells keeps of each cell, by its place, which is the number of its
-/// agent. No clause says that it is right: what is wrong in it can only leave a message for a later
-/// round.
+/// agent. A cell is marked if its bit in `waits` is set.
 #[derive(Drop)]
 pub(crate) struct Watch {
     // Whether something was sent to it since its last visit, with one bit for each cell.
-    waits: [u64; WORDS],
+    pub(crate) waits: [u64; WORDS],
     // Whether the current visit, if there is one, sends something to it.
-    marks: [bool; MAX_VARIABLES],
+    pub(crate) marks: [bool; MAX_VARIABLES],
 }
 
 impl Watch {
@@ -31,10 +34,11 @@ impl Watch {
         }
     }
 
-    /// The first place that is not below `from` of a cell for which something may wait, among
-    /// `cells` cells.
+    /// The first marked place that is not below `from`, among `cells` cells.
     pub(crate) fn next(&self, from: usize, cells: usize) -> Option<usize>
-        ensures { IfSome result (λ place. (from ≤ place) × (place < cells)) }
+        ensures within { IfSome result (λ place. (from ≤ place) × (place < cells)) }
+        ensures passed { MatchOption result (AreUnmarked self.now.waits from cells)
+            (λ place. AreUnmarked self.now.waits from place) }
     {
         let Some(place) = self.first_from(from) else {
             return None;
@@ -45,9 +49,11 @@ impl Watch {
         None
     }
 
-    /// The first place that is not below `from` for which something may wait.
+    /// The first marked place that is not below `from`.
     fn first_from(&self, from: usize) -> Option<usize>
-        ensures { IfSome result (λ place. from ≤ place) }
+        ensures within { IfSome result (λ place. from ≤ place) }
+        ensures passed { MatchOption result ((to : ℕ) → AreUnmarked self.now.waits from to)
+            (λ place. AreUnmarked self.now.waits from place) }
     {
         let own = from / BITS;
         if own >= WORDS {
@@ -66,27 +72,35 @@ impl Watch {
         None
     }
 
-    /// Records that the cell at this place is visited, which takes all that waits for it.
-    pub(crate) fn look(&mut self, place: usize) {
+    /// Takes away the mark of the cell at this place, which is visited.
+    pub(crate) fn look(&mut self, place: usize)
+        ensures { (k : ℕ) → k ≢ place → IsUnmarked self.new.waits k → IsUnmarked self.old.waits k }
+    {
         if place < MAX_VARIABLES {
             self.waits[place / BITS] &= !(1 << (place % BITS));
         }
     }
 
-    /// The marks that a visit sets for the agents to which it sends something.
-    pub(crate) fn marks(&mut self) -> &mut [bool] {
-        &mut self.marks
-    }
-
-    /// Keeps what a visit of this cell has marked: only its neighbours.
-    pub(crate) fn keep(&mut self, cell: &Cell) {
+    /// Marks the neighbours of this cell to which its visit sent something.
+    pub(crate) fn keep(&mut self, cell: &Cell)
+        ensures kept { (k : ℕ) → IsUnmarked self.new.waits k → IsUnmarked self.old.waits k }
+        ensures sent { (q : ℕ) → q < length (peers (state_of (λ b. meaning (b.vtable, b.value)) cell.now).taken)
+            → slice_index_or (peers (state_of (λ b. meaning (b.vtable, b.value)) cell.now).taken) q 0 < variable_limit
+            → IsUnmarked self.new.waits (slice_index_or (peers (state_of (λ b. meaning (b.vtable, b.value)) cell.now).taken) q 0)
+            → slice_get self.old.marks (slice_index_or (peers (state_of (λ b. meaning (b.vtable, b.value)) cell.now).taken) q 0) ≡ Some false }
+    {
         for place in 0..cell.degree() {
-            self.keep_mark(cell.neighbour(place).0 as usize);
+            let near = cell.neighbour(place).0 as usize;
+            self.keep_mark(near);
         }
     }
 
-    /// Keeps the mark of this place, if it is set, and clears it.
-    fn keep_mark(&mut self, place: usize) {
+    /// Marks this place if the visit sent something to its agent, and forgets what it sent there.
+    fn keep_mark(&mut self, place: usize)
+        ensures kept { (k : ℕ) → IsUnmarked self.new.waits k → IsUnmarked self.old.waits k }
+        ensures same { (k : ℕ) → IsUnmarked self.new.waits k → slice_get self.new.marks k ≡ slice_get self.old.marks k }
+        ensures sent { place < variable_limit → IsUnmarked self.new.waits place → slice_get self.new.marks place ≡ Some false }
+    {
         if place < MAX_VARIABLES && self.marks[place] {
             self.marks[place] = false;
             self.waits[place / BITS] |= 1 << (place % BITS);

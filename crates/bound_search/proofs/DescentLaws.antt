@@ -254,9 +254,9 @@ module _ (sizes : List ℕ) (buckets : List Bucket) (rules : Rules) (grounds : A
       }
 
   -- the least value that is left is not visited
-  pub visiting_end : (depth f : ℕ) (value : ℕ → ℕ) (row : List ℕ) (old now new : Progress) (a m : ℕ) → depth < length sizes → f < old.room → IsRoom rules now.best now.room → a < length row → m ≡ get_or row a 0 → ((k : ℕ) → k < length row → m ≤ get_or row k 0)
+  pub visiting_end : (depth f : ℕ) (value : ℕ → ℕ) (row : List ℕ) (old now new : Progress) (a m : ℕ) → depth < length sizes → IsRoom rules now.best now.room → a < length row → m ≡ get_or row a 0 → ((k : ℕ) → k < length row → m ≤ get_or row k 0)
       → IsVisiting sizes buckets rules depth f value row old now → IsOpened rules.budget m now new false → HasDescended sizes buckets rules depth f value old new
-  visiting_end depth f value row old now new a m lt room_left room inside at least visiting stopped =
+  visiting_end depth f value row old now new a m lt room inside at least visiting stopped =
       let nodes : new.nodes ≡ now.nodes = ap (λ (q : Progress). q.nodes) stopped.1 in
       let lower : new.lower ≡ min now.lower m = ap (λ (q : Progress). q.lower) stopped.1 in
       let best : new.best ≡ now.best = ap (λ (q : Progress). q.best) stopped.1 in
@@ -292,12 +292,17 @@ module _ (sizes : List ℕ) (buckets : List Bucket) (rules : Rules) (grounds : A
           | inr begun ↦ (let least = begun.effort none (sym found ∙ first) in omega (arith, least, nodes))
         ];
         straight = λ exact few. elim visiting.begun [
-          | inl fresh ↦ absurd (let first = fresh.least exact in
+          | inl fresh ↦ (let first = fresh.least exact in
+              let low = least first.0 first.1 in
               let before : now.nodes ≡ old.nodes = ap (λ (q : Progress). q.nodes) fresh.same in
-              let here : now.room ≡ old.room = ap (λ (q : Progress). q.room) fresh.same in
+              let unspent : now.spent ≡ old.spent = ap (λ (q : Progress). q.spent) fresh.same in
               elim stopped.2 [
-                | inl passed ↦ omega (arith, passed.0, least first.0 first.1, first.2, room_left, here)
-                | inr reached ↦ omega (arith, reached.2, before, few, some)
+                | inl passed ↦ record {
+                  whole = spent ∙ passed.1 ∙ unspent;
+                  few = omega (arith, nodes, before);
+                  room = omega (arith, same_room, passed.0, low, first.2);
+                }
+                | inr reached ↦ absurd (omega (arith, reached.2, before, few, some))
               ])
           | inr begun ↦ (let straight = begun.straight exact few in
               let past = straight.1 a inside in

@@ -1,5 +1,5 @@
--- Laws of the first estimate, and of what a search comes to.
-use Rattle.std.proofs.Common.{◌≡◌, ℕ, ◌+◌, ◌<◌, ◌≤◌, Bool, true, false, not, cond, eqb, List, [], ◌∷◌, ◌++◌, length, replicate, Option, refl, sym, ap, subst, ◌∙◌, arith}
+-- Laws of the first estimate.
+use Rattle.std.proofs.Common.{◌≡◌, ℕ, ◌+◌, ◌<◌, ◌≤◌, Bool, true, false, not, cond, eqb, List, [], ◌∷◌, ◌++◌, length, replicate, refl, ap, ◌∙◌, arith}
 use Rattle.std.specs.List.{All, filter, sum_by}
 use Rattle.std.proofs.lemmas.Bool.{eqb-true}
 use Rattle.std.proofs.lemmas.List.Elements.{All-head, All-tail, filter-append}
@@ -11,14 +11,10 @@ use Rattle.dcop_optimum.proofs.SumLaws.{sum_both}
 use Rattle.shared_costs.specs.Values.{AreValues, AgreeBelow}
 use Rattle.bucket_bounds.specs.Bounds.{bounds_from, bounds_at}
 use Rattle.bucket_bounds.specs.declared.bucket.Bucket.{Bucket}
-use Rattle.bound_search.specs.Estimate.{estimate, IsPassedOver}
-use Rattle.bound_search.specs.Grounds.{AreGrounds, scaled_cost}
-use Rattle.bound_search.specs.Descent.{IsRoom}
-use Rattle.bound_search.specs.First.{HasSearched, constants_cost, first_sum}
-use Rattle.bound_search.specs.declared.progress.Progress.{Progress}
-use Rattle.bound_search.specs.declared.rules.Rules.{Rules}
-use Rattle.bound_search.proofs.EstimateLaws.{bounds_tables, estimate_agrees, estimate_low, estimate_within}
-use Rattle.bound_search.proofs.DescentLaws.{no_worse_same, most_before}
+use Rattle.bound_search.specs.Estimate.{estimate}
+use Rattle.bound_search.specs.Grounds.{AreGrounds}
+use Rattle.bound_search.specs.First.{constants_cost, first_sum}
+use Rattle.bound_search.proofs.EstimateLaws.{bounds_tables, estimate_agrees, estimate_within}
 
 -- a table without variables names none
 kept_constants : (p : ℕ) (ts : List CostTable) → filter (λ t. eqb (length t.scope) 0) (filter (λ t. not (has t.scope p)) ts) ≡ filter (λ t. eqb (length t.scope) 0) ts
@@ -86,29 +82,3 @@ module _ (sizes : List ℕ) (scale : ℕ) (buckets : List Bucket) (grounds : Are
 
   pub first_within : first_sum buckets ≤ amount_limit
   first_within = let most = estimate_within sizes scale buckets grounds 0 (λ v. 0) (omega arith) zero_values in omega (arith, first_is (λ v. 0), most)
-
--- where the first estimate is passed over, all assignments are
-pub searched_none : (sizes : List ℕ) (buckets : List Bucket) (rules : Rules) → AreGrounds sizes rules.scale buckets → (first : ℕ) (old new : Progress) → first ≡ first_sum buckets → old.room ≤ first → IsRoom rules old.best old.room → old.lower ≡ 18446744073709551615 → old.spent ≡ false
-    → new ≡ record { best = old.best; found = old.found; nodes = old.nodes; lower = first; spent = old.spent; room = old.room } → HasSearched sizes buckets rules old new
-searched_none sizes buckets rules grounds first old new is over room top unspent e =
-    let within = first_within sizes rules.scale buckets grounds in
-    let low : (other : ℕ → ℕ) → AreValues sizes other → first ≤ scaled_cost buckets other = λ other all. (let at = first_is sizes rules.scale buckets grounds other in let below = estimate_low sizes rules.scale buckets grounds 0 other (omega arith) all in omega (arith, at, below, is)) in
-    subst (λ (q : Progress). HasSearched sizes buckets rules old q) (sym e) (record {
-      further = record {
-        lower = omega (arith, top, is, within);
-        room = omega arith;
-        best = no_worse_same old.best;
-        still = λ h. h;
-        same = λ h. refl;
-        better = λ none found. absurd (let both = sym none ∙ found in cc);
-        counted = omega arith;
-        kept = λ h. (h, omega (arith, over));
-      };
-      lower = low;
-      known = λ h. absurd (let both = sym unspent ∙ h in cc);
-      found = λ none. absurd (subst (λ (b : Option ℕ). IsPassedOver rules.scale rules.error b first) none (room.above first (omega (arith, is, within)) over));
-      nodes = most_before rules.budget (length sizes) old.nodes old.best;
-      tree = omega arith;
-      effort = λ none found. absurd (let both = sym none ∙ found in cc);
-      straight = λ exact few. (unspent, omega arith);
-    })

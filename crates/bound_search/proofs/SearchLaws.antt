@@ -39,6 +39,7 @@ module _ (p : Dcop) (shared : SharedCosts) (buckets : List Bucket) (problem : Is
     bounds = subst (λ (ds : List (List CostTable)). AreBounds p.sizes ds buckets) (sym bounds.tables) bounds;
     scaled = costs.scale.some;
     whole = λ value all. (cost_with p.tables value, cost_is value all);
+    some = problem.some;
     few = problem.few;
     sized = problem.sizes;
   }

@@ -5,7 +5,7 @@ use Rattle.std.specs.List.Sorted.{IsPermutation, IsNonDecreasingBy}
 use Rattle.std.proofs.lemmas.Bool.{cases_Bool, cases_lt, cases_eq, cond-true, cond-false, lt-ltb, le-ltb}
 use Rattle.std.proofs.lemmas.List.{append-nil, drop_more, length-drop, length-set, length_push, get_or_push, get_or-set_same, get_or-set_other}
 use Rattle.std.proofs.lemmas.List.Sorted.{IsPermutation-refl, IsPermutation-trans, IsPermutation-cons, IsPermutation-middle, IsPermutation-pop_more, IsNonDecreasingBy-short, IsNonDecreasingBy-push}
-use Rattle.dcop_base.specs.Limits.{amount_limit, count_limit}
+use Rattle.dcop_base.specs.Limits.{amount_limit}
 use Rattle.dcop_base.specs.Values.{with_own}
 use Rattle.dcop_optimum.proofs.OptimumLaws.{least_upto}
 use Rattle.shared_costs.specs.Values.{AreValues, AgreeBelow}
@@ -13,7 +13,6 @@ use Rattle.bucket_bounds.specs.declared.bucket.Bucket.{Bucket}
 use Rattle.bound_search.specs.Estimate.{estimate}
 use Rattle.bound_search.specs.Grounds.{AreGrounds}
 use Rattle.bound_search.specs.Descent.{IsRoom, IsOpened, far_of}
-use Rattle.bound_search.specs.First.{first_sum}
 use Rattle.bound_search.specs.Visits.{Far, far, IsNode, PassesOver, LeavesOpen, IsTurn, AreTurns, VisitsEach, Visits, HasVisited}
 use Rattle.bound_search.specs.declared.progress.Progress.{Progress}
 use Rattle.bound_search.specs.declared.rules.Rules.{Rules}
@@ -22,7 +21,6 @@ use Rattle.bound_search.proofs.RowLaws.{agree_more}
 use Rattle.bound_search.proofs.TreeLaws.{done, to_visit, to_visit_next}
 use Rattle.bound_search.proofs.ScaleLaws.{cost_back}
 use Rattle.bound_search.proofs.DescentLaws.{IsVisiting}
-use Rattle.bound_search.proofs.FirstLaws.{first_is, first_within}
 
 -- numbers of a range by a test that all pass, that none passes, and by two tests that tell one number apart
 filter_all : (p : ℕ → Bool) (n low : ℕ) → ((b : ℕ) → b < low + n → p b ≡ true) → filter p (range_with_len low n) ≡ range_with_len low n
@@ -302,16 +300,6 @@ module _ (sizes : List ℕ) (buckets : List Bucket) (rules : Rules) (grounds : A
       subst (λ (ss : List ℕ). Visits ss buckets rules depth value (far_of old) (far_of new)) (sym (drop_more sizes depth 0 lt))
       (subst (λ (n : ℕ). VisitsEach rules g n Under (far_of old) (far_of new)) visiting.long each)
 
-  -- where the first estimate is passed over, nothing is visited
-  pub visited_none : (first : ℕ) (old new : Progress) → first ≡ first_sum buckets → old.room ≤ first → IsRoom rules old.best old.room → old.lower ≡ count_limit → new ≡ record { best = old.best; found = old.found; nodes = old.nodes; lower = first; spent = old.spent; room = old.room } → HasVisited sizes buckets rules (far_of old) (far_of new)
-  visited_none first old new is over room top e =
-      let within = first_within sizes rules.scale buckets grounds in
-      let at : first ≡ estimate 0 buckets (λ v. 0) = is ∙ first_is sizes rules.scale buckets grounds (λ v. 0) in
-      let passed = room.above first (omega (arith, within, is)) over in
-      let least : first ≡ min old.lower first = omega (arith, within, is, top) in
-      let far_new : far_of new ≡ far old.best old.nodes (min old.lower first) old.spent = ap far_of e ∙ ap (λ (n : ℕ). far old.best old.nodes n old.spent) least in
-      inl (subst (λ (n : ℕ). PassesOver rules n (far_of old) (far_of new)) at (passed, far_new))
-
   -- a descent from the first variable on
   pub visited_all : (value : ℕ → ℕ) (old new : Progress) → Visits sizes buckets rules 0 value (far_of old) (far_of new) → HasVisited sizes buckets rules (far_of old) (far_of new)
-  visited_all value old new visits = inr (visits_agree sizes 0 (λ v. 0) value (far_of old) (far_of new) (omega arith) (λ v lt. absurd (omega (arith, lt))) visits)
+  visited_all value old new visits = visits_agree sizes 0 (λ v. 0) value (far_of old) (far_of new) (omega arith) (λ v lt. absurd (omega (arith, lt))) visits

@@ -1,4 +1,4 @@
--- What a search has come to, before and after a descent.
+-- What holds of a search before and after a descent.
 use Rattle.std.specs.Prelude.{◌≡◌, ℕ, ◌+◌, ◌-◌, ◌*◌, ◌<◌, ◌≤◌, ◌⊎◌, min, true, false, Bool, List, Option, Some, None, length, drop, slice_index}
 use Rattle.dcop_base.specs.Limits.{amount_limit, count_limit}
 use Rattle.dcop_base.specs.Table.{AreWithin}
@@ -14,13 +14,13 @@ use Rattle.bound_search.specs.Visits.{Far, far}
 use Rattle.bound_search.specs.declared.progress.Progress.{Progress}
 use Rattle.bound_search.specs.declared.rules.Rules.{Rules}
 
--- the estimates that are not passed over are those below the room, which is a count
+-- the room: an estimate is not passed over exactly if it is below the room
 pub record IsRoom (rules : Rules) (best : Option ℕ) (room : ℕ) : Type 0 where
   pub below : (f : ℕ) → f ≤ amount_limit → f < room → ¬ IsPassedOver rules.scale rules.error best f
   pub above : (f : ℕ) → f ≤ amount_limit → room ≤ f → IsPassedOver rules.scale rules.error best f
   pub counted : room ≤ count_limit
 
--- these values are an assignment whose scaled cost is that of the best
+-- these values are an assignment with the best known cost
 pub record IsTaken (sizes : List ℕ) (scale : ℕ) (buckets : List Bucket) (best : Option ℕ) (values : List ℕ) : Type 0 where
   pub within : AreWithin sizes values
   pub cost : ℕ
@@ -34,7 +34,7 @@ pub record IsStanding (sizes : List ℕ) (buckets : List Bucket) (rules : Rules)
   pub room : IsRoom rules now.best now.room
   pub spent : now.spent ≡ true → rules.budget ≤ now.nodes
 
--- what was known before is not lost, what is found first is better, and unless the budget was reached, what was passed over has no room
+-- what was known is not lost; what is found first is better; and unless the budget was reached, the lower bound has not fallen below the room
 pub record IsFurther (old new : Progress) : Type 0 where
   pub lower : new.lower ≤ old.lower
   pub room : new.room ≤ old.room
@@ -45,13 +45,13 @@ pub record IsFurther (old new : Progress) : Type 0 where
   pub counted : old.nodes ≤ new.nodes
   pub kept : new.spent ≡ false → (old.spent ≡ false) × (min old.lower new.room ≤ new.lower)
 
--- with bounds that lose nothing: no more than a node for each of so many variables, and what was found costs no more than the estimate
+-- with exact bounds: at most one node for each of `count` variables, and what was found costs at most the estimate
 pub record IsStraight (count f : ℕ) (old new : Progress) : Type 0 where
   pub whole : new.spent ≡ old.spent
   pub few : new.nodes ≤ old.nodes + count
   pub room : new.room ≤ f
 
--- a descent was made from this depth, behind these values of the variables before, from this estimate
+-- a descent was made from this depth and this estimate, after these values of the variables before
 pub record HasDescended (sizes : List ℕ) (buckets : List Bucket) (rules : Rules) (depth f : ℕ) (value : ℕ → ℕ) (old new : Progress) : Type 0 where
   pub further : IsFurther old new
   pub lower : (other : ℕ → ℕ) → AreValues sizes other → AgreeBelow depth value other → new.lower ≤ scaled_cost buckets other
@@ -66,7 +66,7 @@ pub record HasDescended (sizes : List ℕ) (buckets : List Bucket) (rules : Rule
 abbrev pub far_of : Progress → Far
 far_of now = far now.best now.nodes now.lower now.spent
 
--- what becomes of a search when the next value has this estimate: the value is a node, or passed over, or left open
+-- a search after the next value, which has this estimate: the value is a node, or passed over, or left open
 abbrev pub IsOpened : ℕ → ℕ → Progress → Progress → Bool → Type 0
 IsOpened budget f old new true = (f < old.room) × (old.best ≡ None ⊎ old.nodes < budget) × (new ≡ record { best = old.best; found = old.found; nodes = old.nodes + 1; lower = old.lower; spent = old.spent; room = old.room })
 IsOpened budget f old new false = (spent : Bool) × (new ≡ record { best = old.best; found = old.found; nodes = old.nodes; lower = min old.lower f; spent = spent; room = old.room })

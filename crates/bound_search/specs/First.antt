@@ -1,4 +1,4 @@
--- The first estimate, and what a search has come to at its end.
+-- The first estimate, and what holds at the end of a search.
 use Rattle.std.specs.Prelude.{◌≡◌, ℕ, ◌+◌, ◌≤◌, ◌==◌, false, true, List, length, Some, None}
 use Rattle.std.specs.List.{filter, sum_by}
 use Rattle.dcop_base.specs.Table.{CostTable}
@@ -13,11 +13,11 @@ use Rattle.bound_search.specs.Descent.{IsFurther}
 use Rattle.bound_search.specs.declared.progress.Progress.{Progress}
 use Rattle.bound_search.specs.declared.rules.Rules.{Rules}
 
--- what those of the tables cost that have no variables
+-- the sum of those of the tables that have no variables
 abbrev pub constants_cost : List CostTable → ℕ
 constants_cost ts = cost_with (filter (λ t. length t.scope == 0) ts) (λ v. 0)
 
--- what the buckets send that names no variable
+-- the sum of what the buckets send without variables
 abbrev pub first_sum : List Bucket → ℕ
 first_sum buckets = sum_by (λ bucket. bucket.fixed + constants_cost bucket.sent) buckets
 

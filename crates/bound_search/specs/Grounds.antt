@@ -1,4 +1,4 @@
--- What a search goes by.
+-- What a search is given.
 use Rattle.std.specs.Prelude.{◌≡◌, ℕ, ◌+◌, ◌*◌, ◌<◌, ◌≤◌, List, length, map, slice_index}
 use Rattle.std.specs.List.{All}
 use Rattle.dcop_base.specs.Limits.{variable_limit, size_limit}
@@ -9,7 +9,7 @@ use Rattle.shared_costs.specs.Tables.{AreDepths, depths_cost}
 use Rattle.bucket_bounds.specs.Bounds.{AreBounds, tables_in}
 use Rattle.bucket_bounds.specs.declared.bucket.Bucket.{Bucket}
 
--- what all variables cost at these values, scaled
+-- the scaled cost of these values of all variables
 abbrev pub scaled_cost : List Bucket → (ℕ → ℕ) → ℕ
 scaled_cost buckets value = depths_cost (tables_in buckets) value
 
@@ -19,6 +19,7 @@ pub record AreGrounds (sizes : List ℕ) (scale : ℕ) (buckets : List Bucket) :
   pub bounds : AreBounds sizes (tables_in buckets) buckets
   pub scaled : 1 ≤ scale
   pub whole : (value : ℕ → ℕ) → AreValues sizes value → (cost : ℕ) × (scaled_cost buckets value ≡ scale * cost)
+  pub some : 1 ≤ length sizes
   pub few : length sizes ≤ variable_limit
   pub sized : All (λ s. (1 ≤ s) × (s ≤ size_limit)) sizes
 
@@ -27,11 +28,11 @@ pub record HasCell (values : List ℕ) (t : CostTable) : Type 0 where
   pub entries : All (λ v. v < length values) t.scope
   pub within : AreWithin t.sizes (values_at t.scope values)
 
--- a table has a cell at each of so many values of a variable, where the others have these values
+-- a table has a cell at each of the first `count` values of a variable, when the others have these values
 pub record HasRow (values : List ℕ) (var : ℕ) (count : ℕ) (t : CostTable) : Type 0 where
   pub entries : All (λ v. v < length values) t.scope
   pub each : (d : ℕ) → d < count → AreWithin t.sizes (map (with_own var d (slice_index values)) t.scope)
 
--- what tables cost at each value of a variable, where the others have these values, was added to the entries of its row
+-- to each entry of the row of a variable was added what tables cost at its value, when the others have these values
 abbrev pub AreAdded : List ℕ → ℕ → List CostTable → List ℕ → List ℕ → Type 0
 AreAdded values var ts old new = (d : ℕ) → d < length old → slice_index new d ≡ slice_index old d + cost_with ts (with_own var d (slice_index values))

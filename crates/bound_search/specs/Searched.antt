@@ -1,4 +1,4 @@
--- What a search comes to.
+-- The outcome of a search.
 use Rattle.std.specs.Prelude.{◌≡◌, ℕ, ◌+◌, ◌*◌, ◌≤◌, ◌⊎◌, max, Bool, true, false, List, [], ◌∷◌, Option, Some, None, length}
 use Rattle.dcop_base.specs.Limits.{count_limit}
 use Rattle.dcop_base.specs.Problem.{Dcop, IsAssignment, cost}
@@ -11,41 +11,41 @@ use Rattle.bound_search.specs.Visits.{far, HasVisited}
 use Rattle.bound_search.specs.declared.known.Known.{Known}
 use Rattle.bound_search.specs.declared.searching.Ended.{Ended}
 
--- a search that ended has the best but for the error: something is known, and it is at most the lower bound and the error
+-- a search that has ended: something is known, and it is at most the lower bound plus the error
 pub record HasEnded (error : ℕ) (known : Known) (lower : ℕ) : Type 0 where
   pub best : ℕ
   pub known_is : known.best ≡ Some best
   pub within : best ≤ lower + error
 
--- a search that is spent has visited as many nodes as the budget allows, with something known
+-- a search that is spent: the nodes have reached the budget, and something is known
 pub record IsSpent (budget : ℕ) (known : Known) : Type 0 where
   pub some : (best : ℕ) × (known.best ≡ Some best)
   pub reached : budget ≤ known.nodes
 
--- how it ended
+-- how a search ended
 abbrev pub EndsSo : ℕ → ℕ → Known → Ended → Type 0
 EndsSo error budget known ended = ((ended.spent ≡ false) × HasEnded error known ended.lower) ⊎ ((ended.spent ≡ true) × IsSpent budget known)
 
--- how many nodes a search may have visited in all: the budget, and what it had; where nothing is known before, also one for each variable
+-- the most nodes in all after a search: the budget, or the nodes before it if these are more; if nothing is known before it, also the nodes before it and one for each variable
 abbrev pub most_nodes : ℕ → ℕ → Option ℕ → ℕ → ℕ
 most_nodes budget count None before = max budget (before + count)
 most_nodes budget count (Some best) before = max budget before
 
--- an assignment that is found first costs a node for each of so many variables at least
+-- the first assignment that is found takes at least one node for each of `count` variables
 abbrev pub TakesEffort : ℕ → Bool → ℕ → Bool → ℕ → Type 0
 TakesEffort count found nodes found' nodes' = found ≡ false → found' ≡ true → nodes + count ≤ nodes'
 
--- how many nodes there are in all: each value of a variable, behind each choice of values of the variables before
+-- the number of nodes that there are: each value of a variable after each choice of values of the variables before
 abbrev pub tree_nodes : List ℕ → ℕ
 tree_nodes [] = 0
 tree_nodes (s ∷ ss) = s * (1 + tree_nodes ss)
 
--- a search with bounds that lose nothing and budget enough ends, and visits at most a node for each variable
+-- a search that ends and visits at most one node for each variable, as with exact bounds and a sufficient budget
 pub record GoesStraight (count : ℕ) (old new : Known) (ended : Ended) : Type 0 where
   pub whole : ended.spent ≡ false
   pub few : new.nodes ≤ old.nodes + count
 
--- a search of a problem, by these buckets of costs with this scale: what is known before and afterwards, and how it ended: with the least estimate as the lower bound, and spent where a value was left open
+-- a search of a problem by these buckets of costs with this scale: what is known before and after it, and how it ended; its lower bound is the least estimate, and it is spent exactly if a value was left open
 pub record IsSearched (p : Dcop) (scale : ℕ) (buckets : List Bucket) (error budget : ℕ) (old new : Known) (ended : Ended) : Type 0 where
   pub known : IsKnown p new
   pub more : KnowsMore old new

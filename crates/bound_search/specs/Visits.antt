@@ -1,4 +1,4 @@
--- What a search visits, value by value, how many nodes that are, and what it leaves open.
+-- What a search visits, value by value, how many nodes these are, and what it leaves open.
 use Rattle.std.specs.Prelude.{◌≡◌, ℕ, ◌+◌, ◌*◌, ◌<◌, ◌≤◌, ◌⊎◌, min, Bool, true, List, [], ◌∷◌, Option, Some, None}
 use Rattle.std.specs.List.{range_with_len}
 use Rattle.std.specs.List.Sorted.{IsPermutation, IsNonDecreasingBy}
@@ -8,14 +8,14 @@ use Rattle.bound_search.specs.Estimate.{estimate, IsPassedOver}
 use Rattle.bound_search.specs.Grounds.{scaled_cost}
 use Rattle.bound_search.specs.declared.rules.Rules.{Rules}
 
--- how far a search has come: what a better assignment costs less than, how many nodes were visited, the least estimate of what was passed over, left open or found, and whether a value was left open
+-- how far a search has come: the cost that a better assignment must be below, the number of nodes that were visited, the least estimate of what was passed over, left open or found, and whether a value was left open
 pub record Far : Type 0 where
   pub best : Option ℕ
   pub nodes : ℕ
   pub least : ℕ
   pub left_open : Bool
 
--- a search that has come so far
+-- a search that has come this far
 abbrev pub far : Option ℕ → ℕ → ℕ → Bool → Far
 far best nodes least left_open = record { best = best; nodes = nodes; least = least; left_open = left_open }
 
@@ -31,7 +31,7 @@ PassesOver rules f old new = IsPassedOver rules.scale rules.error old.best f × 
 abbrev pub LeavesOpen : Rules → ℕ → Far → Far → Type 0
 LeavesOpen rules f old new = (¬ IsPassedOver rules.scale rules.error old.best f) × (rules.budget ≤ old.nodes) × ((best : ℕ) × (old.best ≡ Some best)) × (new ≡ far old.best old.nodes (min old.least f) true)
 
--- a value with this estimate has its turn: it is a node, which is counted, and then what is behind it is searched; or it is passed over; or it is left open
+-- the turn of a value with this estimate: it is a node, which is counted and then what is below it is searched; or it is passed over; or it is left open
 abbrev pub IsTurn : Rules → ℕ → (Far → Far → Type 0) → Far → Far → Type 0
 IsTurn rules f Behind old new = (IsNode rules f old × Behind (far old.best (old.nodes + 1) old.least old.left_open) new) ⊎ (PassesOver rules f old new ⊎ LeavesOpen rules f old new)
 
@@ -47,12 +47,12 @@ pub record VisitsEach (rules : Rules) (f : ℕ → ℕ) (size : ℕ) (Behind : �
   pub ascending : IsNonDecreasingBy f order
   pub turns : AreTurns rules f Behind order old new
 
--- what is visited from this depth on, behind these values of the variables before, where the others have these sizes: the values of the next one, and behind each node what is visited from the next depth on; with no variable left the assignment becomes the best known one
+-- what is visited from this depth on, after these values of the variables before, when the others have these sizes: the values of the next one, and after each node what is visited from the next depth on; with no variable left, the assignment becomes the best known one
 abbrev pub Visits : List ℕ → List Bucket → Rules → ℕ → (ℕ → ℕ) → Far → Far → Type 0
 Visits [] buckets rules depth value old new = (cost : ℕ) × (scaled_cost buckets value ≡ rules.scale * cost) × (new ≡ far (Some cost) old.nodes (min old.least (rules.scale * cost)) old.left_open)
 Visits (size ∷ sizes) buckets rules depth value old new =
     VisitsEach rules (λ a. estimate (depth + 1) buckets (with_own depth a value)) size (λ a before after. Visits sizes buckets rules (depth + 1) (with_own depth a value) before after) old new
 
--- a whole search: the estimate at depth 0 is passed over, and nothing is visited; or it goes from the first variable on
+-- a whole search: it visits from the first variable on
 abbrev pub HasVisited : List ℕ → List Bucket → Rules → Far → Far → Type 0
-HasVisited sizes buckets rules old new = PassesOver rules (estimate 0 buckets (λ v. 0)) old new ⊎ Visits sizes buckets rules 0 (λ v. 0) old new
+HasVisited sizes buckets rules old new = Visits sizes buckets rules 0 (λ v. 0) old new

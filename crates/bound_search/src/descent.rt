@@ -17,8 +17,8 @@ use crate::rules::Rules;
 use bucket_bounds::Bucket;
 use dcop_base::{Val, VarId};
 
-/// Searches the assignments that begin with the values of the first variables, so many as the depth,
-/// which cost at least so much, scaled. `found` has the values of the best assignment that was found.
+/// Searches the assignments that begin with the values of the first `depth` variables. They cost at
+/// least `least`, scaled. `found` has the values of the best assignment that was found.
 pub(crate) fn descend(
     sizes: &[u16],
     buckets: &[Bucket],
@@ -34,7 +34,7 @@ pub(crate) fn descend(
     requires depth { depth ≤ length sizes.now }
     requires within { AreWithin sizes.now values.old }
     requires least { least ≡ estimate depth buckets.now (slice_index values.old) }
-    requires room { least < progress.old.room }
+    requires room { depth ≡ length sizes.now → least < progress.old.room }
     requires few { progress.old.best ≡ None
         → progress.old.nodes + (length sizes.now - depth) ≤ u64.MAX }
     requires rows { sum (drop depth sizes.now) ≤ length rows.old }
@@ -76,8 +76,8 @@ pub(crate) fn descend(
     }
 }
 
-/// Fills the row of the variable at this depth, which has value 0 among these values: for each of its
-/// values the estimate at the next depth.
+/// Fills the row of the variable at this depth: for each of its values the estimate at the next
+/// depth. Among `values` the variable has the value 0.
 fn fill_estimates(
     row: &mut [u64],
     sizes: &[u16],
@@ -99,7 +99,7 @@ fn fill_estimates(
     fill_row(row, &buckets[depth], values, VarId(depth as u32), least);
 }
 
-/// Takes an assignment of this estimate as the best one.
+/// Takes an assignment with this estimate as the best one.
 fn take(progress: &mut Progress, rules: Rules, estimate: u64)
     requires { 1 ≤ rules.scale }
     ensures best { progress.new.best ≡ Some (estimate / rules.scale) }
@@ -116,8 +116,8 @@ fn take(progress: &mut Progress, rules: Rules, estimate: u64)
     progress.lower = progress.lower.min(estimate);
 }
 
-/// Whether the next value is visited, of which this is the estimate. If so, it is counted as a node;
-/// else it is passed over, or left open where the budget was reached.
+/// Whether the next value, which has this estimate, is visited. If so, it is counted as a node.
+/// Else it is passed over, or left open because the budget was reached.
 fn opens(progress: &mut Progress, budget: u64, least: u64) -> bool
     requires { progress.old.best ≡ None → progress.old.nodes < u64.MAX }
     ensures { IsOpened budget least progress.old progress.new result }
@@ -135,7 +135,7 @@ fn opens(progress: &mut Progress, budget: u64, least: u64) -> bool
     true
 }
 
-/// The first of the least entries of a row, and that entry.
+/// The place of the first least entry of a row, and that entry.
 fn least_of(row: &[u64]) -> (usize, u64)
     requires { 1 ≤ length row.now }
     ensures place { result.0 < length row.now }

@@ -1,17 +1,18 @@
-//! What is known of the best assignment.
+//! What is known about the best assignment.
 
 use dcop_base::ValList;
 
-/// What is known of the best assignment of a problem, from one search to the next.
+/// What is known about the best assignment of a problem, from one search to the next.
 #[derive(Debug, Drop)]
 pub struct Known {
-    /// What the cost of a better assignment is below: the cost of the best assignment that was found,
-    /// or before there is one what was asked for, where that is so.
+    /// The cost that a better assignment must be below. It is the cost of the best assignment that
+    /// was found, or, until one is found, the cost that was asked for, if any.
     pub best: Option<u64>,
     /// Whether an assignment was found.
     pub found: bool,
-    /// Its values, one for each variable, where one was found; and room for them before.
+    /// Its values, one for each variable; until one is found, any values.
     pub values: ValList,
-    /// How many nodes were visited: values of a variable, behind values of all earlier ones.
+    /// The number of nodes that were visited. A node is a value of a variable after values of all
+    /// earlier ones.
     pub nodes: u64,
 }

@@ -3,16 +3,16 @@
 /// How far a search has come. Estimates are scaled costs.
 #[derive(Clone, Copy, Debug, PartialEq, Eq)]
 pub(crate) struct Progress {
-    /// What the cost of a better assignment is below.
+    /// The cost that a better assignment must be below.
     pub(crate) best: Option<u64>,
     /// Whether an assignment was found.
     pub(crate) found: bool,
-    /// How many nodes were visited in all.
+    /// The number of nodes that were visited in all.
     pub(crate) nodes: u64,
-    /// The least estimate of what was passed over, left open or found; `u64::MAX` of none.
+    /// The least estimate of what was passed over, left open or found; `u64::MAX` if there is none.
     pub(crate) lower: u64,
     /// Whether the budget was reached.
     pub(crate) spent: bool,
-    /// What an estimate is below that is not passed over.
+    /// The number below which an estimate is not passed over.
     pub(crate) room: u64,
 }

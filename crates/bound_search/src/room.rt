@@ -5,8 +5,8 @@ ghost use Rattle.bound_search.specs.Descent.{IsRoom};
 
 use crate::rules::Rules;
 
-/// What an estimate is below that is not passed over: with the error it is then better than the best
-/// that is known.
+/// The number below which an estimate is not passed over: with the error added, it is then better
+/// than the best known cost.
 pub(crate) fn room_of(rules: Rules, best: Option<u64>) -> u64
     requires { 1 ≤ rules.scale }
     ensures { IsRoom rules best result }
@@ -17,7 +17,7 @@ pub(crate) fn room_of(rules: Rules, best: Option<u64>) -> u64
     }
 }
 
-/// The room where so much is known.
+/// The room when this is the best known cost.
 fn room_below(rules: Rules, best: u64) -> u64
     requires { 1 ≤ rules.scale }
     ensures { IsRoom rules (Some best) result }

@@ -1,4 +1,4 @@
-//! Rows: what the values of the next variable cost at least, value by value.
+//! Rows: for each value of the next variable, what it costs at least.
 
 ghost use Rattle.std.specs.Prelude.{◌≡◌, ℕ, ◌+◌, ◌*◌, ◌<◌, ◌≤◌, length, min, slice_index};
 ghost use Rattle.std.specs.List.{All};
@@ -11,9 +11,9 @@ ghost use Rattle.bound_search.specs.Grounds.{AreAdded, HasCell, HasRow};
 use bucket_bounds::Bucket;
 use dcop_base::{Table, Val, VarId, place_of, product_of};
 
-/// Fills the row of a variable: for each of its values the estimate at the next depth, from the
-/// estimate at its own depth, and the values of the variables before it. The tables of its bucket
-/// come in place of what the bucket sends.
+/// Fills the row of a variable: for each of its values the estimate at the next depth. It starts
+/// from the estimate at the variable's own depth, takes off what its bucket sends, and adds the
+/// tables of the bucket and the bounds that come to it.
 pub(crate) fn fill_row(row: &mut [u64], bucket: &Bucket, values: &[Val], var: VarId, estimate: u64)
     requires some { 1 ≤ length row.old }
     requires zero { slice_index values.now var ≡ 0 }
@@ -46,7 +46,7 @@ fn set_all(row: &mut [u64], entry: u64)
     }
 }
 
-/// What tables cost at these values.
+/// The sum of tables at these values.
 pub(crate) fn cost_of(tables: &[Table], values: &[Val]) -> u64
     requires cells { All (HasCell values.now) tables.now }
     requires within { cost_with tables.now (slice_index values.now) ≤ amount_limit }
@@ -59,8 +59,8 @@ pub(crate) fn cost_of(tables: &[Table], values: &[Val]) -> u64
     cost
 }
 
-/// Adds to the row of a variable what these tables cost at each of its values, where it has value 0
-/// among these values.
+/// Adds to the row of a variable what these tables cost at each of its values. Among `values` the
+/// variable has the value 0.
 fn add_tables(row: &mut [u64], tables: &[Table], values: &[Val], var: VarId)
     requires some { 1 ≤ length row.old }
     requires zero { slice_index values.now var ≡ 0 }
@@ -105,7 +105,7 @@ fn place_at(scope: &[VarId], sizes: &[u16], values: &[Val]) -> usize
     })
 }
 
-/// How far apart the cells of a variable's neighbouring values stand.
+/// The distance between the cells of two successive values of a variable.
 #[tactic(auto, using(crate::proofs::PlaceLaws::stride_next))]
 fn stride_of(scope: &[VarId], sizes: &[u16], var: VarId) -> usize
     requires { length sizes.now ≡ length scope.now }
@@ -120,8 +120,8 @@ fn stride_of(scope: &[VarId], sizes: &[u16], var: VarId) -> usize
     0
 }
 
-/// Adds cells to the entries of a row: the first cell to the first one, and one so many cells on to
-/// each further one.
+/// Adds cells to the entries of a row, one to each: the cell at `first` to the first entry, and the
+/// cell `stride` further on to each next one.
 fn add_cells(row: &mut [u64], cells: &[u64], first: usize, stride: usize)
     requires some { 1 ≤ length row.old }
     requires inside { (d : ℕ) → d < length row.old → first + d * stride < length cells.now }
@@ -138,7 +138,7 @@ fn add_cells(row: &mut [u64], cells: &[u64], first: usize, stride: usize)
     }
 }
 
-/// Adds cells to the entries of a row, one to each.
+/// Adds a run of cells to the entries of a row, one to each.
 fn add_run(row: &mut [u64], run: &[u64])
     requires long { length row.old ≤ length run.now }
     requires within { (d : ℕ) → d < length row.old → slice_index row.old d

@@ -28,27 +28,28 @@ use std::alloc::Global;
 pub struct Limits {
     /// By how much the cost of the best assignment that is found may miss the optimum.
     pub error: u64,
-    /// How many nodes may be visited in all, those before the search counted, once something is known.
+    /// The number of nodes that may be visited in all, with those before the search, once something
+    /// is known.
     pub budget: u64,
 }
 
 /// How a search ended.
 #[derive(Clone, Copy, Debug, PartialEq, Eq)]
 pub struct Ended {
-    /// What each assignment costs at least.
+    /// A lower bound on the cost of each assignment.
     pub lower: u64,
     /// Whether the budget was reached before the search had ended.
     pub spent: bool,
 }
 
-/// Searches a problem for an assignment that is better than what is known, by the bounds of its shared
-/// costs. Values of the next variable are visited by what they cost at least, the least one first; a
-/// value is passed over where that, with the error, is no better than the best that is known. Where
-/// nothing is known before, the first descent is not cut short by the budget. No node is visited twice.
+/// Searches a problem for an assignment that is better than what is known, by the bounds of its
+/// shared costs. Values of the next variable are visited in ascending order of their estimates. A
+/// value is passed over if its estimate, with the error added, is no better than the best known
+/// cost. If nothing is known, the budget does not end the first descent. No node is visited twice.
 ///
 /// # Errors
 ///
-/// [`NoMemory`] where memory was wanted and not had.
+/// [`NoMemory`] if it runs out of memory.
 pub fn search(
     alloc: Global,
     problem: &Problem,
@@ -97,7 +98,7 @@ pub fn search(
     })
 }
 
-/// Searches all assignments, unless the estimate at depth 0 is passed over already.
+/// Searches all assignments.
 fn search_from_top(
     alloc: Global,
     sizes: &[u16],
@@ -107,7 +108,7 @@ fn search_from_top(
     progress: &mut Progress,
 ) -> Result<(), NoMemory>
     requires grounds { AreGrounds sizes.now rules.scale buckets.now }
-    requires new { (progress.old.lower ≡ u64.MAX) × (progress.old.spent ≡ false) }
+    requires new { progress.old.spent ≡ false }
     requires few { progress.old.nodes ≤ 4611686018427387904 }
     requires standing { IsStanding sizes.now buckets.now rules found.old progress.old }
     ensures standing { OnOk result (IsStanding sizes.now buckets.now rules found.new progress.new) }
@@ -118,10 +119,6 @@ fn search_from_top(
     let mut values = vec![in alloc; Val(0); sizes.len()]?;
     let mut rows = vec![in alloc; 0; total_of(sizes)]?;
     let first = first_estimate(buckets);
-    if first >= progress.room {
-        progress.lower = first;
-        return Ok(());
-    }
     descend(
         sizes,
         buckets,
@@ -148,7 +145,7 @@ fn first_estimate(buckets: &[Bucket]) -> u64
     sum
 }
 
-/// What tables without variables cost.
+/// The sum of the tables without variables.
 fn cost_of_constants(tables: &[Table]) -> u64
     requires within { constants_cost tables.now ≤ amount_limit }
     ensures { result ≡ constants_cost tables.now }
@@ -174,7 +171,7 @@ fn total_of(sizes: &[u16]) -> usize
     total
 }
 
-/// A scaled cost in costs of the problem, rounded up.
+/// A scaled cost as a cost of the problem, rounded up.
 #[tactic(auto, using(crate::proofs::ScaleLaws::unscaled_zero, crate::proofs::ScaleLaws::unscaled_some))]
 fn unscaled(scale: u64, scaled: u64) -> u64
     requires { 1 ≤ scale }

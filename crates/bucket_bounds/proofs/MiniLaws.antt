@@ -12,7 +12,8 @@ use Rattle.dcop_base.specs.Faults.{cell_count}
 use Rattle.dcop_base.specs.Values.{cell_with, cost_with, with_own}
 use Rattle.shared_costs.specs.Values.{AreValues}
 use Rattle.shared_costs.specs.Tables.{IsTableOver}
-use Rattle.shared_costs.specs.Sharing.{IsSharing}
+use Rattle.shared_costs.specs.Sharing.{IsShare}
+use Rattle.shared_costs.proofs.ShareLaws.{share-keeps}
 use Rattle.bucket_bounds.specs.Bounds.{bounds_from, kept_cells}
 use Rattle.bucket_bounds.specs.Exact.{IsUnparted}
 use Rattle.bucket_bounds.specs.Kept.{least_cost}
@@ -95,11 +96,11 @@ scopes_same P (u ∷ us) (t ∷ ts) same all =
     let rest : map (λ (t : CostTable). t.scope) ts ≡ map (λ (t : CostTable). t.scope) us = ap (λ (vss : List (List ℕ)). drop 1 vss) same in
     All-cons (λ (t : CostTable). P t.scope) t ts (subst P (sym first) (All-head (λ (t : CostTable). P t.scope) u us all)) (scopes_same P us ts rest (All-tail (λ (t : CostTable). P t.scope) u us all))
 
-pub sharing_long : (sizes : List ℕ) (old new : List CostTable) → IsSharing sizes old new → length new ≡ length old
-sharing_long sizes old new is = sym (length-map new (λ (t : CostTable). t.scope)) ∙ ap (λ (vss : List (List ℕ)). length vss) is.scopes ∙ length-map old (λ (t : CostTable). t.scope)
+pub share_long : (sizes : List ℕ) (p : ℕ) (old new : List CostTable) → IsShare sizes p old new → length new ≡ length old
+share_long sizes p old new is = sym (length-map new (λ (t : CostTable). t.scope)) ∙ ap (λ (vss : List (List ℕ)). length vss) is.scopes ∙ length-map old (λ (t : CostTable). t.scope)
 
 -- parts of tables of the bucket of a variable
-module _ (sizes : List ℕ) (limit : ℕ) (items parts : List CostTable) (is : AreParts sizes limit items parts) where
+module _ (sizes : List ℕ) (limit own : ℕ) (items parts : List CostTable) (is : AreParts sizes limit own items parts) where
   grouped : (P : CostTable → Type 0) → All P items → All (λ group. All P group) is.groups
   grouped P all = all_flat P is.groups (All-permutation P items (flat_map (λ group. group) is.groups) is.parted all)
 
@@ -116,7 +117,7 @@ module _ (sizes : List ℕ) (limit : ℕ) (items parts : List CostTable) (is : A
 
   parts_cost : (value : ℕ → ℕ) → AreValues sizes value → cost_with parts value ≡ cost_with items value
   parts_cost value are =
-      is.shared.sums value are ∙ joined_cost sizes is.groups is.joined value is.joins are
+      (share-keeps sizes own is.joined parts is.shared).sums value are ∙ joined_cost sizes is.groups is.joined value is.joins are
       ∙ sum_by-IsPermutation (λ (t : CostTable). cell_with t value) items (flat_map (λ group. group) is.groups) is.parted
 
 -- a mini-bucket to which tables of its variable came
@@ -128,10 +129,10 @@ module _ (sizes : List ℕ) (limit p room : ℕ) (bucket : Bucket) (is : IsMiniB
   items_are = All-append (IsItem sizes p) bucket.tables bucket.came is.tables came
 
   parts_are : All (IsItem sizes p) is.parts
-  parts_are = parts_items sizes limit items is.parts is.parted p items_are
+  parts_are = parts_items sizes limit p items is.parts is.parted p items_are
 
   cost_is : (value : ℕ → ℕ) → AreValues sizes value → cost_with is.parts value ≡ cost_with bucket.tables value + cost_with bucket.came value
-  cost_is value are = parts_cost sizes limit items is.parts is.parted value are ∙ sum_by-append (λ (t : CostTable). cell_with t value) bucket.tables bucket.came
+  cost_is value are = parts_cost sizes limit p items is.parts is.parted value are ∙ sum_by-append (λ (t : CostTable). cell_with t value) bucket.tables bucket.came
 
   abbrev projections : List CostTable
   projections = is.sent.projections
@@ -199,7 +200,7 @@ module _ (sizes : List ℕ) (limit p room : ℕ) (bucket : Bucket) (is : IsMiniB
   pub mini_replaced : (left : ℕ) → cell_count bucket.sent + left ≡ room → IsReplacedDuly sizes left p bucket
   mini_replaced left e some others scope =
       let positive = All-tail (λ v. 1 ≤ slice_index sizes v) p others (scope_sizes sizes items (p ∷ others) (λ k d lt. (items_are k d lt).0) scope) in
-      let named = parts_named sizes limit items is.parts is.parted (p ∷ others) (scope_named items (p ∷ others) scope) in
+      let named = parts_named sizes limit p items is.parts is.parted (p ∷ others) (scope_named items (p ∷ others) scope) in
       let few = (each_of (λ t. length t.cells ≤ cells_over sizes others) (projections_few sizes p others is.parts projections parts_are is.sent.each named positive)).1 in
       let many : bucket.replaced ≡ length large = is.sent.kept.many in
       let none : CostTable = record { scope = []; sizes = []; cells = [] } in

@@ -1,5 +1,5 @@
 -- Laws of the parts of a bucket.
-use Rattle.std.proofs.Common.{◌≡◌, ℕ, true, ◌≤◌, List, [], ◌∷◌, ◌++◌, map, length, take, drop, slice_index, refl, sym, ap, subst, ◌∙◌, inl, inr, arith}
+use Rattle.std.proofs.Common.{◌≡◌, ℕ, true, ◌<◌, ◌≤◌, List, [], ◌∷◌, ◌++◌, map, length, take, drop, slice_index, refl, sym, ap, subst, ◌∙◌, inl, inr, arith}
 use Rattle.std.specs.List.{All, AllZip, flat_map}
 use Rattle.std.specs.List.Sorted.{IsPermutation}
 use Rattle.std.proofs.lemmas.List.{take_all, drop_all, append-nil}
@@ -12,7 +12,8 @@ use Rattle.dcop_base.specs.Table.{CostTable, product, has}
 use Rattle.dcop_base.specs.Values.{cell_with, cost_with}
 use Rattle.dcop_base.proofs.TableLaws.{parts-of}
 use Rattle.shared_costs.specs.Tables.{AreTablesOver}
-use Rattle.shared_costs.specs.Sharing.{IsSharing}
+use Rattle.shared_costs.specs.Sharing.{IsShare}
+use Rattle.shared_costs.proofs.ShareLaws.{share-none}
 use Rattle.bucket_bounds.specs.Groups.{IsGroup, AreGroups, tables_of}
 use Rattle.bucket_bounds.specs.Made.{IsItem}
 use Rattle.bucket_bounds.specs.Parting.{AreTooWide, ArePartedDuly}
@@ -20,7 +21,7 @@ use Rattle.bucket_bounds.specs.Joining.{AreUncapped}
 use Rattle.bucket_bounds.specs.Parts.{IsJoinOf, IsNarrow, AreParts}
 use Rattle.bucket_bounds.specs.declared.group.Group.{Group}
 use Rattle.bucket_bounds.proofs.GroupLaws.{all_had, scope_sizes}
-use Rattle.bucket_bounds.proofs.MiniLaws.{joined_over, joined_cost, sharing_long}
+use Rattle.bucket_bounds.proofs.MiniLaws.{joined_over, joined_cost, share_long}
 use Rattle.bucket_bounds.proofs.PartingLaws.{parted_wide, product-among}
 
 -- what a list holds after all of it was written in place
@@ -29,8 +30,8 @@ rewritten old new len long same =
     ap (λ (ts : List CostTable). take len (new ++ ts)) (drop_all (length new) old (omega (arith, same))) ∙ ap (λ (ts : List CostTable). take len ts) (append-nil new) ∙ take_all len new (omega (arith, same, long))
 
 -- nothing was shared
-pub sharing_none : (sizes : List ℕ) (ts : List CostTable) → AreTablesOver sizes ts → IsSharing sizes ts ts
-sharing_none sizes ts over = record { scopes = refl; tables = over; sums = λ value are. refl }
+pub share_none : (sizes : List ℕ) (p : ℕ) (ts : List CostTable) → p < length sizes → AreTablesOver sizes ts → IsShare sizes p ts ts
+share_none sizes p ts lt over = share-none sizes p ts lt over
 
 -- the tables of each group
 abbrev lists_of : List Group → List (List CostTable)
@@ -105,8 +106,8 @@ module _ (sizes : List ℕ) (p : ℕ) (tables came none first items : List CostT
             omega (arith, sum, flat, same, small);
       }
 
-      module _ (parts : List CostTable) (shared : IsSharing sizes joined parts) where
-        pub parts_are : AreParts sizes limit (tables ++ came) parts
+      module _ (parts : List CostTable) (shared : IsShare sizes p joined parts) where
+        pub parts_are : AreParts sizes limit p (tables ++ came) parts
         parts_are = record {
           groups = lists_of groups;
           parted = subst (λ (ts : List CostTable). IsPermutation (tables ++ came) ts) (sym (flat_lists groups)) whole;
@@ -119,6 +120,6 @@ module _ (sizes : List ℕ) (p : ℕ) (tables came none first items : List CostT
         pub parted_is : ArePartedDuly sizes limit items groups → 2 ≤ length parts → AreTooWide sizes limit (tables ++ came)
         parted_is duly two =
             let all = All-append (IsItem sizes p) tables came own bounds in
-            let long = sharing_long sizes joined parts shared in
+            let long = share_long sizes p joined parts shared in
             let many = AllZip-long (λ (g : Group) (t : CostTable). IsJoinOf sizes g.tables.items t) groups joined joins in
             parted_wide sizes limit (tables ++ came) items groups order (λ k d lt. (all k d lt).0) duly (omega (arith, two, long, many))

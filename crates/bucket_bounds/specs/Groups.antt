@@ -1,4 +1,4 @@
--- Groups of tables, each to be joined.
+-- Groups of tables that are joined.
 use Rattle.std.specs.Prelude.{◌≡◌, ℕ, ◌*◌, ◌≤◌, ◌⊎◌, min, List, [], ◌∷◌, ◌++◌, length}
 use Rattle.std.specs.List.{All, flat_map}
 use Rattle.std.specs.List.Sorted.{IsPermutation}
@@ -9,7 +9,7 @@ use Rattle.bucket_bounds.specs.Parting.{IsScopeOf}
 use Rattle.bucket_bounds.specs.Union.{cells_over, times_more, IsUnion}
 use Rattle.bucket_bounds.specs.declared.group.Group.{Group}
 
--- a group of tables over variables with these sizes: one table, or not too wide for the limit
+-- a group of tables over variables with these sizes: one table, or joined cells within the limit
 pub record IsGroup (sizes : List ℕ) (limit : ℕ) (g : Group) : Type 0 where
   pub some : 1 ≤ length g.tables.items
   pub tables : All (IsTableOver sizes) g.tables.items
@@ -23,7 +23,7 @@ pub record IsGroupOf (t : CostTable) (g : Group) : Type 0 where
   pub cells : g.cells ≡ length t.cells
   pub tables : g.tables.items ≡ t ∷ []
 
--- a scope fits into a group
+-- a group is within the limit together with a scope
 abbrev pub Fits : List ℕ → List ℕ → ℕ → Group → Type 0
 Fits sizes scope limit g = g.cells * times_more sizes g.vars scope ≤ limit
 
@@ -37,7 +37,7 @@ pub record AddsTo (sizes : List ℕ) (old : Group) (t : CostTable) (new : Group)
 abbrev pub tables_of : List Group → List CostTable
 tables_of groups = flat_map (λ g. g.tables.items) groups
 
--- groups into which tables were parted: each table stands in one of them
+-- groups into which tables were parted: each table is in exactly one of them
 pub record AreGroups (sizes : List ℕ) (limit : ℕ) (ts : List CostTable) (groups : List Group) : Type 0 where
   pub each : All (IsGroup sizes limit) groups
   pub parted : IsPermutation ts (tables_of groups)

@@ -1,4 +1,4 @@
--- What is kept of projections.
+-- Projections that are kept, and those that are replaced.
 use Rattle.std.specs.Prelude.{◌≡◌, ℕ, ◌+◌, ◌<◌, ◌≤◌, List, [], ◌∷◌, ◌++◌, length, min}
 use Rattle.std.specs.List.{All, fold, sum_by}
 use Rattle.std.specs.List.Sorted.{IsPermutation}
@@ -6,16 +6,16 @@ use Rattle.dcop_base.specs.Limits.{count_limit}
 use Rattle.dcop_base.specs.Table.{CostTable}
 use Rattle.dcop_base.specs.Faults.{cell_count}
 
--- the least of these numbers, 0 of none
+-- the least of these numbers, or 0 if there are none
 abbrev pub least : List ℕ → ℕ
 least [] = 0
 least (x ∷ xs) = fold min x xs
 
--- what the least cells of these tables sum to
+-- the sum of the least cells of these tables
 abbrev pub least_cost : List CostTable → ℕ
 least_cost ts = sum_by (λ t. least t.cells) ts
 
--- what is sent of projections, with room for so many cells: those with variables as they are, but for the largest, for none of which there is room; the least cells of these are added up, with the only cells of those without variables
+-- what is sent of projections, with room for this many cells: those with variables unchanged, except the largest, none of which fits; the least cells of these are added up, with the only cells of those without variables
 pub record AreKept (room : ℕ) (projections sent : List CostTable) (fixed replaced : ℕ) : Type 0 where
   pub closed : List CostTable
   pub large : List CostTable

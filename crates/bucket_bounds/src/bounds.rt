@@ -18,13 +18,13 @@ use crate::making::{Made, bucket_with};
 use dcop_base::{MAX_JOINED_CELLS, NoMemory, Table, TableList, VarId, stands_in};
 use std::alloc::Global;
 
-/// The bounds of all depths of these tables, over variables with these sizes: no joined table has
-/// more cells than the limit, but that of one table alone, and all bounds together keep at most so
-/// many cells, since the bounds that would be more are replaced by their least cell.
+/// The bounds of all depths of these tables, over variables with these sizes. No joined table of
+/// two or more tables has more cells than the limit. All bounds together keep at most `cells`
+/// cells: bounds for which there is no room are replaced by their least cell.
 ///
 /// # Errors
 ///
-/// [`NoMemory`] where memory was wanted and not had.
+/// [`NoMemory`] if it runs out of memory.
 pub fn bounds_of(
     alloc: Global,
     sizes: &[u16],
@@ -63,7 +63,7 @@ pub fn bounds_of(
     Ok(BucketList::from_vec(last_first))
 }
 
-/// The bucket of a variable with these tables, behind which these bounds stand.
+/// The bucket of a variable with these tables, when these are the bounds of the next depth.
 fn next_bucket(
     alloc: Global,
     sizes: &[u16],
@@ -90,8 +90,8 @@ fn next_bucket(
     bucket_with(alloc, sizes, var, tables, came, widest, room)
 }
 
-/// The bounds that stand before the bucket of a variable: those behind it that do not name it, and
-/// those that it sends.
+/// The bounds of the depth of a variable: the bounds of the next depth that do not name it, and
+/// those that its bucket sends.
 fn next_bounds(
     alloc: Global,
     bounds: &[Table],

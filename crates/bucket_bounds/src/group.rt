@@ -1,4 +1,4 @@
-//! Groups of the tables of a bucket.
+//! Groups of a bucket's tables.
 
 ghost use Rattle.std.specs.Prelude.{◌≡◌, ℕ, ◌*◌, ◌<◌, ◌≤◌, [], ◌∷◌, ◌++◌, true, length, IfOk, IfNone, IfSome, OnOk, slice_index_or};
 ghost use Rattle.std.specs.List.{All};
@@ -11,19 +11,19 @@ use crate::union::{add_vars, cells_with};
 use dcop_base::{NoMemory, Table, VarId, VarList};
 use std::alloc::Global;
 
-/// A group of tables, to be joined.
+/// A group of tables that are joined.
 #[derive(Drop)]
 pub(crate) struct Group {
     /// The variables that they name, each once.
     pub vars: VarList,
-    /// How many cells a table over these has.
+    /// The number of cells of a table over these variables.
     pub cells: u64,
     /// The tables.
     pub tables: Vec<Table>,
 }
 
-/// Parts tables into groups: each table comes into the first group whose joined table has no more
-/// cells than the limit with it too, or opens a group.
+/// Parts tables into groups. Each table joins the first group whose joined table has at most
+/// `limit` cells together with it, or else opens a group.
 pub(crate) fn groups_of(
     alloc: Global,
     sizes: &[u16],
@@ -50,7 +50,7 @@ pub(crate) fn groups_of(
     Ok(groups)
 }
 
-/// The place of the first group with which variables of a scope may be joined.
+/// The place of the first group that is within the limit together with the variables of a scope.
 fn place_of(sizes: &[u16], groups: &[Group], scope: &[VarId], limit: u64) -> Option<usize>
     requires limit { limit ≤ joined_limit }
     ensures fits { IfSome result (λ k. (k < length groups.now)

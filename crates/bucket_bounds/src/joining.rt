@@ -15,7 +15,7 @@ use dcop_base::{NoMemory, Table, VarId, VarList, sizes_of};
 use std::alloc::Global;
 use util_join::{JoinFault, Joined};
 
-/// The joined tables of these groups, in their order.
+/// The joined tables of these groups, in the same order.
 pub(crate) fn joined_tables(
     alloc: Global,
     sizes: &[u16],
@@ -33,7 +33,7 @@ pub(crate) fn joined_tables(
     Ok(tables)
 }
 
-/// The joined table of a group: the sum of its tables; that of one table is the table.
+/// The joined table of a group: the sum of its tables. For one table it is that table.
 fn joined_of(alloc: Global, sizes: &[u16], group: &Group) -> Result<Table, NoMemory>
     requires group { IsGroup sizes.now joined_limit group.now }
     requires capped { AreUncapped sizes.now group.now.tables.items }
@@ -49,8 +49,8 @@ fn joined_of(alloc: Global, sizes: &[u16], group: &Group) -> Result<Table, NoMem
     Ok(table)
 }
 
-/// A joined table of zeros over the variables of a group, the last one first: all tables that are
-/// added name it, so more of the cells to which one of their cells is added lie side by side.
+/// A joined table of zeros over the variables of a group, with the last variable first. All tables
+/// that are added name that variable, so the cells to which one cell is added are closer together.
 fn zeros_for(alloc: Global, sizes: &[u16], group: &Group) -> Result<Joined, NoMemory>
     requires group { IsGroup sizes.now joined_limit group.now }
     requires few { group.now.cells ≤ joined_limit }
@@ -65,7 +65,7 @@ fn zeros_for(alloc: Global, sizes: &[u16], group: &Group) -> Result<Joined, NoMe
     }
 }
 
-/// These variables, the last one first.
+/// These variables, with the last one first.
 fn last_first(alloc: Global, vars: &[VarId]) -> Result<VarList, NoMemory>
     ensures { IfOk result (IsTurned vars.now) }
 {
@@ -75,7 +75,7 @@ fn last_first(alloc: Global, vars: &[VarId]) -> Result<VarList, NoMemory>
     }
 }
 
-/// A variable, and then the others.
+/// A variable, followed by the others.
 fn with_first(alloc: Global, first: VarId, others: &[VarId]) -> Result<VarList, NoMemory>
     ensures { IfOk result (λ vars. vars ≡ first ∷ others.now) }
 {
@@ -97,7 +97,7 @@ fn add_all(joined: &mut Joined, tables: &[Table])
     }
 }
 
-/// A table that is read is known to be whole, so this does no more.
+/// Shows that a table is whole. This is known of a table that is read, so no more is done.
 fn table_is_whole(table: &Table)
     ensures { IsTable table.now }
 {

@@ -1,4 +1,4 @@
-//! What a bucket sends of its projections.
+//! What a bucket sends from its projections.
 
 ghost use Rattle.std.specs.Prelude.{◌≡◌, min, OnOk, IfOk};
 ghost use Rattle.std.specs.List.{fold};
@@ -8,21 +8,21 @@ ghost use Rattle.bucket_bounds.specs.Keeping.{IsKept, IsKeptOf};
 use dcop_base::{NoMemory, Table};
 use std::alloc::Global;
 
-/// What a bucket sends, where its bounds may keep so many cells and no more.
+/// What a bucket sends when the number of cells that its bounds may keep is limited.
 #[derive(Drop)]
 pub(crate) struct Kept {
     /// The projections that are kept.
     pub sent: Vec<Table>,
-    /// What the others cost at least, all together.
+    /// The sum of the least cells of the others.
     pub fixed: u64,
-    /// How many of the others have variables.
+    /// The number of the others that have variables.
     pub replaced: u64,
-    /// How many more cells may be kept.
+    /// The number of cells that may still be kept.
     pub room: u64,
 }
 
-/// Keeps projections while there is room for so many cells, the first ones first, and replaces the
-/// others by their least cell. Those without variables are always replaced, by their only cell.
+/// Keeps projections in their order while there is room for their cells, and replaces the others by
+/// their least cell. A projection without variables is always replaced by its only cell.
 pub(crate) fn kept_of(alloc: Global, projections: &[Table], room: u64) -> Result<Kept, NoMemory>
     requires { AreRising projections.now }
     ensures { IfOk result (IsKeptOf room projections.now) }
@@ -39,7 +39,7 @@ pub(crate) fn kept_of(alloc: Global, projections: &[Table], room: u64) -> Result
     Ok(kept)
 }
 
-/// Keeps a projection, or replaces it by its least cell.
+/// Keeps a projection or replaces it by its least cell.
 fn keep(kept: &mut Kept, table: &Table) -> Result<(), NoMemory>
     ensures { OnOk result (IsKept kept.old table.now kept.new) }
 {
@@ -59,7 +59,7 @@ fn keep(kept: &mut Kept, table: &Table) -> Result<(), NoMemory>
     Ok(())
 }
 
-/// The least cell; `u64::MAX` of none.
+/// The least cell, or `u64::MAX` if there is none.
 fn least_of(cells: &[u64]) -> u64
     ensures { result ≡ fold min u64.MAX cells.now }
 {

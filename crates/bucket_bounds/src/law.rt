@@ -1,23 +1,25 @@
-//! Laws of bounds. Each is the contract of a call that does nothing: who needs the law calls it.
+//! Laws of bounds. Each is the contract of a call that does nothing; a proof that needs it calls
+//! it.
 
 ghost use Rattle.bucket_bounds.specs.Laws.{BoundsAreAtMostTheRest, MiniBucketsAreAtMostTheRest, UnpartedMiniBucketsAreExact, FirstBoundIsAtMostTheOptimum, MiniBucketsAreAtMostTheOptimum};
 
-/// Where each bucket sends at most what its tables and what came to it cost, whatever its groups, the
-/// bounds of each depth sum to at most what the tables of that depth and more cost at least.
+/// If each bucket sends at most what its tables and the bounds that come to it cost, the bounds of
+/// each depth sum to at most the rest, with any groups. The rest is what the tables of that depth
+/// and more cost at least.
 pub fn bounds_are_at_most_the_rest()
     ensures { BoundsAreAtMostTheRest }
 {}
 
-/// The bounds of mini-buckets sum at each depth to at most what the tables of that depth and more
-/// cost at least, whatever the groups are, however costs are shared among their joined tables, and
-/// whatever is replaced for want of room (Dechter and Rish, Mini-buckets: a general scheme for
-/// bounded inference, Journal of the ACM 50, 2003).
+/// The bounds of mini-buckets sum at each depth to at most the rest. This holds with any groups,
+/// with any sharing of costs among their joined tables, and with any bounds replaced because cells
+/// are too few (Dechter and Rish, Mini-buckets: a general scheme for bounded inference, Journal of
+/// the ACM 50, 2003).
 pub fn mini_buckets_are_at_most_the_rest()
     ensures { MiniBucketsAreAtMostTheRest }
 {}
 
-/// The bounds of mini-buckets of which none is parted, and none of whose bounds is replaced, sum at
-/// each depth to just what the tables of that depth and more cost at least.
+/// If no mini-bucket is parted and none of its bounds is replaced, the bounds sum at each depth to
+/// exactly the rest.
 pub fn unparted_mini_buckets_are_exact()
     ensures { UnpartedMiniBucketsAreExact }
 {}
@@ -27,8 +29,8 @@ pub fn first_bound_is_at_most_the_optimum()
     ensures { FirstBoundIsAtMostTheOptimum }
 {}
 
-/// The bound of depth 0 of any mini-buckets of a problem's shared costs is at most the scaled
-/// optimum.
+/// The bound of depth 0 of any mini-buckets of a problem's shared costs is at most the problem's
+/// scaled optimum.
 pub fn mini_buckets_are_at_most_the_optimum()
     ensures { MiniBucketsAreAtMostTheOptimum }
 {}

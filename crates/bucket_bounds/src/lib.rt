@@ -1,11 +1,11 @@
-//! Bounds on what is still to come in a search, by mini-buckets (Dechter and Rish, Mini-buckets: a
-//! general scheme for bounded inference, Journal of the ACM 50, 2003).
+//! Lower bounds on what the rest of an assignment costs, by mini-buckets (Dechter and Rish,
+//! Mini-buckets: a general scheme for bounded inference, Journal of the ACM 50, 2003).
 //!
-//! Variables are eliminated from the last one down. The bucket of a variable takes the tables of its
-//! depth and the bounds that came to it, parts them into groups that are not too wide, joins each
-//! group, shares the variable among the joined tables, and sends on what each of these costs at least
-//! whatever the variable is. At each depth all that was sent from there on, and has not come to a
-//! bucket there, sums to at most what the tables of that depth and more cost.
+//! Variables are eliminated from the last one to the first. The bucket of a variable takes the
+//! tables of its depth and the bounds that come to it, and parts them into groups that are not too
+//! wide. It joins each group, shares the variable among the joined tables, and sends the projection
+//! of each by the variable. At each depth, sum what the buckets from there on send and no bucket
+//! there takes: this is at most what the tables of that depth and more cost.
 #![tactic(auto)]
 
 mod bounds;

@@ -1,4 +1,4 @@
-//! Buckets in the making.
+//! How a bucket is made.
 
 ghost use Rattle.std.specs.Prelude.{◌≡◌, ◌+◌, ◌++◌, ◌<◌, ◌≤◌, true, length, IfOk};
 ghost use Rattle.std.specs.List.{All};
@@ -26,11 +26,11 @@ use std::alloc::Global;
 pub(crate) struct Made {
     /// The bucket.
     pub bucket: Bucket,
-    /// How many more cells the bounds of buckets may keep.
+    /// The number of cells that the bounds of other buckets may still keep.
     pub room: u64,
 }
 
-/// The bucket of a variable with these tables, to which these bounds came.
+/// The bucket of a variable with these tables, to which these bounds come.
 pub(crate) fn bucket_with(
     alloc: Global,
     sizes: &[u16],
@@ -66,8 +66,8 @@ pub(crate) fn bucket_with(
     })
 }
 
-/// The joined tables of the groups into which tables and bounds are parted, with a variable shared
-/// among them.
+/// The joined tables of the groups into which tables and bounds are parted, with the variable
+/// shared among them.
 fn parts_of(
     alloc: Global,
     sizes: &[u16],
@@ -82,7 +82,7 @@ fn parts_of(
     requires capped { AreUncapped sizes.now (tables.now ++ came.now) }
     requires limit { limit ≤ joined_limit }
     ensures parts { IfOk result
-        (λ parts. AreParts sizes.now limit (tables.now ++ came.now) parts.items) }
+        (λ parts. AreParts sizes.now limit var (tables.now ++ came.now) parts.items) }
     ensures parted { IfOk result
         (λ parts. 2 ≤ length parts.items → AreTooWide sizes.now limit (tables.now ++ came.now)) }
 {
@@ -94,8 +94,8 @@ fn parts_of(
     shared_tables(alloc, sizes, joined, var)
 }
 
-/// What is sent of the parts of the bucket of a variable: their projections, the smallest ones
-/// first where there is not room for all.
+/// What is sent from the parts of the bucket of a variable: their projections. If there is not room
+/// for all, the smallest are kept.
 fn sent_of(alloc: Global, var: VarId, parts: &[Table], room: u64) -> Result<Kept, NoMemory>
     requires { All (λ t. has t.scope var ≡ true) parts.now }
     ensures sent { IfOk result

@@ -1,4 +1,4 @@
-//! Projections of joined tables by the variable of a bucket.
+//! Projections of a bucket's joined tables by its variable.
 
 ghost use Rattle.std.specs.Prelude.{◌≡◌, true, IfOk};
 ghost use Rattle.std.specs.List.{All, AllZip};

@@ -1,15 +1,15 @@
-//! Costs that are shared among the joined tables of a bucket.
+//! Sharing of costs among the joined tables of a bucket.
 
 ghost use Rattle.std.specs.Prelude.{◌≡◌, ◌<◌, length, IfOk, OnOk};
 ghost use Rattle.std.specs.List.{All};
-ghost use Rattle.shared_costs.specs.Sharing.{IsSharing};
+ghost use Rattle.shared_costs.specs.Sharing.{IsShare};
 ghost use Rattle.shared_costs.specs.Tables.{AreTablesOver};
 
 use dcop_base::{NoMemory, Table, VarId};
 use shared_costs::{SharedTable, share};
 use std::alloc::Global;
 
-/// These tables with a variable shared among all of them, where they are two or more.
+/// These tables with a variable shared among all of them, if they are two or more.
 pub(crate) fn shared_tables(
     alloc: Global,
     sizes: &[u16],
@@ -18,7 +18,7 @@ pub(crate) fn shared_tables(
 ) -> Result<Vec<Table>, NoMemory>
     requires tables { AreTablesOver sizes.now tables.items }
     requires var { var < length sizes.now }
-    ensures { IfOk result (λ shared. IsSharing sizes.now tables.items shared.items) }
+    ensures { IfOk result (λ shared. IsShare sizes.now var tables.items shared.items) }
 {
     if tables.len() < 2 {
         return Ok(tables);
@@ -37,13 +37,13 @@ fn share_all(
 ) -> Result<(), NoMemory>
     requires tables { AreTablesOver sizes.now tables.old }
     requires var { var < length sizes.now }
-    ensures { OnOk result (IsSharing sizes.now tables.old tables.new) }
+    ensures { OnOk result (IsShare sizes.now var tables.old tables.new) }
 {
     let places = places_below(alloc, tables.len())?;
     share(alloc, sizes, tables, places.as_slice(), var, 0)
 }
 
-/// Copies of these tables, whose cells may change.
+/// Copies of these tables. Their cells may change.
 fn copies_of(alloc: Global, tables: &[Table]) -> Result<Vec<SharedTable>, NoMemory>
     ensures { IfOk result (λ copies. copies.items ≡ tables.now) }
 {
@@ -54,7 +54,7 @@ fn copies_of(alloc: Global, tables: &[Table]) -> Result<Vec<SharedTable>, NoMemo
     Ok(copies)
 }
 
-/// All places in a list of so many items, as far as a `u32` can tell them.
+/// All places in a list of `count` items that a `u32` can hold.
 fn places_below(alloc: Global, count: usize) -> Result<Vec<u32>, NoMemory>
     ensures { IfOk result (λ places. All (λ k. k < count) places.items) }
 {

@@ -1,8 +1,8 @@
-//! The program `dcop_search`: reads a problem from standard input, searches it for an assignment with
-//! the best sum, and writes what it found, with bounds, to standard output.
+//! The program `dcop_search` reads a problem from standard input, searches it for an assignment
+//! with the best sum, and writes what it found, with bounds, to standard output.
 //!
-//! All of its work is [`search`]. It ends with the code of the status, or with 12 and nothing
-//! printed where it is refused its arguments.
+//! [`search`] does all the work. The program ends with the code of the status. If the system
+//! refuses it its arguments, it ends with 12 and prints nothing.
 #![tactic(auto)]
 
 use dcop_edge::{StdSink, StdSource};
@@ -11,7 +11,7 @@ use std::process::ExitCode;
 use std::rt::Env;
 use std::{env, io};
 
-/// The code with which the program ends where it is refused its arguments, which no status has.
+/// The code with which the program ends if it is refused its arguments. No status has it.
 const REFUSED_ARGUMENTS: u8 = 12;
 
 fn main(rt: HostRuntime) -> ExitCode {
@@ -24,7 +24,7 @@ fn main(rt: HostRuntime) -> ExitCode {
     ExitCode::from(status.code())
 }
 
-/// The arguments of the program, without its own name.
+/// The arguments of the program without its own name.
 fn words_of<R: Env + AllocGlobal>(rt: &R) -> io::Result<Vec<String>> {
     let mut arguments = env::args(rt)?;
     arguments.next();

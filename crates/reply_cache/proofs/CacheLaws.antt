@@ -1,10 +1,10 @@
 -- A cache keeps replies, and counts its looks.
-use Rattle.std.proofs.Common.{◌≡◌, ℕ, suc, ◌+◌, Bool, true, false, ◌⊎◌, inl, inr, List, [], ◌∷◌, ◌++◌, Option, Some, None, Result, Ok, Err, OnOk, OnErr, IfSome, Contains, refl, sym, ap, ◌∙◌, subst, arith, length, length-append}
+use Rattle.std.proofs.Common.{◌≡◌, ℕ, suc, ◌+◌, Bool, true, false, ◌⊎◌, inl, inr, List, [], ◌∷◌, ◌++◌, Option, Some, None, Result, Ok, Err, OnOk, OnErr, IfSome, Contains, refl, sym, ap, ◌∙◌, subst, arith, length, length-append, slice_get}
 use Rattle.std.specs.Cmp.Lexicographic.{bytes_decides}
 use Rattle.std.specs.Map.{lookup}
 use Rattle.lru.specs.LruCache.{LruCache, lru_cache, promoted, put_entries}
 use Rattle.lru.proofs.CallerLemmas.{IsPut, Contains-promoted, Contains-put_entries, Contains-lookup}
-use Rattle.reply_cache.specs.Cache.{same_key, AreReplies, missed, misses_of}
+use Rattle.reply_cache.specs.Cache.{same_key, IsFirst, AreReplies, missed, misses_of}
 
 -- the reply that is found is that of the key
 pub found_reply : (is_reply : List ℕ → List ℕ → Type 0) (key value : List ℕ) (entries : List (List ℕ × List ℕ)) → AreReplies is_reply entries → lookup (same_key key) entries ≡ Some value → is_reply key value
@@ -15,6 +15,14 @@ found_reply is_reply key value entries are found =
 -- after a look
 pub looked_replies : (is_reply : List ℕ → List ℕ → Type 0) (key : List ℕ) (entries : List (List ℕ × List ℕ)) → AreReplies is_reply entries → AreReplies is_reply (promoted (same_key key) entries)
 looked_replies is_reply key entries are = record { each = λ e in_it. are.each e (Contains-promoted (same_key key) entries e in_it) }
+
+-- the first entry, if it is that of a key
+pub first_of : (key : List ℕ) (e : List ℕ × List ℕ) (entries : List (List ℕ × List ℕ)) → slice_get entries 0 ≡ Some e → same_key key e.0 ≡ true → IsFirst key e.1 entries
+first_of key e [] is same = cc
+first_of key e (f ∷ entries) is same =
+    let it : f ≡ e = cc in
+    let test : same_key key f.0 ≡ true = ap (λ (x : List ℕ × List ℕ). same_key key x.0) it ∙ same in
+    record { found = rw test (ap (λ (x : List ℕ × List ℕ). Some x.1) it); stays = rw test refl }
 
 -- the same reply to the same key
 moved : (is_reply : List ℕ → List ℕ → Type 0) (key key' value value' : List ℕ) → key ≡ key' → value' ≡ value → is_reply key value → is_reply key' value'

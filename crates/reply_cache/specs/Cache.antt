@@ -1,5 +1,5 @@
 -- What a cache of replies holds, and what looking up a reply and keeping one do to it.
-use Rattle.std.specs.Prelude.{ℕ, suc, Bool, true, false, List, [], ◌∷◌, ◌++◌, Option, is_some, Contains, nat_eq}
+use Rattle.std.specs.Prelude.{◌≡◌, ℕ, suc, Bool, true, false, List, [], ◌∷◌, ◌++◌, Option, Some, is_some, Contains, nat_eq}
 use Rattle.std.specs.Cmp.Lexicographic.{pointwise}
 use Rattle.std.specs.Map.{lookup}
 use Rattle.lru.specs.LruCache.{LruCache, lru_cache, promoted, put_entries}
@@ -37,6 +37,11 @@ kept_at cache key reply = record {
   kept = lru_cache (put_entries same_key cache.kept key reply) cache.kept.cap;
   finds = cache.finds;
 }
+
+-- the first entry is that of a key, with this reply: it is found, and already comes first
+pub record IsFirst (key reply : List ℕ) (entries : List (List ℕ × List ℕ)) : Type 0 where
+  pub found : lookup (same_key key) entries ≡ Some reply
+  pub stays : promoted (same_key key) entries ≡ entries
 
 -- each entry is a key and the reply to it
 pub record AreReplies (is_reply : List ℕ → List ℕ → Type 0) (entries : List (List ℕ × List ℕ)) : Type 0 where

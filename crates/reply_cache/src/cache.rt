@@ -3,14 +3,15 @@
 ghost use Rattle.std.specs.Prelude.{◌≡◌, ◌≤◌, ◌<◌, ◌+◌, ◌++◌, ◌∷◌, [], length, IfOk, OnOk, OnErr, IfSome, is_some, vec_len, vec_capacity};
 ghost use Rattle.std.specs.Map.{lookup};
 ghost use Rattle.std.specs.NonZero.{non_zero_usize_get};
-ghost use Rattle.lru.specs.LruCache.{lru_cache, put_entries};
+ghost use Rattle.lru.specs.LruCache.{lru_cache, promoted, put_entries};
 ghost use Rattle.reply_cache.specs.Limits.{entry_limit, key_limit};
-ghost use Rattle.reply_cache.specs.Cache.{fresh_cache, same_key, reply_at, looked_at, kept_at, missed, misses_of};
+ghost use Rattle.reply_cache.specs.Cache.{fresh_cache, same_key, reply_at, looked_at, kept_at, IsFirst, missed, misses_of};
 
+use crate::key::Key;
 use crate::maker::Maker;
 use crate::share::LookShare;
 use crate::shared::SharedBytes;
-use dcop_base::{Bytes, NoMemory};
+use dcop_base::NoMemory;
 use lru::LruCache;
 use std::alloc::Global;
 use std::marker::{Model, PhantomData};
@@ -25,7 +26,7 @@ use std::sync::ledger::{Book, Ledger};
 /// found nothing.
 #[derive(Drop)]
 pub struct ReplyCache<M: Maker, A: Ledger, B: Ledger> {
-    entries: LruCache<Bytes, SharedBytes>,
+    entries: LruCache<Key, SharedBytes>,
     finds: Vec<bool>,
     looks: Book<A>,
     misses: Book<B>,
@@ -82,7 +83,7 @@ impl<M: Maker, A: Ledger, B: Ledger> ReplyCache<M, A, B> {
     pub fn look(
         &mut self,
         share: &mut LookShare<A, B>,
-        key: &Bytes,
+        key: &Key,
     ) -> Result<Option<SharedBytes>, NoMemory>
         requires parts { (0 < share.old.looks.parts) × (0 < share.old.misses.parts) }
         ensures found { IfOk result (λ found. found ≡ reply_at self.old key.now) }
@@ -94,9 +95,8 @@ impl<M: Maker, A: Ledger, B: Ledger> ReplyCache<M, A, B> {
         ensures unchanged { OnErr result (self.new ≡ self.old) }
         ensures uncounted { OnErr result ((share.new.looks.amount ≡ share.old.looks.amount) × (share.new.misses.amount ≡ share.old.misses.amount)) }
     {
-        let found = kept_reply(&self.entries, key)?;
         self.finds.reserve(1)?;
-        self.entries.promote(key);
+        let found = found_reply(&mut self.entries, key)?;
         note(
             &mut self.finds,
             &mut self.looks,
@@ -117,7 +117,7 @@ impl<M: Maker, A: Ledger, B: Ledger> ReplyCache<M, A, B> {
     /// # Errors
     ///
     /// [`NoMemory`] if memory runs out; nothing is changed.
-    pub fn keep(&mut self, key: Bytes, value: SharedBytes) -> Result<(), NoMemory>
+    pub fn keep(&mut self, key: Key, value: SharedBytes) -> Result<(), NoMemory>
         requires reply { M.is_reply key value }
         requires short { length key ≤ key_limit }
         ensures kept { OnOk result (self.new ≡ kept_at self.old key value) }
@@ -149,10 +149,39 @@ impl<M: Maker, A: Ledger, B: Ledger> ReplyCache<M, A, B> {
     }
 }
 
+// The reply that is kept for a key, with one more owner. Its entry comes first.
+//
+// The first entry is tried first. If it is the key's, nothing moves, and two keys are compared once.
+fn found_reply(
+    entries: &mut LruCache<Key, SharedBytes>,
+    key: &Key,
+) -> Result<Option<SharedBytes>, NoMemory>
+    ensures found { IfOk result (λ found. found ≡ lookup (same_key key.now) entries.old.entries) }
+    ensures moved { OnOk result (entries.new ≡ lru_cache (promoted (same_key key.now) entries.old.entries) entries.old.cap) }
+    ensures unchanged { OnErr result (entries.new ≡ entries.old) }
+{
+    if let Some(reply) = first_reply(entries, key) {
+        return Ok(Some(reply.share()?));
+    }
+    let found = kept_reply(entries, key)?;
+    entries.promote(key);
+    Ok(found)
+}
+
+// The reply of the first entry, if that is the key's.
+fn first_reply<'a>(entries: &'a LruCache<Key, SharedBytes>, key: &Key) -> Option<&'a SharedBytes>
+    ensures { IfSome result (λ reply. IsFirst key.now reply.now entries.now.entries) }
+{
+    match entries.peek_mru() {
+        Some((first, reply)) if key == first => Some(reply),
+        _ => None,
+    }
+}
+
 // The reply that is kept for a key, with one more owner.
 fn kept_reply(
-    entries: &LruCache<Bytes, SharedBytes>,
-    key: &Bytes,
+    entries: &LruCache<Key, SharedBytes>,
+    key: &Key,
 ) -> Result<Option<SharedBytes>, NoMemory>
     ensures { IfOk result (λ found. found ≡ lookup (same_key key.now) entries.now.entries) }
 {

@@ -18,7 +18,7 @@ use Rattle.search_top.specs.declared.answer.SearchAnswer.{SearchAnswer}
 use Rattle.search_top.specs.declared.answer.SearchAnswer.TheVariants.{Searched, Refused}
 use Rattle.search_top.specs.declared.words.Asked.{Asked}
 
--- the answer to what a text tells: the report of a search on the file that it tells
+-- the answer to a text that was read: the report of a search on the file that it describes
 abbrev pub IsFileAnswer : Asked → Told → SearchAnswer → Type 0
 IsFileAnswer asked told (Searched report file) = (declared_by file ≡ told.declared) × IsProblem file.problem × IsSearchReport file.goal file.problem asked report
 IsFileAnswer asked told (Refused refusal) = ⊥
@@ -35,7 +35,7 @@ IsInputAnswer asked Broken answer = answer ≡ Refused answers.Read
 IsInputAnswer asked TooLong answer = answer ≡ Refused (answers.ProblemText 0 9 0)
 IsInputAnswer asked (Whole bytes) answer = IsTextAnswer asked (input_read asked.format bytes) answer
 
--- the answer to what words ask, or to words that are refused
+-- the answer to what words ask for, or to words that are refused
 abbrev pub IsAskedAnswer : Result Asked WordFault → Input → SearchAnswer → Type 0
 IsAskedAnswer (Ok asked) input answer = IsInputAnswer asked input answer
 IsAskedAnswer (Err (words.Bad at kind)) input answer = (input ≡ Unread) × (answer ≡ Refused (answers.Words at (number_of_words kind)))
@@ -45,7 +45,7 @@ IsAskedAnswer (Err words.NoMemory) input answer = ⊥
 abbrev pub IsSearchAnswer : List (List ℕ) → Input → SearchAnswer → Type 0
 IsSearchAnswer words input answer = IsAskedAnswer (search_answer_to words) input answer
 
--- an answer that has a text: the file can tell the values that were found, and a refusal is one line
+-- an answer that has a text: the names of the file can express the values that were found, and a refusal is one line
 abbrev pub IsTellable : SearchAnswer → Type 0
 IsTellable (Searched report file) = IfSome report.found (AreTold file)
 IsTellable (Refused refusal) = HasText refusal

@@ -1,4 +1,4 @@
--- What a search by stages came to, on the problem that is solved.
+-- The outcome of a search by stages, on the problem that is solved.
 use Rattle.std.specs.Prelude.{◌≡◌, ℕ, ◌≤◌, max, true, false, List, length, option_map, Option, None}
 use Rattle.dcop_base.specs.Problem.{Dcop, IsAssignment, cost}
 use Rattle.dcop_optimum.specs.Goal.{top_of}
@@ -19,7 +19,7 @@ use Rattle.search_top.specs.declared.words.Asked.{Asked}
 abbrev pub IsLowerBound : Dcop → ℕ → Type 0
 IsLowerBound p lower = (values : List ℕ) → IsAssignment p values → lower ≤ cost p values
 
--- what stages of these shared costs came to that have not ended, the last one with this limit, in a search for an assignment that costs less than this; before the first one no nodes are visited
+-- the outcome of stages of these shared costs that have not ended, the last one with this limit, in a search for an assignment that costs less than `best`; no nodes are visited before the first stage
 pub record IsSoFar (p : Dcop) (shared : SharedCosts) (asked : Asked) (best : Option ℕ) (limit : ℕ) (o : Outcome) : Type 0 where
   pub stages : (count : ℕ) × AreStages p shared asked best count limit o
   pub spent : o.ended.spent ≡ true
@@ -32,7 +32,7 @@ pub record IsSoFar (p : Dcop) (shared : SharedCosts) (asked : Asked) (best : Opt
   pub effort : o.known.found ≡ true → length p.sizes ≤ o.known.nodes
   pub nodes : o.known.nodes ≤ most_visited asked.budget (length p.sizes) best
 
--- what came of a search for an assignment that costs less than this, where something is to be bettered
+-- the outcome of a search for an assignment that costs less than `best`, or for any if there is no `best`
 pub record IsOutcome (p : Dcop) (asked : Asked) (best : Option ℕ) (o : Outcome) : Type 0 where
   pub stages : (shared : SharedCosts) × (count limit : ℕ) × AreSharedCosts p shared × AreStages p shared asked best count limit o
   pub known : IsKnown p o.known
@@ -45,7 +45,7 @@ pub record IsOutcome (p : Dcop) (asked : Asked) (best : Option ℕ) (o : Outcome
   pub effort : o.known.found ≡ true → length p.sizes ≤ o.known.nodes
   pub nodes : o.known.nodes ≤ most_visited asked.budget (length p.sizes) best
 
--- a report that tells what came of a search on the problem solved
+-- a report of the outcome of a search on the problem solved
 pub record TellsOutcome (goal : Goal) (p : Dcop) (asked : Asked) (r : SearchReport) : Type 0 where
   pub outcome : Outcome
   pub came : IsOutcome (solved goal p) asked (option_map (told_sum goal (top_of p)) asked.better) outcome

@@ -1,4 +1,4 @@
--- A problem with its variables in another order, and what was found there, told in the problem's own order.
+-- A problem with its variables in another order, and what was found there, reported in the problem's own order.
 use Rattle.std.specs.Prelude.{◌≡◌, ℕ, List, length, map, slice_index, Option, Some, None}
 use Rattle.std.specs.List.{AllZip}
 use Rattle.dcop_base.specs.Problem.{Dcop}
@@ -13,13 +13,13 @@ pub record IsInOrder (p : Dcop) (order : List ℕ) (inside : Dcop) : Type 0 wher
   pub sizes : inside.sizes ≡ map (λ v. slice_index p.sizes v) order
   pub tables : AllZip (IsTableFor order) p.tables inside.tables
 
--- as many values as the order has variables, which in that order are those that were found, and the same cost
+-- a value for each variable of the order; in that order they are the values that were found, and the cost is the same
 pub record IsToldOutside (order : List ℕ) (inside outside : Found) : Type 0 where
   pub many : length outside.values ≡ length order
   pub values : values_at order outside.values ≡ inside.values
   pub cost : outside.cost ≡ inside.cost
 
--- where an assignment was found, it is told; where none was, none is
+-- an assignment is reported if one was found, and none if none was found
 abbrev pub AreToldOutside : List ℕ → Option Found → Option Found → Type 0
 AreToldOutside order None None = Unit {0}
 AreToldOutside order None (Some outside) = ⊥

@@ -17,17 +17,17 @@ abbrev pub IsBetterSum : Goal → ℕ → ℕ → Type 0
 IsBetterSum Min sum other = sum < other
 IsBetterSum Max sum other = other < sum
 
--- an assignment that was found: it is one of the problem, its cost is its sum there, and it is better than what was asked for
+-- an assignment that was found: it is one of the problem, its cost is its sum there, and this is better than what was asked for
 pub record IsFoundIn (goal : Goal) (p : Dcop) (better : Option ℕ) (found : Found) : Type 0 where
   pub assignment : IsAssignment p found.values
   pub sum : found.cost ≡ cost p found.values
   pub sought : IfSome better (λ asked. IsBetterSum goal found.cost asked)
 
--- no assignment's sum is better than the bound; so the best sum is not
+-- no assignment's sum is better than the bound, so the best sum is not better either
 abbrev pub IsBoundOf : Goal → Dcop → ℕ → Type 0
 IsBoundOf goal p bound = (values : List ℕ) → IsAssignment p values → IsAtMostWorse goal 0 bound (cost p values)
 
--- how many nodes a search visits at most: as many as the budget allows; where nothing is to be bettered, also one for each variable, for a first assignment
+-- the most nodes that a search visits: the budget; if nothing is to be bettered, the number of variables if this is greater, for a first assignment
 abbrev pub most_visited : ℕ → ℕ → Option ℕ → ℕ
 most_visited budget count None = max budget count
 most_visited budget count (Some better) = budget
@@ -38,14 +38,14 @@ pub record HasSolved (asked : Asked) (r : SearchReport) : Type 0 where
   pub known : r.found ≡ Some found
   pub within : IsAtMostWorse r.goal asked.error found.cost r.bound
 
--- a search that has ended without one, of those that are better than what was asked for: that is at most the error worse than the bound
+-- a search that has ended without an assignment that is better than what was asked for: the sum that was asked for is at most the error worse than the bound
 pub record HasNoneBetter (asked : Asked) (r : SearchReport) : Type 0 where
   pub none : r.found ≡ None
   pub better : ℕ
   pub sought : asked.better ≡ Some better
   pub within : IsAtMostWorse r.goal asked.error better r.bound
 
--- a search that is spent: the nodes have reached the budget, and what was found, or else what was to be bettered, is more than the error worse than the bound
+-- a search that is spent: the nodes have reached the budget, and the cost that was found, or else the sum that was to be bettered, is more than the error worse than the bound
 pub record HasSpent (asked : Asked) (r : SearchReport) : Type 0 where
   pub reached : asked.budget ≤ r.nodes
   pub apart : IfSome r.found (λ found. ¬ IsAtMostWorse r.goal asked.error found.cost r.bound)
@@ -57,7 +57,7 @@ EndsBy asked r Solved = HasSolved asked r
 EndsBy asked r Spent = HasSpent asked r
 EndsBy asked r NoneBetter = HasNoneBetter asked r
 
--- the report of a search that was asked for, on a problem with this goal: it tells what the stages of the search came to; without a sum to be bettered there always is an assignment, and one that was found took a node for each variable at least
+-- the report of a search on a problem with this goal: it reports the outcome of the search's stages; if no sum was to be bettered there is an assignment, and an assignment that was found took at least one node for each variable
 pub record IsSearchReport (goal : Goal) (p : Dcop) (asked : Asked) (r : SearchReport) : Type 0 where
   pub same_goal : r.goal ≡ goal
   pub error : r.error ≡ asked.error

@@ -1,4 +1,4 @@
--- How an answer of `dcop_search` is shown: as those of `dcop` are.
+-- How an answer of `dcop_search` is written: as the answers of `dcop` are.
 use Rattle.std.specs.Prelude.{◌≡◌, ℕ, ◌⊎◌, true, List}
 use Rattle.dcop_edge.specs.Faults.{Rose}
 use Rattle.dcop_edge.specs.Sink.{Adds}
@@ -18,7 +18,7 @@ abbrev pub search_answer_text : SearchAnswer → List ℕ
 search_answer_text (Searched report file) = search_text report file
 search_answer_text (Refused refusal) = answer_text refusal
 
--- the status of an ending: that of `none` has the code 10
+-- the status of an ending; that of `none` has the code 10
 abbrev pub status_of_ending : SearchEnding → Status
 status_of_ending Solved = statuses.Solved
 status_of_ending Spent = statuses.Spent
@@ -35,12 +35,12 @@ pub record IsShown (answer : SearchAnswer) (before after : SinkState) (status : 
   pub finished : after.finished ≡ true
   pub same : status ≡ search_status_of answer
 
--- the sink failed behind a prefix of the text of an answer
+-- the sink failed after a prefix of the text of an answer
 pub record IsCut (answer : SearchAnswer) (before after : SinkState) (status : Status) : Type 0 where
   pub prefix : AddsPrefix before.held (search_answer_text answer) after.held
   pub fault : status ≡ statuses.WriteFault
 
--- an answer was shown, to a sink that did not fail; or the sink failed, as its count of faults tells; or memory was wanted
+-- an answer was written to a sink that did not fail; or the sink failed, as its count of faults shows; or the call ran out of memory
 abbrev pub Shows : SearchAnswer → SinkState → SinkState → ℕ → ℕ → Status → Type 0
 Shows answer sink sink' faults faults' status =
     ((status ≡ statuses.NoMemory) × (faults' ≡ faults))

@@ -1,4 +1,4 @@
--- What a report tells of the stages of a search.
+-- What a report says about the stages of a search.
 use Rattle.std.specs.Prelude.{◌≡◌, ℕ, List, option_map}
 use Rattle.dcop_base.specs.Problem.{Dcop}
 use Rattle.dcop_optimum.specs.Goal.{top_of}
@@ -13,7 +13,7 @@ use Rattle.search_top.specs.declared.report.SearchReport.{SearchReport}
 use Rattle.search_top.specs.declared.stages.Outcome.{Outcome}
 use Rattle.search_top.specs.declared.words.Asked.{Asked}
 
--- a report of stages: in some order of all variables the problem solved was searched in so many stages of the same shared costs, each with a greater limit than the one before it, from nothing visited, and the report tells what they came to, all their nodes, their bound, what they found in the variables' own order, and how they ended
+-- a report of stages: in an order of all variables, the problem solved was searched in `count` stages of the same shared costs, each with a greater limit than the one before it, from nothing visited; the report has all their nodes, their bound, what they found in the variables' own order, and how they ended
 pub record IsOfStages (goal : Goal) (p : Dcop) (asked : Asked) (r : SearchReport) : Type 0 where
   pub order : List ℕ
   pub inside : Dcop

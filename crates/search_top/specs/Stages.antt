@@ -11,11 +11,11 @@ use Rattle.bound_search.specs.declared.searching.Ended.{Ended}
 use Rattle.search_top.specs.declared.stages.Outcome.{Outcome}
 use Rattle.search_top.specs.declared.words.Asked.{Asked}
 
--- the best that is known is more than the error above the bound
+-- the best known cost is more than the error above the bound
 abbrev pub IsApart : ℕ → Option ℕ → ℕ → Type 0
 IsApart error best lower = IfSome best (λ sum. lower + error < sum)
 
--- before the first stage nothing is found and no node visited, and a cost below this is sought, where there is such a cost
+-- before the first stage nothing is found, no node is visited, and a cost below `best` is sought, if there is a `best`
 pub record IsNothingYet (best : Option ℕ) (o : Outcome) : Type 0 where
   pub none : o.known.found ≡ false
   pub sought : o.known.best ≡ best
@@ -23,7 +23,7 @@ pub record IsNothingYet (best : Option ℕ) (o : Outcome) : Type 0 where
   pub lower : o.ended.lower ≡ 0
   pub spent : o.ended.spent ≡ true
 
--- a stage with this budget and limit of cells a joined table, where those before it had not ended: a search by mini-bucket bounds of the shared costs, which keep at most as many cells as are allowed, from what is known so far; of the stages' lower bounds the greatest stays, and they are spent where this search is, and the best is more than the error above that bound
+-- a stage with this budget and this limit of a joined table's cells, after stages that had not ended: a search from what is known so far, by mini-bucket bounds of the shared costs that keep at most `--cells` cells; the greatest lower bound of the stages stays, and they are spent if this search is and the best known cost is more than the error above that bound
 pub record IsStage (p : Dcop) (shared : SharedCosts) (asked : Asked) (budget limit : ℕ) (before after : Outcome) : Type 0 where
   pub needed : before.ended.spent ≡ true
   pub within : budget ≤ asked.budget
@@ -38,7 +38,7 @@ pub record IsStage (p : Dcop) (shared : SharedCosts) (asked : Asked) (budget lim
   pub spent : after.ended.spent ≡ true → (own.spent ≡ true) × IsApart asked.error after.known.best after.ended.lower
   pub ended : after.ended.spent ≡ false → HasEnded asked.error after.known after.ended.lower
 
--- what so many stages came to, one behind the other, all of the same shared costs: the first from nothing, each next one from what those before it came to, with a greater limit than theirs; the last one has this limit
+-- the outcome of `count` stages, one after the other, all of the same shared costs: the first starts from nothing, each next one from the outcome of those before it, with a greater limit than theirs; the last one has this limit
 abbrev pub AreStages : Dcop → SharedCosts → Asked → Option ℕ → ℕ → ℕ → Outcome → Type 0
 AreStages p shared asked best zero limit o = IsNothingYet best o
 AreStages p shared asked best (suc count) limit o = (budget earlier : ℕ) × (before : Outcome) × (earlier < limit) × AreStages p shared asked best count earlier before × IsStage p shared asked budget limit before o

@@ -1,4 +1,4 @@
--- The text of the report of a search: its lines in order, each the words of that line.
+-- The text of the report of a search: its lines in order, each as the words of the line.
 use Rattle.std.specs.Prelude.{◌≡◌, ℕ, List, [], ◌∷◌, ◌++◌, length, codes, Option, Some, None}
 use Rattle.std.specs.List.{AllZip, flat_map}
 use Rattle.std.specs.Fmt.{decimal}
@@ -29,7 +29,7 @@ head_lines r =
     ((codes "status" ∷ ending_word r.ending ∷ []) ∷ (codes "method" ∷ codes "search" ∷ []) ∷ goal_lines r.goal)
     ++ (number_line (codes "error") r.error ∷ number_line (codes "nodes") r.nodes ∷ [])
 
--- the lines of the cost and the bounds: the bound on the assignment's side is its cost, and both are left out where there is none
+-- the lines of the cost and the bounds: the bound on the assignment's side is its cost; both are left out if there is no assignment
 abbrev pub bound_lines : Goal → ℕ → Option Found → List (List (List ℕ))
 bound_lines Min bound None = number_line (codes "lower") bound ∷ []
 bound_lines Max bound None = number_line (codes "upper") bound ∷ []
@@ -45,7 +45,7 @@ found_lines f (Some found) = value_lines f.names f.labels found.values
 abbrev pub search_text : SearchReport → TextFile → List ℕ
 search_text r f = flat_map line (head_lines r ++ bound_lines r.goal r.bound r.found ++ found_lines f r.found ++ ((codes "end" ∷ []) ∷ []))
 
--- values that the names of a file can tell: one for each name, each with its name where its variable has value names
+-- values that the names of a file can express: one for each name, and each has a name if its variable has value names
 pub record AreTold (f : TextFile) (found : Found) : Type 0 where
   pub many : length found.values ≡ length f.names
   pub worded : AllZip HasWord f.labels found.values

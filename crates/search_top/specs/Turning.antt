@@ -1,4 +1,4 @@
--- What came of a search on the problem solved, told of the problem.
+-- The outcome of a search on the problem solved, as a report on the problem.
 use Rattle.std.specs.Prelude.{ℕ, ◌-◌, Bool, Option, None, option_map, if◌then◌else◌}
 use Rattle.problem_text.specs.declared.file.Goal.{Goal}
 use Rattle.problem_text.specs.declared.file.Goal.TheVariants.{Min, Max}
@@ -10,21 +10,21 @@ use Rattle.search_top.specs.declared.report.SearchReport.{SearchReport}
 use Rattle.search_top.specs.declared.stages.Outcome.{Outcome}
 use Rattle.search_top.specs.declared.words.Asked.{Asked}
 
--- a cost of the problem solved as a sum of the problem, and the other way round: for goal max what it leaves of the top sum, 0 where it is above that
+-- a cost of the problem solved as a sum of the problem, and the other way round: for goal max the top sum less this, or 0 if this is greater
 abbrev pub told_sum : Goal → ℕ → ℕ → ℕ
 told_sum Min top cost = cost
 told_sum Max top cost = top - cost
 
--- the assignment that is known as found, with its sum
+-- the assignment that was found, with its sum
 abbrev pub found_told : Goal → ℕ → Known → Option Found
 found_told goal top known =
     if known.found then option_map (λ best. record { cost = told_sum goal top best; values = known.values }) known.best else None
 
--- how a search ended that found an assignment or not, and is spent or not
+-- how a search ended, by whether it found an assignment and whether it is spent
 abbrev pub ending_told : Bool → Bool → SearchEnding
 ending_told found spent = if spent then Spent else (if found then Solved else NoneBetter)
 
--- the report of what stages came to, with the values in the order of the search
+-- the report of the outcome of stages, with the values in the order of the search
 abbrev pub report_told : Goal → ℕ → Asked → Outcome → SearchReport
 report_told goal top asked o = record {
   ending = ending_told o.known.found o.ended.spent;

@@ -1,4 +1,4 @@
--- The words of `dcop_search`: what they ask, or their first fault.
+-- The words of `dcop_search`: what they ask for, or their first fault.
 use Rattle.std.specs.Prelude.{ℕ, ◌+◌, ◌≤◌, nat_lt, Bool, true, false, ◌||◌, List, [], ◌∷◌, Option, Some, None, Result, Ok, Err, IfSome, codes, bytes_eq, is_some, unwrap_or, if◌then◌else◌}
 use Rattle.dcop_base.specs.Limits.{amount_limit}
 use Rattle.dcop_base.specs.NumberWord.{number_of}
@@ -25,7 +25,7 @@ search_option_named word =
     else (if bytes_eq word (codes "--format") then Some Format
     else None))))
 
--- the greatest error, and the greatest sum to be bettered: no sum is above it
+-- the greatest error, and the greatest sum to be bettered; no sum is above it
 abbrev pub error_limit : ℕ
 error_limit = amount_limit
 
@@ -33,11 +33,11 @@ error_limit = amount_limit
 abbrev pub node_limit : ℕ
 node_limit = 1000000000000
 
--- the fewest cells that all bounds may be allowed together
+-- the least value of `--cells`
 abbrev pub fewest_cells : ℕ
 fewest_cells = 1024
 
--- the most cells that all bounds may be allowed together, 2^28
+-- the greatest value of `--cells`, 2^28
 abbrev pub cell_limit : ℕ
 cell_limit = 268435456
 
@@ -71,14 +71,14 @@ abbrev pub is_given : SearchOption → Given → Bool
 is_given (Number quantity) given = is_some (number_given quantity given)
 is_given Format given = is_some given.format
 
--- what is given with this number for an option
+-- the given values, with this number for an option
 abbrev pub with_number : Quantity → ℕ → Given → Given
 with_number Error number given = record given { error = Some number }
 with_number Budget number given = record given { budget = Some number }
 with_number Cells number given = record given { cells = Some number }
 with_number Better number given = record given { better = Some number }
 
--- what is given with this form
+-- the given values, with this format
 abbrev pub with_format : forms.Format → Given → Given
 with_format format given = record given { format = Some format }
 
@@ -89,12 +89,12 @@ pub record IsWithin (given : Given) : Type 0 where
   pub cells : IfSome given.cells (IsNumberOf Cells)
   pub better : IfSome given.better (IsNumberOf Better)
 
--- how many words gave a value: the option and the value, or none
+-- the number of words that gave a value: two, the option and the value, or none
 abbrev pub words_for : Bool → ℕ
 words_for true = 2
 words_for false = 0
 
--- the place of the word behind those that gave this, counted from 1
+-- the place of the word after those that gave these values, counted from 1
 abbrev pub place_behind : Given → ℕ
 place_behind given =
     1 + words_for (is_some given.error) + words_for (is_some given.budget) + words_for (is_some given.cells)
@@ -105,12 +105,12 @@ abbrev pub unless_fault : {A B : Type 0} → Result A WordFault → (A → Resul
 unless_fault (Ok value) next = next value
 unless_fault (Err fault) next = Err fault
 
--- an option that is known is taken, unless it was given
+-- a known option is taken, unless it was given before
 abbrev pub option_new : Given → Option SearchOption → Result SearchOption WordFault
 option_new given None = Err (Bad (place_behind given) UnknownOption)
 option_new given (Some option) = if is_given option given then Err (Bad (place_behind given) Twice) else Ok option
 
--- the option that a word tells
+-- the option that a word names
 abbrev pub option_told : Given → List ℕ → Result SearchOption WordFault
 option_told given name = option_new given (search_option_named name)
 
@@ -120,27 +120,27 @@ number_within at quantity None = Err (Bad at BadNumber)
 number_within at quantity (Some number) =
     if nat_lt number (least_of quantity) || nat_lt (most_of quantity) number then Err (Bad at OutOfRange) else Ok number
 
--- the number that the word at this place tells for an option
+-- the number that the word at this place gives for an option
 abbrev pub number_told : ℕ → Quantity → List ℕ → Result ℕ WordFault
 number_told at quantity word = number_within at quantity (number_of word)
 
--- a form that is one of the choices
+-- a format that is one of the choices
 abbrev pub format_known : ℕ → Option forms.Format → Result forms.Format WordFault
 format_known at None = Err (Bad at BadChoice)
 format_known at (Some format) = Ok format
 
--- the form that the word at this place tells
+-- the format that the word at this place names
 abbrev pub format_told : ℕ → List ℕ → Result forms.Format WordFault
 format_told at word = format_known at (format_named word)
 
--- what is given with the value that a word tells for an option
+-- the given values, with the value that a word gives for an option
 abbrev pub given_told : Given → SearchOption → List ℕ → Result Given WordFault
 given_told given (Number quantity) word =
     unless_fault (number_told (place_behind given + 1) quantity word) (λ number. Ok (with_number quantity number given))
 given_told given Format word =
     unless_fault (format_told (place_behind given + 1) word) (λ format. Ok (with_format format given))
 
--- what is given with the pairs of these words, or their first fault
+-- the given values, with those of the pairs of these words, or the first fault of these words
 abbrev pub pairs_told : Given → List (List ℕ) → Result Given WordFault
 pairs_told given [] = Ok given
 pairs_told given (name ∷ []) = unless_fault (option_told given name) (λ option. Err (Bad (place_behind given) NoValue))
@@ -148,7 +148,7 @@ pairs_told given (name ∷ value ∷ words) =
     unless_fault (option_told given name)
     (λ option. unless_fault (given_told given option value) (λ next. pairs_told next words))
 
--- what is asked where this was given: the default of what was not
+-- what is asked for by the given values, with the default for each value that was not given
 abbrev pub asked_by : Given → Asked
 asked_by given = record {
   error = unwrap_or given.error 0;
@@ -158,7 +158,7 @@ asked_by given = record {
   format = unwrap_or given.format Dcop;
 }
 
--- what is asked is within the options' ranges
+-- what is asked for is within the options' ranges
 pub record IsServed (asked : Asked) : Type 0 where
   pub error : asked.error ≤ error_limit
   pub some : 1 ≤ asked.budget

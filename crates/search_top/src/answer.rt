@@ -12,6 +12,6 @@ pub enum SearchAnswer {
         report: SearchReport,
         file: ProblemFile,
     },
-    /// A refusal of words, of a text or of a source that failed, as `dcop` has it.
+    /// A refusal of words or of a text, or because the source failed. It is a refusal of `dcop`.
     Refused(Answer),
 }

@@ -19,7 +19,7 @@ use solve_report::Answer;
 use solve_words::WordFault;
 use std::alloc::Global;
 
-/// The answer to words, and where they are accepted to all that the source has left. The words are
+/// The answer to words and, if they are accepted, to all that is left in the source. The words are
 /// tested before anything is read.
 pub(crate) fn answer_of<S: Source>(
     alloc: Global,

@@ -1,9 +1,9 @@
-//! The top call of `dcop_search`: words and a source of bytes in, the report of a search or a refusal
-//! into a sink, and a status.
+//! The top call of `dcop_search`. It takes words and a source of bytes, writes the report of a
+//! search or a refusal to a sink, and returns a status.
 //!
 //! [`search`] reads a problem, puts its variables in an order in which bounds are small, shares its
-//! costs among its tables, makes bounds, and searches by them, in stages whose tables grow. An answer
-//! is told on the file as it was read.
+//! costs among its tables, makes bounds, and searches by them, in stages whose tables grow. The
+//! report is on the file as it was read.
 #![tactic(auto)]
 
 mod answer;

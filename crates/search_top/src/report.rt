@@ -8,7 +8,7 @@ use problem_text::Goal;
 pub enum SearchEnding {
     /// An assignment was found, and the search has ended.
     Solved,
-    /// The budget was reached before it had ended.
+    /// The budget was reached before the search had ended.
     Spent,
     /// The search has ended, and no assignment is better than what was asked for.
     NoneBetter,
@@ -17,7 +17,7 @@ pub enum SearchEnding {
 /// An assignment that was found.
 #[derive(Debug, Drop)]
 pub struct Found {
-    /// What it sums to in the file's own tables.
+    /// Its sum in the file's own tables.
     pub cost: u64,
     /// The values, one for each variable, in order.
     pub values: ValList,
@@ -30,12 +30,12 @@ pub struct SearchReport {
     pub ending: SearchEnding,
     /// Whether the least or the greatest sum was sought.
     pub goal: Goal,
-    /// The requested error: by how much the sum of a solved answer may miss the best one.
+    /// The requested error: the most by which the sum of a solved answer may miss the best one.
     pub error: u64,
-    /// How many nodes were visited, in all stages.
+    /// The number of nodes that were visited in all stages.
     pub nodes: u64,
-    /// No assignment's sum is better: it is a lower bound, or for goal max an upper one.
+    /// The bound: a lower bound on each assignment's sum, or for goal max an upper one.
     pub bound: u64,
-    /// The best assignment that was found, where one was.
+    /// The best assignment that was found, if any.
     pub found: Option<Found>,
 }

@@ -1,4 +1,4 @@
-//! The report of a search on a file as it was read.
+//! The report of a search on a file in the order in which it was read.
 
 ghost use Rattle.std.specs.Prelude.{◌≡◌, length, IfOk, IfSome};
 ghost use Rattle.dcop_base.specs.Whole.{IsProblem};
@@ -18,12 +18,12 @@ use problem_text::ProblemFile;
 use std::alloc::Global;
 use variable_order::search_order;
 
-/// The report of a search on a file: its variables are put into the order of the search, and what is
-/// found there is told in their own order.
+/// The report of a search on a file. The variables are put into the order of the search, and what
+/// is found is reported in their own order.
 ///
 /// # Errors
 ///
-/// [`NoMemory`] where memory was wanted and not had.
+/// [`NoMemory`] if it runs out of memory.
 pub(crate) fn report_on(
     alloc: Global,
     file: &ProblemFile,
@@ -44,7 +44,7 @@ pub(crate) fn report_on(
     Ok(SearchReport { found, ..report })
 }
 
-/// What was found in this order of the variables, told in their own order.
+/// What was found in this order of the variables, reported in their own order.
 fn found_outside(
     alloc: Global,
     order: &[VarId],
@@ -63,7 +63,7 @@ fn found_outside(
     }
 }
 
-/// The values of variables in this order, in the variables' own order.
+/// The values of variables that are in this order, put into the variables' own order.
 fn values_outside(alloc: Global, order: &[VarId], values: &[Val]) -> Result<ValList, NoMemory>
     requires order { IsOrder (length order.now) order.now }
     requires many { length values.now ≡ length order.now }

@@ -1,4 +1,4 @@
-//! Showing an answer of `dcop_search`.
+//! Writing an answer of `dcop_search`.
 
 ghost use Rattle.std.specs.Prelude.{◌≡◌, IfSome};
 ghost use Rattle.answer_edge.specs.Output.{sink_state};
@@ -15,9 +15,9 @@ use dcop_edge::Sink;
 use problem_text::ProblemFile;
 use std::alloc::Global;
 
-/// Writes the whole text of an answer, finishes the sink, and says how it went. With
-/// [`Status::WriteFault`] a prefix of the text is written, with [`Status::NoMemory`], where memory
-/// was wanted and not had, nothing.
+/// Writes the whole text of an answer, finishes the sink, and returns the status. With
+/// [`Status::WriteFault`] a prefix of the text is written. With [`Status::NoMemory`], when it runs
+/// out of memory, nothing is written.
 pub(crate) fn show_answer<K: Sink>(alloc: Global, answer: &SearchAnswer, sink: &mut K) -> Status
     requires { IsTellable answer.now }
     ensures shows { Shows answer.now
@@ -56,7 +56,7 @@ fn show_report<K: Sink>(
 }
 
 impl SearchEnding {
-    /// The status of the ending; [`Status::No`] where there is none better.
+    /// The status of the ending; [`Status::No`] if no assignment is better.
     fn status(self) -> Status
         ensures { result ≡ status_of_ending self }
     {

@@ -18,14 +18,14 @@ use std::alloc::Global;
 /// A stage of a search.
 #[derive(Clone, Copy, Debug, PartialEq, Eq)]
 struct Stage {
-    /// How many cells a joined table has at most.
+    /// The most cells of a joined table.
     limit: u64,
-    /// How many nodes are visited in it, where that is at most a quarter of what is left of the budget.
+    /// The number of nodes that it may visit, but at most a quarter of what is left of the budget.
     nodes: u64,
 }
 
-/// The stages before the last one, which goes on to the end of the budget. Of the limits and counts
-/// of nodes that were measured, no others were better on all problems.
+/// The stages before the last one. The last one goes on to the end of the budget. No other limits
+/// and numbers of nodes that were measured were better on all problems.
 const STAGES: [Stage; 2] = [
     Stage {
         limit: 4_096,
@@ -37,26 +37,26 @@ const STAGES: [Stage; 2] = [
     },
 ];
 
-/// How many cells a joined table has at most in the last stage.
+/// The most cells of a joined table in the last stage.
 const LAST_LIMIT: u64 = 1_048_576;
 
-/// What a search came to.
+/// The outcome of a search.
 #[derive(Debug, Drop)]
 pub struct Outcome {
-    /// What is known of the best assignment.
+    /// What is known about the best assignment.
     pub known: Known,
-    /// How the search ended, with the greatest bound of its stages.
+    /// How the search ended, with the greatest lower bound of its stages.
     pub ended: Ended,
 }
 
-/// Searches a problem for an assignment that costs less than `best`, where there is such a sum, in
-/// stages: once a stage has visited its nodes, the next one begins anew with larger tables, and with
-/// what is known. A stage whose tables would be no larger than those of the one before, or no smaller
-/// than those of the last one, is left out: so the limit of each is greater than that before it.
+/// Searches a problem in stages for an assignment that costs less than `best`, if there is a
+/// `best`. When a stage has visited its nodes, the next one begins anew with larger tables and with
+/// what is known. A stage is left out if its limit is at most that of the stage before it, or at
+/// least that of the last one. So each stage has a greater limit than the one before it.
 ///
 /// # Errors
 ///
-/// [`NoMemory`] where memory was wanted and not had.
+/// [`NoMemory`] if it runs out of memory.
 pub(crate) fn outcome_of(
     alloc: Global,
     problem: &Problem,
@@ -94,8 +94,8 @@ pub(crate) fn outcome_of(
     )
 }
 
-/// The limit of a stage: as many cells as this, but at least 2, or fewer, so that no bounds are lost
-/// for want of room.
+/// The limit of a stage: `most` cells, or fewer if the bounds would otherwise have too many cells.
+/// It is at least 2.
 fn limit_of(
     alloc: Global,
     problem: &Problem,
@@ -111,8 +111,8 @@ fn limit_of(
     limit_within(alloc, sizes, shared.depths.as_slice(), most.max(2), cells)
 }
 
-/// The budget of a stage, counted from the first node of the search: so many nodes more, but at most
-/// a quarter of what is left of the whole budget.
+/// The budget of a stage, counted from the first node of the search. The stage may visit `nodes`
+/// more nodes, but at most a quarter of what is left of the whole budget.
 fn stage_budget(budget: u64, visited: u64, nodes: u64) -> u64
     ensures { result ≤ budget }
 {
@@ -120,7 +120,7 @@ fn stage_budget(budget: u64, visited: u64, nodes: u64) -> u64
     visited.saturating_add(nodes.min(left / 4)).min(budget)
 }
 
-/// What is known before a search.
+/// The outcome before the first stage.
 fn nothing_known(alloc: Global, problem: &Problem, best: Option<u64>) -> Result<Outcome, NoMemory>
     ensures known { IfOk result (λ o. IsKnown problem.now o.known) }
     ensures none { IfOk result (IsNothingYet best) }
@@ -140,7 +140,7 @@ fn nothing_known(alloc: Global, problem: &Problem, best: Option<u64>) -> Result<
     })
 }
 
-/// What the search came to after one more stage, with bounds of at most this many cells a table.
+/// The outcome after one more stage, with bounds whose joined tables have at most `limit` cells.
 fn searched(
     alloc: Global,
     problem: &Problem,
@@ -186,7 +186,7 @@ fn searched(
     })
 }
 
-/// Whether stages are spent: the last one is, and the best that is known is more than the error above
+/// Whether stages are spent: the last one is, and the best known cost is more than the error above
 /// their bound.
 fn is_spent(last: bool, best: Option<u64>, lower: u64, error: u64) -> bool
     ensures spent { result ≡ true → (last ≡ true) × IsApart error best lower }
@@ -196,7 +196,7 @@ fn is_spent(last: bool, best: Option<u64>, lower: u64, error: u64) -> bool
     last && !is_within(best, lower, error)
 }
 
-/// Whether the best that is known is at most the error above a bound.
+/// Whether the best known cost is at most the error above a bound.
 fn is_within(best: Option<u64>, lower: u64, error: u64) -> bool
     ensures within { result ≡ true → (sum : ℕ) × (best ≡ Some sum) × (sum ≤ lower + error) }
     ensures apart { result ≡ false → IsApart error best lower }

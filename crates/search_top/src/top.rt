@@ -12,19 +12,20 @@ use answer_edge::Status;
 use dcop_edge::{Sink, Source};
 use std::alloc::Global;
 
-/// Answers these words, which are the arguments of the program: reads a problem from the source,
-/// searches it for an assignment with the best sum, writes the report of that to the sink, and says how
-/// it went. Words, texts and faults are refused as by the program `dcop`.
+/// Answers these words, which are the arguments of the program. It reads a problem from the source,
+/// searches it for an assignment with the best sum, writes the report of this to the sink, and
+/// returns the status. Words, texts and faults are refused as the program `dcop` refuses them.
 ///
-/// The report is one of [`SearchReport`](crate::SearchReport): an assignment with its sum in the
-/// file's own tables, and a bound that no assignment's sum is better than. With [`Status::Solved`] they
-/// are at most the requested error apart, with [`Status::Spent`] the nodes have reached the budget, and
-/// with [`Status::No`] no sum is better than the one that was to be bettered, but for the error.
+/// The report is a [`SearchReport`](crate::SearchReport): an assignment with its sum in the file's
+/// own tables, and a bound; no assignment's sum is better than the bound. With [`Status::Solved`]
+/// the sum and the bound are at most the requested error apart. With [`Status::Spent`] the nodes
+/// have reached the budget. With [`Status::No`] no assignment's sum is better, by more than the
+/// error, than the sum that was to be bettered.
 ///
-/// [`Status::ReadFault`] and [`Status::WriteFault`] come only where the source or the sink failed
-/// in this call. With `WriteFault` a prefix of the answer is written, with [`Status::NoMemory`],
-/// where memory was wanted and not had, nothing, and otherwise the whole answer, and the sink is
-/// finished.
+/// [`Status::ReadFault`] and [`Status::WriteFault`] are returned only if the source or the sink
+/// failed in this call. With `WriteFault` a prefix of the answer is written. With
+/// [`Status::NoMemory`], when it runs out of memory, nothing is written. Otherwise the whole answer
+/// is written and the sink is finished.
 pub fn search<S: Source, K: Sink>(
     alloc: Global,
     words: &[String],

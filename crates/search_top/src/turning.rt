@@ -1,4 +1,4 @@
-//! The report of a search on a problem, from what came of it on the problem that is solved.
+//! The report of a search on a problem, from its outcome on the problem that is solved.
 
 ghost use Rattle.std.specs.Prelude.{◌≡◌, IfOk, option_map};
 ghost use Rattle.dcop_optimum.specs.Goal.{top_of};
@@ -17,11 +17,11 @@ use problem_solved::ProblemSolved;
 use problem_text::{Goal, ProblemFile};
 use std::alloc::Global;
 
-/// The report of a search on a file whose variables stand in the order of the search.
+/// The report of a search on a file whose variables are in the order of the search.
 ///
 /// # Errors
 ///
-/// [`NoMemory`] where memory was wanted and not had.
+/// [`NoMemory`] if it runs out of memory.
 pub(crate) fn search_report(
     alloc: Global,
     file: &ProblemFile,
@@ -37,8 +37,8 @@ pub(crate) fn search_report(
     Ok(told(&file.problem, file.goal, asked, outcome))
 }
 
-/// What came of a search, told of the problem: for goal max each sum is what the problem solved leaves
-/// of the top sum.
+/// The outcome of a search as a report on the problem. For goal max each sum is the top sum less
+/// the cost of the problem solved.
 fn told(problem: &Problem, goal: Goal, asked: Asked, outcome: Outcome) -> SearchReport
     requires { IsOutcome (solved goal problem.now) asked
         (option_map (told_sum goal (top_of problem.now)) asked.better) outcome }
@@ -69,7 +69,7 @@ fn ending_of(found: bool, spent: bool) -> SearchEnding
     }
 }
 
-/// A cost of the problem solved, as a sum of the problem, and the other way round.
+/// A cost of the problem solved as a sum of the problem, and the other way round.
 fn told_sum(goal: Goal, top: u64, cost: u64) -> u64
     ensures { result ≡ told_sum goal top cost }
 {
@@ -79,7 +79,7 @@ fn told_sum(goal: Goal, top: u64, cost: u64) -> u64
     }
 }
 
-/// The assignment that is known as found.
+/// The assignment that was found, if any.
 fn found_of(goal: Goal, top: u64, known: Known) -> Option<Found>
     ensures { result ≡ found_told goal top known }
 {

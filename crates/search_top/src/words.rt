@@ -7,26 +7,26 @@ ghost use Rattle.search_top.specs.Words.{search_option_named, least_of, most_of,
 use dcop_base::{CAP, number_of_word};
 use solve_words::{Format, WordFault, WordKind};
 
-/// What words ask.
+/// What the words ask for.
 #[derive(Clone, Copy, Debug, PartialEq, Eq)]
 pub struct Asked {
-    /// By how much the sum of a solved answer may miss the best one, 0 to 2^62.
+    /// The most by which the sum of a solved answer may miss the best one, 0 to 2^62.
     pub error: u64,
-    /// After how many nodes no value is visited, once an assignment is known or where a sum is to be
-    /// bettered, 1 to 1,000,000,000,000.
+    /// The number of nodes after which no value is visited once an assignment is known or if a sum
+    /// is to be bettered, 1 to 1,000,000,000,000.
     pub budget: u64,
     /// The most cells that all bounds together keep at a time, 1,024 to 268,435,456.
     pub cells: u64,
-    /// The sum that is to be bettered, 0 to 2^62, in the terms of the file; `None`: any is sought.
+    /// The sum of the file that is to be bettered, 0 to 2^62; `None` if any assignment is sought.
     pub better: Option<u64>,
-    /// The form of the problem.
+    /// The format of the problem.
     pub format: Format,
 }
 
 /// An option of the program.
 #[derive(Clone, Copy, Debug, PartialEq, Eq)]
 pub enum SearchOption {
-    /// One that takes a number.
+    /// An option that takes a number.
     Number(Quantity),
     /// `--format`
     Format,
@@ -46,7 +46,7 @@ pub enum Quantity {
 }
 
 impl SearchOption {
-    /// The option that a word names; `None` exactly where no option has it.
+    /// The option that a word names; `None` exactly if it names no option.
     fn named(word: &str) -> Option<SearchOption>
         ensures { result ≡ search_option_named word.now }
     {
@@ -123,7 +123,7 @@ impl Given {
         }
     }
 
-    /// The same with this number for an option.
+    /// The same values, with this number for an option.
     fn with_number(self, quantity: Quantity, number: u64) -> Given
         requires before { IsWithin self }
         requires number { IsNumberOf quantity number }
@@ -151,7 +151,7 @@ impl Given {
         }
     }
 
-    /// The place of the word behind the pairs that gave these values, counted from 1.
+    /// The place of the word after the pairs that gave these values, counted from 1.
     fn place_behind(self) -> u64
         ensures same { result ≡ place_behind self }
         ensures low { result ≤ 11 }
@@ -163,7 +163,7 @@ impl Given {
             + words_for(self.format.is_some())
     }
 
-    /// What is asked, with the default of each value that was not given.
+    /// What is asked for, with the default for each value that was not given.
     fn asked(self) -> Asked
         requires { IsWithin self }
         ensures same { result ≡ asked_by self }
@@ -179,7 +179,7 @@ impl Given {
     }
 }
 
-/// How many words gave a value: the option and the value, or none.
+/// The number of words that gave a value: two, the option and the value, or none.
 fn words_for(is_given: bool) -> u64
     ensures same { result ≡ words_for is_given }
     ensures low { result ≤ 2 }
@@ -187,9 +187,9 @@ fn words_for(is_given: bool) -> u64
     if is_given { 2 } else { 0 }
 }
 
-/// What words ask, or their first fault. The words are pairs of an option and its value, read from
-/// left to right: of each pair it is tested that the option exists, that it is new, that a value
-/// stands behind it, and that the value is a number in the option's range, or one of its choices.
+/// What the words ask for, or their first fault. The words are pairs of an option and its value,
+/// read from left to right. Of each pair it is tested that the option exists, that it is new, that
+/// a value follows it, and that the value is a number in the option's range or one of its choices.
 pub(crate) fn read_search_words(words: &[String]) -> Result<Asked, WordFault>
     ensures told { result ≡ search_answer_to (map string_bytes words.now) }
     ensures served { IfOk result IsServed }
@@ -221,7 +221,7 @@ fn read_pairs(given: Given, words: &[String]) -> Result<Given, WordFault>
     read_pairs(next, rest)
 }
 
-/// The option that a word names and that was not given before, or the fault of the word.
+/// The option that a word names, if it was not given before, or the fault of the word.
 fn read_option(given: Given, name: &str) -> Result<SearchOption, WordFault>
     ensures { result ≡ option_told given name.now }
 {
@@ -268,7 +268,7 @@ fn read_number(at: u64, quantity: Quantity, word: &str) -> Result<u64, WordFault
     Ok(number)
 }
 
-/// The form that the word at this place names, or the fault of the word.
+/// The format that the word at this place names, or the fault of the word.
 fn read_format(at: u64, word: &str) -> Result<Format, WordFault>
     ensures { result ≡ format_told at word.now }
 {
@@ -278,7 +278,7 @@ fn read_format(at: u64, word: &str) -> Result<Format, WordFault>
     }
 }
 
-/// The form of this name; `None` exactly where no form has it.
+/// The format with this name; `None` exactly if no format has it.
 fn format_named(word: &str) -> Option<Format>
     ensures { result ≡ format_named word.now }
 {

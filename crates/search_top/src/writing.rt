@@ -12,15 +12,15 @@ use dcop_base::{Bytes, NoMemory};
 use problem_text::{Goal, ProblemFile, write_goal};
 use std::alloc::Global;
 
-/// The text of the report of a search on a file, whose names it prints.
+/// The text of the report of a search on a file, with the names of the file.
 ///
-/// Its lines are `status`, `method search`, `goal max` where the goal is max, `error`, `nodes`,
-/// `cost`, `lower`, `upper`, a line `value NAME V` for each variable in order, and `end`. Where no
-/// assignment was found the cost, the values and the bound on their side are left out.
+/// Its lines are `status`, `method search`, `goal max` if the goal is max, `error`, `nodes`,
+/// `cost`, `lower`, `upper`, a line `value NAME V` for each variable in order, and `end`. If no
+/// assignment was found, the cost, the values and the bound on their side are left out.
 ///
 /// # Errors
 ///
-/// [`NoMemory`] where memory was wanted and not had.
+/// [`NoMemory`] if it runs out of memory.
 pub(crate) fn write_search(
     alloc: Global,
     report: &SearchReport,
@@ -38,7 +38,7 @@ pub(crate) fn write_search(
 }
 
 impl SearchEnding {
-    /// The word that tells the ending: `solved`, `spent` or `none`.
+    /// The word for the ending: `solved`, `spent` or `none`.
     fn word(self) -> &'static str
         ensures { result.now ≡ ending_word self }
     {
@@ -93,7 +93,7 @@ fn write_both(text: &mut String, goal: Goal, bound: u64, found: &Found) -> Resul
     write_number(text, "upper", upper)
 }
 
-/// Writes the one bound that there is without an assignment.
+/// Writes the only bound that there is without an assignment.
 fn write_one(text: &mut String, goal: Goal, bound: u64) -> Result<(), NoMemory>
     ensures { OnOk result (string_bytes text.new ≡ string_bytes text.old
         ++ flat_map line (bound_lines goal bound None)) }

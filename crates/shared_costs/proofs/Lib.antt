@@ -3,6 +3,7 @@ pub mod MoveLaws
 pub mod ScaleLaws
 pub mod GiveLaws
 pub mod PartLaws
+pub mod LeastLaws
 pub mod ShareLaws
 pub mod RowLaws
 pub mod DepthLaws

@@ -1,4 +1,4 @@
--- Tables that were put into lists by their depth.
+-- Tables in lists by their depth.
 use Rattle.std.specs.Prelude.{◌≡◌, ℕ, ◌+◌, ◌<◌, List, [], ◌++◌, length, slice_index_or}
 use Rattle.std.specs.List.{All}
 use Rattle.std.specs.List.Sorted.{IsPermutation}
@@ -6,7 +6,7 @@ use Rattle.dcop_base.specs.Table.{CostTable}
 use Rattle.dcop_base.specs.Values.{cost_with}
 use Rattle.shared_costs.specs.Tables.{IsTableOver, IsOfDepth, all_tables, depths_cost}
 
--- lists of tables, for each depth those of this depth; with the tables that are left they are all these tables, and sum to what these sum to
+-- lists of tables, one for each depth; together with the tables that are left they are all these tables, and have the same sum at any values
 pub record AreByDepth (sizes : List ℕ) (tables left : List CostTable) (depths : List (List CostTable)) : Type 0 where
   pub many : length depths ≡ length sizes
   pub each : (p : ℕ) → p < length sizes → All (λ t. IsTableOver sizes t × IsOfDepth p t) (slice_index_or depths p [])

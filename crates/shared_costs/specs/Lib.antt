@@ -1,9 +1,9 @@
 pub mod Values
 pub mod Tables
-pub mod Sharing
 pub mod Shared
 pub mod Runs
 pub mod Moves
 pub mod Scales
 pub mod Rows
+pub mod Sharing
 pub mod Depths

@@ -1,4 +1,4 @@
--- The shared costs of a problem: what the search looks at in place of the problem's own tables.
+-- The shared costs of a problem: tables that the search uses instead of the problem's own.
 use Rattle.std.specs.Prelude.{◌≡◌, ℕ, ◌*◌, ◌≤◌}
 use Rattle.std.specs.Int.{IsPowerOfTwo}
 use Rattle.std.specs.List.Sorted.{IsPermutation}
@@ -10,13 +10,13 @@ use Rattle.shared_costs.specs.Values.{AreValues}
 use Rattle.shared_costs.specs.Tables.{AreDepths, all_tables, depths_cost, scopes_of}
 use Rattle.shared_costs.specs.declared.shared.SharedCosts.{SharedCosts}
 
--- a scale: a power of two, times which no sum of the problem's cells gets above the greatest amount
+-- a scale: a power of two; the sum of the tables' greatest cells, multiplied by it, is at most the greatest amount
 pub record IsScale (p : Dcop) (scale : ℕ) : Type 0 where
   pub power : IsPowerOfTwo scale
   pub some : 1 ≤ scale
   pub within : scale * greatest_sum p.tables ≤ amount_limit
 
--- tables by depth over the scopes of the problem's own, one table for each, whose sum, at each values, is the problem's cost there, scaled
+-- tables by depth, one over the scope of each table of the problem; at any values of the variables their sum is the problem's cost, multiplied by the scale
 pub record AreSharedCosts (p : Dcop) (s : SharedCosts) : Type 0 where
   pub scale : IsScale p s.scale
   pub depths : AreDepths p.sizes s.depths

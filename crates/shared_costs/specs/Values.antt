@@ -1,4 +1,4 @@
--- Values of all variables, given by a function of the variable.
+-- Values of all variables, as a function of the variable.
 use Rattle.std.specs.Prelude.{◌≡◌, ℕ, ◌<◌, List, length, slice_index}
 
 -- each variable has a value below its size

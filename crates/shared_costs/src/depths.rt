@@ -1,4 +1,4 @@
-//! Tables by their depth.
+//! Tables in lists by their depth.
 
 ghost use Rattle.std.specs.Prelude.{◌≡◌, [], ◌<◌, ◌≤◌, true, length, IfOk, map};
 ghost use Rattle.std.specs.List.{All};
@@ -10,7 +10,7 @@ use crate::table::SharedTable;
 use dcop_base::{NoMemory, Sequence, Table, TableList, VarId};
 use std::alloc::Global;
 
-/// These tables by their depth, the greatest variable of each.
+/// These tables in lists by their depth. The depth of a table is its greatest variable.
 pub(crate) fn by_depth(
     alloc: Global,
     sizes: &[u16],

@@ -13,15 +13,15 @@ use std::alloc::Global;
 /// The most rounds of sharing.
 const MAX_ROUNDS: usize = 100;
 
-/// After so many rounds at a time it is seen whether they were of use.
+/// The number of rounds after which their gain is measured.
 const ROUNDS_AT_A_TIME: usize = 8;
 
-/// Shares all variables among the tables, in rounds: at most [`MAX_ROUNDS`], and none more where
-/// [`ROUNDS_AT_A_TIME`] of them raised the sum of the tables' least cells by less than the scale.
+/// Shares all variables among the tables in at most [`MAX_ROUNDS`] rounds. It stops when
+/// [`ROUNDS_AT_A_TIME`] rounds raised the sum of the tables' least cells by less than the scale.
 ///
 /// # Errors
 ///
-/// [`NoMemory`] where memory was wanted and not had. The tables are of no use then.
+/// [`NoMemory`] if it runs out of memory. The tables are of no use then.
 pub(crate) fn share_all(
     alloc: Global,
     sizes: &[u16],
@@ -48,8 +48,8 @@ pub(crate) fn share_all(
     Ok(())
 }
 
-/// Shares each variable once, in order. For each of them `places` has those of the tables that name
-/// it.
+/// Shares each variable once, in order. For each variable, `places` has the places of the tables
+/// that name it.
 fn share_round(
     alloc: Global,
     sizes: &[u16],
@@ -76,7 +76,7 @@ fn share_round(
     Ok(())
 }
 
-/// For each of so many variables the places of the tables that name it, ascending.
+/// For each variable, the places of the tables that name it, in ascending order.
 fn places_of(
     alloc: Global,
     variables: usize,
@@ -110,7 +110,7 @@ fn push_place(lists: &mut [Vec<u32>], scope: &[VarId], place: u32) -> Result<(),
     Ok(())
 }
 
-/// The sum of the tables' least cells, or `u64::MAX` where it is more.
+/// The sum of the tables' least cells, or `u64::MAX` if it is more.
 fn least_sum(tables: &[SharedTable]) -> u64 {
     let mut sum: u64 = 0;
     for table in tables {

@@ -1,7 +1,7 @@
-//! Cells by the value that they have of one variable.
+//! Cells by their value of one variable.
 //!
-//! The cells of a table stand in blocks, one for each choice of values of the variables before that
-//! one; a block has a run of cells for each value of the variable.
+//! The cells of a table are in blocks, one for each choice of values of the variables before that
+//! one. A block has a run of cells for each value of the variable.
 
 ghost use Rattle.std.specs.Prelude.{◌≡◌, ℕ, ◌+◌, ◌*◌, ◌<◌, ◌≤◌, length, slice_index};
 ghost use Rattle.std.specs.List.{All};
@@ -10,8 +10,8 @@ ghost use Rattle.shared_costs.specs.Runs.{digit, IsLowered, IsShifted, IsShifted
 
 use dcop_base::CAP;
 
-/// Lowers each of these amounts, one for each value of the variable, to the least cell at that value,
-/// where this is less.
+/// Lowers these amounts, one for each value of the variable. Each becomes the least cell at its
+/// value if that cell is less.
 pub(crate) fn lower(lows: &mut [u64], cells: &[u64], blocks: usize, inner: usize)
     requires full { length cells.now ≡ blocks * (length lows.old * inner) }
     requires some { 1 ≤ inner }
@@ -29,7 +29,7 @@ pub(crate) fn lower(lows: &mut [u64], cells: &[u64], blocks: usize, inner: usize
     }
 }
 
-/// [`lower`] where each run is one cell.
+/// [`lower`] when each run is one cell.
 fn lower_by_cells(lows: &mut [u64], cells: &[u64], blocks: usize)
     requires { length cells.now ≡ blocks * length lows.old }
     ensures { IsLowered 1 cells.now lows.old lows.new }
@@ -54,8 +54,8 @@ pub(crate) fn least_from(amount: u64, cells: &[u64]) -> u64
     least
 }
 
-/// Takes from each cell the amount of `lows` at its value of the variable, and gives it that of
-/// `gains`; a sum above [`CAP`] becomes [`CAP`].
+/// Takes from each cell the amount in `lows` for its value of the variable, and adds the amount in
+/// `gains`. A sum above [`CAP`] becomes [`CAP`].
 pub(crate) fn shift(cells: &mut [u64], lows: &[u64], gains: &[u64], blocks: usize, inner: usize)
     requires full { length cells.old ≡ blocks * (length lows.now * inner) }
     requires some { 1 ≤ inner }
@@ -78,7 +78,7 @@ pub(crate) fn shift(cells: &mut [u64], lows: &[u64], gains: &[u64], blocks: usiz
     }
 }
 
-/// [`shift`] where each run is one cell.
+/// [`shift`] when each run is one cell.
 fn shift_by_cells(cells: &mut [u64], lows: &[u64], gains: &[u64], blocks: usize)
     requires full { length cells.old ≡ blocks * length lows.now }
     requires many { length gains.now ≡ length lows.now }
@@ -97,7 +97,7 @@ fn shift_by_cells(cells: &mut [u64], lows: &[u64], gains: &[u64], blocks: usize)
     }
 }
 
-/// Takes an amount from each cell from `start` up to `end`, and gives it a gain; a sum above [`CAP`]
+/// Takes an amount from each cell from `start` up to `end`, and adds a gain. A sum above [`CAP`]
 /// becomes [`CAP`].
 fn shift_run(cells: &mut [u64], start: usize, end: usize, low: u64, gain: u64)
     requires order { start ≤ end }

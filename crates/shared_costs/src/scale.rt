@@ -14,8 +14,8 @@ use std::alloc::Global;
 /// The greatest scale of costs.
 const MAX_SCALE: u64 = 64;
 
-/// The greatest power of two up to [`MAX_SCALE`] by which the sum of the greatest cells of these
-/// tables stays within [`CAP`].
+/// The greatest power of two up to [`MAX_SCALE`] with which the sum of the greatest cells of these
+/// tables is at most [`CAP`].
 pub(crate) fn scale_of(tables: &[Table]) -> u64
     requires { greatest_sum tables.now ≤ amount_limit }
     ensures power { IsPowerOfTwo result }
@@ -42,14 +42,14 @@ fn sum_of_greatest(tables: &[Table]) -> u64
     sum
 }
 
-/// The greatest cell, 0 of none.
+/// The greatest cell, or 0 if there is none.
 fn greatest_of(cells: &[u64]) -> u64
     ensures { result ≡ greatest cells.now }
 {
     cells.iter().fold(0, |most, cell| most.max(*cell))
 }
 
-/// These tables with all cells times a scale.
+/// These tables with each cell multiplied by a scale.
 pub(crate) fn scaled_tables(
     alloc: Global,
     tables: &[Table],

@@ -13,15 +13,15 @@ use crate::scale::{scale_of, scaled_tables};
 use dcop_base::{NoMemory, Problem, Sequence, Table, TableList, problem_is_whole};
 use std::alloc::Global;
 
-/// Tables by depth: a list for each variable.
+/// Tables by depth, with a list for each variable.
 pub type TableLists = Sequence<TableList>;
 
-/// The shared costs of a problem whose variables stand in the order of a search.
+/// The shared costs of a problem whose variables are in the order of a search.
 #[derive(Debug, Drop)]
 pub struct SharedCosts {
-    /// By how much all costs are multiplied: a power of two, 1 to 64.
+    /// The factor by which all costs are multiplied: a power of two from 1 to 64.
     pub scale: u64,
-    /// For each variable the tables that name it, and none behind it.
+    /// For each variable, the tables whose greatest variable it is.
     pub depths: TableLists,
 }
 
@@ -29,7 +29,7 @@ pub struct SharedCosts {
 ///
 /// # Errors
 ///
-/// [`NoMemory`] where memory was wanted and not had.
+/// [`NoMemory`] if it runs out of memory.
 pub fn shared_costs(alloc: Global, problem: &Problem) -> Result<SharedCosts, NoMemory>
     ensures { IfOk result (AreSharedCosts problem.now) }
 {
@@ -37,7 +37,7 @@ pub fn shared_costs(alloc: Global, problem: &Problem) -> Result<SharedCosts, NoM
     shared_of(alloc, problem.sizes.as_slice(), problem.tables.as_slice())
 }
 
-/// [`shared_costs`] of the problem with these sizes and tables, whatever its joints are.
+/// [`shared_costs`] of the problem with these sizes and tables, with any joints.
 fn shared_of(alloc: Global, sizes: &[u16], tables: &[Table]) -> Result<SharedCosts, NoMemory>
     requires variables { length sizes.now ≤ variable_limit }
     requires each { All (IsTableOf sizes.now) tables.now }

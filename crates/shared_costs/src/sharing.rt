@@ -7,7 +7,7 @@ ghost use Rattle.dcop_base.specs.Table.{has};
 ghost use Rattle.cost_table.specs.Cells.{place_in};
 ghost use Rattle.shared_costs.specs.Moves.{AreLows};
 ghost use Rattle.shared_costs.specs.Rows.{AreNaming, AreLowRows, ArePotOf, IsParting};
-ghost use Rattle.shared_costs.specs.Sharing.{IsSharing};
+ghost use Rattle.shared_costs.specs.Sharing.{IsShare, IsSharing};
 ghost use Rattle.shared_costs.specs.Tables.{AreTablesOver, IsTableOver};
 
 use crate::table::SharedTable;
@@ -15,16 +15,16 @@ use dcop_base::{CAP, NoMemory, VarId};
 use std::alloc::Global;
 use util_kernel::add_lanes;
 
-/// Shares a variable among the tables at these places, each of which names it: what each of them
-/// costs at least at a value of the variable is taken off it, and given to all of them in like parts.
-/// What a division leaves goes to other ones in another turn.
+/// Shares a variable among the tables at these places. For each value of the variable, each table
+/// gives its least cell there, and all of them get equal parts of the sum. The remainder of the
+/// division goes to other tables in another turn.
 ///
-/// A place whose table does not name the variable, or that is not above the ones before it, is passed
-/// over. The cells of the tables are gone through twice.
+/// A place is skipped if its table does not name the variable, or if it is not greater than the
+/// places before it. The cells of the tables are read twice.
 ///
 /// # Errors
 ///
-/// [`NoMemory`] where memory was wanted and not had. The tables are of no use then.
+/// [`NoMemory`] if it runs out of memory. The tables are of no use then.
 pub fn share(
     alloc: Global,
     sizes: &[u16],
@@ -36,7 +36,8 @@ pub fn share(
     requires tables { AreTablesOver sizes.now tables.old }
     requires places { All (λ k. k < length tables.old) places.now }
     requires var { var < length sizes.now }
-    ensures { OnOk result (IsSharing sizes.now tables.old tables.new) }
+    ensures share { OnOk result (IsShare sizes.now var tables.old tables.new) }
+    ensures sharing { OnOk result (IsSharing sizes.now tables.old tables.new) }
 {
     let places = naming_places(alloc, tables, places, var)?;
     let rows = low_rows(alloc, sizes, tables, places.as_slice(), var)?;
@@ -56,15 +57,15 @@ pub fn share(
     Ok(())
 }
 
-/// Ascending places of tables that name a variable, and a row for each of them: an amount for each
-/// value of the variable, which none of the table's cells at that value is below.
+/// Ascending places of tables that name a variable, and a row for each of these tables: for each
+/// value of the variable an amount that is at most each of the table's cells there.
 #[derive(Drop)]
 struct Lows {
     places: Vec<u32>,
     rows: Vec<u64>,
 }
 
-/// Of these places those whose table names the variable and that are above the ones before them.
+/// The places whose table names the variable and that are greater than the places before them.
 fn naming_places(
     alloc: Global,
     tables: &[SharedTable],
@@ -86,7 +87,7 @@ fn naming_places(
     Ok(naming)
 }
 
-/// For each of the tables at these places what it costs at least at each value of the variable.
+/// For each of the tables at these places, its least cell at each value of the variable.
 fn low_rows(
     alloc: Global,
     sizes: &[u16],
@@ -114,7 +115,7 @@ fn low_rows(
     Ok(rows)
 }
 
-/// Appends what a table costs at least at each value of the variable.
+/// Appends the least cell of a table at each value of the variable.
 fn append_lows(
     rows: &mut Vec<u64>,
     table: &SharedTable,
@@ -131,7 +132,7 @@ fn append_lows(
     Ok(rows.extend_from_slice(lows)?)
 }
 
-/// The sums of so many rows, place by place; one above [`CAP`] is [`CAP`].
+/// The sums of `count` rows, place by place. A sum above [`CAP`] becomes [`CAP`].
 fn pot_of(alloc: Global, rows: &[u64], size: usize, count: usize) -> Result<Vec<u64>, NoMemory>
     requires full { length rows.now ≡ count * size }
     requires small { All (λ n. n ≤ amount_limit) rows.now }
@@ -142,7 +143,7 @@ fn pot_of(alloc: Global, rows: &[u64], size: usize, count: usize) -> Result<Vec<
     Ok(pot)
 }
 
-/// Adds so many rows to zeros; a sum above [`CAP`] is [`CAP`].
+/// Adds `count` rows to zeros. A sum above [`CAP`] becomes [`CAP`].
 fn add_rows(pot: &mut [u64], rows: &[u64], count: usize)
     requires full { length rows.now ≡ count * length pot.old }
     requires small { All (λ n. n ≤ amount_limit) rows.now }
@@ -155,9 +156,8 @@ fn add_rows(pot: &mut [u64], rows: &[u64], count: usize)
     }
 }
 
-/// Takes from each of the tables what it costs at least at each value of the variable, and gives to
-/// each a part of the pot, in which all of that is: a part of what is there for each value, and all
-/// of it to the last one.
+/// Takes from each of the tables its amounts, and gives it a part of the pot, which holds the sums
+/// of all of them. For each value of the variable, the last table gets what is left of the pot.
 fn give(
     sizes: &[u16],
     tables: &mut [SharedTable],
@@ -175,7 +175,7 @@ fn give(
     requires pot { ArePotOf lows.now.rows.items (slice_index sizes.now var)
         (length lows.now.places.items) pot.old }
     requires parts { length parts.old ≡ slice_index sizes.now var }
-    ensures { IsSharing sizes.now tables.old tables.new }
+    ensures { IsShare sizes.now var tables.old tables.new }
 {
     let places = lows.places.as_slice();
     let rows = lows.rows.as_slice();
@@ -187,8 +187,8 @@ fn give(
     }
 }
 
-/// Takes from each amount the part of one of so many takers, rounded down, or up where the division
-/// leaves at least `left - round`.
+/// Takes from each amount the part for one of `left` takers. The part is rounded up if the division
+/// leaves at least `left - round`, and else down.
 fn part(pot: &mut [u64], parts: &mut [u64], left: usize, round: usize)
     requires some { 1 ≤ left }
     requires few { left ≤ amount_limit }

@@ -15,7 +15,7 @@ use dcop_base::{CAP, CellList, NoMemory, SizeList, Table, VarId, VarList, produc
 use std::alloc::Global;
 use std::marker::Model;
 
-/// A table whose cells change as costs are shared. Contracts see it as that table.
+/// A table whose cells change while costs are shared. Contracts see it as that table.
 #[derive(Debug, Drop)]
 pub struct SharedTable {
     scope: VarList,
@@ -36,7 +36,7 @@ impl SharedTable {
     ///
     /// # Errors
     ///
-    /// [`NoMemory`] where memory was wanted and not had.
+    /// [`NoMemory`] if it runs out of memory.
     pub fn of(alloc: Global, table: &Table) -> Result<SharedTable, NoMemory>
         ensures { IfOk result (λ t. t ≡ table.now) }
     {
@@ -58,7 +58,7 @@ impl SharedTable {
         }
     }
 
-    /// The table with all its cells times a scale.
+    /// The table with each cell multiplied by a scale.
     pub(crate) fn scaled(alloc: Global, table: &Table, scale: u64) -> Result<SharedTable, NoMemory>
         requires { scale * greatest table.now.cells ≤ amount_limit }
         ensures { IfOk result (IsScaled scale table.now) }
@@ -70,7 +70,7 @@ impl SharedTable {
         })
     }
 
-    /// The table, whose clones will share its cells.
+    /// The table. Its clones share its cells.
     pub(crate) fn shared(self, alloc: Global) -> Result<Table, NoMemory>
         ensures { IfOk result (λ t. t ≡ self) }
     {
@@ -102,8 +102,8 @@ impl SharedTable {
         least_from(CAP, self.cells.as_slice())
     }
 
-    /// Lowers each of these amounts, one for each value of a variable that the table names, to its
-    /// least cell at that value, where this is less.
+    /// Lowers these amounts, one for each value of a variable that the table names. Each becomes
+    /// the least cell at its value if that cell is less.
     pub(crate) fn lower(&self, var: VarId, lows: &mut [u64])
         requires names { has self.now.scope var ≡ true }
         requires many { length lows.old ≡ slice_index self.now.sizes (place_in self.now.scope var) }
@@ -119,8 +119,8 @@ impl SharedTable {
         );
     }
 
-    /// Takes from each cell the amount of `lows` at its value of the variable, and gives it that of
-    /// `gains`; a sum above [`CAP`] becomes [`CAP`].
+    /// Takes from each cell the amount in `lows` for its value of the variable, and adds the amount
+    /// in `gains`. A sum above [`CAP`] becomes [`CAP`].
     pub(crate) fn shift(&mut self, var: VarId, lows: &[u64], gains: &[u64])
         requires names { has self.old.scope var ≡ true }
         requires many { length gains.now ≡ length lows.now }
@@ -139,7 +139,7 @@ impl SharedTable {
     }
 }
 
-/// These cells times a scale.
+/// These cells, each multiplied by a scale.
 fn scaled_cells(alloc: Global, cells: &[u64], scale: u64) -> Result<Vec<u64>, NoMemory>
     requires { scale * greatest cells.now ≤ amount_limit }
     ensures { IfOk result (λ scaled. scaled.items ≡ map (λ c. scale * c) cells.now) }
@@ -162,8 +162,8 @@ fn lower_of(lows: &mut [u64], scope: &[VarId], sizes: &[u16], cells: &[u64], var
     lower_at(lows, sizes, cells, place_in(scope, var));
 }
 
-/// Lowers each of these amounts, one for each value of the variable at this place, to the least cell
-/// at that value in a table of these sizes and cells.
+/// Lowers these amounts, one for each value of the variable at this place, in a table with these
+/// sizes and cells. Each becomes the least cell at its value if that cell is less.
 fn lower_at(lows: &mut [u64], sizes: &[u16], cells: &[u64], place: usize)
     requires inside { place < length sizes.now }
     requires full { length cells.now ≡ product sizes.now }
@@ -202,8 +202,8 @@ fn shift_of(
     shift_at(cells, sizes, place, lows, gains);
 }
 
-/// Takes from each cell of a table of these sizes the amount of `lows` at its value of the variable at
-/// this place, and gives it that of `gains`.
+/// Takes from each cell of a table with these sizes the amount in `lows` for its value of the
+/// variable at this place, and adds the amount in `gains`.
 fn shift_at(cells: &mut [u64], sizes: &[u16], place: usize, lows: &[u64], gains: &[u64])
     requires inside { place < length sizes.now }
     requires full { length cells.old ≡ product sizes.now }

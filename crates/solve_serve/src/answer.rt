@@ -8,7 +8,7 @@ use crate::stop::Stop;
 use crate::write::write_all;
 use dcop_base::{Bytes, NoMemory};
 use dcop_edge::Sink;
-use reply_cache::{LookShare, MAX_KEY, Maker, ReplyCache, SharedBytes};
+use reply_cache::{Key, LookShare, MAX_KEY, Maker, ReplyCache, SharedBytes};
 use std::alloc::Global;
 use std::marker::Sync;
 use std::sync::ledger::Ledger;
@@ -24,16 +24,16 @@ pub(crate) fn answer<R: Threads + Wait + Sync, K: Sink, M: Maker, A: Ledger, B: 
     cache: &Mutex<ReplyCache<M, A, B>>,
     share: &mut LookShare<A, B>,
     maker: &mut M,
-    request: &Bytes,
+    request: Bytes,
 ) -> Result<(), Stop>
     requires parts { (0 < share.old.looks.parts) × (0 < share.old.misses.parts) }
     requires calls { M.calls maker.old < 2 ^ 63 }
-    ensures answered { IsAnswered (M.is_reply request.now) result
+    ensures answered { IsAnswered (M.is_reply request) result
         (answering (K.held sink.old) (K.faults sink.old) (tally share.old.looks.amount share.old.misses.amount (M.calls maker.old)))
         (answering (K.held sink.new) (K.faults sink.new) (tally share.new.looks.amount share.new.misses.amount (M.calls maker.new))) }
     ensures parts { (share.new.looks.parts ≡ share.old.looks.parts) × (share.new.misses.parts ≡ share.old.misses.parts) }
 {
-    let reply = reply_to(rt, alloc, cache, share, maker, request)?;
+    let reply = reply_to(rt, alloc, cache, share, maker, Key::new(request))?;
     let frame = frame(alloc, reply.as_slice())?;
     match write_all(sink, frame.as_slice()) {
         Ok(()) => Ok(()),
@@ -41,19 +41,19 @@ pub(crate) fn answer<R: Threads + Wait + Sync, K: Sink, M: Maker, A: Ledger, B: 
     }
 }
 
-/// The reply to a request: from the cache; or made while the cache's lock is free, and then kept if
-/// its key is short enough.
+/// The reply to a request: from the cache; or made while the cache's lock is free, and then kept,
+/// with the request as its key, if that is short enough.
 fn reply_to<R: Threads + Wait + Sync, M: Maker, A: Ledger, B: Ledger>(
     rt: &R,
     alloc: Global,
     cache: &Mutex<ReplyCache<M, A, B>>,
     share: &mut LookShare<A, B>,
     maker: &mut M,
-    key: &Bytes,
+    key: Key,
 ) -> Result<SharedBytes, NoMemory>
     requires parts { (0 < share.old.looks.parts) × (0 < share.old.misses.parts) }
     requires calls { M.calls maker.old < 2 ^ 63 }
-    ensures replied { IfOk result (λ reply. M.is_reply key.now reply) }
+    ensures replied { IfOk result (λ reply. M.is_reply key reply) }
     ensures short { IfOk result (λ reply. length reply ≤ reply_limit) }
     ensures tally { IsReplied result
         (tally share.old.looks.amount share.old.misses.amount (M.calls maker.old))
@@ -61,14 +61,14 @@ fn reply_to<R: Threads + Wait + Sync, M: Maker, A: Ledger, B: Ledger>(
     ensures parts { (share.new.looks.parts ≡ share.old.looks.parts) × (share.new.misses.parts ≡ share.old.misses.parts) }
 {
     M::replies_are_short();
-    let found = cache.lock(rt).look(share, key)?;
+    let found = cache.lock(rt).look(share, &key)?;
     if let Some(reply) = found {
         return Ok(reply);
     }
     let made = maker.make(rt, alloc, key.as_slice())?;
     let reply = SharedBytes::new(alloc, made)?;
     if key.as_slice().len() <= MAX_KEY {
-        keep(rt, alloc, cache, key, &reply);
+        keep(rt, cache, key, &reply);
     }
     Ok(reply)
 }
@@ -76,19 +76,15 @@ fn reply_to<R: Threads + Wait + Sync, M: Maker, A: Ledger, B: Ledger>(
 /// Keeps a reply, which it shares; if memory runs out, it is not kept.
 fn keep<R: Wait, M: Maker, A: Ledger, B: Ledger>(
     rt: &R,
-    alloc: Global,
     cache: &Mutex<ReplyCache<M, A, B>>,
-    key: &Bytes,
+    key: Key,
     reply: &SharedBytes,
 )
-    requires reply { M.is_reply key.now reply.now }
-    requires short { length key.now ≤ key_limit }
+    requires reply { M.is_reply key reply.now }
+    requires short { length key ≤ key_limit }
 {
-    let Ok(key) = Vec::from_slice(alloc, key.as_slice()) else {
-        return;
-    };
     let Ok(reply) = reply.share() else {
         return;
     };
-    let _kept = cache.lock(rt).keep(Bytes::from_vec(key), reply);
+    let _kept = cache.lock(rt).keep(key, reply);
 }

@@ -9,7 +9,7 @@ use dcop_edge::{Failed, Source};
 use wire_frames::{FrameFault, FrameReader};
 
 /// The most bytes of one read.
-const BLOCK: usize = 4_096;
+const BLOCK: usize = 16_384;
 
 /// The next request: the payload of the next whole frame.
 ///

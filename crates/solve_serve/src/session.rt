@@ -107,5 +107,5 @@ fn turn<R: Threads + Wait + Sync, S: Source, K: Sink, M: Maker, A: Ledger, B: Le
     ensures parts { (share.new.looks.parts ≡ share.old.looks.parts) × (share.new.misses.parts ≡ share.old.misses.parts) }
 {
     let request = next_request(source, reader, place)?;
-    answer(rt, alloc, sink, cache, share, maker, &request)
+    answer(rt, alloc, sink, cache, share, maker, request)
 }

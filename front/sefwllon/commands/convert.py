@@ -6,7 +6,7 @@ import argparse
 from pathlib import Path
 
 from ..arguments import Commands
-from ..files import READERS, load, read_text
+from ..files import READERS, load, read, read_text
 from ..output import complain, say
 from ..programs import Programs
 from ..telling import SOLVED, TEXT
@@ -29,7 +29,7 @@ def add(commands: Commands) -> None:
 
 def run_from(options: argparse.Namespace) -> int:
     text = read_text(options.file)
-    text = translate(READERS[options.kind](text, Path(options.file).name)).problem.text()
+    text = translate(read(options.kind, text, Path(options.file).name)).problem.text()
     return SOLVED if say(text) else TEXT
 
 

@@ -6,16 +6,20 @@ import argparse
 import difflib
 import time
 from dataclasses import dataclass
+from fractions import Fraction
 
 from ..arguments import Commands, add_time, amount
-from ..asking import NOT, YES, Verdict, judged, loaded
+from ..asking import NOT, YES, Verdict, judged
 from ..files import read_text
 from ..output import deliver, reading, undisturbed
 from ..problem import Trouble
 from ..programs import Programs
-from ..report import fitted, printed, read_report
+from ..report import fitted, made_with, printed, read_report
 from ..solving import cost_of, in_order
 from ..telling import SOLVED, TEXT, bounds_of, from_best, none_keeps_all, noun, plain_number, shown
+from ..timetable import telling
+from ..timetable.besides import Asked, add_besides, asked, only_with
+from ..timetable.session import Plan
 from ..translate import Translation, number
 
 
@@ -25,6 +29,7 @@ def add(commands: Commands) -> None:
     cost.add_argument("assignment", metavar="NAME=VALUE|ASSIGNMENT|REPORT", nargs="+")
     cost.add_argument("--bound", type=amount, metavar="B", help="say how far the cost is from this bound")
     cost.add_argument("--report", metavar="REPORT", help="say how far the cost may be from the best one, by this report")
+    add_besides(cost)
     cost.add_argument("--json", action="store_true", help="the answer as JSON")
     add_time(cost)
     cost.set_defaults(run=run)
@@ -35,44 +40,63 @@ def run(options: argparse.Namespace) -> int:
     programs = Programs()
     with reading(None if options.time is None else options.began + options.time):
         options.text = read_text(options.file)
-    told = loaded(options, programs)
+    report = read_text(options.report) if options.report else None
+    problem = asked(options, programs, report)
+    told = problem.told
     values = assignment(options.assignment, told)
     total = cost_of(programs, told.problem, values)
     lines = [f"broken: {name}" for name in told.broken(values)]
-    own = told.own_sum(values)
-    lines.append(f"{noun(told)} {number(own)}")
+    own, plan = problem.own_sum(values), problem.plan(values)
+    verdict = None if report is None else judged(programs, told, report, options)
+    lines += [*telling.moves(plan), of_kept(plan, verdict)] if plan is not None else [f"{noun(told)} {number(own)}"]
     if options.bound is not None:
         lines.append(f"{number(abs(own - options.bound))} from the bound {number(options.bound)}")
-    verdict = judged(programs, told, read_text(options.report), options) if options.report else None
-    if verdict is not None:
+    if verdict is not None and verdict.answer == NOT:
+        verdict.why += only_with(options, report or "")
+        lines.append(f"the report does not hold: {verdict.why}")
+    elif verdict is not None and plan is None:
         lines.append(from_the_best(verdict, told, total))
     with undisturbed():
-        text = as_json(told, values, total, verdict, programs, options) if options.json else "\n".join(lines) + "\n"
+        text = as_json(problem, values, total, verdict, programs, options) if options.json else "\n".join(lines) + "\n"
         good = deliver(text, [])
     return SOLVED if good and (verdict is None or verdict.answer != NOT) else TEXT
 
 
 def from_the_best(verdict: Verdict, told: Translation, total: int) -> str:
-    """How far a sum may be from the best one, by a report."""
-    if verdict.answer == NOT:
-        return f"the report does not hold: {verdict.why}"
-    rests = verdict.rests if verdict.answer == YES else f"as the report says; that was not decided: {verdict.why}"
+    """How far a sum may be from the best one, by a report that is not known to be wrong."""
+    rests = resting_on(verdict)
     if told.top is not None and told.none_keeps(verdict.bound):
         return f"{none_keeps_all(told)} ({rests})"
     return f"{from_best(abs(total - verdict.bound), told)} ({rests})"
 
 
+def resting_on(verdict: Verdict) -> str:
+    return verdict.rests if verdict.answer == YES else f"as the report says; that was not decided: {verdict.why}"
+
+
+def of_kept(plan: Plan, verdict: Verdict | None) -> str:
+    """How many meetings of a timetable move and what it costs; if it breaks no rule, also how that is to the best one, by a report."""
+    if verdict is None or verdict.answer == NOT or plan.breaches:
+        return f"{telling.moving(plan)}; cost {telling.money(plan.cost)}"
+    bound, rests = verdict.bound, resting_on(verdict)
+    return telling.kept(plan, lambda holds: rests if holds(bound) else None)
+
+
 def as_json(
-    told: Translation, values: list[int], total: int, verdict: Verdict | None, programs: Programs, options: argparse.Namespace
+    problem: Asked, values: list[int], total: int, verdict: Verdict | None, programs: Programs, options: argparse.Namespace
 ) -> str:
     """The answer for programs."""
+    told, plan = problem.told, problem.plan(values)
     holds, best = verdict is not None and verdict.answer == YES, None if verdict is None else verdict.best
-    gap = None if verdict is None else told.own_cost(total) - told.own_cost(verdict.bound)
+    gap = None if verdict is None or plan is not None else told.own_cost(total) - told.own_cost(verdict.bound)
+    if verdict is not None and plan is not None and not plan.breaches and telling.least(plan, verdict.bound):
+        gap = Fraction(0)
     answer = {
-        "cost": plain_number(told.own_sum(values)),
+        "cost": plain_number(problem.own_sum(values)),
+        **({} if plan is None else {"moved": plan.moved}),
         "goal": told.problem.goal,
         "broken": told.broken(values),
-        "from_bound": None if options.bound is None else plain_number(abs(told.own_sum(values) - options.bound)),
+        "from_bound": None if options.bound is None else plain_number(abs(problem.own_sum(values) - options.bound)),
         "from_best": None if gap is None or verdict is None or verdict.answer == NOT else plain_number(abs(gap) + told.slack),
         "rests_on": verdict.rests if verdict is not None and holds else "added up" if verdict is None else None,
         "report": None if verdict is None else verdict.answer,
@@ -82,7 +106,7 @@ def as_json(
         "nodes": 0 if best is None else best.nodes,
         "time": round(time.monotonic() - options.began, 3),
         "stopped": None if best is None else best.stopped,
-        "bounds": [] if best is None else bounds_of(best, told),
+        "bounds": [] if best is None or plan is not None else bounds_of(best, told),
         "versions": programs.versions(),
     }
     return shown(answer)
@@ -105,6 +129,12 @@ def assignment(words: list[str], told: Translation) -> list[int]:
             take(pair_of(word, f"`{word}`", told), told, given)
             continue
         text = read_text(word)
+        if text.startswith("status ") and made_with(text):  # its problem may have more variables than the file's
+            known = {*told.names, *(v.name for v in told.problem.variables)}
+            lines = [line for line in printed(text).splitlines() if line.startswith("value ") and line.split(" ")[1] in known]
+            for line in lines:
+                take(pair_of(line, word, told), told, given)
+            continue
         if text.startswith("status "):
             problem = fitted(told.problem, text)
             report = in_order(read_report(printed(text), problem), problem, told.problem)

@@ -16,6 +16,7 @@ from ..progress import Progress
 from ..report import Report, certified, fitted, printed, read_report, read_tree
 from ..solving import refusal
 from ..telling import SOLVED, TEXT, none_keeps_all, noun
+from ..timetable.besides import test_alone
 from ..translate import Translation, number
 
 
@@ -51,6 +52,7 @@ def run(options: argparse.Namespace) -> int:
     elif report is None:
         raise Trouble("the bounds of a run are drawn from a report with a log: name it behind the file")
     else:
+        test_alone(file, report)
         report = certified(report) or report
         options.text = fitted(told.problem, report).text() + report
         picture = bounds_of(programs, told, report, Path(file).name, options.points)

@@ -5,20 +5,21 @@ from __future__ import annotations
 import argparse
 import json
 import os
+import shlex
 from collections.abc import Callable
 from fractions import Fraction
 from functools import partial
 from pathlib import Path
 
 from .. import draw
-from ..arguments import Commands, add_solving, natural
+from ..arguments import Commands, add_busy, add_solving, natural
 from ..asking import kept
 from ..best import ADDED_UP
 from ..files import read_text
 from ..output import OutOfTime, deliver, reading, test_outputs, undisturbed
 from ..problem import Trouble
 from ..telling import OPEN, SOLVED, TEXT, as_json, as_text, by_line, notes_of
-from ..timetable import calendars, earlier, impossible, lines, telling
+from ..timetable import besides, calendars, earlier, impossible, lines, telling
 from ..timetable.earlier import Earlier
 from ..timetable.make import Aim
 from ..timetable.session import Plan, Session, opened
@@ -26,10 +27,6 @@ from ..timetable.session import Plan, Session, opened
 
 CROWDED_SECONDS = 10.0
 """How long a timetable is sought where somebody has more meetings than times for them, and no time is given."""
-OTHER_PROBLEM = (
-    "the report is not of the file alone, but of what was asked besides: `--problem OUT` writes that, and `check OUT REPORT` reads both"
-)
-"""What is told of a report where meetings are kept, rooms were learnt of, or calendars are read."""
 
 
 def add(commands: Commands) -> None:
@@ -49,10 +46,6 @@ def add(commands: Commands) -> None:
     add_busy(when)
     add_solving(when)
     when.set_defaults(run=run)
-
-
-def add_busy(command: argparse.ArgumentParser) -> None:
-    command.add_argument("--busy", action="append", metavar="PERSON=ICS", help="somebody is busy, or a room taken, as this calendar says; once for each")
 
 
 def run(options: argparse.Namespace) -> int:
@@ -76,7 +69,7 @@ def run(options: argparse.Namespace) -> int:
     reason = impossible.find(session, told) if plan.breaches and (crowded or plan.impossible) else None
     with undisturbed():
         why = impossible.sentences(told, reason) if reason else []
-        text = as_object(session, plan, further, none, why) if options.json else as_table(options, plan, further, none, why, bool(crowded))
+        text = as_object(session, options, plan, further, none, why) if options.json else as_table(options, plan, further, none, why, bool(crowded))
         good = deliver(text, outputs(options, plan, before))
     return TEXT if not good else SOLVED if plan.solved else OPEN
 
@@ -86,15 +79,28 @@ def as_table(options: argparse.Namespace, plan: Plan, further: list[Plan], none:
     told = telling.heads(plan, ADDED_UP if crowded else None)
     told += [f"stopped: {plan.best.stopped}"] if plan.best.stopped else []
     told += [*telling.details(plan), *why]
-    told += [f"note: {note}" for note in (*notes_of(plan.best), *plan.notes, *plan.told.notes)]
-    if options.report and not (plan.made.aim.plain and not options.busy):
-        told.append(f"note: {OTHER_PROBLEM}")
+    told += [f"note: {note}" for note in (*notes_of(plan.best), *plan.notes, *plan.told.notes, *notes_of_files(options, plan))]
     told += telling.moves(plan)
     text = "\n".join(told) + "\n" + telling.body(plan) + by_line(plan.best) + "\n"
     for at, other in enumerate(further, 1):
         apart = sum(place != plan.chosen[name] for name, place in other.chosen.items())
         text += f"\nalternative {at}: {apart} of {len(plan.chosen)} meetings elsewhere, cost {telling.money(other.cost)}\n{telling.body(other)}"
     return text + (f"\n{none}\n" if none else "")
+
+
+def notes_of_files(options: argparse.Namespace, plan: Plan) -> list[str]:
+    """What is to be known of the files that are written."""
+    notes = calendars.lacking(plan.told) if options.ics or options.ics_each else []
+    made_with = besides.of_plan(plan, options)
+    if not options.report or not made_with:
+        return notes
+    if besides.ROOMS in made_with:
+        words = ["check", options.problem or "OUT", options.report]
+        why = "the report is about more than the file, since rooms were scarce"
+        return [*notes, f"{why}: {'' if options.problem else '`--problem OUT` writes its problem, and '}`sefwllon {shlex.join(words)}` checks it"]
+    words = ["check", options.file, options.report, *(["--keep", options.keep] if options.keep else [])]
+    words += [word for calendar in options.busy or [] for word in ("--busy", calendar)]
+    return [*notes, f"`sefwllon {shlex.join(words)}` checks the report"]
 
 
 def alternatives(session: Session, plan: Plan, count: int) -> tuple[list[Plan], str | None]:
@@ -133,7 +139,7 @@ def as_good(other: Plan, plan: Plan, found: list[Plan]) -> bool:
     return other.keeps and new and other.cost <= plan.cost and len(other.moved) <= len(plan.moved)
 
 
-def as_object(session: Session, plan: Plan, further: list[Plan], none: str | None, why: list[str]) -> str:
+def as_object(session: Session, options: argparse.Namespace, plan: Plan, further: list[Plan], none: str | None, why: list[str]) -> str:
     """The answer for programs."""
     more: dict[str, object] = {
         "timetable": entries(plan),
@@ -142,7 +148,7 @@ def as_object(session: Session, plan: Plan, further: list[Plan], none: str | Non
         "why": why,
         "alternatives": [{"cost": plain(other.cost), "timetable": entries(other)} for other in further],
         "alternatives_note": none,
-        "notes": [*plan.notes, *plan.told.notes],
+        "notes": [*plan.notes, *plan.told.notes, *notes_of_files(options, plan)],
     }
     answer = json.loads(as_json(plan.best, plan.problem, session.programs, more))
     answer |= {"solved": plan.solved, "cost": plain(plan.cost), "broken": [breach.sentence() for breach in plan.breaches]}
@@ -185,7 +191,7 @@ def outputs(options: argparse.Namespace, plan: Plan, before: Earlier | None) -> 
         return calendars.written(told, plan.chosen, title, plan.rooms, plan.breaches, before, person).decode()
 
     made: list[tuple[str | None, Callable[[], str]]] = [
-        (options.report, lambda: kept(plan.best, plan.problem.problem)),
+        (options.report, lambda: kept(plan.best, plan.problem.problem, besides.of_plan(plan, options))),
         (options.problem, plan.problem.problem.text),
         (options.ics, calendar),
         (options.svg, lambda: draw.timetable(told, plan.chosen, plan.breaches, plan.rooms)),

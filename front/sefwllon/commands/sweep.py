@@ -49,7 +49,7 @@ def run(options: argparse.Namespace) -> int:
     if options.time <= 0 or options.processes == 0:
         raise Trouble("--time and --processes are above 0")
     methods, files = read_methods(options.methods), files_of(options.problems)
-    if any(path.exists() and Path(options.out).exists() and path.samefile(options.out) for path in files):
+    if Path(options.out).exists() and any(path.exists() and path.samefile(options.out) for path in files):
         raise Trouble(f"{options.out} would be appended to, and it is what is read: name another file by -o")
     programs, sums = programs_of(methods, Programs())
     plan, failed, stopped = Plan(files, methods, options.time, sums), [], ""

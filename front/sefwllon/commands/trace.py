@@ -19,6 +19,7 @@ from ..programs import Programs, missing
 from ..report import Report, certified, fitted, read_report
 from ..run_telling import Names, Told, event_told, event_text, own_costs, step_text, step_told
 from ..telling import SOLVED, TEXT
+from ..timetable.besides import test_alone
 from ..tracing import LAST, Event, traced
 from ..translate import Translation
 from .draw import bounds_title
@@ -50,6 +51,7 @@ def run(options: argparse.Namespace) -> int:
     programs = Programs()
     told = load(options.file, options.text, programs)
     report = read_text(options.report)
+    test_alone(options.file, report)
     report = certified(report) or report
     problem = fitted(told.problem, report)
     options.text = problem.text() + report

@@ -8,7 +8,7 @@ from collections.abc import Iterable
 from difflib import get_close_matches
 from pathlib import Path
 
-from ..arguments import Commands, add_time, threads
+from ..arguments import Commands, add_busy, add_time, threads
 from ..best import ADDED_UP
 from ..output import reading, say
 from ..problem import Trouble
@@ -17,7 +17,6 @@ from ..timetable import impossible, rules, telling
 from ..timetable.make import Aim
 from ..timetable.model import Timetable
 from ..timetable.session import Plan, Session, opened
-from .meetings import add_busy
 
 
 def add(commands: Commands) -> None:

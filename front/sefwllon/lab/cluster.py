@@ -8,6 +8,7 @@ import logging
 import queue
 import sys
 import tempfile
+import time
 from pathlib import Path
 from typing import Any
 from uuid import uuid4
@@ -22,6 +23,8 @@ CONNECT_SECONDS = 10
 """How long it is waited for a scheduler to answer."""
 RESULT_SECONDS = 5
 """How long it is waited at a time for a result that is there, and that a worker keeps."""
+SIZE_SECONDS = 1.0
+"""How long the workers are taken to be those that the scheduler told when it was asked; it takes a message there and back."""
 CLOSE_SECONDS = 3
 
 
@@ -39,6 +42,7 @@ class Cluster:
         library = needed("distributed", "--cluster")
         hush()
         self.address, self.name = address, uuid4().hex[:12]
+        self.threads, self.asked = 0, 0.0
         self.ready: queue.SimpleQueue[Any] = queue.SimpleQueue()
         self.tasks: dict[str, tuple[Task, Any]] = {}
         self.client = connected(library, address)
@@ -59,8 +63,11 @@ class Cluster:
 
     def size(self) -> int:
         """How many threads the workers have together; 0 while there is none."""
-        workers = self.client.scheduler_info().get("workers", {}).values()
-        return sum(int(worker.get("nthreads", 1)) for worker in workers)
+        now = time.monotonic()
+        if not self.threads or now >= self.asked + SIZE_SECONDS:
+            workers = self.client.scheduler_info().get("workers", {}).values()
+            self.threads, self.asked = sum(int(worker.get("nthreads", 1)) for worker in workers), now
+        return self.threads
 
     def submit(self, task: Task) -> None:
         key = f"sefwllon-{self.name}-{task.number}-{uuid4().hex[:8]}"

@@ -7,14 +7,15 @@ import os
 import resource
 import select
 import signal
-import subprocess
-import tempfile
 import time
 from contextlib import suppress
 from dataclasses import dataclass
+from functools import lru_cache
 
 FIRST_TICK, LAST_TICK = 0.002, 0.1
 """How often, in seconds, it is looked how much memory a program has: often at first, and then less."""
+UNHEARD = (signal.SIGPIPE, signal.SIGXFSZ)
+"""The signals that Python passes over, and a program that it begins does not."""
 SPARE_SECONDS = 2
 """How much processor time a program has at most beyond its time limit, if nobody is left to end it."""
 
@@ -36,27 +37,39 @@ class Ran:
 def measured(command: list[str], text: str, seconds: float = math.inf, clock: float = math.inf) -> Ran:
     """Runs a program on a text, for at most so many seconds of a processor, and so many by the clock."""
     began = time.monotonic()
-    with tempfile.TemporaryFile() as given, tempfile.TemporaryFile() as printed:
+    with open(os.memfd_create("given"), "wb") as given, open(os.memfd_create("printed"), "rb") as printed:
         given.write(text.encode())
         given.seek(0)
-        process = subprocess.Popen(command, stdin=given, stdout=printed, stderr=subprocess.DEVNULL)
+        pid = begun(command, given.fileno(), printed.fileno())
         try:
-            bound_processor_time(process.pid, min(seconds, clock))
-            in_time, seen = watched(process.pid, seconds, began + clock)
+            bound_processor_time(pid, min(seconds, clock))
+            in_time, seen = watched(pid, seconds, began + clock)
             if not in_time:
-                process.kill()
-            status, used = reaped(process)
+                os.kill(pid, signal.SIGKILL)
+            _, status, used = os.wait4(pid, 0)
         except BaseException:
             with suppress(ProcessLookupError):
-                os.kill(process.pid, signal.SIGKILL)
+                os.kill(pid, signal.SIGKILL)
             with suppress(ChildProcessError):
-                os.waitpid(process.pid, 0)
-            process.returncode = -signal.SIGKILL
+                os.waitpid(pid, 0)
             raise
         printed.seek(0)
         told = printed.read().decode("utf-8", "replace") if in_time else ""
     taken = used.ru_utime + used.ru_stime
-    return Ran(told, status if in_time else None, taken, time.monotonic() - began, greatest(seen, used.ru_maxrss))
+    code = os.waitstatus_to_exitcode(status) if in_time else None
+    return Ran(told, code, taken, time.monotonic() - began, greatest(seen, used.ru_maxrss))
+
+
+def begun(command: list[str], given: int, printed: int) -> int:
+    """Begins a program that reads one file and prints to another, with the signals as a program has them at first. Gives its process."""
+    files = [(os.POSIX_SPAWN_DUP2, given, 0), (os.POSIX_SPAWN_DUP2, printed, 1), (os.POSIX_SPAWN_OPEN, 2, os.devnull, os.O_WRONLY, 0)]
+    return os.posix_spawnp(command[0], command, environment(os.getpid()), file_actions=files, setsigdef=UNHEARD)
+
+
+@lru_cache(maxsize=1)
+def environment(process: int) -> dict[bytes, bytes]:
+    """The environment of this process, which its programs are given. It is copied once for each process, and not for each program."""
+    return dict(os.environb)
 
 
 def bound_processor_time(pid: int, most: float) -> None:
@@ -67,14 +80,17 @@ def bound_processor_time(pid: int, most: float) -> None:
 
 
 def watched(pid: int, seconds: float, until: float) -> tuple[bool, int]:
-    """Waits for the end of a process: whether it ended before its time was over, and its greatest resident size in KiB."""
-    seen, tick = 0, FIRST_TICK
+    """Waits for the end of a process: whether it ended before its time was over, and its greatest resident size in KiB. What it has
+    taken is asked for once all processors together can have taken as much since it began."""
+    seen, tick, began = 0, FIRST_TICK, time.monotonic()
+    sure = began + seconds / (os.cpu_count() or 1)
     handle = os.pidfd_open(pid)
     try:
         poll = select.poll()
         poll.register(handle, select.POLLIN)
         while True:
-            left = min(until - time.monotonic(), seconds - processor_time(pid))
+            now = time.monotonic()
+            left = min(until - now, seconds if now < sure else seconds - processor_time(pid))
             if left <= 0:
                 return False, seen
             if poll.poll(max(1, int(1000 * min(tick, left)))):
@@ -95,19 +111,10 @@ def processor_time(pid: int) -> float:
 
 def high_water(pid: int) -> int:
     """The greatest resident size of a running process so far, in KiB; 0 if it can't be told."""
-    with suppress(OSError, ValueError):
-        with open(f"/proc/{pid}/status") as lines:
-            for line in lines:
-                if line.startswith("VmHWM:"):
-                    return int(line.split()[1])
+    with suppress(OSError, ValueError, IndexError):
+        with open(f"/proc/{pid}/status", "rb", buffering=0) as status:
+            return int(status.read(4096).partition(b"VmHWM:")[2].split(maxsplit=1)[0])
     return 0
-
-
-def reaped(process: subprocess.Popen[bytes]) -> tuple[int, resource.struct_rusage]:
-    """The exit status of a process that has ended or is killed, and what it used."""
-    _, status, used = os.wait4(process.pid, 0)
-    process.returncode = os.waitstatus_to_exitcode(status)
-    return process.returncode, used
 
 
 def greatest(seen: int, told: int) -> float | None:

@@ -86,14 +86,16 @@ class Local:
         self.waiting: deque[Task] = deque()
         self.over: deque[Done] = deque()
         self.tries: dict[int, int] = {}
+        for module in WORK.values():
+            importlib.import_module(f".{module}", __package__)
         self.members = [self.begin() for _ in range(self.count)]
 
     def size(self) -> int:
         return self.count
 
     def begin(self) -> Member:
-        """A new process. It does not hear ctrl-C: who waits for it ends it."""
-        context = multiprocessing.get_context("spawn")
+        """A new process, forked, so that it has at once what is imported here. It does not hear ctrl-C: who waits for it ends it."""
+        context = multiprocessing.get_context("fork")
         ours, theirs = context.Pipe()
         with deaf():
             process = context.Process(target=serve, args=(theirs, self.programs), daemon=True)
@@ -168,23 +170,34 @@ def processors() -> int:
 
 @contextmanager
 def deaf() -> Iterator[None]:
-    """What is begun meanwhile does not hear ctrl-C."""
-    if threading.current_thread() is not threading.main_thread():
-        yield
-        return
-    before = signal.signal(signal.SIGINT, signal.SIG_IGN)
+    """What is begun meanwhile does not hear ctrl-C, and that it is to end once it asks for that."""
+    main = threading.current_thread() is threading.main_thread()
+    heard = signal.signal(signal.SIGINT, signal.SIG_IGN) if main else None
+    blocked = signal.pthread_sigmask(signal.SIG_BLOCK, {signal.SIGTERM})
     try:
         yield
     finally:
-        signal.signal(signal.SIGINT, before)
+        signal.pthread_sigmask(signal.SIG_SETMASK, blocked)
+        if main:
+            signal.signal(signal.SIGINT, heard)
 
 
 def serve(pipe: Connection, programs: dict[str, str]) -> None:
     """What a process of the pool does, until nobody asks any more. When it is told to end, it ends the program that it runs."""
+    close_all_but(pipe.fileno())
     signal.signal(signal.SIGTERM, lambda *_: sys.exit(0))
+    signal.pthread_sigmask(signal.SIG_UNBLOCK, {signal.SIGTERM})
     with suppress(EOFError, OSError):
         while True:
             pipe.send(answered(pipe.recv(), programs))
+
+
+def close_all_but(kept: int) -> None:
+    """Closes the files that the process was forked with, as a lock, or the pipes of others, which end when nobody has them open."""
+    for file in map(int, os.listdir("/proc/self/fd")):
+        if file > 2 and file != kept:
+            with suppress(OSError):
+                os.close(file)
 
 
 def answered(task: Task, programs: dict[str, str]) -> tuple[dict[str, Any] | None, str | None]:

@@ -6,8 +6,14 @@ counted), `asking` how it is solved, `rooms` who gets which room, `impossible` w
 `telling` how one is told, `calendars` how it is written as iCalendar, and `busy` how such calendars are read.
 """
 
+from ..source import Source
 from .lines import read
 from .make import source
 from .model import Meeting, Slot, Timetable
 
-__all__ = ["Meeting", "Slot", "Timetable", "read", "source"]
+__all__ = ["Meeting", "Slot", "Timetable", "read", "read_source", "source"]
+
+
+def read_source(text: str, title: str) -> Source:
+    """The problem of a file of meetings."""
+    return source(read(text), title)

@@ -39,6 +39,14 @@ def check(told: Timetable) -> None:
         raise Trouble(f"the slot {slot.name} has no begin, so it can't be put into a calendar: write it as slot,{slot.name},2026-03-02 09:00")
 
 
+def lacking(told: Timetable) -> list[str]:
+    """What a calendar of a timetable lacks that its file may have."""
+    unknown = [person for person in told.people() if person not in told.mails]
+    names = ", ".join(unknown[:5]) + (" and others" if len(unknown) > 5 else "")
+    notes = [f"the calendar has no address of {names}: a line person,{unknown[0]},MAIL gives one"] if unknown else []
+    return notes + (["the calendar's times have no zone: a line zone,Europe/Berlin gives one"] if told.zone is None else [])
+
+
 def written(
     told: Timetable,
     chosen: dict[str, object],

@@ -6,6 +6,7 @@ import re
 from dataclasses import dataclass, field
 
 from ..problem import Trouble
+from ..report import printed
 from ..translate import distinct_names
 from .model import Timetable
 
@@ -37,7 +38,7 @@ def read(told: Timetable, text: str, name: str) -> Earlier:
 
 def from_report(told: Timetable, text: str) -> Earlier:
     """From lines `value NAME PLACE`, in which names are those that `dcop` takes."""
-    pairs = dict(line.split()[1:] for line in text.splitlines() if line.startswith("value ") and len(line.split()) == 3)
+    pairs = dict(line.split()[1:] for line in printed(text).splitlines() if line.startswith("value ") and len(line.split()) == 3)
     found = Earlier()
     for own, mangled in zip(told.meetings, distinct_names(list(told.meetings))):
         if mangled in pairs:

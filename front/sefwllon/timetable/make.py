@@ -11,11 +11,12 @@ from __future__ import annotations
 from collections.abc import Iterable
 from dataclasses import dataclass, field
 from fractions import Fraction
+from functools import cached_property
+from itertools import chain
 from math import lcm
-from operator import itemgetter
 
 from ..problem import MOST_CELLS, MOST_VALUES, MOST_VARIABLES, Trouble
-from ..translate import Constraint, Source
+from ..source import Constraint, Cost, Source
 from . import limits, rules
 from .limits import Limit
 from .model import Meeting, Place, Timetable
@@ -75,6 +76,21 @@ class Made:
     """What a meeting that moves counts; 0 where none is to be kept."""
     whole: bool = False
     """Whether the sum is told in these whole numbers; else it is the cost."""
+    cells_beside: dict[tuple[str, int, Cost], tuple[list[list[bool]], list[list[Cost]]]] = field(init=False, default_factory=dict)
+    """What `beside` has made, each with what it was made of, by whose identity it is found."""
+
+    @cached_property
+    def rows(self) -> dict[str, list[int]]:
+        """Which of all places that each meeting might have those are that it can have."""
+        at = self.told.clock.at
+        return {name: [at(self.told.meetings[name], place) for place in its] for name, its in self.places.items()}
+
+    def beside(self, name: str, where: list[list[bool]], cost: Cost) -> list[list[Cost]]:
+        """For each place of another meeting the cells of those that this one can have: this cost where it is told, and else 0. They are made once."""
+        key = name, id(where), cost
+        if key not in self.cells_beside:
+            self.cells_beside[key] = where, [[cost if row[at] else 0 for at in self.rows[name]] for row in where]
+        return self.cells_beside[key][1]
 
     @property
     def factor(self) -> int:
@@ -233,9 +249,9 @@ def weighed(
     made.scale, made.behind, made.move, made.whole = scale, behind, move, aim.keep is not None or behind > 1
     for at, name in enumerate(told.meetings):
         moved = [move if aim.keep and name in aim.keep and aim.keep[name] != place else 0 for place in names[name]]
-        costs = [cost * made.factor + extra + far for cost, extra, far in zip(alone[name], late[name], moved)]
+        costs = [cost * made.factor + extra + far for cost, extra, far in zip(alone[name], late[name], moved)] if made.whole else alone[name]
         if any(costs):
-            made.source.constraints.append(Constraint(f"when {name} can be", (at,), list(costs)))
+            made.source.constraints.append(Constraint(f"when {name} can be", (at,), costs))
     return made
 
 
@@ -245,18 +261,10 @@ def counted_behind(aim: Aim, name: str, place: str) -> int:
     return count + (aim.like is not None and name in aim.like and aim.like[name] != place)
 
 
-def pair_cells(made: Made, first: str, second: str, where: list[list[bool]], cost: Fraction | int | None) -> list[Fraction | int | None]:
+def pair_cells(made: Made, first: str, second: str, where: list[list[bool]], cost: Cost) -> list[Cost]:
     """The cells of two meetings: this cost where it is told, and else 0."""
-    told, places = made.told, made.places
-    rows = [told.clock.at(told.meetings[first], place) for place in places[first]]
-    columns = [told.clock.at(told.meetings[second], place) for place in places[second]]
-    cells: list[Fraction | int | None] = []
-    costs = (0, cost)
-    pick = itemgetter(*columns)
-    for row in rows:
-        hits = pick(where[row])
-        cells += [costs[hit] for hit in (hits if len(columns) > 1 else (hits,))]
-    return cells
+    cells = made.beside(second, where, cost)
+    return list(chain.from_iterable([cells[row] for row in made.rows[first]]))
 
 
 def add_soft(made: Made, soft: dict[tuple[str, str], dict[str, Fraction]], index: dict[str, int]) -> None:

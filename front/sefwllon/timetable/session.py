@@ -114,7 +114,24 @@ def better(one: Plan, other: Plan) -> Plan:
                 setattr(best, what, min(cost, max(bound, getattr(best, what) or 0)))
         best.solved = best.solved or best.gap("min") == 0
     best.stopped = best.stopped or one.best.stopped
-    return replace(other, best=best, none=other.none_keeps or one.none_keeps)
+    found = replace(other, best=best, none=other.none_keeps or one.none_keeps)
+    return told_by(one, found) if best.lower != other.best.lower else found
+
+
+def told_by(one: Plan, found: Plan) -> Plan:
+    """A timetable as an answer of the problem of another one, whose bound it has; the same if it is none there."""
+    problem, values = one.problem, list[int]()
+    for place, (name, its) in enumerate(zip(problem.names, problem.values)):
+        if place in problem.counters:
+            values.append(problem.counted(place, values))
+        elif found.chosen.get(name) in its:
+            values.append(its.index(found.chosen[name]))
+        else:
+            return found
+    if problem.problem.cost(values) != found.best.cost:
+        return found
+    best = replace(found.best, values=values, certified=one.best.certified, certified_values=one.best.certified_values)
+    return replace(found, made=one.made, problem=problem, best=best)
 
 
 @dataclass

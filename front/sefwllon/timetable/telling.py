@@ -2,7 +2,9 @@
 
 from __future__ import annotations
 
+from collections.abc import Callable
 from fractions import Fraction
+from functools import partial
 
 from ..telling import headline
 from ..translate import number
@@ -48,24 +50,40 @@ def heads(plan: Plan, counted: str | None = None) -> list[str]:
     return [told + (f", and none breaks fewer ({fewest})" if fewest else ""), *(exact if by_bound else [])]
 
 
-def kept(plan: Plan) -> str:
+def moving(plan: Plan) -> str:
+    """How many meetings move."""
+    count = len(plan.moved)
+    return "no meeting moves" if not count else "1 meeting moves" if count == 1 else f"{count} meetings move"
+
+
+Known = Callable[[Callable[["int | None"], bool]], "str | None"]
+"""By what it is known that something follows from a bound, which may be empty; None if it is not known."""
+
+
+def fewest(plan: Plan, bound: int | None) -> bool:
+    """Whether no timetable moves fewer, by a bound of the sum."""
+    return bound is not None and plan.made.moves_of(plan.problem.own_cost(bound)) >= len(plan.moved)
+
+
+def least(plan: Plan, bound: int | None) -> bool:
+    """Whether, besides, none that moves as few costs less."""
+    return bound is not None and fewest(plan, bound) and plan.made.cost_of(plan.problem.own_cost(bound)) >= plan.cost
+
+
+def kept(plan: Plan, by: Known | None = None) -> str:
     """What is known of a timetable of which as few meetings as can be are to move."""
-    made, problem, count = plan.made, plan.problem, len(plan.moved)
-    meetings = "no meeting moves" if not count else "1 meeting moves" if count == 1 else f"{count} meetings move"
-
-    def fewest(bound: int | None) -> bool:
-        return bound is not None and made.moves_of(problem.own_cost(bound)) >= count
-
-    def least(bound: int | None) -> bool:
-        return fewest(bound) and bound is not None and made.cost_of(problem.own_cost(bound)) >= plan.cost
-
-    known, cheap = plan.known(fewest), plan.known(least)
+    count, meetings, by = len(plan.moved), moving(plan), by or plan.known
+    known, cheap = by(partial(fewest, plan)), by(partial(least, plan))
     cost = f"cost {number(plan.cost)}"
-    if cheap:
-        return f"{meetings}{', and no timetable moves fewer' if count else ''}; {cost}, and none of those is better ({cheap})"
-    if known:
-        return f"{meetings}{f', and no timetable moves fewer ({known})' if count else ''}; {cost}, and one that moves as few may cost less"
+    if cheap is not None:
+        return f"{meetings}{', and no timetable moves fewer' if count else ''}; {cost}, and none of those is better{in_brackets(cheap)}"
+    if known is not None:
+        return f"{meetings}{f', and no timetable moves fewer{in_brackets(known)}' if count else ''}; {cost}, and one that moves as few may cost less"
     return f"{meetings}, and one may move fewer; {cost}"
+
+
+def in_brackets(word: str) -> str:
+    return f" ({word})" if word else ""
 
 
 def moves(plan: Plan) -> list[str]:
@@ -93,4 +111,4 @@ def money(cost: Fraction) -> str:
     return number(cost)
 
 
-__all__ = ["body", "details", "heads", "moves", "money", "table", "who", "wishes"]
+__all__ = ["body", "details", "heads", "kept", "moves", "moving", "money", "table", "who", "wishes"]

@@ -6,30 +6,37 @@ use Rattle.agent_workers.specs.Turns.{visit_limit}
 use Rattle.agent_workers.specs.Broken.{HasGoneOn, AreBrokenOff}
 use Rattle.agent_workers.proofs.BreakLaws.{err_on, turn_broken}
 use Rattle.agent_workers.proofs.PlayLaws.{turn_none, turn_more, turn_ready, ready_at, failed_set, failed_on}
+use Rattle.agent_workers.proofs.TurnLaws.{waiting_none, waiting_more, waiting_past}
 use Rattle.agent_workers.proofs.play.visit_all.Goals as goal
 
 pub loop-place-init : goal.loop-place-init
-loop-place-init g c = turn_none (λ b. (goal.Machine-dyn g (b.vtable, b.value)).meaning b.value) true c.args.cells.now c.requires.ready
+loop-place-init g c = (turn_none (λ b. (goal.Machine-dyn g (b.vtable, b.value)).meaning b.value) true c.args.cells.now c.requires.ready, waiting_none (λ b. (goal.Machine-dyn g (b.vtable, b.value)).meaning b.value) _ c.args.cells.now)
 
 pub visit_once-requires-clause-ready : goal.visit_once-requires-clause-ready
 visit_once-requires-clause-ready g c κs within =
-    ready_at (λ b. (goal.Machine-dyn g (b.vtable, b.value)).meaning b.value) c.args.cells.now c.loop-place.cells c.loop-place.place c.index-cells-place.result c.loop-place.invariant.ready (let test = c.loop-place-test.true in let size = c.loop-place.invariant.ready.size in omega (arith, test, size))
+    ready_at (λ b. (goal.Machine-dyn g (b.vtable, b.value)).meaning b.value) c.args.cells.now c.loop-place.cells c.loop-place.place c.index-cells-place.result c.loop-place.invariant.0.ready (let test = c.loop-place-test.true in let size = c.loop-place.invariant.0.ready.size in omega (arith, test, size))
 
 pub returns-in_err-taken-clause-ready : goal.returns-in_err-taken-clause-ready
 returns-in_err-taken-clause-ready g c =
-    turn_ready (λ b. (goal.Machine-dyn g (b.vtable, b.value)).meaning b.value) c.args.cells.now c.loop-place.cells c.loop-place.place c.index-cells-place.result c.visit_once.new.cell c.loop-place.invariant.ready (let test = c.loop-place-test.true in let size = c.loop-place.invariant.ready.size in omega (arith, test, size)) c.visit_once.ensures.ready
+    turn_ready (λ b. (goal.Machine-dyn g (b.vtable, b.value)).meaning b.value) c.args.cells.now c.loop-place.cells c.loop-place.place c.index-cells-place.result c.visit_once.new.cell c.loop-place.invariant.0.ready (let test = c.loop-place-test.true in let size = c.loop-place.invariant.0.ready.size in omega (arith, test, size)) c.visit_once.ensures.ready
 
 pub returns-in_err-taken-clause-err : goal.returns-in_err-taken-clause-err
 returns-in_err-taken-clause-err g c =
     failed_on (λ b. (goal.Machine-dyn g (b.vtable, b.value)).meaning b.value) c.from_residual.result _ _ c.from_residual.ensures.1
-    (failed_set (λ b. (goal.Machine-dyn g (b.vtable, b.value)).meaning b.value) _ c.loop-place.cells c.loop-place.place c.visit_once.new.cell (let test = c.loop-place-test.true in let size = c.loop-place.invariant.ready.size in omega (arith, test, size)) c.in_err-taken.ensures.err)
+    (failed_set (λ b. (goal.Machine-dyn g (b.vtable, b.value)).meaning b.value) _ c.loop-place.cells c.loop-place.place c.visit_once.new.cell (let test = c.loop-place-test.true in let size = c.loop-place.invariant.0.ready.size in omega (arith, test, size)) c.in_err-taken.ensures.err)
 
 pub loop-place-preserved : goal.loop-place-preserved
-loop-place-preserved g c =
-    turn_more (λ b. (goal.Machine-dyn g (b.vtable, b.value)).meaning b.value) true c.loop-place.place c.loop-place.taken c.in_ok-taken.field-0 c.args.cells.now c.loop-place.cells c.index-cells-place.result c.visit_once.new.cell c.loop-place.invariant (let test = c.loop-place-test.true in let size = c.loop-place.invariant.ready.size in omega (arith, test, size))
-    c.visit_once.ensures.ready (inl c.in_ok-taken.ensures.ok)
+loop-place-preserved g c = (
+  turn_more (λ b. (goal.Machine-dyn g (b.vtable, b.value)).meaning b.value) true c.loop-place.place c.loop-place.taken c.in_ok-taken.field-0 c.args.cells.now c.loop-place.cells c.index-cells-place.result c.visit_once.new.cell c.loop-place.invariant.0 (let test = c.loop-place-test.true in let size = c.loop-place.invariant.0.ready.size in omega (arith, test, size))
+      c.visit_once.ensures.ready (inl c.in_ok-taken.ensures.ok),
+  waiting_more (λ b. (goal.Machine-dyn g (b.vtable, b.value)).meaning b.value) c.loop-place.watch.waits c.visit_once.new.watch.waits c.loop-place.place c.loop-place.place c.args.cells.now c.loop-place.cells c.index-cells-place.result c.visit_once.new.cell (omega arith) (let test = c.loop-place-test.true in let size = c.loop-place.invariant.0.ready.size in omega (arith, test, size))
+      (let size = c.loop-place.invariant.0.ready.size in let few = c.requires.few in omega (arith, size, few)) c.loop-place.invariant.0.ready.size c.loop-place.invariant.0.rest c.loop-place.invariant.1 c.in_ok-taken.ensures.marks,
+)
+
+pub returns-clause-marks : goal.returns-clause-marks
+returns-clause-marks g c = waiting_past (λ b. (goal.Machine-dyn g (b.vtable, b.value)).meaning b.value) c.loop-place.watch.waits c.loop-place.place _ c.args.cells.now c.loop-place.cells c.loop-place.invariant.0.ready.size c.loop-place.invariant.0.rest c.loop-place.invariant.1
 
 pub returns-in_err-taken-clause-end : goal.returns-in_err-taken-clause-end
 returns-in_err-taken-clause-end g c =
     err_on c.from_residual.result _ (λ f. f ≡ StampEnd → EachIs (λ c. fault_in c ≡ None) c.args.cells.now → AreBrokenOff (λ b. (goal.Machine-dyn g (b.vtable, b.value)).meaning b.value) HasGoneOn visit_limit (states_of (λ b. (goal.Machine-dyn g (b.vtable, b.value)).meaning b.value) c.args.cells.now) (set c.loop-place.cells c.loop-place.place c.visit_once.new.cell)) c.from_residual.ensures.1
-    (λ is fine. turn_broken (λ b. (goal.Machine-dyn g (b.vtable, b.value)).meaning b.value) true c.loop-place.place c.loop-place.taken c.args.cells.now c.loop-place.cells c.index-cells-place.result c.visit_once.new.cell c.loop-place.invariant (let test = c.loop-place-test.true in let size = c.loop-place.invariant.ready.size in omega (arith, test, size)) (c.in_err-taken.ensures.end is) fine)
+    (λ is fine. turn_broken (λ b. (goal.Machine-dyn g (b.vtable, b.value)).meaning b.value) true c.loop-place.place c.loop-place.taken c.args.cells.now c.loop-place.cells c.index-cells-place.result c.visit_once.new.cell c.loop-place.invariant.0 (let test = c.loop-place-test.true in let size = c.loop-place.invariant.0.ready.size in omega (arith, test, size)) (c.in_err-taken.ensures.end is) fine)

@@ -1,4 +1,7 @@
-use Rattle.std.proofs.Common.{arith}
+use Rattle.std.proofs.Common.{length, max, ap, ◌∙◌, arith}
+use Rattle.worker_runs.specs.NodeRounds.{home}
+use Rattle.agent_workers.proofs.SettleLaws.{settling}
+use Rattle.agent_workers.proofs.TurnLaws.{one_part_size, turn_round}
 use Rattle.std.proofs.lemmas.Result.{IfOk-weaker, IfErr-weaker}
 use Rattle.agent_workers.proofs.BreakLaws.{round_broken}
 use Rattle.agent_workers.proofs.RoundLaws.{sound_from, ready_mid, joined_after, begun_from, same_after, made}
@@ -36,3 +39,8 @@ returns-clause-same g c = same_after (λ b. (goal.Machine-dyn g (b.vtable, b.val
 
 pub returns-clause-end : goal.returns-clause-end
 returns-clause-end g c = IfErr-weaker c.play_cells.result _ _ (λ f end is. round_broken (λ b. (goal.Machine-dyn g (b.vtable, b.value)).meaning b.value) c.args.cells.now c.settle_all-busy.new.cells c.play_cells.new.cells c.settle_all-busy.ensures.settled.quiet (end is)) c.play_cells.ensures.end
+
+pub returns-clause-turns : goal.returns-clause-turns
+returns-clause-turns g c one =
+    turn_round (λ b. (goal.Machine-dyn g (b.vtable, b.value)).meaning b.value) (home c.args.nodes (length c.args.cells.now)) c.args.cells.now c.settle_all-busy.new.cells c.play_cells.new.cells c.play_cells.result (settling (λ b. (goal.Machine-dyn g (b.vtable, b.value)).meaning b.value) (home c.args.nodes (length c.args.cells.now)) c.args.cells.now c.settle_all-busy.new.cells c.settle_all-busy.ensures.settled)
+    (c.play_cells.ensures.turns (let size = c.settle_all-busy.ensures.settled.quiet.size in let all = one_part_size c.max-size.result (length c.args.cells.now) c.args.workers one (c.max-size.ensures ∙ ap (λ n. max n 1) c.div_ceil.ensures) in omega (arith, size, all)))

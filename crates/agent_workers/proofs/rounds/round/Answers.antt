@@ -1,4 +1,6 @@
-use Rattle.std.proofs.Common.{None, sym, subst, ◌≡◌}
+use Rattle.std.proofs.Common.{None, length, sym, subst, ◌≡◌}
+use Rattle.worker_runs.specs.NodeRounds.{home}
+use Rattle.agent_workers.specs.Watched.{IsTurnRound}
 use Rattle.std.specs.Prelude.{OnOk, IfErr}
 use Rattle.agent_cells.specs.State.{fault_in}
 use Rattle.agent_cells.proofs.CellLaws.{written}
@@ -27,3 +29,6 @@ returns-clause-fine g c = carry (λ old new. OnOk c.play_round.result (EachBecom
 
 pub returns-clause-err : goal.returns-clause-err
 returns-clause-err g c = subst (λ cells. IfErr c.play_round.result (λ f. SomeFailed f cells)) (sym (written _ c.args.cells.now.items c.play_round.new.cells c.as_mut_slice.result.now c.args.cells.now.ok.0 c.play_round.ensures.same.size c.as_mut_slice.ensures.value)) c.play_round.ensures.err
+
+pub returns-clause-turns : goal.returns-clause-turns
+returns-clause-turns g c = carry (λ old new. c.args.workers ≡ 1 → OnOk c.play_round.result (IsTurnRound (λ b. (goal.Machine-dyn g (b.vtable, b.value)).meaning b.value) (home c.args.nodes (length old)) old new)) _ _ _ _ c.as_mut_slice.ensures.value (written _ c.args.cells.now.items c.play_round.new.cells c.as_mut_slice.result.now c.args.cells.now.ok.0 c.play_round.ensures.same.size c.as_mut_slice.ensures.value) c.play_round.ensures.turns

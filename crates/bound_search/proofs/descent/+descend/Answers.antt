@@ -26,7 +26,7 @@ returns-then-depth-sizes-clause-descended t c =
     let value : ℕ → ℕ = λ v. get_or c.args.values.now v 0 in
     let is : c.args.least ≡ estimate (length c.args.sizes.now) c.args.buckets.now value = c.requires.least ∙ ap (λ (n : ℕ). estimate n c.args.buckets.now value) c.if-depth-sizes.true in
     subst (λ (n : ℕ). HasDescended c.args.sizes.now c.args.buckets.now c.args.rules n c.args.least value c.args.progress.now c.take.new.progress) (sym c.if-depth-sizes.true)
-    (descent_taken c.args.sizes.now c.args.buckets.now c.args.rules c.requires.grounds c.args.least value c.args.progress.now c.take.new.progress (values_of c.args.sizes.now c.args.values.now c.requires.within) is c.requires.room c.requires.standing.room
+    (descent_taken c.args.sizes.now c.args.buckets.now c.args.rules c.requires.grounds c.args.least value c.args.progress.now c.take.new.progress (values_of c.args.sizes.now c.args.values.now c.requires.within) is (c.requires.room c.if-depth-sizes.true) c.requires.standing.room
     c.take.ensures.best c.take.ensures.found c.take.ensures.nodes c.take.ensures.lower c.take.ensures.spent c.take.ensures.room)
 
 pub returns-then-depth-sizes-clause-visits : goal.returns-then-depth-sizes-clause-visits
@@ -78,7 +78,7 @@ returns-then-not-opens-clause-standing t c = standing_stopped c.args.sizes.now c
 pub returns-then-not-opens-clause-descended : goal.returns-then-not-opens-clause-descended
 returns-then-not-opens-clause-descended t c =
     let inside : c.args.depth < length c.args.sizes.now = omega (arith, c.if-depth-sizes.false, c.requires.depth) in
-    visiting_end c.args.sizes.now c.args.buckets.now c.args.rules c.requires.grounds c.args.depth c.args.least (λ v. get_or c.args.values.now v 0) c.visits.row c.args.progress.now c.visits.progress c.opens.new.progress c.least_of-value.result.0 c.least_of-value.result.1 inside c.requires.room c.visits.invariant.standing.room
+    visiting_end c.args.sizes.now c.args.buckets.now c.args.rules c.requires.grounds c.args.depth c.args.least (λ v. get_or c.args.values.now v 0) c.visits.row c.args.progress.now c.visits.progress c.opens.new.progress c.least_of-value.result.0 c.least_of-value.result.1 inside c.visits.invariant.standing.room
     c.least_of-value.ensures.place c.least_of-value.ensures.entry c.least_of-value.ensures.least c.visits.invariant.visiting c.if-not-opens.ensures
 
 pub returns-then-not-opens-clause-visits : goal.returns-then-not-opens-clause-visits
@@ -119,7 +119,7 @@ descend-requires t c =
             (
               entry,
               (
-                omega (arith, room, opened.0),
+                (λ last. omega (arith, room, opened.0)),
                 (
                   (λ none. (let left = few_left c.args.sizes.now c.args.buckets.now c.args.rules c.requires.grounds c.args.depth c.args.least value c.visits.row c.args.progress.now c.visits.progress 18446744073709551615 visiting c.requires.few (sym best ∙ none) in
                       omega (arith, left, nodes, inside))),

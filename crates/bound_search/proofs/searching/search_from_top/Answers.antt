@@ -1,19 +1,11 @@
-use Rattle.std.proofs.Common.{ℕ, List, get_or, refl, sym, subst, ◌∙◌}
+use Rattle.std.proofs.Common.{ℕ, List, get_or, sym, subst, ◌∙◌, arith}
 use Rattle.dcop_base.specs.Table.{AreWithin}
-use Rattle.bound_search.proofs.FirstLaws.{first_is, first_within, zeros_are_values, searched_none}
-use Rattle.bound_search.proofs.VisitLaws.{visited_none, visited_all}
+use Rattle.bound_search.proofs.FirstLaws.{first_is, first_within, zeros_are_values}
+use Rattle.bound_search.proofs.VisitLaws.{visited_all}
 use Rattle.bound_search.proofs.searching.search_from_top.Goals as goal
 
 pub first_estimate-first-requires : goal.first_estimate-first-requires
 first_estimate-first-requires c = record { within = first_within c.args.sizes.now c.args.rules.scale c.args.buckets.now c.requires.grounds }
-
-pub returns-then-first-progress-clause-searched : goal.returns-then-first-progress-clause-searched
-returns-then-first-progress-clause-searched c =
-    searched_none c.args.sizes.now c.args.buckets.now c.args.rules c.requires.grounds c.first_estimate-first.result c.args.progress.now _ c.first_estimate-first.ensures c.if-first-progress.true c.requires.standing.room c.requires.new.0 c.requires.new.1 refl
-
-pub returns-then-first-progress-clause-visits : goal.returns-then-first-progress-clause-visits
-returns-then-first-progress-clause-visits c =
-    visited_none c.args.sizes.now c.args.buckets.now c.args.rules c.requires.grounds c.first_estimate-first.result c.args.progress.now _ c.first_estimate-first.ensures c.if-first-progress.true c.requires.standing.room c.requires.new.0 refl
 
 pub returns-clause-visits : goal.returns-clause-visits
 returns-clause-visits c =
@@ -26,3 +18,6 @@ descend-requires-clause-within c =
 
 pub descend-requires-clause-least : goal.descend-requires-clause-least
 descend-requires-clause-least c = c.first_estimate-first.ensures ∙ first_is c.args.sizes.now c.args.rules.scale c.args.buckets.now c.requires.grounds (λ v. get_or c.as_mut_slice.result.now v 0)
+
+pub descend-requires-clause-room : goal.descend-requires-clause-room
+descend-requires-clause-room c = λ none. absurd (let some = c.requires.grounds.some in omega (arith, some, none))

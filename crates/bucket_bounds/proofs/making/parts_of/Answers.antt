@@ -3,7 +3,7 @@ use Rattle.std.specs.List.{All, AllZip}
 use Rattle.std.proofs.lemmas.Result.{IfOk-weaker}
 use Rattle.dcop_base.specs.Limits.{joined_limit}
 use Rattle.dcop_base.specs.Table.{CostTable}
-use Rattle.shared_costs.specs.Sharing.{IsSharing}
+use Rattle.shared_costs.specs.Sharing.{IsShare}
 use Rattle.shared_costs.specs.Tables.{IsTableOver}
 use Rattle.bucket_bounds.specs.Groups.{IsGroup, AreGroups}
 use Rattle.bucket_bounds.specs.Parting.{AreTooWide, ArePartedDuly}
@@ -40,7 +40,7 @@ shared_tables-requires-clause-tables c =
 
 pub returns-clause-parts : goal.returns-clause-parts
 returns-clause-parts c =
-    IfOk-weaker c.shared_tables.result (λ parts. IsSharing c.args.sizes.now c.in_ok-joined.joined.items parts.items) (λ parts. AreParts c.args.sizes.now c.args.limit (c.args.tables.now ++ c.args.came.now) parts.items)
+    IfOk-weaker c.shared_tables.result (λ parts. IsShare c.args.sizes.now c.args.var c.in_ok-joined.joined.items parts.items) (λ parts. AreParts c.args.sizes.now c.args.limit c.args.var (c.args.tables.now ++ c.args.came.now) parts.items)
     (λ parts shared. parts_are c.args.sizes.now c.args.var c.args.tables.now c.args.came.now c.new-items.result.items c.put_by_cells.new.among.items c.put_by_cells-2.new.among.items
     c.new-items.ensures.items c.in_ok-put_by_cells.ensures.put c.in_ok-put_by_cells-2.ensures.put c.requires.tables c.requires.came c.requires.capped
     c.args.limit c.in_ok-groups.groups.items (subst (λ (ts : List CostTable). AreGroups c.args.sizes.now c.args.limit ts c.in_ok-groups.groups.items) c.as_slice.ensures.value c.in_ok-groups.ensures.groups)
@@ -49,7 +49,7 @@ returns-clause-parts c =
 
 pub returns-clause-parted : goal.returns-clause-parted
 returns-clause-parted c =
-    IfOk-weaker c.shared_tables.result (λ parts. IsSharing c.args.sizes.now c.in_ok-joined.joined.items parts.items) (λ parts. 2 ≤ length parts.items → AreTooWide c.args.sizes.now c.args.limit (c.args.tables.now ++ c.args.came.now))
+    IfOk-weaker c.shared_tables.result (λ parts. IsShare c.args.sizes.now c.args.var c.in_ok-joined.joined.items parts.items) (λ parts. 2 ≤ length parts.items → AreTooWide c.args.sizes.now c.args.limit (c.args.tables.now ++ c.args.came.now))
     (λ parts shared. parted_is c.args.sizes.now c.args.var c.args.tables.now c.args.came.now c.new-items.result.items c.put_by_cells.new.among.items c.put_by_cells-2.new.among.items
     c.new-items.ensures.items c.in_ok-put_by_cells.ensures.put c.in_ok-put_by_cells-2.ensures.put c.requires.tables c.requires.came c.requires.capped
     c.args.limit c.in_ok-groups.groups.items (subst (λ (ts : List CostTable). AreGroups c.args.sizes.now c.args.limit ts c.in_ok-groups.groups.items) c.as_slice.ensures.value c.in_ok-groups.ensures.groups)

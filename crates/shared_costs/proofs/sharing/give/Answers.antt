@@ -1,7 +1,7 @@
 use Rattle.std.proofs.Common.{◌<◌, ◌-◌, ℕ, List, [], length, get_or, sym, subst, ◌∙◌, arith}
 use Rattle.std.proofs.lemmas.List.{get_or_default}
 use Rattle.shared_costs.specs.Moves.{IsMoved}
-use Rattle.shared_costs.proofs.GiveLaws.{ready, given-none, given-more, next-lows, row-same}
+use Rattle.shared_costs.proofs.GiveLaws.{ready, given-none, given-more, given-all, next-lows, row-same}
 use Rattle.shared_costs.proofs.sharing.give.Goals as goal
 
 pub loop-j-init : goal.loop-j-init
@@ -37,3 +37,7 @@ loop-j-preserved c =
           (get_or_default now p c.index-tables-place.result (record { scope = []; sizes = []; cells = [] }) inside) c.part.ensures.parting c.part.ensures.pot move c.loop-j.invariant.given;
       many = c.part.auto.parts ∙ c.loop-j.invariant.many;
     }
+
+pub returns : goal.returns
+returns c =
+    given-all c.args.sizes.now c.args.var c.as_slice-places.result.now c.as_slice-rows.result.now c.args.tables.now c.loop-j.tables c.loop-j.pot c.loop-j.j c.requires.var c.requires.tables (omega (arith, c.loop-j-test.false, c.loop-j.auto.j-end)) c.loop-j.invariant.given

@@ -1,0 +1,211 @@
+-- Turns that pass over nobody who was sent something.
+use Rattle.std.proofs.Common.{◌≡◌, ℕ, zero, suc, max, ◌+◌, ◌<◌, ◌≤◌, Bool, true, false, Result, Ok, Err, List, [], ◌∷◌, ◌++◌, map, take, drop, length, set, get_or, Some, slice_get, refl, sym, ap, subst, ◌∙◌, inl, inr, arith}
+use Rattle.std.specs.Prelude.{IfOk, OnOk}
+use Rattle.std.specs.Int.{div_ceil}
+use Rattle.std.proofs.lemmas.Bool.{cases_lt}
+use Rattle.std.proofs.lemmas.Option.{slice_get_within, slice_get-get_or}
+use Rattle.std.proofs.lemmas.List.{map-set, set-get_or, take-set-le, take-append-drop}
+use Rattle.std.specs.declared.dyn_box.DynBox.{DynBox}
+use Rattle.std.specs.declared.alloc.Global.{Global}
+use Rattle.dcop_base.specs.Limits.{variable_limit}
+use Rattle.protocol_steps.specs.View.{View}
+use Rattle.worker_runs.specs.Cells.{lane}
+use Rattle.agent_cells.specs.declared.cell.Cell.{Cell}
+use Rattle.agent_cells.specs.declared.fault.VisitFault.{VisitFault}
+use Rattle.agent_cells.specs.State.{state_of}
+use Rattle.worker_runs.specs.CellRounds.{total}
+use Rattle.worker_runs.specs.NodeRounds.{IsSettling}
+use Rattle.agent_workers.specs.Joined.{states_of}
+use Rattle.agent_workers.specs.Turns.{HasTurned, AreTurning}
+use Rattle.agent_workers.specs.Watched.{IsUnmarked, AreUnmarked, all_due, MarksReceivers, MarksWaiting, PassesUnmarked, PassesNone, AreTurns, IsPlayedInTurns, IsTurnRound}
+use Rattle.agent_workers.proofs.PlayLaws.{set_back}
+
+-- two lists that agree from a place on
+drop_same : {A : Type 0} (xs ys : List A) (i : ℕ) → length ys ≡ length xs → ((j : ℕ) (a b : A) → slice_get xs j ≡ Some a → slice_get ys j ≡ Some b → i ≤ j → b ≡ a) → drop i xs ≡ drop i ys
+drop_same [] [] i size each = refl
+drop_same [] (y ∷ ys) i size each = absurd (omega (arith, size))
+drop_same (x ∷ xs) [] i size each = absurd (omega (arith, size))
+drop_same (x ∷ xs) (y ∷ ys) zero size each =
+    let head : y ≡ x = each 0 x y refl refl (omega arith) in
+    let rest : xs ≡ ys = drop_same xs ys zero (omega (arith, size)) (λ j a b e f le. each (suc j) a b e f (omega arith)) in
+    ap (λ z. z ∷ xs) (sym head) ∙ ap (λ zs. y ∷ zs) rest
+drop_same (x ∷ xs) (y ∷ ys) (suc i) size each = drop_same xs ys i (omega (arith, size)) (λ j a b e f le. each (suc j) a b e f (omega (arith, le)))
+
+-- the cells as a turn finds them at a place that it has not passed
+pub found_now : {A : Type 0} (before now : List A) (k i : ℕ) → length now ≡ length before → ((j : ℕ) (a b : A) → slice_get before j ≡ Some a → slice_get now j ≡ Some b → k ≤ j → b ≡ a) → k ≤ i → take i now ++ drop i before ≡ now
+found_now before now k i size rest le =
+    ap (λ zs. take i now ++ zs) (drop_same before now i size (λ j a b e f ge. rest j a b e f (omega (arith, le, ge)))) ∙ take-append-drop i now
+
+-- and at one that it has passed, after another visit
+pub found_set : {A : Type 0} (before now : List A) (p i : ℕ) (y : A) → i ≤ p → take i (set now p y) ++ drop i before ≡ take i now ++ drop i before
+found_set before now p i y le = ap (λ zs. zs ++ drop i before) (take-set-le i now p y le)
+
+pub map_set_same : {A Y : Type 0} (f : A → Y) (now : List A) (p : ℕ) (d y : A) → f y ≡ f (get_or now p d) → map f (set now p y) ≡ map f now
+map_set_same f now p d y e = map-set f now p y ∙ ap (λ z. set (map f now) p z) e ∙ sym (map-set f now p (get_or now p d)) ∙ ap (map f) (set-get_or now p d)
+
+-- one worker plays all cells as one part
+pub one_part_size : (size all workers : ℕ) → workers ≡ 1 → size ≡ max (div_ceil all workers) 1 → all ≤ size
+one_part_size size all workers one is =
+    let parts : div_ceil all workers ≡ all = ap (λ n. div_ceil all n) one ∙ omega arith in
+    omega (arith, parts, is)
+
+module _ {X : Type 0} {F : X → Type 0} (M : DynBox X Global F → View) where
+  pub waiting_none : (words : List ℕ) (cells : List (Cell X F)) → MarksWaiting M words 0 cells cells
+  waiting_none words cells = record { each = λ i lt un. absurd (omega (arith, lt)) }
+
+  pub waiting_past : (words : List ℕ) (k m : ℕ) (before now : List (Cell X F)) → length now ≡ length before
+      → ((j : ℕ) (a b : Cell X F) → slice_get before j ≡ Some a → slice_get now j ≡ Some b → k ≤ j → b ≡ a) → MarksWaiting M words k before now → MarksWaiting M words m before now
+  waiting_past words k m before now size rest w = record {
+    each = λ i lt un. elim (cases_lt i k) [
+      | inl done ↦ w.each i done un
+      | inr ahead ↦ ap (λ (cs : List (Cell X F)). map (λ (c : Cell X F). lane i (state_of M c).sent) cs) (sym (found_now before now k i size rest ahead))
+    ];
+  }
+
+  pub waiting_more : (words more : List ℕ) (k p : ℕ) (before now : List (Cell X F)) (d y : Cell X F) → k ≤ p → p < length now → length now ≤ variable_limit → length now ≡ length before
+      → ((j : ℕ) (a b : Cell X F) → slice_get before j ≡ Some a → slice_get now j ≡ Some b → k ≤ j → b ≡ a) → MarksWaiting M words k before now → MarksReceivers p words more (state_of M (get_or now p d)).sent (state_of M y).sent
+      → MarksWaiting M more (p + 1) before (set now p y)
+  waiting_more words more k p before now d y le inside few size rest w m = record {
+    each = λ i lt un.
+        let same : map (λ (c : Cell X F). lane i (state_of M c).sent) (set now p y) ≡ map (λ (c : Cell X F). lane i (state_of M c).sent) now = map_set_same (λ (c : Cell X F). lane i (state_of M c).sent) now p d y (m.sent i (omega (arith, lt, inside, few)) un) in
+        let found : take i (set now p y) ++ drop i before ≡ take i now ++ drop i before = found_set before now p i y (omega (arith, lt)) in
+        let past : map (λ (c : Cell X F). lane i (state_of M c).sent) now ≡ map (λ (c : Cell X F). lane i (state_of M c).sent) (take i now ++ drop i before) = elim (cases_lt i k) [
+          | inl done ↦ w.each i done (m.kept i (omega (arith, done, le)) un)
+          | inr ahead ↦ ap (λ (cs : List (Cell X F)). map (λ (c : Cell X F). lane i (state_of M c).sent) cs) (sym (found_now before now k i size rest ahead))
+        ] in
+        same ∙ past ∙ ap (λ (cs : List (Cell X F)). map (λ (c : Cell X F). lane i (state_of M c).sent) cs) (sym found);
+  }
+
+  -- a turn up to a place: a cell from there on that is not marked was not marked before the turn,
+  -- and was sent nothing in it
+  pub record IsPassing (old words : List ℕ) (done : ℕ) (before now : List (Cell X F)) : Type 0 where
+    pub ahead : (i : ℕ) → done ≤ i → i < length before → IsUnmarked words i → IsUnmarked old i × (map (λ (c : Cell X F). lane i (state_of M c).sent) now ≡ map (λ (c : Cell X F). lane i (state_of M c).sent) before)
+    pub passed : PassesUnmarked M false old done before now
+
+  pub passing_none : (words : List ℕ) (before : List (Cell X F)) → IsPassing words words 0 before before
+  passing_none words before = record {
+    ahead = λ i le lt un. (un, refl);
+    passed = record { each = λ i a b e f lt. absurd (omega (arith, lt)) };
+  }
+
+  pub passing_past : (old words : List ℕ) (k m : ℕ) (before now : List (Cell X F)) → k ≤ m → length now ≡ length before → AreUnmarked words k m
+      → ((j : ℕ) (a b : Cell X F) → slice_get before j ≡ Some a → slice_get now j ≡ Some b → k ≤ j → b ≡ a) → IsPassing old words k before now → IsPassing old words m before now
+  passing_past old words k m before now le size none rest h = record {
+    ahead = λ i ge lt un. h.ahead i (omega (arith, le, ge)) lt un;
+    passed = record {
+      each = λ i a b e f lt. elim (cases_lt i k) [
+        | inl done ↦ h.passed.each i a b e f done
+        | inr here ↦
+            let was = h.ahead i here (slice_get_within before i a e) (none i here lt) in
+            inr (refl, rest i a b e f here, was.0, ap (λ (cs : List (Cell X F)). map (λ (c : Cell X F). lane i (state_of M c).sent) cs) (found_now before now k i size rest here) ∙ was.1)
+      ];
+    };
+  }
+
+  pub passing_more : (old words more : List ℕ) (p : ℕ) (before now : List (Cell X F)) (d y : Cell X F) → p < length now → length now ≤ variable_limit → length now ≡ length before
+      → ((j : ℕ) (a b : Cell X F) → slice_get before j ≡ Some a → slice_get now j ≡ Some b → p ≤ j → b ≡ a) → MarksReceivers p words more (state_of M (get_or now p d)).sent (state_of M y).sent → ((n : ℕ) × HasTurned M n (get_or now p d) y)
+      → IsPassing old words p before now → IsPassing old more (p + 1) before (set now p y)
+  passing_more old words more p before now d y inside few size rest m turn h = record {
+    ahead = λ i ge lt un.
+        let was = h.ahead i (omega (arith, ge)) lt (m.kept i (omega (arith, ge)) un) in
+        (was.0, map_set_same (λ (c : Cell X F). lane i (state_of M c).sent) now p d y (m.sent i (omega (arith, lt, few, size)) un) ∙ was.1);
+    passed = record {
+      each = λ i a b e f lt. elim (set_back now p y i b inside f) [
+        | inl here ↦
+            let at : slice_get now i ≡ Some (get_or now p d) = ap (slice_get now) here.0 ∙ slice_get-get_or now p d inside in
+            let place = here.0 in
+            let is : get_or now p d ≡ a = rest i a (get_or now p d) e at (omega (arith, place)) in
+            inl (subst (λ (z : Cell X F). (n : ℕ) × HasTurned M n z b) is (subst (λ (z : Cell X F). (n : ℕ) × HasTurned M n (get_or now p d) z) (sym here.1) turn))
+        | inr out ↦
+            let ne = out.0 in
+            elim (h.passed.each i a b e out.1 (omega (arith, lt, ne))) [
+              | inl visited ↦ inl visited
+              | inr over ↦ inr (over.0, over.1, over.2, ap (λ (cs : List (Cell X F)). map (λ (c : Cell X F). lane i (state_of M c).sent) cs) (found_set before now p i y (omega (arith, lt))) ∙ over.3)
+            ]
+      ];
+    };
+  }
+
+  -- a turn after another one
+  pub none_passed : (all : Bool) (words : List ℕ) (earlier before after : List (Cell X F)) → (all ≡ false → MarksWaiting M words (length before) earlier before) → PassesUnmarked M all words (length before) before after → PassesNone M all earlier before after
+  none_passed all words earlier before after w h = record {
+    each = λ i a b e f.
+        let inside = slice_get_within before i a e in
+        elim (h.each i a b e f inside) [
+          | inl visited ↦ inl visited
+          | inr over ↦ inr (over.0, over.1, over.3 ∙ (w over.0).each i inside over.2)
+        ];
+  }
+
+  -- turns so far, with the marks that they leave
+  pub record TurnsSoFar (alone : Bool) (turns : ℕ) (words : List ℕ) (first now : List (Cell X F)) : Type 0 where
+    pub earlier : List (Cell X F)
+    pub are : AreTurns M alone turns first earlier now
+    pub marks : 0 < turns → MarksWaiting M words (length now) earlier now
+
+  pub no_turns : (alone : Bool) (words : List ℕ) (first : List (Cell X F)) → TurnsSoFar alone 0 words first first
+  no_turns alone words first = record { earlier = first; are = (refl, refl); marks = λ lt. absurd (omega (arith, lt)) }
+
+  due_later : (turns : ℕ) (alone : Bool) → all_due turns alone ≡ false → 0 < turns
+  due_later zero alone e = absurd (cc)
+  due_later (suc turns) alone e = omega arith
+
+  pub turns_more : (alone : Bool) (turns : ℕ) (words : List ℕ) (first now next : List (Cell X F)) → PassesUnmarked M (all_due turns alone) words (length now) now next → TurnsSoFar alone turns words first now → AreTurns M alone (turns + 1) first now next
+  turns_more alone turns words first now next passes t =
+      let next_turn : AreTurns M alone (suc turns) first now next = (t.earlier, t.are, none_passed (all_due turns alone) words t.earlier now next (λ later. t.marks (due_later turns alone later)) passes) in
+      let count : suc turns ≡ turns + 1 = omega arith in
+      subst (λ (n : ℕ). AreTurns M alone n first now next) count next_turn
+
+  pub one_turn_more : (all alone : Bool) (turns : ℕ) (words more : List ℕ) (first now next : List (Cell X F)) → all ≡ all_due turns alone → length next ≡ length now → PassesUnmarked M all words (length now) now next → MarksWaiting M more (length now) now next
+      → TurnsSoFar alone turns words first now → TurnsSoFar alone (turns + 1) more first next
+  one_turn_more all alone turns words more first now next due size passes marks t = record {
+    earlier = now;
+    are = turns_more alone turns words first now next (subst (λ (b : Bool). PassesUnmarked M b words (length now) now next) due passes) t;
+    marks = λ some. subst (λ (n : ℕ). MarksWaiting M more n now next) (sym size) marks;
+  }
+
+  -- a part whose last turn took nothing, and one that had all its turns
+  pub still_part : (all alone : Bool) (turns : ℕ) (words : List ℕ) (first now next : List (Cell X F)) → all ≡ all_due turns alone → PassesUnmarked M all words (length now) now next → turns < 32 → total (states_of M next) ≡ total (states_of M now)
+      → TurnsSoFar alone turns words first now → IsPlayedInTurns M alone first next
+  still_part all alone turns words first now next due passes few none t = record {
+    turns = turns + 1;
+    earlier = now;
+    some = omega arith;
+    most = omega (arith, few);
+    are = turns_more alone turns words first now next (subst (λ (b : Bool). PassesUnmarked M b words (length now) now next) due passes) t;
+    ends = λ less. none;
+  }
+
+  pub spent_part : (alone : Bool) (turns : ℕ) (words : List ℕ) (first now : List (Cell X F)) → turns ≡ 32 → TurnsSoFar alone turns words first now → IsPlayedInTurns M alone first now
+  spent_part alone turns words first now all t = record {
+    turns = turns;
+    earlier = t.earlier;
+    some = omega (arith, all);
+    most = omega (arith, all);
+    are = t.are;
+    ends = λ less. absurd (omega (arith, all, less));
+  }
+
+  -- a turn of all cells
+  pub all_visited : (all : Bool) (words : List ℕ) (done count : ℕ) (before after : List (Cell X F)) → AreTurning M true done count before after → PassesUnmarked M all words done before after
+  all_visited all words done count before after t = record {
+    each = λ i a b e f lt.
+        let turn = t.turned i a b e f lt in
+        elim turn.1 [
+          | inl visited ↦ inl (turn.0, visited)
+          | inr passed ↦ let no : true ≡ false = passed.0 in absurd (cc)
+        ];
+  }
+
+  pub visited_on : (all : Bool) (words : List ℕ) (before after : List (Cell X F)) (r : Result ℕ VisitFault) → IfOk r (λ n. AreTurning M true (length before) n before after) → OnOk r (PassesUnmarked M all words (length before) before after)
+  visited_on all words before after (Ok n) t = all_visited all words (length before) n before after t
+  visited_on all words before after (Err f) t = tt
+
+  -- a part that a call has played, and a round of it
+  pub turns_call : (alone : Bool) (a x given left : List (Cell X F)) (r : Result ℕ VisitFault) → given ≡ a → left ≡ x → alone ≡ true → OnOk r (IsPlayedInTurns M alone given left) → OnOk r (IsPlayedInTurns M true a x)
+  turns_call alone a x given left r is was all p =
+      subst (λ (b : Bool). OnOk r (IsPlayedInTurns M b a x)) all (subst (λ (ys : List (Cell X F)). OnOk r (IsPlayedInTurns M alone a ys)) was (subst (λ (xs : List (Cell X F)). OnOk r (IsPlayedInTurns M alone xs left)) is p))
+
+  pub turn_round : (node : ℕ → ℕ) (before mid after : List (Cell X F)) (r : Result ℕ VisitFault) → IsSettling node (states_of M before) (states_of M mid) → OnOk r (IsPlayedInTurns M true mid after) → OnOk r (IsTurnRound M node before after)
+  turn_round node before mid after (Ok n) s p = record { middle = mid; settling = s; turns = p }
+  turn_round node before mid after (Err f) s p = tt

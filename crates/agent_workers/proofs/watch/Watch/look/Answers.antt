@@ -1,0 +1,6 @@
+use Rattle.std.proofs.Common.{rules}
+use Rattle.agent_workers.proofs.WatchLaws.{cleared}
+use Rattle.agent_workers.proofs.watch.Watch.look.Goals as goal
+
+pub returns-then-place-lt-MAX_VARIABLES : goal.returns-then-place-lt-MAX_VARIABLES
+returns-then-place-lt-MAX_VARIABLES c = cleared c.args.self.now.waits c.args.place (let lt = c.if-place-lt-MAX_VARIABLES.true in search rules)
