@@ -4,6 +4,7 @@ from __future__ import annotations
 
 import os
 import re
+import signal
 import subprocess
 import tempfile
 import tomllib
@@ -116,6 +117,20 @@ class Try(unittest.TestCase):
             told = subprocess.run([str(TOP / "wrong" / "try"), "util_kernel"], env=environment, capture_output=True, text=True)
         self.assertEqual(told.returncode, 1)
         self.assertEqual({line.partition(": ")[2] for line in told.stdout.splitlines()}, {"NOT TRIED"})
+
+    def test_one_that_is_terminated_ends_rt(self):
+        with tempfile.TemporaryDirectory() as name:
+            rt = Path(name) / "rt"
+            rt.write_text("#!/bin/sh\necho $$\nexec sleep 60\n")
+            rt.chmod(0o755)
+            environment = dict(os.environ, PATH=f"{name}:{os.environ['PATH']}", PYTHONDONTWRITEBYTECODE="1")
+            tried = subprocess.Popen([str(TOP / "wrong" / "try"), "util_kernel"], env=environment, stderr=subprocess.PIPE, stdout=subprocess.DEVNULL, text=True)
+            with tried:
+                assert tried.stderr
+                number = int(tried.stderr.readline())
+                tried.terminate()
+        self.assertEqual(tried.returncode, 128 + signal.SIGTERM)
+        self.assertRaises(ProcessLookupError, os.kill, number, 0)
 
     def test_a_folder_that_is_not_there(self):
         self.assertEqual(self.tried("dcop_nothing", says="")[0], 2)
