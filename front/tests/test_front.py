@@ -663,10 +663,10 @@ class Telling(Case):
         self.assertEqual(self.front("check", pair, report)[:2], (0, "yes, verified: cost 2, and none is better\n"))
         status, told, _ = self.front("check", pair, report, fake="forges")
         self.assertEqual((status, told), (1, "no: the report says `cost 1`, but 2 is right (`differs cost left 1 right 2`)\n"))
-        self.assertIn("costs at least 2, and with value 0 it costs 1", differs("status no\ndiffers cell d 0 0 left 2 right 1\nend\n"))
+        self.assertIn("costs at least 2, but with value 0 it costs 1", differs("status no\ndiffers cell d 0 0 left 2 right 1\nend\n"))
         self.assertIn("in turn 3 the table of d", differs("differs turn 3 scope d"))
         why = explain("refused report line 5 kind 8", "dcop 1\nvar x 2\nend\nstatus solved\nvalue x 2\n")
-        self.assertEqual(why, "The report's line 2: `value x 2`\nThe report is refused: a value is not among its variable's values.")
+        self.assertEqual(why, "The report's line 2: `value x 2`\nThe report is refused: a value is not one of its variable's values.")
 
     def test_a_report_in_another_order_is_checked(self):
         pair, report = str(PROBLEMS / "pair.dcop"), self.file("report", "")
