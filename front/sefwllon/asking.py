@@ -165,10 +165,10 @@ def judged(programs: Programs, told: Translation, text: str, options: argparse.N
             return verdict
     if cost != claim.cost:
         verdict.answer, verdict.rests = NOT, ADDED_UP
-        verdict.why = f"the report says `cost {claim.cost}`, and its values cost {cost}"
+        verdict.why = f"the report says `cost {claim.cost}`, but its values cost {cost}"
     elif is_better(cost, verdict.bound, goal):
         verdict.answer, verdict.rests = NOT, ADDED_UP
-        verdict.why = f"the report says that no sum is better than {verdict.bound}, and its own is {cost}"
+        verdict.why = f"the report says that no sum is better than {verdict.bound}, but its own sum is {cost}"
     elif proof is None:
         ask(programs, told, verdict, options)
     return verdict
@@ -189,10 +189,10 @@ def ask(programs: Programs, told: Translation, verdict: Verdict, options: argpar
         verdict.rests = ADDED_UP
     elif best.cost is not None and is_better(best.cost, verdict.bound, goal):
         verdict.answer, verdict.rests = NOT, ADDED_UP
-        verdict.why = f"the report says that no sum is better than {verdict.bound}, and one is {best.cost}"
+        verdict.why = f"the report says that no sum is better than {verdict.bound}, but one is {best.cost}"
     elif bound is not None and not is_better(bound, verdict.bound, goal):
         holds = best.checked is not None and not is_better(best.checked, verdict.bound, goal)
         verdict.rests = programs.verified if holds else best.by_program
     else:
         verdict.answer, verdict.rests = OPEN, ""
-        verdict.why = best.stopped or "no program that is there can tell"
+        verdict.why = best.stopped or "none of the available programs can decide it"

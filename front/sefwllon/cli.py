@@ -70,7 +70,7 @@ def main(arguments: list[str] | None = None) -> int:
     except BrokenPipeError:
         return OPEN
     except (MemoryError, RecursionError):
-        complain("the file is too large, or too deep, for this machine's memory")
+        complain("the file is too large, or too deeply nested, for this machine's memory")
         return TEXT
 
 
@@ -79,7 +79,7 @@ def parser(command: str = "") -> argparse.ArgumentParser:
     top = argparse.ArgumentParser(
         prog="sefwllon",
         description="Solves distributed constraint problems, and says what was verified.",
-        epilog="`sefwllon dcop --help` prints the manual page of the program dcop, and so of dcop_order, dcop_search, dcop_trace and dcop_serve.",
+        epilog="`sefwllon PROGRAM --help` prints the manual page of a program: dcop, dcop_order, dcop_search, dcop_trace or dcop_serve.",
     )
     top.add_argument("--version", action="version", version=f"sefwllon {__version__}")
     commands = top.add_subparsers(title="commands", required=True, metavar="COMMAND")

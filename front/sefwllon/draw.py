@@ -100,7 +100,7 @@ def tree(problem: Problem, nodes: list[Node], own: dict[str, str]) -> str:
     """The tree over which the agents work: solid lines to parents, dashed ones to others of the separator, and the
     cells of each agent's joined table."""
     if sum(node.parent is None for node in nodes) != 1:
-        raise Trouble("the tree has not one root")
+        raise Trouble("the tree does not have exactly one root")
     sizes = {v.name: v.size for v in problem.variables}
     cells = {node.name: f"{math.prod(sizes[name] for name in [node.name, *node.separator]):,} cells" for node in nodes}
     half = half_width([*own.values(), *cells.values()])

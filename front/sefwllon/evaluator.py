@@ -245,7 +245,7 @@ class Formula:
             return
         several = self._eval(loops[0].iter, names)
         if not isinstance(several, Iterable):
-            raise Trouble(f"{self.where}: `{ast.unparse(loops[0].iter)}` is nothing to go through")
+            raise Trouble(f"{self.where}: `{ast.unparse(loops[0].iter)}` is not a list, but `for` needs one")
         for value in several:
             inner = dict(names)
             self._bind(loops[0].target, value, inner)
@@ -308,6 +308,13 @@ def summed(node: ast.expr, sign: bool = True) -> Iterator[ast.expr]:
                 yield from summed(part, sign)
         case _:
             yield node if sign else ast.UnaryOp(ast.USub(), node)
+
+
+INFINITE = {
+    "min": "with the goal min an infinite cost must be infinity, not -infinity",
+    "max": "with the goal max an infinite cost must be -infinity, not infinity",
+}
+"""What is wrong with an infinite cost that does not forbid, by the goal."""
 
 
 def exact(number: object, where: str) -> Fraction | None:

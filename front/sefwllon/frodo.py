@@ -9,7 +9,7 @@ from itertools import product
 from math import prod
 from xml.etree import ElementTree
 
-from .evaluator import exact
+from .evaluator import INFINITE, exact
 from .problem import MOST_SCOPE, Trouble
 from .source import FORBIDDEN, Constraint, Relation, Source
 from .wide import check_count
@@ -26,7 +26,7 @@ def read(text: str, title: str) -> Source:
     except ElementTree.ParseError as fault:
         raise Trouble(f"{title} is no XML: {fault}") from None
     if root.tag != "instance":
-        raise Trouble(f"{title} begins with <{root.tag}>, and a file of FRODO (XCSP 2.1) with <instance>")
+        raise Trouble(f"{title} begins with <{root.tag}>, but a file of FRODO (XCSP 2.1) begins with <instance>")
     return Reader(root, title).source()
 
 
@@ -92,14 +92,14 @@ class Reader:
         if first is not None and self.names and (cost := exact(first, "initialCost")):
             self.constraints.append(Constraint("initialCost", (0,), [cost] * len(self.values[0])))
         if most is not None and self.goal == "max":
-            raise Trouble("<constraints> has a `maximalCost`, which a greatest sum has not")
+            raise Trouble("<constraints> has a `maximalCost`, which is only allowed in a file that minimizes")
         return None if most is None else exact(_INFINITE.get(most, most), "maximalCost")
 
     def variable(self, part: ElementTree.Element, domains: dict[str, list[object]]) -> str:
         """Adds a variable, and gives whose it is."""
         name, domain = attribute(part, "name"), attribute(part, "domain")
         if part.get("type") == "random":
-            raise Trouble(f"the variable {name} is random: only what agents choose is solved")
+            raise Trouble(f"the variable {name} is random: only variables that agents choose can be solved")
         if domain not in domains:
             raise Trouble(f"the domain {domain} of {name} is not among the domains")
         if name in self.names:
@@ -113,7 +113,7 @@ class Reader:
         name, kind, arity = attribute(part, "name"), attribute(part, "semantics"), whole(part, "arity")
         free, never = Fraction(0), FORBIDDEN
         if kind not in ("soft", "supports", "conflicts"):
-            raise Trouble(f"the relation {name} has the semantics {kind}, and none of soft, supports, conflicts")
+            raise Trouble(f"the relation {name} has the semantics {kind}, but it must be soft, supports or conflicts")
         cost, default = {"supports": (free, never), "conflicts": (never, free)}.get(kind, (free, free))
         if kind == "soft":
             default = self.price(part.get("defaultCost", "0"), name)
@@ -124,7 +124,7 @@ class Reader:
                 cost = self.price(before.strip(), name)
             words = tuple(told.split())
             if len(words) != arity:
-                raise Trouble(f"the relation {name} is over {arity} variables, and `{row.strip()[:60]}` names {len(words)} values")
+                raise Trouble(f"the relation {name} is over {arity} variables, but `{row.strip()[:60]}` has {len(words)} values")
             costs[words] = cost
         return Rows(arity, costs, default)
 
@@ -133,7 +133,7 @@ class Reader:
         told = _INFINITE.get(word.strip().lower(), word)
         cost = exact(told, f"the relation {name}")
         if cost is None and (float(told) > 0) == (self.goal == "max"):
-            raise Trouble(f"the relation {name}: a cost without bound is only taken where it forbids")
+            raise Trouble(f"the relation {name}: {INFINITE[self.goal]}")
         return cost
 
     def constraint(self, part: ElementTree.Element, rows: dict[str, Rows]) -> None:
@@ -145,7 +145,7 @@ class Reader:
             raise Trouble(f"the constraint {name} refers to {reference}, which is no relation of the file; others, as global ones, are not read")
         found = rows[reference]
         if found.arity != len(scope):
-            raise Trouble(f"the constraint {name} is over {len(scope)} variables, and its relation {reference} over {found.arity}")
+            raise Trouble(f"the constraint {name} is over {len(scope)} variables, but its relation {reference} is over {found.arity}")
         places = tuple(self.names.index(it) for it in scope)
         at = [{str(value): place for place, value in enumerate(self.values[variable])} for variable in places]
         costs = {}
@@ -167,7 +167,7 @@ def values_of(part: ElementTree.Element) -> list[object]:
     for word in (part.text or "").split():
         ends = _RANGE.match(word)
         if ends and int(ends[2]) - int(ends[1]) > _WIDEST_RANGE:
-            raise Trouble(f"the domain {part.get('name', '')} has the range {word}, which is too long")
+            raise Trouble(f"the domain {part.get('name', '')} has the range {word}, which has too many values")
         values += range(int(ends[1]), int(ends[2]) + 1) if ends else [int(word) if re.fullmatch(r"-?\d{1,18}", word) else word]
     if not values:
         raise Trouble(f"the domain {part.get('name', '')} has no values")

@@ -242,7 +242,7 @@ def order(problem: Problem, tries: int = 20_000, *, time: float | None = None, p
         if printed is None:
             raise Trouble(missing("dcop_order"))
         if printed.status is None:
-            raise Trouble("the time was over before dcop_order had an order: give it more, or fewer tries")
+            raise Trouble("the time was over before dcop_order had an order: give it more time or fewer tries")
         if printed.status != 0:
             raise refusal(printed, "no answer of dcop_order", text)
         found = reordered(told.problem, printed)
@@ -276,7 +276,7 @@ def replay(problem: Problem, report: str | Answer, points: int = 64, *, programs
 def known_words(method: str, time: float | None, error: float, gap: float, workers: int, cells: int | None) -> tuple[Fraction, Fraction]:
     """The gap and the error as they are written, where these words can be; as `sefwllon solve` takes them."""
     if method not in METHODS:
-        raise Trouble(f"the method is {method!r}, and none of {', '.join(METHODS)}")
+        raise Trouble(f"the method is {method!r}, but it must be one of {', '.join(METHODS)}")
     if any(not math.isfinite(it) or it < 0 for it in (error, gap, time or 0)):
         raise Trouble("time, error and gap are numbers from 0 up")
     if workers not in range(1, 65):

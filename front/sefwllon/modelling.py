@@ -12,7 +12,7 @@ from numbers import Rational, Real
 from os import PathLike, fspath
 from typing import Any, Final, Literal, TypeAlias
 
-from .evaluator import exact
+from .evaluator import INFINITE, exact
 from .files import load, read_text
 from .problem import MOST_SCOPE, Trouble, parse
 from .telling import plain_number
@@ -54,7 +54,7 @@ class Problem:
 
     def __init__(self, variables: Mapping[str, Iterable[object]] | None = None, goal: Goal = "min", title: str = "a Python program"):
         if goal not in ("min", "max"):
-            raise Trouble(f"the goal is {goal!r}, and neither 'min' nor 'max'")
+            raise Trouble(f"the goal is {goal!r}, but it must be 'min' or 'max'")
         self._source = Source(goal, [], [], [], title)
         self._places: dict[str, int] = {}
         self._told: Translation | None = None
@@ -201,7 +201,7 @@ class Problem:
         if unknown is not None:
             raise Trouble(f"a table names {unknown!r}, which is no variable: add the variable first")
         if not names or len(set(names)) < len(names):
-            raise Trouble(f"a table is over one or more variables, each of them once, and not over {names}")
+            raise Trouble(f"a table needs one or more different variables, not {names}")
         return tuple(self._places[name] for name in names)
 
     def _price(self, cost: object, told: str, choice: tuple[object, ...]) -> Fraction | int | None:
@@ -216,7 +216,7 @@ class Problem:
             raise Trouble(f"{where}: {cost!r} is no cost: a cost is a number, or FORBIDDEN")
         price = exact(float(cost), where)
         if price is None and (float(cost) > 0) == (self.goal == "max"):
-            raise Trouble(f"{where}: a cost without bound is only taken where it forbids")
+            raise Trouble(f"{where}: {INFINITE[self.goal]}")
         return price
 
     def _chosen(self, values: Mapping[str, object]) -> list[int]:
@@ -262,7 +262,7 @@ def by_choice(costs: Mapping[Any, Cost], choices: list[tuple[object, ...]], defa
         raise Trouble(f"{told}: its values can't be keys of a dict: give a function or a list") from None
     strange = next((key for key in costs if key not in known), None)
     if strange is not None:
-        raise Trouble(f"{told}: {strange!r} is no choice of values, as {keys[0]!r} is one")
+        raise Trouble(f"{told}: {strange!r} is not a choice of values such as {keys[0]!r}")
     left = next((key for key in keys if key not in costs), None)
     if left is not None and default is None:
         raise Trouble(f"{told} has no cost for {left!r}: give it one, or give the table a default")

@@ -63,7 +63,7 @@ def deliver(text: str, files: list[tuple[str, Callable[[], str]]]) -> bool:
         try:
             write(name, made())
         except Trouble as trouble:
-            complain(f"{trouble}; the answer that was printed is whole without it")
+            complain(f"{trouble}; the printed answer is complete without it")
             good = False
     return good
 
@@ -98,9 +98,9 @@ def test_outputs(read: list[str], *names: str | None) -> None:
     for name in (name for name in names if name):
         path = os.path.realpath(name)
         if path in taken:
-            raise Trouble(f"{name} would be written over, and it is what is read: name another file")
+            raise Trouble(f"{name} is read, so it can't be written too: name another file for the output")
         if path in seen and (os.path.isfile(name) or not os.path.exists(name)):
-            raise Trouble(f"{name} is to be written twice: name another file for one of them")
+            raise Trouble(f"{name} is named for two outputs: name another file for one of them")
         seen.add(path)
         why = unwritable(Path(name))
         if why:

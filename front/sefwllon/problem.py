@@ -114,7 +114,7 @@ class Problem:
         if not self.variables:
             raise Trouble("the problem has no variable")
         if len(self.variables) > MOST_VARIABLES:
-            raise Trouble(f"the problem has {len(self.variables)} variables; dcop takes {MOST_VARIABLES}")
+            raise Trouble(f"the problem has {len(self.variables)} variables; dcop takes up to {MOST_VARIABLES}")
         for variable in self.variables:
             if not 1 <= variable.size <= MOST_VALUES:
                 raise Trouble(f"{variable.name} has {variable.size} values; dcop takes 1 to {MOST_VALUES}")
@@ -130,9 +130,9 @@ class Problem:
                 raise Trouble(f"a cost is {greatest[-1]}; dcop takes costs up to 2^50 = {MOST_COST}")
         cells = sum(len(table.costs) for table in self.tables)
         if cells > MOST_CELLS:
-            raise Trouble(f"the tables have {cells} costs together; dcop takes {MOST_CELLS}")
+            raise Trouble(f"all tables together have {cells} costs; dcop takes up to {MOST_CELLS}")
         if sum(greatest) > MOST_SUM:
-            raise Trouble("the greatest costs of all tables sum to more than 2^62, which is the most that dcop takes")
+            raise Trouble("the sum of the greatest costs of all tables is above 2^62, the most that dcop takes")
 
 
 class TextFault(Trouble):
@@ -198,7 +198,7 @@ def parse(text: str) -> Problem:
                 problem.source = "\n".join(text.split("\n")[:number]) + "\n"
                 return problem
             case ["end"]:
-                raise TextFault(lines[at][0], "words follow behind the line `end`")
+                raise TextFault(lines[at][0], "words follow after the line `end`")
             case _:
                 raise TextFault(number, "the line is none of `goal`, `var`, `table`, `end`")
     raise TextFault(text.count("\n") + 1, "the line `end` is missing")

@@ -186,7 +186,7 @@ def found(name: str) -> str | None:
     if variable in os.environ:
         named = os.environ[variable]
         if named and shutil.which(named) is None:
-            raise Trouble(f"{variable} names {named}, which is no program that can be run: name the built {name}, or leave it out")
+            raise Trouble(f"{variable} names {named}, which is not a program that can be run: name the built {name}, or unset the variable")
         return named or None
     on_path = shutil.which(name)
     if on_path:

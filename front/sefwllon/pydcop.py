@@ -8,7 +8,7 @@ from fractions import Fraction
 from itertools import product
 from math import prod
 
-from .evaluator import Formula, Switch, exact
+from .evaluator import INFINITE, Formula, Switch, exact
 from .problem import MOST_SCOPE, Trouble
 from .source import Constraint, Relation, Source
 from .wide import check_count
@@ -68,7 +68,7 @@ class Reader:
         self.title = title
         self.goal = str(data.get("objective", "min"))
         if self.goal not in ("min", "max"):
-            raise Trouble(f"{title}: the objective is {self.goal}, and neither min nor max")
+            raise Trouble(f"{title}: the objective is {self.goal}, but it must be min or max")
         self.domains = {name: values_of(spec) for name, spec in named(data.get("domains"), "domains").items()}
         self.variables = {name: named(spec, name) for name, spec in named(data["variables"], "variables").items()}
         outside = named(data.get("external_variables"), "external_variables")
@@ -98,11 +98,11 @@ class Reader:
         noisy = [name for name, spec in self.variables.items() if spec.get("noise_level")]
         notes = []
         if self.passed_over():
-            notes.append(f"passed over: {', '.join(self.passed_over())}")
+            notes.append(f"ignored: {', '.join(self.passed_over())}")
         if noisy:
-            notes.append(f"the noise of {', '.join(noisy)} is left out: pyDCOP draws it anew for each run, and adds it to the cost")
+            notes.append(f"the noise of {', '.join(noisy)} is ignored: pyDCOP draws it anew for each run, and adds it to the cost")
         if self.untold:
-            notes.append(f"{', '.join(self.untold)}: there is no `default`, and choices of values whose cost is not told count 0 here")
+            notes.append(f"{', '.join(self.untold)}: there is no `default`; choices of values without a cost count as 0 here")
         return notes
 
     def passed_over(self) -> list[str]:
@@ -122,14 +122,14 @@ class Reader:
         """A cost; None for one without bound, which forbids."""
         cost = exact(number, name)
         if cost is None and (float(str(number)) > 0) == (self.goal == "max"):
-            raise Trouble(f"{name}: a cost without bound is only taken where it forbids")
+            raise Trouble(f"{name}: {INFINITE[self.goal]}")
         return cost
 
     def constraint(self, name: str, spec: dict) -> None:
         kind = str(spec.get("type", "intention"))
         if kind in ("intention", "intentional"):
             if "source" in spec:
-                raise Trouble(f"{name}: its formula stands in the file {spec['source']}, which is not run")
+                raise Trouble(f"{name}: its formula is in the file {spec['source']}, which is not run: write the formula under `function`")
             if "function" not in spec:
                 raise Trouble(f"{name} has no function")
             self.by_formula(name, str(spec["function"]))

@@ -101,9 +101,9 @@ def replayed(programs: Programs, problem: Problem, report: str, events: int, del
     """What the root knows after so many events."""
     answer = programs.run(["replay", "--after", str(events)], problem.text() + report)
     if answer.unserved:
-        raise Trouble("this program dcop has no `replay` yet, which the picture of a log is made with: build a later one")
+        raise Trouble("this program dcop is too old for the picture of a log, which needs `dcop replay`: build it again")
     if answer.status == NO:
-        raise Trouble("the log is that of no run: " + differs(answer.text))
+        raise Trouble("no run has this log: " + differs(answer.text))
     if answer.status != 0:
         raise refusal(answer, "no answer of `dcop replay`")
     root = problem.variables[0].name
@@ -112,7 +112,7 @@ def replayed(programs: Programs, problem: Problem, report: str, events: int, del
         if words[:2] == ["agent", root]:
             told = dict(zip(words[2::2], words[3::2]))
             return moment(problem, events, delivered[events], int(told["lower"]), None if told["upper"] == "-" else int(told["upper"]))
-    raise Trouble(f"dcop replay tells nothing of {root}, the root")
+    raise Trouble(f"dcop replay printed no line about {root}, the root")
 
 
 def moment(problem: Problem, events: int, messages: int, least: int, most: int | None) -> Moment:

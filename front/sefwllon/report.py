@@ -96,7 +96,7 @@ def read_report(text: str, problem: Problem) -> Report:
             variable = problem.variables[len(values)] if len(values) < len(problem.variables) else None
             value = variable.value_of(words[2]) if variable and variable.name == words[1] else None
             if value is None:
-                raise Trouble(f"the report says `{line}`, which fits no variable of the problem")
+                raise Trouble(f"the report says `{line}`, which does not fit this problem: is the report about another problem?")
             values.append(value)
         elif words[0] == "rests":
             rests = " ".join(words[1:])

@@ -67,4 +67,4 @@ def check_bound(found: Found, answer: Answer, goal: str, better: int | None, err
     reached = found.cost if found.cost is not None else better
     if found.ended and (reached is None or abs(reached - found.bound) > error):
         if reached is None or is_better(found.bound, reached, goal):
-            raise Trouble(f"{answer.who} says that it has ended, and its bound is {found.bound}: don't trust this program")
+            raise Trouble(f"{answer.who} says that it has ended, but its bound is {found.bound}: don't trust this program")

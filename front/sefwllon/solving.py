@@ -226,7 +226,7 @@ class Solver:
 
     def without_search(self) -> Iterator[Step]:
         """What is tried where `dcop_search` is not there."""
-        self.best.notes.append(f"{missing('dcop_search')}; in its place cut and ADOPT were tried")
+        self.best.notes.append(f"{missing('dcop_search')}; cut and ADOPT were tried instead")
         yield from (Step("adopt", budget) for budget in MESSAGES[:2])
         yield Step("cut")
         yield from (Step("adopt", budget) for budget in MESSAGES[2:])
@@ -460,7 +460,7 @@ class Solver:
         if found.values is not None and (self.best.cost is None or is_better(found.cost or 0, self.best.cost, goal)):
             self.best.values, self.best.cost = found.values, found.cost
         if self.best.cost is not None and is_better(self.best.cost, found.bound, goal):
-            raise Trouble(f"{answer.who} says that no sum is better than {found.bound}, and one is {self.best.cost}: don't trust this program")
+            raise Trouble(f"{answer.who} says that no sum is better than {found.bound}, but one is {self.best.cost}: don't trust this program")
         self.best.method, self.best.nodes = "search", self.best.nodes + found.nodes
         if self.best.proved is None or is_better(self.best.proved, found.bound, goal):
             self.best.searched, self.best.smaller = True, False
@@ -477,7 +477,7 @@ class Solver:
         answer = self.run_cut(text, until)
         if answer.status is None and not self.best.stopped:
             spent = time.monotonic() - began
-            self.best.notes.append(f"cut was stopped after {spent:.1f} s; with `--method cut` it has all of the time")
+            self.best.notes.append(f"cut was stopped after {spent:.1f} s; with `--method cut` it may use all of the time")
         self.taken(answer, text, problem)
 
     def run_cut(self, text: str, until: float | None) -> Answer:

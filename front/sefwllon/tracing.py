@@ -171,7 +171,7 @@ def traced(program: str | None, text: str, first: int = 0, last: int = LAST) -> 
 def refused(answer: str, status: int, path: str, text: str) -> Exception:
     """What an answer is that is no trace."""
     if status == NO and answer.startswith("status no\n"):
-        return Trouble("the log is that of no run: " + differs(answer))
+        return Trouble("no run has this log: " + differs(answer))
     return refusal(Answer(answer, status, "dcop_trace", path), "no answer of `dcop_trace`", text)
 
 
@@ -191,7 +191,7 @@ class Channels:
             if head == "took":
                 waiting = self.waiting.get((other, event.agent))
                 if not waiting or waiting[0][1] != words:
-                    raise Trouble(f"dcop_trace tells that {event.agent} takes `{words}` of {other} in event {event.number}, which is not what was sent: don't trust it")
+                    raise Trouble(f"dcop_trace says that {event.agent} takes `{words}` of {other} in event {event.number}, which is not what was sent: don't trust it")
                 origins.append(waiting.popleft()[0])
             elif head == "sent":
                 self.waiting.setdefault((event.agent, other), deque()).append((event.number, words))

@@ -54,7 +54,7 @@ def read_wcsp(text: str, title: str) -> Source:
         scope = tuple(words.number() for _ in range(arity))
         default = words.number()
         if len(set(scope)) < len(scope) or any(v >= count for v in scope):
-            raise Trouble(f"function {number} names a variable that is not there, or one twice")
+            raise Trouble(f"function {number} names a variable that does not exist, or names a variable twice")
         told = {}
         for _ in range(words.number()):
             choice = tuple(words.number() for _ in scope)
@@ -100,15 +100,15 @@ def read_uai(text: str, title: str) -> Source:
     words = Words(text, "UAI")
     kind = words.next()
     if kind not in ("MARKOV", "BAYES"):
-        raise Trouble(f"the file begins with {kind}, and neither MARKOV nor BAYES")
+        raise Trouble(f"the file begins with {kind}, but it must begin with MARKOV or BAYES")
     sizes = [words.number() for _ in range(words.number())]
     scopes = [tuple(words.number() for _ in range(words.number())) for _ in range(words.number())]
     constraints, relations = [], []
     for number, scope in enumerate(scopes, 1):
         if len(set(scope)) < len(scope) or any(v >= len(sizes) for v in scope):
-            raise Trouble(f"factor {number} names a variable that is not there, or one twice")
+            raise Trouble(f"factor {number} names a variable that does not exist, or names a variable twice")
         if words.number() != prod(sizes[v] for v in scope):
-            raise Trouble(f"factor {number} has not as many entries as its variables have choices")
+            raise Trouble(f"factor {number} does not have one entry for each choice of values of its variables")
         costs: list[Fraction | None] = []
         for _ in range(prod(sizes[v] for v in scope)):
             factor = words.real()

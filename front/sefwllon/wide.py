@@ -21,7 +21,7 @@ def check_count(name: str, sizes: list[int]) -> None:
     """Raises `Trouble` where a constraint has too many choices of values to go through them."""
     most = MOST_CELLS if len(sizes) <= MOST_SCOPE else MOST_SPLIT
     if prod(sizes) > most:
-        raise Trouble(f"{name} is over {len(sizes)} variables, which have {prod(sizes)} choices of values together; {most} are the most")
+        raise Trouble(f"{name} is over {len(sizes)} variables, which together have {prod(sizes)} choices of values; the limit is {most}")
 
 
 def narrowed(source: Source) -> Source:

@@ -273,7 +273,7 @@ class Programming(Case):
             for wrong in ("/nowhere/at/all", "/"):
                 named = {"program": FAKE, "order": FAKE, "search": FAKE_SEARCH, place: wrong}
                 status, told, why = self.front("solve", pair, fake="slow", **named)
-                self.assertEqual((status, told, f"{variable} names {wrong}, which is no program that can be run" in why), (3, "", True))
+                self.assertEqual((status, told, f"{variable} names {wrong}, which is not a program that can be run" in why), (3, "", True))
 
     def test_each_command_names_a_wrong_program(self):
         pair, report = self.file("p.dcop", PAIR), self.file("report", "")
@@ -387,21 +387,21 @@ class Keeping(Case):
     def test_a_report_that_can_t_be_written_is_known_before_the_run(self):
         file = self.file("p.dcop", PAIR)
         folder = str(Path(file).parent)
-        for name, why in ((f"{folder}/none/report", "there is no folder"), (folder, "it is a folder"), (file, "it is what is read")):
+        for name, why in ((f"{folder}/none/report", "there is no folder"), (folder, "it is a folder"), (file, "is read, so it can't be written")):
             calls = self.file("calls", "")
             status, told, said = self.front("solve", file, "--report", name, FAKE_CALLS=calls)
             self.assertEqual((status, told, Path(calls).read_text()), (3, "", ""))
             self.assertIn(why, said)
         week = str(EXAMPLES / "meetings.csv")
         status, told, said = self.front("meetings", week, "--svg", f"{folder}/out", "--ics", f"{folder}/out")
-        self.assertEqual((status, told, "is to be written twice" in said), (3, "", True))
+        self.assertEqual((status, told, "is named for two outputs" in said), (3, "", True))
 
     @unittest.skipUnless(os.path.exists("/dev/full"), "no full disk to write to")
     def test_a_full_disk_loses_nothing_that_was_found(self):
         file, report = self.file("p.dcop", PAIR), self.file("report", "")
         status, told, why = self.front("solve", file, "--report", "/dev/full")
         self.assertEqual((status, told.splitlines()[0]), (3, "cost 3, and none is better (verified)"))
-        self.assertIn("/dev/full can't be written: No space left on device; the answer that was printed is whole", why)
+        self.assertIn("/dev/full can't be written: No space left on device; the printed answer is complete", why)
         week = str(EXAMPLES / "meetings.csv")
         picture = self.file("week.svg", "")
         status, told, why = self.front("meetings", week, "--ics", "/dev/full", "--svg", picture, "--report", "/dev/full")
@@ -450,11 +450,11 @@ class Keeping(Case):
         with mock.patch.object(sys, "stdout", io.StringIO()) as out, mock.patch.object(sys, "stderr", io.StringIO()) as err:
             self.assertFalse(deliver("the answer\n", [("picture", fails), (other, lambda: "whole\n")]))
         self.assertEqual((out.getvalue(), Path(other).read_text()), ("the answer\n", "whole\n"))
-        self.assertIn("the picture can't be drawn; the answer that was printed is whole without it", err.getvalue())
+        self.assertIn("the picture can't be drawn; the printed answer is complete without it", err.getvalue())
         calls = self.file("calls", "")
         text = "slot,a\nslot,b,2026-03-02 09:00\nmeeting,m,Ann\nlike,m,a,3\n"
         status, told, why = self.front("meetings", self.file("week.csv", text), "--ics", self.file("week.ics", ""), FAKE_CALLS=calls)
-        self.assertEqual((status, told, Path(calls).read_text(), "no begin" in why), (3, "", "", True))
+        self.assertEqual((status, told, Path(calls).read_text(), "the slot a has no time" in why), (3, "", "", True))
 
 
 class Interrupting(Case):
@@ -545,9 +545,9 @@ class Costing(Case):
             (week, ("Plannig=Mon 9",), "`Plannig=Mon 9`: there is no Plannig"),
             (pair, ("x=0", "y=1", "z=1"), "`z=1`: there is no z"),
             (pair, ("x=0", "y=2"), "`y=2`: 2 is no value of y; it has 0, 1"),
-            (pair, ("x=0", "x=1", "y=1"), "`x=1`: x has the value 0 already, by `x=0`"),
+            (pair, ("x=0", "x=1", "y=1"), "`x=1`: x already has the value 0, from `x=0`"),
             (pair, ("x=0",), "the assignment has no value for y"),
-            (pair, (self.file("a", "x=0\n\n# a note\nvalue y 1\nworse\n"),), "line 5, `worse`: a line is NAME=VALUE or `value NAME VALUE`"),
+            (pair, (self.file("a", "x=0\n\n# a note\nvalue y 1\nworse\n"),), "line 5, `worse`: a line must be NAME=VALUE or `value NAME VALUE`"),
             (pair, (self.file("a", "x=0\nvalue v 1\n"),), "line 2, `value v 1`: there is no v"),
         ):
             status, told, said = self.front("cost", file, *words)

@@ -123,7 +123,7 @@ class Killed(OnCluster):
         self.assertIsNone(process.poll(), "the sweep goes on with the other worker")
         engine.scheduler.send_signal(signal.SIGKILL)
         _, why = process.communicate(timeout=SECONDS)
-        self.assertEqual((process.returncode, "is gone; the same command goes on" in why, why.count("Traceback")), (3, True, 0), why)
+        self.assertEqual((process.returncode, "is gone; run the same command again to go on" in why, why.count("Traceback")), (3, True, 0), why)
         limit.write_text("1000")
         kept = Path(self.out).read_text()
         self.assertLess(kept.count("\n"), 21)
@@ -141,4 +141,4 @@ class Nobody(OnCluster):
             for words in (("sweep", file, "--methods", "dpop", "-o", self.out), ("solve", file)):
                 status, said, why = self.front(*words, "--cluster", "tcp://127.0.0.1:9", search=REAL or __file__)
                 self.assertEqual((status, said.count("cost")), (3, 0), why)
-                self.assertIn("no Dask scheduler answers at tcp://127.0.0.1:9: begin one with `dask-scheduler`", why)
+                self.assertIn("no Dask scheduler answers at tcp://127.0.0.1:9: start one with `dask-scheduler`", why)

@@ -101,7 +101,7 @@ class Wide(Files):
         with self.assertRaisesRegex(Trouble, "is over 11 variables and leaves 2048 choices of their values; .* where they are sums of such or leave at most 1024"):
             solve(problem)
         large = Problem({name: range(100) for name in names})
-        with self.assertRaisesRegex(Trouble, "is over 11 variables, which have 10{22} choices of values together"):
+        with self.assertRaisesRegex(Trouble, "is over 11 variables, which together have 10{22} choices of values; the limit"):
             large.table(names, lambda *values: 0)
         never = Problem({name: [0, 1] for name in names})
         never.require(names, lambda *values: False)
@@ -169,19 +169,19 @@ class Frodo(Files):
             ('domain="three_colors" agent="agentX"', 'domain="two" agent="agentX"', "the domain two of X is not among the domains"),
             ('name="Y" domain', 'name="X" domain', "there are two variables X"),
             ('name="Y" domain', 'name="Y" type="random" domain', "the variable Y is random"),
-            ('semantics="conflicts"', 'semantics="hard"', "has the semantics hard, and none of soft"),
-            ("infinity: 1 1", "-infinity: 1 1", "only taken where it forbids"),
+            ('semantics="conflicts"', 'semantics="hard"', "has the semantics hard, but it must be soft"),
+            ("infinity: 1 1", "-infinity: 1 1", "with the goal min an infinite cost must be infinity"),
             ("infinity: 1 1", "much: 1 1", "the relation NEQ: 'much' is no cost"),
-            ("1 2|2 1", "1 2|2", "the relation APART is over 2 variables, and `2` names 1 values"),
+            ("1 2|2 1", "1 2|2", "the relation APART is over 2 variables, but `2` has 1 values"),
             ('arity="2" nbTuples="3"', 'arity="two" nbTuples="3"', "`arity` is two, and no whole number"),
             ('scope="X Y"', 'scope="X W"', "X_and_Y names W, which is no variable"),
             ('scope="X Y"', 'scope="X X"', "names a variable twice"),
             ('reference="APART"', 'reference="global:allDifferent"', "refers to global:allDifferent, which is no relation"),
-            ('reference="APART"', 'reference="TASTE"', "is over 2 variables, and its relation TASTE over 1"),
+            ('reference="APART"', 'reference="TASTE"', "is over 2 variables, but its relation TASTE is over 1"),
             (' scope="X Y"', "", "<constraint> X_and_Y has no attribute `scope`"),
             ("1..3", "", "the domain three_colors has no values"),
             ("1..3", "1..3 2", "has a value twice"),
-            ("1..3", "1..9999999999", "which is too long"),
+            ("1..3", "1..9999999999", "which has too many values"),
             ("<constraints ", "<predicates><predicate/></predicates><constraints ", "constraints by formulas are not read"),
         ):
             with self.assertRaisesRegex(Trouble, re.escape(why)):
@@ -258,7 +258,7 @@ class Pydcop(Files):
         ):
             formula = Formula(text, "c")
             self.assertEqual((text, sorted(formula.names()), formula.value({"x": 1, "y": 2, "z": 4})), (text, names, wanted))
-        for text, why in (("sum(1 for a in range(10**6))", "too long"), ("[a for a in x]", "nothing to go through"), ("sum(a for a, b in [x])", "can't be"), ("max(map(x))", "names map|may not have")):
+        for text, why in (("sum(1 for a in range(10**6))", "too long"), ("[a for a in x]", "is not a list"), ("sum(a for a, b in [x])", "can't be"), ("max(map(x))", "names map|may not have")):
             with self.assertRaisesRegex(Trouble, why):
                 Formula(text, "c").value({"x": 1})
 
@@ -266,8 +266,8 @@ class Pydcop(Files):
         text = BASE + "x: {domain: d, initial_value: 1}, y: {domain: d}}\nconstraints: {c: {function: x + y, weight: 3}}\n"
         text += "agents: {a1: {capacity: 10}}\nroutes: {default: 5}\ndistribution_hints: {must_host: {a1: [x]}}\n"
         told = self.front("solve", self.file("p.yaml", text))[1]
-        self.assertIn("note: passed over: agents, routes, distribution_hints, initial_value of x, weight of c\n", told)
-        self.assertNotIn("passed over", self.front("solve", str(EXAMPLES / "colouring.yaml"))[1])
+        self.assertIn("note: ignored: agents, routes, distribution_hints, initial_value of x, weight of c\n", told)
+        self.assertNotIn("ignored", self.front("solve", str(EXAMPLES / "colouring.yaml"))[1])
 
 
 class Pictures(Files):

@@ -110,7 +110,7 @@ class Solving(Case):
             with mock.patch("sefwllon.solving.MESSAGES", (1_000, 2_000)):
                 status, told, _ = self.front("solve", pair, fake="wide long spends")
         self.assertEqual(status, 1)
-        self.assertRegex(told, r"\nnote: cut was stopped after \d+\.\d s; with `--method cut` it has all of the time\n")
+        self.assertRegex(told, r"\nnote: cut was stopped after \d+\.\d s; with `--method cut` it may use all of the time\n")
         tracking = str(PROBLEMS / "tracking.dcop")
         status, told, _ = self.front("solve", "--method", "cut", "--time", "1s", tracking, fake="long")
         self.assertEqual((status, told.splitlines()[1]), (1, "stopped: the time is over"))
@@ -415,7 +415,7 @@ class Translating(Case):
         status, told, _ = self.front("solve", file)
         first, second = told.splitlines()[:2]
         self.assertEqual((status, first), (0, f"cost {1 / 3}, and none is better by more than 2e-06, to which costs are rounded (verified)"))
-        self.assertIn("the noise of x is left out", second)
+        self.assertIn("the noise of x is ignored", second)
 
     def test_that_no_assignment_keeps_all_is_known_by_a_bound(self):
         for goal in ("min", "max"):
@@ -456,7 +456,7 @@ class Translating(Case):
             (head + "1 0 0 1\n1 1_0\n", "line 4: 1_0 is no whole number"),
             (head + "1 -1 0 0\n", "line 3: -1 is no whole number"),
             (head + "1 2 0 0\n", "function 1 names a variable that is not there"),
-            (head + "2 1 1 0 0\n", "or one twice"),
+            (head + "2 1 1 0 0\n", "or names a variable twice"),
             (head + "1 0 0 1\n2 5\n", "function 1 names value 2 of variable 0"),
             (head + "1 0 0 1\n", "ends too early"),
         ):
@@ -471,11 +471,11 @@ class Translating(Case):
         for text, why in (
             ("x: [", "no YAML"),
             ("domains: {}", "no `variables`"),
-            (head + "objective: best", "neither min nor max"),
+            (head + "objective: best", "it must be min or max"),
             ("variables: [x]", "variables: lines `NAME: ..`"),
             ("variables: {x: }", "the domain None of x is not among"),
             (head + "constraints: {c: {type: extensional, variables: x, values: [1]}}", "c: its values are lines"),
-            (head + "constraints: {c: {function: 'sum(i for i in x)'}}", "c: `x` is nothing to go through"),
+            (head + "constraints: {c: {function: 'sum(i for i in x)'}}", "c: `x` is not a list"),
             (head + "constraints: {c: {function: 'max([x], key=lambda i: i)'}}", "may not have `lambda i: i`"),
             (head + "constraints: {c: {type: intention, function: x + z}}", "names z"),
             (head + "constraints: {c: {type: extensional, variables: x, values: {1: 5}}}", "5 is no value of x"),
@@ -600,7 +600,7 @@ class Telling(Case):
         self.assertEqual(status, 3)
         self.assertIn("event 3 takes 3 messages from y, but only 1 is there", why)
         status, _, why = self.front("draw", pair, report, fake="")
-        self.assertIn("has no `replay` yet", why)
+        self.assertIn("is too old for the picture of a log", why)
 
     def test_moments_are_those_at_which_bounds_change(self):
         report = "status solved\nmethod adopt\nerror 0\ndeliveries 20\ncost 2\nlower 2\nupper 2\nvalue x 1\nvalue y 0\n"
@@ -627,7 +627,7 @@ class Telling(Case):
             try:
                 found = replaying.moments(Programs(REAL), problem, text)
             except Trouble as trouble:
-                self.assertIn("has no `replay` yet", str(trouble))
+                self.assertIn("is too old for the picture of a log", str(trouble))
                 continue
             last = found[-1]
             self.assertEqual((goal, last.deliveries), (problem.goal, told.deliveries))

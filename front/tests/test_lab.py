@@ -116,7 +116,7 @@ class Generate(Lab):
             (("sensors", "--targets", "99"), "--targets is from 1 to 40"),
             (("meetings", "--attend", "11"), "--attend is from 1 to"),
             (("scale-free", "--links", "30"), "there is no such graph"),
-            (("random", "--variables", "1001", "--density", "0"), "dcop takes 1000"),
+            (("random", "--variables", "1001", "--density", "0"), "dcop takes up to 1000"),
         ):
             status, _, why = self.front("generate", *words, "-o", self.folder)
             self.assertEqual((status, wanted in why), (3, True), why)
@@ -199,13 +199,13 @@ class Sweep(Lab):
         short = self.file("short.csv", line_of(COLUMNS) + "x,y\n")
         Path(empty).mkdir()
         for words, wanted in (
-            ((problems, "-o", other), f"{other}, line 1: that is no file of results of `sefwllon sweep`"),
-            ((problems, "-o", short), f"{short}, line 2: a row has {len(COLUMNS)} cells, and this one has 2"),
+            ((problems, "-o", other), f"{other}, line 1: that is not a file of results of `sefwllon sweep`"),
+            ((problems, "-o", short), f"{short}, line 2: a row has {len(COLUMNS)} cells, but this one has 2"),
             ((empty, "-o", self.out), f"the folder {empty} has no problem"),
             ((f"{empty}/x", "-o", self.out), f"there is no file or folder {empty}/x"),
             ((problems, "-o", f"{empty}/x/y.csv"), "can't be written: No such file or directory"),
             ((problems, "-o", self.out, "--methods", "dpop,best"), "there is no method best: --methods takes plain, dpop"),
-            ((problems, "-o", self.out, "--methods", "dpop:tries=3"), "dpop:tries=3: tries=3 is no option of dpop"),
+            ((problems, "-o", self.out, "--methods", "dpop:tries=3"), "dpop:tries=3: tries=3 is not an option of dpop"),
             ((problems, "-o", self.out, "--methods", "adopt:error=x"), "adopt:error=x: the error x is no number"),
             ((problems, "-o", self.out, "--methods", "dpop,dpop"), "--methods names dpop twice"),
             ((f"{problems}/p0.dcop", "-o", f"{problems}/p0.dcop"), "is one of the files that are read, so no rows are appended to it"),
@@ -228,7 +228,7 @@ class Sweep(Lab):
             (os.killpg if number == signal.SIGINT else os.kill)(process.pid, number)
             _, why = process.communicate(timeout=SECONDS)
             self.assertEqual((process.returncode, why.count("Traceback")), (status, 0), why)
-            self.assertEqual("interrupted; the same command goes on" in why, number == signal.SIGINT, why)
+            self.assertEqual("interrupted; run the same command again to go on" in why, number == signal.SIGINT, why)
         Path(self.folder, "limit").write_text("1000")
         kept = Path(self.out).read_text()
         until(lambda: self.again(words, slow), "the end of the sweep")
@@ -307,10 +307,10 @@ class Sent(Lab):
         with mock.patch("pkgutil.get_data", return_value=b"a program"):
             path = Path(parcel.written(Path(self.folder, "dcop"), "dcop", sums["dcop"]))
             self.assertEqual((path.read_bytes(), path.stat().st_mode & 0o777), (b"a program", 0o700))
-        with mock.patch("pkgutil.get_data", return_value=b"another"), self.assertRaisesRegex(Trouble, "dcop came with another content than was sent"):
+        with mock.patch("pkgutil.get_data", return_value=b"another"), self.assertRaisesRegex(Trouble, "dcop arrived damaged"):
             parcel.written(Path(self.folder, "dcop"), "dcop", sums["dcop"])
         job = {"file": "p.dcop", "name": "p.dcop", "content": PAIR.encode(), "checksum": hashlib.sha256(b"").hexdigest(), "method": "dpop", "time": 9.0}
-        with self.assertRaisesRegex(Trouble, "p.dcop came with another content than was sent"):
+        with self.assertRaisesRegex(Trouble, "p.dcop arrived damaged"):
             runs.run(job, {})
 
 
@@ -338,7 +338,7 @@ class Plot(Lab):
         cells = ["1" if name in ("file", "method") else "many" if name == "seconds" else "" for name in COLUMNS]
         wrong, empty = self.file("wrong.csv", line_of(COLUMNS) + line_of(cells)), self.file("empty.csv", line_of(COLUMNS))
         for name, wanted in (
-            (other, f"{other}, line 1: that is no file of results"),
+            (other, f"{other}, line 1: that is not a file of results"),
             (wrong, f"{wrong}, line 2: seconds is `many`, which is no number"),
             (empty, "there is no row yet"),
             (f"{self.folder}/none.csv", "can't be read: No such file"),
@@ -388,8 +388,8 @@ class Slices(Lab):
     def test_wrong_words_are_told(self):
         file = self.file("p.dcop", PAIR)
         for words, wanted in (
-            (("--cluster", "local:x"), "local:x names no number of processes"),
-            (("--cluster", "local", "--method", "dpop"), "--cluster shares a search out, and no other method"),
+            (("--cluster", "local:x"), "local:x must name a number of processes"),
+            (("--cluster", "local", "--method", "dpop"), "--cluster works only with the search"),
         ):
             status, _, why = self.front("solve", file, *words, **PROGRAMS)
             self.assertEqual((status, wanted in why), (3, True), why)

@@ -174,7 +174,7 @@ class Answers(Case):
             ("solve?wait=x", {"text": PAIR}, 422, "`wait` is a number of seconds"),
             ("meetings", {"text": WEEK, "fixed": ["standup"]}, 422, "`fixed` is the slot"),
             ("timetable/look", {"text": "slot,A\nmeting,X,y\n", "values": {}}, 422, "line 2: a line begins with"),
-            ("solve", [], 422, "the request is JSON"),
+            ("solve", [], 422, "the request must be a JSON object"),
             ("nothing", {}, 404, "there is nothing"),
             ("health", {}, 405, "does not take that method"),
         ):
@@ -342,7 +342,7 @@ class Starting(Case):
         with Served() as served:
             told = self.start("serve", "--port", str(served.port))
             self.assertEqual((told.returncode, told.stdout), (3, ""))
-            self.assertIn(f"the port {served.port} can't be had", told.stderr)
+            self.assertIn(f"the port {served.port} can't be used", told.stderr)
         self.assertIn("SEFWLLON_TOKEN has at least 16", self.start("serve", SEFWLLON_TOKEN="short").stderr)
         self.assertIn("--processes is a number from 1 to 64", self.start("serve", "--processes", "0").stderr)
         self.assertIn("can't be read", self.start("web", "nowhere.csv").stderr)

@@ -91,10 +91,10 @@ class Reading(Case):
     def test_slips_are_told_with_their_lines(self):
         week = TWO + "meeting,m,Ann;Bo\n"
         for slip, why in (
-            ('meeting,"Design,Ida;Kim\nmeeting,Retro,Ida\n', "line 4: a quote is opened and never closed on its line"),
-            ('meeting,"Design" team,Ida\n', "line 4: words stand behind a quote that is closed, before `team,Ida`"),
-            ('meeting,Design "A",Ida\n', "line 4: a quote stands within the cell `Design \"A\"`"),
-            ("meeting;n;Ann\n", "line 4: its cells are separated by semicolons, and those of the other lines by commas"),
+            ('meeting,"Design,Ida;Kim\nmeeting,Retro,Ida\n', "line 4: a quote is opened and not closed on its line"),
+            ('meeting,"Design" team,Ida\n', "line 4: `team,Ida` follows a closing quote"),
+            ('meeting,Design "A",Ida\n', "line 4: there is a quote inside the cell `Design \"A\"`"),
+            ("meeting;n;Ann\n", "line 4: its cells are separated by semicolons, but those of the other lines by commas"),
             ("slto,c,2026-03-02 11:00\nabsent,Ann,c\n", "line 4: a line begins with slot, .*: is slot meant\\? \\(`slto,c,2026-03-02 11:00`\\)$"),
             ("absent,Ann,A\n", "line 4: Ann is absent in A, which is no slot"),
             ("slot,Mon 9\nabsent,Ann,Mon 09\n", "line 5: .*which is no slot: is Mon 9 meant\\?"),
@@ -107,16 +107,16 @@ class Reading(Case):
             ("like,An,a,2\n", "line 4: An likes or dislikes slots, and is neither a person nor a meeting: is Ann meant\\?"),
             ("before,m,n\n", "line 4: n is no meeting"),
             ("before,m,m\n", "line 4: m can't be before itself"),
-            ("needs,m,beamer\n", "line 4: m needs something of its room, and no line `room` tells one"),
+            ("needs,m,beamer\n", "line 4: m needs something in its room, but there is no line `room`"),
             ("room,Blue,8,beamer\nneeds,m,beemer\n", "line 5: no room has or is beemer: is beamer meant\\?"),
-            ("zone,Europe/Berln\n", "line 4: Europe/Berln is no zone"),
-            ("zone,Europe/Berlin\nslot,c,2026-03-29 02:30\n", "line 5: 2026-03-29 02:30 is left out by the clocks of Europe/Berlin"),
-            ("every,m,2\n", "line 4: m takes place each 2 weeks, and the week recurs 1 times"),
+            ("zone,Europe/Berln\n", "line 4: Europe/Berln is not a time zone"),
+            ("zone,Europe/Berlin\nslot,c,2026-03-29 02:30\n", "line 5: 2026-03-29 02:30 does not exist in Europe/Berlin"),
+            ("every,m,2\n", "line 4: m takes place every 2 weeks, but the week recurs 1 times"),
             ("most,Ann,0\n", "line 4: 0 is no number of meetings a day"),
             ("slot,c\nsame day,m,m\n", "line 5: a cell is missing"),
             ("slot,c\nmost,Ann,1\n", "line 5: days are those of the slots' times, and the slot c has none"),
-            ("busy,Ann,2026-03-02 10:00,2026-03-02 09:00\n", "line 4: 2026-03-02 09:00 is not behind 2026-03-02 10:00"),
-            ("person,Ann,ann at example\n", "line 4: ann at example is no address"),
+            ("busy,Ann,2026-03-02 10:00,2026-03-02 09:00\n", "line 4: 2026-03-02 09:00 is not after 2026-03-02 10:00"),
+            ("person,Ann,ann at example\n", "line 4: ann at example is not an address"),
         ):
             with self.subTest(slip), self.assertRaisesRegex(Trouble, why):
                 timetable.read(week + slip)
@@ -129,18 +129,18 @@ class Reading(Case):
 
     def test_faults_are_told_by_line(self):
         for text, why in (
-            ("slot,a\nslot,a\n", "line 2: the slot a stands twice"),
+            ("slot,a\nslot,a\n", "line 2: the slot a is given twice"),
             ("slot,a,tomorrow\n", "line 1: tomorrow is no time"),
             ("slot,a\nmeeting,,Ann\n", "line 2: a cell is missing, or is one too many: the line is meeting,NAME"),
             ("slot,a\nmeeting,m,Ann\nlike,Ann,a,\n", "line 3: a cell is missing"),
             ("slot,a\nmeeting,m,Ann\nlike,Ann,a,-2\n", "line 3: the cost -2 is negative"),
-            ("slot,a\nmeeting,m,Ann\nlike,Ann,3,a\n", "line 3: the last cell is the cost"),
+            ("slot,a\nmeeting,m,Ann\nlike,Ann,3,a\n", "line 3: the last cell must be the cost"),
             ("slot,a,2026-03-02 09:00,²\n", "line 1: ² is no number of minutes"),
             ("slot,a,2026-03-02 09:00+01:00\n", "line 1: .* names a time zone"),
             ("slot,a\n", "the file needs at least one line `slot,..` and one line `meeting,..`"),
             ("slot,a\nmeeting,m,Ann;Bo\nabsent,Bo,a\n", "m has no slot: in each of them, or in one that overlaps it, somebody of Ann, Bo is absent"),
-            ("slot,a\nmeeting,m,Ann;Bo\nabsent,Ann; Bo,a\n", "line 3: a line `absent` is of one person .* for each of Ann, Bo"),
-            ("slot,a\nmeeting,m,Ann;Bo\nlike,Ann;Bo,a,2\n", "line 3: a line `like` is of one person or meeting"),
+            ("slot,a\nmeeting,m,Ann;Bo\nabsent,Ann; Bo,a\n", "line 3: a line `absent` is about one person .* for each of Ann, Bo"),
+            ("slot,a\nmeeting,m,Ann;Bo\nlike,Ann;Bo,a,2\n", "line 3: a line `like` is about one person or meeting"),
         ):
             with self.subTest(text), self.assertRaisesRegex(Trouble, why):
                 timetable.source(timetable.read(text), "file")
@@ -149,7 +149,7 @@ class Reading(Case):
         text = "slot,a,2026-03-02\nmeeting,m,Kim;Lea\nmeeting,n,Kmi;Lea\nmeeting,Lea,Kim\nmeeting,o,\n"
         wanted = [
             "line 1: the slot a begins at midnight, since its cell has a date alone: is a time missing?",
-            "line 3: Kmi stands in this line alone: is Kim meant?",
+            "line 3: Kmi is only in this line: is Kim meant?",
             "line 4: the meeting Lea is named as a person is: what Lea likes counts for both",
             "line 5: o is a meeting of nobody",
         ]
@@ -312,7 +312,7 @@ class Meetings(Case):
         many = slots + "".join(f"meeting,m{at},p{at % 50};q{at % 70}\n" for at in range(1100))
         status, _, why = self.front("meetings", self.file("week.csv", many))
         self.assertEqual(status, 3)
-        self.assertIn("there are 1,100 meetings, and dcop takes 1,000", why)
+        self.assertIn("there are 1,100 meetings; dcop takes up to 1,000", why)
         wide = slots + "".join(f"meeting,m{at},Ann\n" for at in range(200))
         status, _, why = self.front("meetings", self.file("week.csv", wide))
         self.assertEqual(status, 3)
@@ -320,7 +320,7 @@ class Meetings(Case):
         counted = "".join(f"slot,s{at},2026-03-{2 + at:02} 09:00\n" for at in range(20)) + "".join(f"meeting,m{at},Ann\n" for at in range(70)) + "most,Ann,5\n"
         status, _, why = self.front("meetings", self.file("week.csv", counted))
         self.assertEqual(status, 3)
-        self.assertRegex(why, "with the lines `most`, and with rooms, [0-9,]+ variables are needed, and dcop takes 1,000")
+        self.assertRegex(why, "the lines `most` and the rooms need [0-9,]+ variables; dcop takes up to 1,000")
         self.assertLess(time.monotonic() - began, 20)
 
     def test_large_timetables_are_translated_in_time(self):
@@ -566,7 +566,7 @@ class Keeping(Case):
         self.assertEqual(self.front("check", problem, report)[0], 0)
         status, _, why = self.front("check", problem, report, "--keep", old)
         self.assertEqual(status, 3)
-        self.assertIn("is no timetable: --keep goes with a timetable's CSV", why)
+        self.assertIn("is not a timetable: --keep is only for a timetable's CSV", why)
 
     def test_cost_says_what_moves_and_how_far_that_is_from_the_best(self):
         week, old, report = self.kept_report()
@@ -782,7 +782,7 @@ class Calendars(Case):
         self.assertEqual(self.front("check", busy_week, report)[0::2], (3, "sefwllon: this report was made with --busy: name the calendars by --busy PERSON=ICS\n"))
         _, told, _ = self.front("why", self.file("week.csv", week), "m", "d3", "--busy", f"Ann={calendar}")
         self.assertEqual(told, "m can't be in d3: Ann can't: a calendar\n")
-        for words, why in (((f"Zoe={calendar}",), "Zoe takes part in no meeting"), ((calendar,), "is no calendar of somebody"), ((f"Ann={self.file('x.ics', 'BEGIN:VCALENDAR')}",), "")):
+        for words, why in (((f"Zoe={calendar}",), "Zoe takes part in no meeting"), ((calendar,), "does not name a person and a calendar"), ((f"Ann={self.file('x.ics', 'BEGIN:VCALENDAR')}",), "")):
             status, _, told = self.front("meetings", self.file("week.csv", week), "--busy", *words)
             self.assertEqual(status, 3 if why else status)
             self.assertIn(why, told)
@@ -810,7 +810,7 @@ class Calendars(Case):
         self.assertIn("Debian's package python3-icalendar", why)
         self.assertEqual(calendars.uid("week.csv", "m"), calendars.uid("week.csv", "m"))
         untimed = self.file("week.csv", "slot,a\nmeeting,m,Ann\n")
-        self.assertIn("the slot a has no begin", self.front("meetings", untimed, "--ics", "out.ics")[2])
+        self.assertIn("the slot a has no time", self.front("meetings", untimed, "--ics", "out.ics")[2])
 
 
 if __name__ == "__main__":

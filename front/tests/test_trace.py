@@ -134,7 +134,7 @@ class Told(Case):
             self.assertEqual(groups["event"], len(events))
             self.assertGreaterEqual(groups["arrow"], len([event for event in events if event.took]))
         status, _, why = self.front("trace", *words, "-o", words[0], program=REAL, trace=TRACE)
-        self.assertIn("would be written over", why)
+        self.assertIn("is read, so it can't be written too", why)
 
     def test_a_log_that_no_run_has_made_is_told(self):
         text, report = logged("pair.dcop")
@@ -142,7 +142,7 @@ class Told(Case):
         status, _, why = self.front("trace", str(PROBLEMS / "pair.dcop"), wrong, program=REAL, trace=TRACE)
         self.assertEqual(status, 3)
         self.assertIn("takes 5 messages from x, but only 4 are there", why)
-        with self.assertRaisesRegex(Trouble, "the log is that of no run: "):
+        with self.assertRaisesRegex(Trouble, "no run has this log: "):
             list(traced(TRACE, text + report.replace("event y 2 x 4", "event y 2 x 5")))
 
     def test_the_tables_of_dpop_go_up_and_values_come_down(self):

@@ -40,7 +40,7 @@ def run_to(options: argparse.Namespace) -> int:
     if options.kind == "uai":
         text, unit = write_uai(told), uai_unit(told)
         if unit != 1:
-            complain(f"note: costs are divided by {float(unit):g}, since factors would be too near to 0 else")
+            complain(f"note: costs are divided by {float(unit):g}: otherwise factors would be too close to 0")
     else:
         text = write_pydcop(told, name) if options.kind == "pydcop" else write_wcsp(told.problem, name)
     return SOLVED if say(text) else TEXT

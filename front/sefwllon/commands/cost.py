@@ -162,7 +162,7 @@ def pair_of(line: str, place: str, told: Translation) -> Pair:
     parts = line.split(maxsplit=2)
     if parts[0] == "value" and len(parts) == 3:
         return Pair(parts[1], parts[2].strip(), place)
-    raise Trouble(f"{place}: a line is NAME=VALUE or `value NAME VALUE`, and this one is neither")
+    raise Trouble(f"{place}: a line must be NAME=VALUE or `value NAME VALUE`")
 
 
 def take(pair: Pair, told: Translation, given: dict[int, Pair]) -> None:
@@ -172,7 +172,7 @@ def take(pair: Pair, told: Translation, given: dict[int, Pair]) -> None:
     if place is None:
         raise Trouble(f"{pair.place}: there is no {pair.name}{meant(pair.name, told.names)}")
     if place in given and given[place].value != pair.value:
-        raise Trouble(f"{pair.place}: {pair.name} has the value {given[place].value} already, by {given[place].place}")
+        raise Trouble(f"{pair.place}: {pair.name} already has the value {given[place].value}, from {given[place].place}")
     given[place] = pair
 
 

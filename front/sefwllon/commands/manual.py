@@ -24,5 +24,5 @@ def add(commands: Commands) -> None:
 def run(options: argparse.Namespace) -> int:
     if options.words:
         name = options.page.name
-        raise Trouble(f"`sefwllon {name} --help` prints the page of the program {name}, and no more: run `{name} {' '.join(options.words)}` itself")
+        raise Trouble(f"`sefwllon {name}` only prints the manual page of the program {name}: to run the program, write `{name} {' '.join(options.words)}`")
     return SOLVED if say(as_text(content(options.page, formats()))) else TEXT

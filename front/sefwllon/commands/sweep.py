@@ -69,7 +69,7 @@ def run(options: argparse.Namespace) -> int:
     for line in failed:
         complain(f"not done: {line}")
     if stopped or failed:
-        complain(f"{stopped or 'the same command tries these runs again'}{'; the same command goes on' if stopped else ''}")
+        complain(f"{stopped}; run the same command again to go on" if stopped else "run the same command again to try these runs again")
     return INTERRUPTED if stopped == "interrupted" else TEXT if stopped or not good else OPEN if failed else SOLVED
 
 

@@ -59,7 +59,7 @@ class Cluster:
         sys.path.insert(0, str(path))
         self.do = importlib.import_module(f"{path.stem}.lab.parcel").do
         if not self.size():
-            complain(f"the scheduler at {address} has no worker yet: begin one with `dask-worker {address}`")
+            complain(f"the scheduler at {address} has no worker yet: start one with `dask-worker {address}`")
 
     def size(self) -> int:
         """How many threads the workers have together; 0 while there is none."""
@@ -138,7 +138,7 @@ def connected(library: Any, address: str) -> Any:
     except (OSError, ValueError, TimeoutError) as fault:
         why = "" if isinstance(fault, OSError) else f" ({fault})"
         raise Trouble(
-            f"no Dask scheduler answers at {address}{why}: begin one with `dask-scheduler`, or name the address that it prints"
+            f"no Dask scheduler answers at {address}{why}: start one with `dask-scheduler`, or name the address that it prints"
         ) from None
 
 

@@ -64,9 +64,11 @@ def read_method(words: str) -> Method:
     options: dict[str, str] = {}
     for pair in given:
         key, _, value = pair.partition("=")
-        if key not in OPTIONS[name] or key in options:
-            known = ", ".join(f"{it}=.." for it in OPTIONS[name]) or "no options"
-            raise Trouble(f"{words}: {pair} is no option of {name}, or stands twice; it takes {known}")
+        if key in options:
+            raise Trouble(f"{words}: {key} is given twice")
+        if key not in OPTIONS[name]:
+            known = ", ".join(f"{it}=.." for it in OPTIONS[name]) or "none"
+            raise Trouble(f"{words}: {pair} is not an option of {name}, which has {known}")
         options[key] = checked(words, key, value)
     return Method(words, name, options)
 

@@ -84,6 +84,6 @@ def written(path: Path, name: str, wanted: str) -> str:
     """Writes a program of the parcel, and tests what stands there then."""
     path.write_bytes(pkgutil.get_data(__name__.partition(".")[0], f"{PROGRAMS}/{name}") or b"")
     if hashlib.sha256(path.read_bytes()).hexdigest() != wanted:
-        raise Trouble(f"{name} came with another content than was sent")
+        raise Trouble(f"{name} arrived damaged: its content is not what was sent")
     path.chmod(0o700)
     return str(path)

@@ -72,12 +72,12 @@ def parsed(name: str, text: str) -> list[dict[str, str]]:
     """The rows of a text, or a sentence that says in which line it is no file of results."""
     lines = text.split("\n")[:-1]
     if not lines or lines[0] + "\n" != line_of(COLUMNS):
-        raise Trouble(f"{name}, line 1: that is no file of results of `sefwllon sweep`, which begins with {line_of(COLUMNS[:4]).strip()}, ..")
+        raise Trouble(f"{name}, line 1: that is not a file of results of `sefwllon sweep`, whose first line begins with {line_of(COLUMNS[:4]).strip()}")
     rows = []
     for number, line in enumerate(lines[1:], 2):
         cells = next(csv.reader([line]), [])
         if len(cells) != len(COLUMNS):
-            raise Trouble(f"{name}, line {number}: a row has {len(COLUMNS)} cells, and this one has {len(cells)}")
+            raise Trouble(f"{name}, line {number}: a row has {len(COLUMNS)} cells, but this one has {len(cells)}")
         rows.append(dict(zip(COLUMNS, cells)))
     return rows
 
@@ -110,7 +110,7 @@ class Results:
         try:
             fcntl.flock(self.file, fcntl.LOCK_EX | fcntl.LOCK_NB)
         except OSError:
-            raise Trouble(f"another sweep writes {self.name}: wait for its end, or name another file") from None
+            raise Trouble(f"another sweep writes to {self.name}: wait until it ends, or name another file") from None
         size = os.fstat(self.file).st_size
         if size == 0:
             self.put(line_of(COLUMNS))
@@ -133,7 +133,7 @@ class Results:
         except OSError as fault:
             with suppress(OSError):
                 os.truncate(self.file, before)
-            raise Trouble(f"{self.name} can't be written: {fault.strerror}. The rows in it are whole, and the same command goes on") from None
+            raise Trouble(f"{self.name} can't be written: {fault.strerror}. The rows in it are complete") from None
 
 
 def whole_bytes(file: int, size: int) -> int:

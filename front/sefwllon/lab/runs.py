@@ -160,7 +160,7 @@ class Run:
             self.values, self.cost = values, cost
         self.bound = nearest(self.bound, bound, self.goal)
         if self.cost is not None and is_better(self.cost, self.bound, self.goal):
-            raise Trouble(f"its bound {self.bound} is beaten by the sum {self.cost}")
+            raise Trouble(f"its sum {self.cost} is better than its bound {self.bound}")
         self.moments.append((self.seconds, self.cost, self.bound))
 
     def row(self) -> dict[str, object]:
@@ -223,7 +223,7 @@ def loaded(name: str, content: bytes) -> Translation:
 def run(job: dict[str, Any], programs: Mapping[str, str]) -> dict[str, object]:
     """The row of a run. A job has the file's name, its content and that one's checksum, the method's words and the time limit."""
     if hashlib.sha256(job["content"]).hexdigest() != job["checksum"]:
-        raise Trouble(f"{job['name']} came with another content than was sent")
+        raise Trouble(f"{job['name']} arrived damaged: its content is not what was sent")
     head = {"file": job["file"], "checksum": job["checksum"], "method": job["method"], "time": job["time"]}
     foot = {"host": socket.gethostname(), "versions": job["versions"]}
     try:

@@ -22,7 +22,7 @@ def pool_at(address: str, programs: dict[str, str]) -> Pool:
     name, _, count = address.partition(":")
     if name == "local":
         if count and not (count.isdigit() and natural(count)):
-            raise Trouble(f"{address} names no number of processes, as local:4 does")
+            raise Trouble(f"{address} must name a number of processes, such as local:4")
         return Local(programs, int(count) if count else None)
     from .cluster import Cluster
 
@@ -32,7 +32,7 @@ def pool_at(address: str, programs: dict[str, str]) -> Pool:
 def shared_out(programs: Programs, told: Translation, options: argparse.Namespace, error: int) -> tuple[Best, dict[str, object]]:
     """Solves a problem by a pool. Gives what is known, and what is told of the slices in JSON."""
     if options.method not in ("auto", "search"):
-        raise Trouble("--cluster shares a search out, and no other method: leave --method out")
+        raise Trouble("--cluster works only with the search: leave --method out")
     if programs.search is None:
         raise Trouble(missing("dcop_search"))
     search = shutil.which(programs.search) or programs.search

@@ -65,7 +65,7 @@ def asked(options: argparse.Namespace, programs: Programs, report: str | None) -
     is_timetable = KINDS.get(Path(options.file).suffix.lower()) == "meetings"
     named = named_by(options)
     if named and not is_timetable and is_problem(options):
-        raise Trouble(f"{options.file} is no timetable: {words(named)} goes with a timetable's CSV, and the problem that `meetings --problem` writes has it already")
+        raise Trouble(f"{options.file} is not a timetable: {words(named)} is only for a timetable's CSV; a problem that `meetings --problem` wrote includes it already")
     if is_timetable and report is not None:
         test_named(options.file, [word for word in made_with(report) if word not in named])
     if not named:

@@ -18,10 +18,10 @@ _MOST = 100_000
 def taken(told: Timetable, who: str, text: str, name: str) -> list[Busy]:
     """The times of a calendar at which somebody is busy, as far as they matter for the slots."""
     if who not in told.people() and who not in told.rooms:
-        raise Trouble(f"{who} takes part in no meeting, and is no room, so the calendar {name} says nothing here")
+        raise Trouble(f"{who} takes part in no meeting and is not a room, so the calendar {name} has no effect")
     slot = next((slot for slot in told.slots if slot.begin is None), None)
     if slot is not None:
-        raise Trouble(f"a calendar is compared with the slots' times, and the slot {slot.name} has none: write it as slot,{slot.name},2026-03-02 09:00")
+        raise Trouble(f"a calendar is compared with the slots' times, but the slot {slot.name} has no time: write it as slot,{slot.name},2026-03-02 09:00")
     first, last = window(told)
     found = []
     for begin, end in spans(told, parsed(text, name), first, last):
@@ -65,7 +65,7 @@ def moment(told: Timetable, time: datetime.date) -> datetime.datetime:
     if time.tzinfo is None:
         return instant(time.replace(tzinfo=told.zone))
     if told.zone is None:
-        raise Trouble("the calendar's times have a zone, and those of the slots have none: say by a line as zone,Europe/Berlin where they are")
+        raise Trouble("the calendar's times have a zone, but those of the slots have none: add a line such as zone,Europe/Berlin")
     return instant(time)
 
 

@@ -28,7 +28,7 @@ def library() -> Any:
     try:
         import icalendar
     except ImportError:
-        raise Trouble("calendars are written and read by Debian's package python3-icalendar, which is not there: install it, or leave the calendar out") from None
+        raise Trouble("calendars need Debian's package python3-icalendar, which is missing: install it, or leave the calendar out") from None
     return icalendar
 
 
@@ -36,7 +36,7 @@ def check(told: Timetable) -> None:
     """Raises where the slots can't be put into a calendar."""
     slot = next((slot for slot in told.slots if slot.begin is None), None)
     if slot is not None:
-        raise Trouble(f"the slot {slot.name} has no begin, so it can't be put into a calendar: write it as slot,{slot.name},2026-03-02 09:00")
+        raise Trouble(f"the slot {slot.name} has no time, so it can't be put into a calendar: write it as slot,{slot.name},2026-03-02 09:00")
 
 
 def lacking(told: Timetable) -> list[str]:

@@ -92,7 +92,7 @@ def cells_of(line: str, mark: str, words: Collection[str]) -> list[str]:
     """The cells of a line, without empty ones at its end."""
     first = _FIRST.match(line)
     if first and first[3] != mark and word_of(first[1] or first[2] or "") in words:
-        raise Trouble(f"its cells are separated by {MARKS[first[3]]}, and those of the other lines by {MARKS[mark]}: write one of them alone")
+        raise Trouble(f"its cells are separated by {MARKS[first[3]]}, but those of the other lines by {MARKS[mark]}: use the same in all lines")
     check_quotes(line, mark)
     cells = [" ".join(cell.split()) for cell in next(csv.reader([line], delimiter=mark, strict=True, skipinitialspace=True))]
     while cells and not cells[-1]:
@@ -111,12 +111,12 @@ def check_quotes(line: str, mark: str) -> None:
             while at < size and line[at] == " ":
                 at += 1
             if at < size and line[at] != mark:
-                raise Trouble(f"words stand behind a quote that is closed, before `{line[at:][:20].strip()}`: a quote within a name is doubled, as \"\"")
+                raise Trouble(f"`{line[at:][:20].strip()}` follows a closing quote: a quote inside a name is written twice, as \"\"")
         else:
             end = line.find(mark, at)
             cell = line[at : size if end < 0 else end]
             if '"' in cell:
-                raise Trouble(f"a quote stands within the cell `{cell.strip()[:40]}`: leave it out, or put the cell in quotes and double the one within, as \"\"")
+                raise Trouble(f"there is a quote inside the cell `{cell.strip()[:40]}`: leave it out, or put the cell in quotes and write the quote inside twice, as \"\"")
             at += len(cell)
         at += 1
 
@@ -126,7 +126,7 @@ def closed(line: str, at: int) -> int:
     while True:
         end = line.find('"', at)
         if end < 0:
-            raise Trouble("a quote is opened and never closed on its line, so the next lines would be part of the name: close it, or leave it out")
+            raise Trouble("a quote is opened and not closed on its line, so the next lines would be part of the name: close the quote, or leave it out")
         if line[end + 1 : end + 2] != '"':
             return end + 1
         at = end + 2

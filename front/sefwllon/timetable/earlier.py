@@ -32,7 +32,7 @@ def read(told: Timetable, text: str, name: str) -> Earlier:
     else:
         found = from_table(told, text)
     if not found.places:
-        raise Trouble(f"{name} has none of these meetings: it is a calendar of an earlier timetable, what `meetings` printed, or its report")
+        raise Trouble(f"{name} has none of these meetings: name a calendar of an earlier timetable, what `meetings` printed, or its report")
     return found
 
 

@@ -200,7 +200,7 @@ def one_alone(row: Row) -> None:
     """Raises where a line is of several, which it can't."""
     who = row.cells[1]
     if ";" in who:
-        raise Trouble(f"a line `{row.cells[0]}` is of one person or meeting: write a line for each of {', '.join(parts([who]))}")
+        raise Trouble(f"a line `{row.cells[0]}` is about one person or meeting: write a line for each of {', '.join(parts([who]))}")
 
 
 def read_weeks(reading: Reading, row: Row) -> None:
@@ -209,14 +209,14 @@ def read_weeks(reading: Reading, row: Row) -> None:
 
 def read_zone(reading: Reading, row: Row) -> None:
     if reading.told.zone is not None:
-        raise Trouble("the zone stands twice")
+        raise Trouble("the zone is given twice")
     reading.told.zone = zone_of(row.cells[1])
 
 
 def read_slot(reading: Reading, row: Row) -> None:
     _, name, *rest = row.cells
     if name in reading.told.slot_at:
-        raise Trouble(f"the slot {name} stands twice")
+        raise Trouble(f"the slot {name} is given twice")
     slot = Slot(name, line=row.number)
     reading.told.slot_at[name] = len(reading.told.slots)
     reading.told.slots.append(slot)
@@ -240,14 +240,14 @@ def begin(reading: Reading, slot: Slot, told: When) -> None:
 def read_meeting(reading: Reading, row: Row) -> None:
     _, name, *people = row.cells
     if name in reading.told.meetings:
-        raise Trouble(f"the meeting {name} stands twice")
+        raise Trouble(f"the meeting {name} is given twice")
     reading.told.meetings[name] = Meeting(name, parts(people), line=row.number)
 
 
 def read_room(reading: Reading, row: Row) -> None:
     _, name, *rest = row.cells
     if name in reading.told.rooms:
-        raise Trouble(f"the room {name} stands twice")
+        raise Trouble(f"the room {name} is given twice")
     room = Room(name, line=row.number)
     reading.told.rooms[name] = room
     if rest and rest[0]:
@@ -284,7 +284,7 @@ def read_busy(reading: Reading, row: Row) -> None:
         zone = reading.told.zone
         told = Busy(who, in_zone(begins, zone), in_zone(ends, zone), row.number)
         if instant(told.end) <= instant(told.begin):
-            raise Trouble(f"{last} is not behind {first}: a time goes from its beginning to its end")
+            raise Trouble(f"{last} is not after {first}: write the beginning first, then the end")
         reading.told.busy.append(told)
 
     reading.times.append((row.number, settle))
@@ -308,7 +308,7 @@ def read_fixed(reading: Reading, row: Row) -> None:
     meeting = reading.meeting(row, name)
     slots = reading.slots(row, parts(rest), f"{name} is fixed in {{}}, which is no slot")
     if meeting and meeting.fixed:
-        raise Trouble(f"{name} is fixed twice: name all slots in which it may stand in one line")
+        raise Trouble(f"{name} is fixed twice: name all slots that it may take in one line")
     if meeting:
         meeting.fixed = slots
 
@@ -364,7 +364,7 @@ def read_needs(reading: Reading, row: Row) -> None:
             if reading.told.rooms and need not in things:
                 reading.fault(row.number, f"no room has or is {need}{meant(need, things)}")
     if not reading.told.rooms and not meeting.roomless:
-        raise Trouble(f"{meeting.name} needs something of its room, and no line `room` tells one")
+        raise Trouble(f"{meeting.name} needs something in its room, but there is no line `room`")
 
 
 def read_every(reading: Reading, row: Row) -> None:
@@ -372,7 +372,7 @@ def read_every(reading: Reading, row: Row) -> None:
     meeting = reading.meeting(row, row.cells[1])
     every = whole(row.cells[2], "weeks")
     if every > reading.told.weeks:
-        raise Trouble(f"{row.cells[1]} takes place each {every} weeks, and the week recurs {reading.told.weeks} times: a line as weeks,10 says how often")
+        raise Trouble(f"{row.cells[1]} takes place every {every} weeks, but the week recurs {reading.told.weeks} times: say how often by a line such as weeks,10")
     if meeting:
         meeting.every = every
 
@@ -380,7 +380,7 @@ def read_every(reading: Reading, row: Row) -> None:
 def read_person(reading: Reading, row: Row) -> None:
     _, name, mail = row.cells
     if not re.fullmatch(r"[^@\s]+@[^@\s]+", mail):
-        raise Trouble(f"{mail} is no address as ida@example.org")
+        raise Trouble(f"{mail} is not an address such as ida@example.org")
     reading.told.mails[name] = mail
 
 
@@ -434,4 +434,4 @@ def check_whole(reading: Reading) -> None:
             reading.fault(late.line, "the slots of a week that recurs lie within seven days")
     for person in told.mails:
         if person not in told.people():
-            told.notes.append(f"{person} has an address, and takes part in no meeting")
+            told.notes.append(f"{person} has an address, but takes part in no meeting")

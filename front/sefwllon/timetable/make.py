@@ -111,7 +111,7 @@ def source(told: Timetable, title: str) -> Source:
     """The problem of a file."""
     made = make(told, title).source
     if told.rooms:
-        made.notes.append("slots alone are chosen here, and each meeting's slots are those in which a room that suits it is open: `meetings` gives out rooms")
+        made.notes.append("only slots are chosen here: each meeting may take the slots in which a suitable room is open. `meetings` assigns rooms")
     return made
 
 
@@ -142,16 +142,16 @@ def make(told: Timetable, title: str, aim: Aim | None = None) -> Made:
         if len(values) == len(index):
             limits.add_other(problem, f"not timetable {at} again", values)
     if len(problem.names) > MOST_VARIABLES:
-        raise Trouble(f"{len(problem.names)} variables would be needed for the meetings and what is counted of them; dcop takes {MOST_VARIABLES}")
+        raise Trouble(f"{len(problem.names)} variables would be needed for the meetings and for counting them; dcop takes up to {MOST_VARIABLES}")
     return made
 
 
 def check_count(told: Timetable) -> None:
     if len(told.meetings) > MOST_VARIABLES:
-        raise Trouble(f"there are {len(told.meetings):,} meetings, and dcop takes {MOST_VARIABLES:,}: make a file for each part that shares nobody")
+        raise Trouble(f"there are {len(told.meetings):,} meetings; dcop takes up to {MOST_VARIABLES:,}: make a file for each group of meetings that shares nobody with the others")
     most = max((min(meeting.every, told.weeks) for meeting in told.meetings.values()), default=1)
     if len(told.slots) * most > MOST_VALUES * 16:
-        raise Trouble(f"there are {len(told.slots):,} slots, and a meeting takes up to {MOST_VALUES:,}: leave some out")
+        raise Trouble(f"there are {len(told.slots):,} slots; a meeting can have up to {MOST_VALUES:,}: leave some out")
 
 
 def places_of(told: Timetable, meeting: Meeting, held: str | None) -> list[Place]:
@@ -165,7 +165,7 @@ def places_of(told: Timetable, meeting: Meeting, held: str | None) -> list[Place
     if not its:
         raise NoPlace(meeting.name, no_place(told, meeting))
     if len(its) > MOST_VALUES:
-        raise Trouble(f"{meeting.name} has {len(its):,} slots to choose from, and dcop takes {MOST_VALUES:,}: leave some out, or fix it in fewer")
+        raise Trouble(f"{meeting.name} has {len(its):,} slots to choose from; dcop takes up to {MOST_VALUES:,}: leave some out, or fix it in fewer")
     return its
 
 
@@ -226,7 +226,7 @@ def check_limits(problem: Source, wanted: list[Limit]) -> None:
     variables = len(problem.names) + sum(count for _, count in told)
     for count, most, what in ((cells, MOST_CELLS, "costs"), (variables, MOST_VARIABLES, "variables")):
         if count > most:
-            raise Trouble(f"with the lines `most`, and with rooms, {count:,} {what} are needed, and dcop takes {most:,}: count for fewer people, or over fewer slots")
+            raise Trouble(f"the lines `most` and the rooms need {count:,} {what}; dcop takes up to {most:,}: limit fewer people, or use fewer slots")
 
 
 def own_costs(told: Timetable, meeting: Meeting, places: list[Place]) -> list[Fraction]:

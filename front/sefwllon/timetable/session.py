@@ -32,7 +32,7 @@ def opened(options: argparse.Namespace) -> Timetable:
     for word in options.busy or []:
         who, found, name = word.partition("=")
         if not found or not who or not name:
-            raise Trouble(f"{word} is no calendar of somebody, as Ida=ida.ics")
+            raise Trouble(f"{word} does not name a person and a calendar, such as Ida=ida.ics")
         told.busy += busy.taken(told, who, read_text(name), name)
     return replace(told)
 
@@ -168,7 +168,7 @@ class Session:
             except (Trouble, KeyboardInterrupt) as fault:
                 if best is None:
                     raise
-                best.notes.append(f"rooms could not be asked for further: {fault or 'interrupted'}")
+                best.notes.append(f"the search for rooms was stopped: {fault or 'interrupted'}")
                 self.stopped = self.stopped or not isinstance(fault, Trouble) or isinstance(fault, OutOfTime)
                 break
             if turn == 0 and crowds and not plan.problem.counters:

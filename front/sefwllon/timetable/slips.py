@@ -34,7 +34,7 @@ def near_names(told: Timetable) -> list[str]:
         near = [other for other in lines if other != person and is_near(person, other) and (lines[other] > 1 or other < person)]
         if near:
             most = max(near, key=lambda other: lines[other])
-            notes.append(f"line {where[person]}: {person} stands in this line alone: is {most} meant?")
+            notes.append(f"line {where[person]}: {person} is only in this line: is {most} meant?")
     return notes
 
 

@@ -48,9 +48,9 @@ def is_price(word: str) -> bool:
 def price(word: str) -> Fraction:
     """A cost as 2, 0.5 or, as some spreadsheets write it, 0,5."""
     if re.fullmatch(r"-[0-9.,]+", word):
-        raise Trouble(f"the cost {word} is negative: `like` says what every other slot costs, `dislike` what these cost, from 0 up")
+        raise Trouble(f"the cost {word} is negative, but a cost must be 0 or more: `dislike` puts it on the named slots, `like` on all others")
     if not is_price(word):
-        raise Trouble(f"the last cell is the cost, a number as 2 or 0.5, and `{word}` is none")
+        raise Trouble(f"the last cell must be the cost, a number such as 2 or 0.5, not `{word}`")
     return Fraction(word.replace(",", "."))
 
 
@@ -129,8 +129,8 @@ def zone_of(name: str) -> datetime.tzinfo:
     try:
         zoneinfo.ZoneInfo("Europe/Berlin")
     except (zoneinfo.ZoneInfoNotFoundError, OSError):
-        raise Trouble("the zones of the world are not on this machine: install Debian's package tzdata") from None
-    raise Trouble(f"{name} is no zone as Europe/Berlin or UTC")
+        raise Trouble("this machine has no list of time zones: install Debian's package tzdata") from None
+    raise Trouble(f"{name} is not a time zone such as Europe/Berlin or UTC")
 
 
 def instant(time: datetime.datetime) -> datetime.datetime:
@@ -142,11 +142,11 @@ def in_zone(told: When, zone: datetime.tzinfo | None) -> datetime.datetime:
     """A time in the zone of a timetable."""
     if zone is None:
         if told.zoned:
-            raise Trouble(f"{told.time.isoformat(' ', 'minutes')} names a time zone: say by a line as zone,Europe/Berlin in which zone the timetable is told")
+            raise Trouble(f"{told.time.isoformat(' ', 'minutes')} names a time zone: add a line such as zone,Europe/Berlin for the zone of the timetable")
         return told.time
     if told.zoned:
         return told.time.astimezone(zone)
     time = told.time.replace(tzinfo=zone)
     if time.astimezone(datetime.timezone.utc).astimezone(zone).replace(tzinfo=None) != told.time:
-        raise Trouble(f"{told.time.isoformat(' ', 'minutes')} is left out by the clocks of {zone}, which are put forward then")
+        raise Trouble(f"{told.time.isoformat(' ', 'minutes')} does not exist in {zone}, where clocks are put forward then")
     return time

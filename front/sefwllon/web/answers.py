@@ -311,7 +311,7 @@ def file_of(text: str, values: dict[str, str], kind: str, title: str) -> str:
     told = read_plan(text)
     chosen = placed_of(told, values)
     if len(chosen) < len(told.meetings):
-        raise Trouble("some meetings stand in no slot yet: solve first")
+        raise Trouble("some meetings have no slot yet: solve first")
     given, _, missing = rooms.give(told, chosen) if told.rooms else ({}, [], [])
     found = [*rules.breaches(told, chosen), *missing]
     makers: dict[str, Callable[[], str]] = {
@@ -320,7 +320,7 @@ def file_of(text: str, values: dict[str, str], kind: str, title: str) -> str:
         "txt": lambda: table(told, chosen, given),
     }
     if kind not in makers:
-        raise Trouble(f"a timetable is kept as {', '.join(makers)}, and not as {kind}")
+        raise Trouble(f"a timetable can be saved as {', '.join(makers)}, not as {kind}")
     return makers[kind]()
 
 
@@ -343,7 +343,7 @@ def problem_text(told: Request) -> str:
     words = [word for variable in variables for word in (variable.name, *(variable.values or ()))]
     strange = next((word for word in words if not is_name(word)), None)
     if strange is not None:
-        raise Trouble(f"{strange[:40]!r} is no name that dcop takes: letters, digits, _ . and -, a letter or _ first, at most 32")
+        raise Trouble(f"{strange[:40]!r} is not a name for dcop: a name has up to 32 letters, digits, _, . and -, and begins with a letter or _")
     if goal not in ("min", "max") or not all(type(cost) is int and cost >= 0 for table in tables for cost in table.costs):
         raise Trouble("a problem as JSON has the goal min or max, and costs that are whole numbers from 0 up")
     return Problem(goal, variables, tables).text()
@@ -355,7 +355,7 @@ def by_order(asked: Request, teller: Any) -> Told:
     told = loaded(asked, programs)
     text = ordered_text(programs, told.problem, int(asked.get("tries") or ORDERS))
     if text is None:
-        raise Trouble("the program dcop_order is not there: build it, or name it by SEFWLLON_ORDER")
+        raise Trouble("the program dcop_order is missing: build it, or name it by SEFWLLON_ORDER")
     trees = [tree_of(programs, told, told.problem.text()), tree_of(programs, told, text)]
     largest = [max(node["cells"] for node in tree) for tree in trees]
     return {"answer": {"text": text, "largest": largest[1], "largest_as_given": largest[0]}, "final": True}

@@ -183,7 +183,7 @@ def make_app(pool: Pool, first: Told | None = None) -> Flask:
         """What the agents of a run have come to after so many events, and what their messages say where `dcop_trace` is there."""
         job = pool.get(name)
         if job.kind != "run" or job.answer is None:
-            raise Trouble("that job is no run that is over")
+            raise Trouble("that job is not a finished run")
         with steps:
             run = trace.Run(Programs(), parse(job.answer["problem"]), job.answer["report"])
             return jsonify(run.after(count, trace.names_of(job.answer)))
@@ -246,7 +246,7 @@ def body() -> Told:
     """The request's JSON, an object."""
     told = request.get_json(force=True, silent=True)
     if not isinstance(told, dict):
-        raise Trouble("the request is JSON: an object with the fields that the page /service tells")
+        raise Trouble("the request must be a JSON object with the fields that are listed on the page /service")
     return told
 
 
@@ -281,7 +281,7 @@ def checked(kind: str, told: Told, limits: Limits) -> Told:
     """The request, where all its fields are known and of their kind."""
     strange = [name for name in told if name not in FIELDS[kind]]
     if strange:
-        raise Trouble(f"/{kind} takes {', '.join(FIELDS[kind])}, and not {strange[0][:40]}")
+        raise Trouble(f"/{kind} takes {', '.join(FIELDS[kind])}, not {strange[0][:40]}")
     for name in ("text", "name", "report"):
         if not isinstance(told.get(name, ""), str):
             raise Trouble(f"`{name}` is a text")

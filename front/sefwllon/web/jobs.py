@@ -281,7 +281,7 @@ class Pool:
                 given = json.dumps({"kind": job.kind, **job.request}).encode()
                 printed = process.communicate(given, timeout=self.limit(job))[0]
             except subprocess.TimeoutExpired:
-                self.finish(job, "failed", why=f"it took longer than the {self.limit(job):.0f} s that the service gives it")
+                self.finish(job, "failed", why=f"it took longer than {self.limit(job):.0f} s, the limit of the service")
                 printed = b""
             finally:
                 end(process)

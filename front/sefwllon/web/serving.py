@@ -104,7 +104,7 @@ def listen(port: int) -> socket.socket:
         listening.bind(("127.0.0.1", port))
     except OSError as fault:
         listening.close()
-        raise Trouble(f"the port {port} can't be had ({fault.strerror}): name another one by --port, or none") from None
+        raise Trouble(f"the port {port} can't be used ({fault.strerror}): name another port by --port, or leave it out") from None
     listening.listen(128)
     return listening
 

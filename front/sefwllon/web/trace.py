@@ -61,7 +61,7 @@ class Run:
         if not found:
             raise Trouble("the report has no log of a run: make it with `sefwllon solve --method adopt --report OUT`")
         if len(found) > MOST_EVENTS:
-            raise Trouble(f"the run has {len(found)} events, and the page plays {MOST_EVENTS} at most: make one with a smaller budget")
+            raise Trouble(f"the run has {len(found)} events, but the page plays {MOST_EVENTS} at most: make a run with a smaller budget")
         return found
 
     def moments(self, tell: Callable[[int], None]) -> list[Told]:
@@ -82,7 +82,7 @@ class Run:
         """What each agent has come to after so many events, by `dcop replay`."""
         answer = self.programs.run(["replay", "--after", str(count)], self.problem.text() + self.report)
         if answer.status == NO:
-            raise Trouble("the log is that of no run: " + differs(answer.text))
+            raise Trouble("no run has this log: " + differs(answer.text))
         if answer.status != 0:
             raise Refused(answer)
         found = []
