@@ -13,31 +13,31 @@ Commands: TypeAlias = "argparse._SubParsersAction[argparse.ArgumentParser]"
 
 def natural(word: str) -> int:
     if not re.fullmatch(r"[0-9]{1,9}", word):
-        raise argparse.ArgumentTypeError(f"{word} is no whole number from 0 up")
+        raise argparse.ArgumentTypeError(f"{word} is not a whole number from 0 up")
     return int(word)
 
 
 def threads(word: str) -> int:
     if natural(word) not in range(1, 65):
-        raise argparse.ArgumentTypeError(f"{word} is no number of threads from 1 to 64")
+        raise argparse.ArgumentTypeError(f"the number of threads must be from 1 to 64, not {word}")
     return int(word)
 
 
 def distance(word: str) -> Fraction:
     if amount(word) < 0:
-        raise argparse.ArgumentTypeError(f"{word} is negative: by how much a cost may miss the best is from 0 up")
+        raise argparse.ArgumentTypeError(f"the amount must be 0 or more, not {word}")
     return amount(word)
 
 
 def amount(word: str) -> Fraction:
     if not re.fullmatch(r"-?\d+(\.\d+)?", word):
-        raise argparse.ArgumentTypeError(f"{word} is no number")
+        raise argparse.ArgumentTypeError(f"{word} is not a number")
     return Fraction(word)
 
 
 def cells(word: str) -> int:
     if natural(word) not in range(1_024, 2**28 + 1):
-        raise argparse.ArgumentTypeError(f"{word} is no number of cells from 1024 to 268435456")
+        raise argparse.ArgumentTypeError(f"the number of cells must be from 1024 to 268435456, not {word}")
     return int(word)
 
 

@@ -120,11 +120,11 @@ def checked_report(programs: Programs, problem: Problem, report: str) -> Report:
     if answer.status == NO:
         raise Rejected(differs(answer.text))
     if answer.status != 0:
-        why = refusal(answer, "no answer of `dcop check`", text)
+        why = refusal(answer, "an answer of `dcop check`", text)
         raise Trouble(explain(answer.text, text)) if isinstance(why, Refused) else why
     read = read_report(report, problem)
     if not accepts(answer, read):
-        raise Wrong(answer, f"that is no answer of `dcop check` to a report with the cost {read.cost}: don't trust this program")
+        raise Wrong(answer, f"that does not fit the report, whose cost is {read.cost}: don't trust this program")
     return read
 
 

@@ -86,14 +86,14 @@ class Client:
             with fault:
                 return refused(fault.code, fault.read())
         except urllib.error.URLError as fault:
-            raise Trouble(f"the service is not there: {fault.reason}") from None
+            raise Trouble(f"the service does not answer: {fault.reason}") from None
 
 
 def refused(code: int, printed: bytes) -> Told:
     try:
         told = json.loads(printed)
     except ValueError:
-        raise Trouble(f"that is no answer of the service, but the status {code}") from None
+        raise Trouble(f"that is not the service of Sefwllon: it answered with the status {code}") from None
     if "job" in told:
         return told
-    raise Trouble(told.get("why", f"the service answered {code}"))
+    raise Trouble(told.get("why", f"the service answered with the status {code}"))

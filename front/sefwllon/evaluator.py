@@ -168,8 +168,8 @@ class Formula:
         except _Return as result:
             return result.value
         except (TypeError, ValueError, ZeroDivisionError, OverflowError, LookupError) as fault:
-            raise Trouble(f"{self.where}: {fault!r} at {given}") from None
-        raise Trouble(f"{self.where}: the formula gives nothing at {given}")
+            raise Trouble(f"{self.where}: the formula fails at {shown(given)} ({type(fault).__name__}: {fault})") from None
+        raise Trouble(f"{self.where}: the formula has no result at {shown(given)}")
 
     def _run(self, body: list[ast.stmt], names: dict[str, object]) -> None:
         for part in body:
@@ -188,7 +188,7 @@ class Formula:
     def _eval(self, node: ast.expr, names: dict[str, object]) -> object:
         self.steps += 1
         if self.steps > _MOST_STEPS:
-            raise Trouble(f"{self.where}: the formula takes too long")
+            raise Trouble(f"{self.where}: the formula takes too long to compute")
         match node:
             case ast.Constant(value=value) if isinstance(value, (int, float, str, bool, type(None))):
                 return exactly(value)
@@ -197,7 +197,7 @@ class Formula:
                     return names[name]
                 if name in _NAMES:
                     return _NAMES[name]
-                raise Trouble(f"{self.where}: the formula names {name}, which is no variable")
+                raise Trouble(f"{self.where}: the formula names {name}, which is not a variable")
             case ast.Tuple() | ast.List() | ast.Set() | ast.Dict() | ast.ListComp() | ast.GeneratorExp() | ast.SetComp() | ast.DictComp():
                 return self._several(node, names)
             case ast.IfExp():
@@ -261,14 +261,14 @@ class Formula:
                 for part, told in zip(targets, value):
                     self._bind(part, told, names)
             case _:
-                raise Trouble(f"{self.where}: `{ast.unparse(target)}` can't be {value!r}")
+                raise Trouble(f"{self.where}: `{ast.unparse(target)}` can't take the value {value!r}")
 
     def _binary(self, node: ast.BinOp, names: dict[str, object]) -> object:
         left = self._eval(node.left, names)
         right = self._eval(node.right, names)
         numbers = isinstance(left, (int, float, Fraction)) and isinstance(right, (int, float, Fraction))
         if not numbers and not (isinstance(node.op, ast.Add) and isinstance(left, str) and isinstance(right, str)):
-            raise Trouble(f"{self.where}: `{ast.unparse(node)}` is no sum of numbers")
+            raise Trouble(f"{self.where}: `{ast.unparse(node)}` calculates with something that is not a number")
         if isinstance(node.op, ast.Div) and isinstance(left, int) and isinstance(right, int):
             return Fraction(left, right)
         result = _BINARY[type(node.op)](left, right)
@@ -310,6 +310,11 @@ def summed(node: ast.expr, sign: bool = True) -> Iterator[ast.expr]:
             yield node if sign else ast.UnaryOp(ast.USub(), node)
 
 
+def shown(given: dict[str, object]) -> str:
+    """The values of names, for people."""
+    return ", ".join(f"{name} = {value!r}" for name, value in given.items())
+
+
 INFINITE = {
     "min": "with the goal min an infinite cost must be infinity, not -infinity",
     "max": "with the goal max an infinite cost must be -infinity, not infinity",
@@ -325,7 +330,7 @@ def exact(number: object, where: str) -> Fraction | None:
         return number
     if isinstance(number, float):
         if math.isnan(number):
-            raise Trouble(f"{where}: the cost is no number")
+            raise Trouble(f"{where}: the cost is not a number")
         return None if math.isinf(number) else Fraction(repr(number))
     if isinstance(number, str):
         try:
@@ -333,4 +338,4 @@ def exact(number: object, where: str) -> Fraction | None:
             return None if math.isinf(value) else Fraction(number.strip())
         except ValueError:
             pass
-    raise Trouble(f"{where}: {number!r} is no cost")
+    raise Trouble(f"{where}: a cost must be a number, not {number!r}")

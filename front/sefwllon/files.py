@@ -31,7 +31,7 @@ def read_text(name: str) -> str:
     except OSError as fault:
         raise Trouble(f"{name} can't be read: {fault.strerror}") from None
     if len(data) > MOST_BYTES:
-        raise Trouble(f"{name} is longer than 2^28 bytes")
+        raise Trouble(f"{name} is longer than 2^28 bytes, which is the limit")
     if data[:2] in (b"\xff\xfe", b"\xfe\xff"):
         raise Trouble(f"{name} is UTF-16 text: save it as UTF-8")
     try:
@@ -39,7 +39,7 @@ def read_text(name: str) -> str:
     except UnicodeDecodeError as fault:
         if Path(name).suffix.lower() in KINDS:
             line = data[: fault.start].count(b"\n") + 1
-            raise Trouble(f"{name} is no UTF-8 text from line {line} on: save it as UTF-8") from None
+            raise Trouble(f"{name} is not UTF-8 text from line {line} on: save it as UTF-8") from None
         return data.decode("utf-8", "replace")
 
 
@@ -67,4 +67,4 @@ def refuse(programs: Programs, text: str) -> None:
     """Lets dcop itself say what is wrong with a text."""
     answer = programs.run(["upgrade"], text)
     if answer.status not in (0, None):
-        raise refusal(answer, "no answer of `dcop upgrade`", text)
+        raise refusal(answer, "an answer of `dcop upgrade`", text)

@@ -24,7 +24,7 @@ def read(text: str, title: str) -> Source:
     try:
         root = ElementTree.fromstring(text.strip())
     except ElementTree.ParseError as fault:
-        raise Trouble(f"{title} is no XML: {fault}") from None
+        raise Trouble(f"{title} is not XML: {fault}") from None
     if root.tag != "instance":
         raise Trouble(f"{title} begins with <{root.tag}>, but a file of FRODO (XCSP 2.1) begins with <instance>")
     return Reader(root, title).source()
@@ -41,7 +41,7 @@ def attribute(part: ElementTree.Element, name: str) -> str:
 def whole(part: ElementTree.Element, name: str) -> int:
     word = attribute(part, name)
     if not re.fullmatch(r"\d{1,9}", word):
-        raise Trouble(f"<{part.tag}> {part.get('name', '')}: `{name}` is {word}, and no whole number")
+        raise Trouble(f"<{part.tag}> {part.get('name', '')}: `{name}` must be a whole number, not {word}")
     return int(word)
 
 
@@ -82,7 +82,7 @@ class Reader:
             self.constraint(part, rows)
         top = self.whole_sums()
         several = len(set(owners)) < len(owners)
-        notes = ["passed over: which agent has which variables; each variable is an agent of its own here"] if several else []
+        notes = ["ignored: which agent has which variables; here each variable is an agent of its own"] if several else []
         return Source(self.goal, self.names, self.values, self.constraints, self.title, notes, top=top, relations=self.relations)
 
     def whole_sums(self) -> Fraction | None:
@@ -101,9 +101,9 @@ class Reader:
         if part.get("type") == "random":
             raise Trouble(f"the variable {name} is random: only variables that agents choose can be solved")
         if domain not in domains:
-            raise Trouble(f"the domain {domain} of {name} is not among the domains")
+            raise Trouble(f"the variable {name} has the domain {domain}, which the file does not declare")
         if name in self.names:
-            raise Trouble(f"there are two variables {name}")
+            raise Trouble(f"there are two variables with the name {name}")
         self.names.append(name)
         self.values.append(domains[domain])
         return part.get("agent", name)
@@ -140,9 +140,9 @@ class Reader:
         name, scope, reference = attribute(part, "name"), attribute(part, "scope").split(), attribute(part, "reference")
         unknown = next((it for it in scope if it not in self.names), None)
         if unknown is not None or len(set(scope)) < len(scope):
-            raise Trouble(f"the constraint {name} names {unknown}, which is no variable" if unknown else f"the constraint {name} names a variable twice")
+            raise Trouble(f"the constraint {name} names {unknown}, which is not a variable" if unknown else f"the constraint {name} names a variable twice")
         if reference not in rows:
-            raise Trouble(f"the constraint {name} refers to {reference}, which is no relation of the file; others, as global ones, are not read")
+            raise Trouble(f"the constraint {name} refers to {reference}, which is not a relation of the file: other constraints, such as global ones, can't be read")
         found = rows[reference]
         if found.arity != len(scope):
             raise Trouble(f"the constraint {name} is over {len(scope)} variables, but its relation {reference} is over {found.arity}")

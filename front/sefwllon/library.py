@@ -244,7 +244,7 @@ def order(problem: Problem, tries: int = 20_000, *, time: float | None = None, p
         if printed.status is None:
             raise Trouble("the time was over before dcop_order had an order: give it more time or fewer tries")
         if printed.status != 0:
-            raise refusal(printed, "no answer of dcop_order", text)
+            raise refusal(printed, "an answer of dcop_order", text)
         found = reordered(told.problem, printed)
         own = dict(zip((v.name for v in told.problem.variables), told.names))
         given, here = (tree_of(programs, told, it) for it in (text, printed.text))
@@ -278,11 +278,11 @@ def known_words(method: str, time: float | None, error: float, gap: float, worke
     if method not in METHODS:
         raise Trouble(f"the method is {method!r}, but it must be one of {', '.join(METHODS)}")
     if any(not math.isfinite(it) or it < 0 for it in (error, gap, time or 0)):
-        raise Trouble("time, error and gap are numbers from 0 up")
+        raise Trouble("time, error and gap must be numbers from 0 up")
     if workers not in range(1, 65):
-        raise Trouble(f"{workers} is no number of threads from 1 to 64")
+        raise Trouble(f"the number of threads must be from 1 to 64, not {workers}")
     if cells is not None and cells not in range(1_024, 2**28 + 1):
-        raise Trouble(f"{cells} is no number of cells from 1024 to 268435456")
+        raise Trouble(f"the number of cells must be from 1024 to 268435456, not {cells}")
     return Fraction(str(gap)), Fraction(str(error))
 
 
@@ -359,7 +359,7 @@ def tree_of(programs: Programs, told: Translation, text: str) -> tuple[Node, ...
     """The tree of a problem's text, by the problem's own names."""
     printed: Printed = programs.run(["tree"], text)
     if printed.status != 0:
-        raise refusal(printed, "no answer of `dcop tree`", text)
+        raise refusal(printed, "an answer of `dcop tree`", text)
     try:
         nodes = read_tree(printed.text)
     except Trouble as trouble:

@@ -106,7 +106,7 @@ class Problem:
         """
         own = list(values)
         if not isinstance(name, str) or not name.strip():
-            raise Trouble(f"{name!r} is no name of a variable: a name is a text that is not blank")
+            raise Trouble(f"the name of a variable must be a text that is not blank, not {name!r}")
         if name in self._places:
             raise Trouble(f"there are two variables {name}: give one of them another name")
         if not own:
@@ -145,7 +145,7 @@ class Problem:
         elif is_list(costs):
             found = flat(costs, [len(own) for own in values], told)
         else:
-            raise Trouble(f"{told}: {costs!r} are no costs: give a function, a dict or a list")
+            raise Trouble(f"{told}: costs must be a function, a dict or a list, not {costs!r}")
         prices = [cost if type(cost) is int else self._price(cost, told, choice) for cost, choice in zip(found, choices)]
         if len(places) > MOST_SCOPE:
             chosen = product(*(range(len(own)) for own in values))
@@ -199,7 +199,7 @@ class Problem:
         names = [scope] if isinstance(scope, str) else list(scope)
         unknown = next((name for name in names if name not in self._places), None)
         if unknown is not None:
-            raise Trouble(f"a table names {unknown!r}, which is no variable: add the variable first")
+            raise Trouble(f"a table names {unknown!r}, which is not a variable: add the variable first")
         if not names or len(set(names)) < len(names):
             raise Trouble(f"a table needs one or more different variables, not {names}")
         return tuple(self._places[name] for name in names)
@@ -213,7 +213,7 @@ class Problem:
         if isinstance(cost, Decimal) and cost.is_finite():
             return Fraction(cost)
         if not isinstance(cost, (Decimal, Real)):
-            raise Trouble(f"{where}: {cost!r} is no cost: a cost is a number, or FORBIDDEN")
+            raise Trouble(f"{where}: a cost must be a number or FORBIDDEN, not {cost!r}")
         price = exact(float(cost), where)
         if price is None and (float(cost) > 0) == (self.goal == "max"):
             raise Trouble(f"{where}: {INFINITE[self.goal]}")
@@ -223,11 +223,11 @@ class Problem:
         """Which value of each variable is chosen; those that count follow from those before them."""
         unknown = next((name for name in values if name not in self._places), None)
         if unknown is not None:
-            raise Trouble(f"{unknown!r} is no variable")
+            raise Trouble(f"{unknown!r} is not a variable")
         chosen: list[int] = []
         for place, (name, own) in enumerate(zip(self._source.names, self._source.values)):
             if name in values and values[name] not in own:
-                raise Trouble(f"{values[name]!r} is no value of {name}")
+                raise Trouble(f"{values[name]!r} is not a value of {name}")
             if name not in values and place not in self._source.counters:
                 raise Trouble(f"the assignment has no value for {name}")
             counter = self._source.counters.get(place)

@@ -19,7 +19,7 @@ class OutOfTime(Trouble):
     """The time was over before the file was read."""
 
     def __init__(self) -> None:
-        super().__init__("the time was over before the file was read: give it more by --time")
+        super().__init__("the time was over before the file was read: give it more --time")
 
 
 def say(text: str, found: bool = False) -> bool:
@@ -113,10 +113,10 @@ def unwritable(path: Path) -> str | None:
         if path.is_dir():
             return "it is a folder"
         if path.exists():
-            return None if os.access(path, os.W_OK) else "it may not be changed"
+            return None if os.access(path, os.W_OK) else "you may not change it"
         if not path.parent.is_dir():
             return f"there is no folder {path.parent}"
-        return None if os.access(path.parent, os.W_OK) else f"nothing may be written in the folder {path.parent}"
+        return None if os.access(path.parent, os.W_OK) else f"you may not write in the folder {path.parent}"
     except OSError as fault:
         return fault.strerror
 

@@ -167,7 +167,7 @@ def parse(text: str) -> Problem:
     """Reads a problem's text. `dcop` itself decides what is one; this reader is for drawing and telling."""
     lines = lines_of(text)
     if not lines or lines[0][1] not in (["dcop", "1"], ["dcop", "2"]):
-        raise TextFault(lines[0][0] if lines else 1, "the first line is neither `dcop 1` nor `dcop 2`")
+        raise TextFault(lines[0][0] if lines else 1, "the first line must be `dcop 1` or `dcop 2`")
     problem = Problem("min", [], [])
     places: dict[str, int] = {}
     for at, (number, words, _) in enumerate(lines[1:], 2):
@@ -185,14 +185,15 @@ def parse(text: str) -> Problem:
                 try:
                     scope = tuple(places[name] for name in rest[:colon])
                 except KeyError as fault:
-                    raise TextFault(number, f"a name is wrong: {fault}") from None
+                    raise TextFault(number, f"the table names {fault}, which is not a variable") from None
                 cells = rest[colon + 1 :]
                 bad = next(filterfalse(_NUMBER.match, cells), None)
                 if bad is not None:
-                    raise TextFault(number, f"{bad} is no number")
+                    raise TextFault(number, f"{bad} is not a number")
                 costs = tuple(map(int, cells))
-                if len(costs) != prod(problem.variables[v].size for v in scope):
-                    raise TextFault(number, f"the table has {len(costs)} costs")
+                wanted = prod(problem.variables[v].size for v in scope)
+                if len(costs) != wanted:
+                    raise TextFault(number, f"the table has {len(costs)} costs, but it needs {wanted}")
                 problem.tables.append(Table(scope, costs))
             case ["end"] if at == len(lines):
                 problem.source = "\n".join(text.split("\n")[:number]) + "\n"
@@ -200,5 +201,5 @@ def parse(text: str) -> Problem:
             case ["end"]:
                 raise TextFault(lines[at][0], "words follow after the line `end`")
             case _:
-                raise TextFault(number, "the line is none of `goal`, `var`, `table`, `end`")
+                raise TextFault(number, "a line must begin with `goal`, `var`, `table` or `end`")
     raise TextFault(text.count("\n") + 1, "the line `end` is missing")

@@ -93,7 +93,7 @@ def crash(answer: Answer) -> str | None:
     """That a program was ended by a signal, where it was."""
     if answer.status is None or answer.status >= 0:
         return None
-    return f"{answer.program} was ended by the signal {-answer.status}, as a program is that crashed or that something else ended"
+    return f"{answer.program} was ended by the signal {-answer.status}: it crashed, or something else ended it"
 
 
 class Programs:

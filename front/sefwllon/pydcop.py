@@ -41,9 +41,9 @@ def read(text: str, title: str) -> Source:
     try:
         data = yaml.load(text, Loader)
     except yaml.YAMLError as fault:
-        raise Trouble(f"{title} is no YAML: {fault}") from None
+        raise Trouble(f"{title} is not YAML: {fault}") from None
     if not isinstance(data, dict) or "variables" not in data:
-        raise Trouble(f"{title} has no `variables`, so it is no pyDCOP file")
+        raise Trouble(f"{title} has no `variables`, so it is not a pyDCOP file")
     return Reader(data, title).source()
 
 
@@ -56,7 +56,7 @@ def named(spec: object, what: str) -> dict[str, object]:
     if spec is None:
         return {}
     if not isinstance(spec, dict):
-        raise Trouble(f"{what}: lines `NAME: ..` were expected, and not `{spec!r:.120}`")
+        raise Trouble(f"{what}: lines `NAME: ..` were expected, not `{spec!r:.120}`")
     return {str(name): told for name, told in spec.items()}
 
 
@@ -84,7 +84,7 @@ class Reader:
         for name, spec in self.variables.items():
             domain = str(spec.get("domain"))
             if domain not in self.domains:
-                raise Trouble(f"{self.title}: the domain {domain} of {name} is not among the domains")
+                raise Trouble(f"{self.title}: the variable {name} has the domain {domain}, which the file does not declare")
             self.names.append(name)
             self.values.append(self.domains[domain])
         for name, spec in self.variables.items():
@@ -131,12 +131,12 @@ class Reader:
             if "source" in spec:
                 raise Trouble(f"{name}: its formula is in the file {spec['source']}, which is not run: write the formula under `function`")
             if "function" not in spec:
-                raise Trouble(f"{name} has no function")
+                raise Trouble(f"{name} has no `function`")
             self.by_formula(name, str(spec["function"]))
         elif kind in ("extensional", "extension"):
             self.by_table(name, spec)
         else:
-            raise Trouble(f"{name}: constraints of the type {kind} are not known")
+            raise Trouble(f"{name} has the type {kind}, but it must be intention or extensional")
 
     def by_formula(self, name: str, text: str) -> None:
         """A formula; one over many variables that is a sum is told part by part."""
@@ -161,7 +161,7 @@ class Reader:
         scope = self.scope(name, [str(n).strip() for n in ([named_by] if alone else named_by)])
         default = self.price(spec["default"], name) if "default" in spec else Fraction(0)
         if not isinstance(spec.get("values") or {}, dict):
-            raise Trouble(f"{name}: its values are lines `COST: VALUE VALUE | VALUE VALUE`")
+            raise Trouble(f"{name}: its values must be lines `COST: VALUE VALUE | VALUE VALUE`")
         told = {}
         for cost, choices in (spec.get("values") or {}).items():
             for choice in str(choices).split("|"):
@@ -177,7 +177,7 @@ class Reader:
     def choice(self, name: str, scope: tuple[int, ...], words: list[str]) -> tuple[int, ...]:
         """Which values are chosen; quotes that YAML itself left around one are no part of it."""
         if len(words) != len(scope):
-            raise Trouble(f"{name}: `{' '.join(words)}` names {len(words)} values for {len(scope)} variables")
+            raise Trouble(f"{name}: `{' '.join(words)}` has {len(words)} values for {len(scope)} variables")
         places = []
         for variable, word in zip(scope, words):
             told = [str(value) for value in self.values[variable]]
@@ -185,14 +185,14 @@ class Reader:
             if bare not in told:
                 told = [str(value.meant if isinstance(value, Switch) else value) for value in self.values[variable]]
             if bare not in told:
-                raise Trouble(f"{name}: {word} is no value of {self.names[variable]}")
+                raise Trouble(f"{name}: {word} is not a value of {self.names[variable]}")
             places.append(told.index(bare))
         return tuple(places)
 
     def scope(self, name: str, names: list[str]) -> tuple[int, ...]:
         unknown = [n for n in names if n not in self.names]
         if unknown:
-            raise Trouble(f"{name} names {unknown[0]}, which is no variable")
+            raise Trouble(f"{name} names {unknown[0]}, which is not a variable")
         return tuple(self.names.index(n) for n in names)
 
     def add(self, name: str, scope: tuple[int, ...], costs: list[Fraction | None]) -> None:

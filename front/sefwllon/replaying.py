@@ -35,7 +35,7 @@ def deliveries(report: str) -> list[int]:
         if words[:1] == ["event"]:
             counts = words[4::2]
             if not all(word.isdigit() for word in counts):
-                raise Trouble(f"the log's line `{line[:120]}` is no event")
+                raise Trouble(f"the log's line `{line[:120]}` is not an event")
             told.append(told[-1] + sum(map(int, counts)))
     return told
 
@@ -105,7 +105,7 @@ def replayed(programs: Programs, problem: Problem, report: str, events: int, del
     if answer.status == NO:
         raise Trouble("no run has this log: " + differs(answer.text))
     if answer.status != 0:
-        raise refusal(answer, "no answer of `dcop replay`")
+        raise refusal(answer, "an answer of `dcop replay`")
     root = problem.variables[0].name
     for line in answer.text.splitlines():
         words = line.split()

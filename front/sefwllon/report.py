@@ -107,7 +107,7 @@ def read_report(text: str, problem: Problem) -> Report:
         count = {name: int(numbers[name]) for name in ("error", "deliveries", "nodes", "cost", "lower", "upper")}
         status, method = numbers["status"], numbers["method"]
     except (KeyError, ValueError):
-        raise Trouble("that is no report of `dcop solve`") from None
+        raise Trouble("that is not a report of `dcop solve`") from None
     if len(values) != len(problem.variables):
         raise Trouble(f"the report has {len(values)} values for {len(problem.variables)} variables")
     return Report(status, method, values=values, certificate=certificate, rests=rests, besides=made_with(told), **count)
@@ -131,5 +131,5 @@ def read_tree(text: str) -> list[Node]:
             parent = None if words[3] == "-" else words[3]
             nodes.append(Node(words[1], parent, words[5:]))
     if not nodes:
-        raise Trouble("that is no answer of `dcop tree`")
+        raise Trouble("that is not an answer of `dcop tree`")
     return nodes

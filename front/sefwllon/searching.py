@@ -32,7 +32,7 @@ def read_found(answer: Answer, problem: Problem, better: int | None, error: int)
     if crash(answer):
         raise Crashed(crash(answer))
     if answer.status == NO_MEMORY:
-        raise Crashed("dcop_search had not enough memory")
+        raise Crashed("dcop_search did not have enough memory")
     numbers: dict[str, str] = {}
     named: dict[str, str] = {}
     for line in answer.text.splitlines():
@@ -48,7 +48,7 @@ def read_found(answer: Answer, problem: Problem, better: int | None, error: int)
             raise ValueError
         values = None if cost is None else [value_of(problem, place, named) for place in range(len(problem.variables))]
     except (KeyError, ValueError):
-        raise Wrong(answer, "that is no answer of dcop_search") from None
+        raise Wrong(answer, "that is not an answer of dcop_search") from None
     found = Found(status != "spent", nodes, bound, cost, values)
     check_bound(found, answer, problem.goal, better, error)
     return found

@@ -456,7 +456,7 @@ class Solver:
         """Takes what the search found. What it claims must not differ from what is added up."""
         goal = self.problem.goal
         if found.values is not None and self.problem.cost(found.values) != found.cost:
-            raise Trouble(f"{answer.who} printed a cost that its values do not have: don't trust this program")
+            raise Trouble(f"{answer.who} printed a wrong cost for its values: don't trust this program")
         if found.values is not None and (self.best.cost is None or is_better(found.cost or 0, self.best.cost, goal)):
             self.best.values, self.best.cost = found.values, found.cost
         if self.best.cost is not None and is_better(self.best.cost, found.bound, goal):
@@ -515,7 +515,7 @@ class Solver:
             return False
         report = report_of(answer, problem)
         if problem.cost(report.values) != report.cost:
-            raise Trouble(f"{answer.who} printed a cost that its values do not have: don't trust this program")
+            raise Trouble(f"{answer.who} printed a wrong cost for its values: don't trust this program")
         report_text, goal = answer.text, self.problem.goal
         holds = report.certificate is not None and self.checked(text, report_text, report)
         report = in_order(report, problem, self.problem)
@@ -539,7 +539,7 @@ class Solver:
 def report_of(answer: Answer, problem: Problem) -> Report:
     """The report that an answer of `dcop` is. What is none is told, with the program and what it answered."""
     if answer.status not in (0, SPENT):
-        raise refusal(answer, "no report of `dcop solve`")
+        raise refusal(answer, "a report of `dcop solve`")
     try:
         return read_report(answer.text, problem)
     except Trouble as trouble:
@@ -551,7 +551,8 @@ def refusal(answer: Answer, wanted: str, text: str = "") -> Exception:
     if crash(answer):
         return Crashed(crash(answer))
     if answer.status == WORDS or not answer.text.startswith("refused "):
-        return Wrong(answer, f"that is {wanted}. {explain(answer.text, text)}")
+        more = f". {explain(answer.text, text)}" if answer.text.split()[:1] in ([], ["refused"]) else ""
+        return Wrong(answer, f"that is not {wanted}{more}")
     return Refused(answer)
 
 
@@ -562,13 +563,13 @@ def reordered(problem: Problem, answer: Answer) -> Problem:
     try:
         told = parse(answer.text)
     except TextFault:
-        raise Wrong(answer, "that is no problem in another order") from None
+        raise Wrong(answer, "that is not a problem") from None
     names = [v.name for v in told.variables]
     if sorted(names) != sorted(v.name for v in problem.variables):
-        raise Wrong(answer, "that is no problem with the same variables")
+        raise Wrong(answer, "that is a problem with other variables than the one that it was given")
     wanted = problem.reordered(names)
     if (told.goal, told.variables, told.tables) != (wanted.goal, wanted.variables, wanted.tables):
-        raise Wrong(answer, "that is another problem than the one that it was given")
+        raise Wrong(answer, "that is not the problem that it was given")
     return told
 
 
@@ -584,7 +585,7 @@ def cost_of(programs: Programs, problem: Problem, values: list[int]) -> int:
     tables = [Table(t.scope, (problem.cell(t, values),)) for t in problem.tables]
     answer = programs.run(["solve", "--method", "plain"], Problem(problem.goal, variables, tables).text())
     if answer.status != 0:
-        raise refusal(answer, "no report of `dcop solve`")
+        raise refusal(answer, "a report of `dcop solve`")
     if f"\ncost {problem.cost(values)}\n" not in answer.text:
         raise Wrong(answer, f"its values cost {problem.cost(values)}: don't trust this program")
     return problem.cost(values)

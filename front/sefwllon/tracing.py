@@ -22,7 +22,7 @@ INNER = frozenset(("took", "state", "context", "sent"))
 """How the lines of an event begin."""
 LAST = 10**9
 """The number of the last event that `dcop_trace` can be asked for."""
-STRANGE = "what dcop_trace answers is cut short, or is no trace: build dcop_trace anew, or see which program SEFWLLON_TRACE names"
+STRANGE = "the answer of dcop_trace is cut off or is not a trace: build dcop_trace again, or check which program SEFWLLON_TRACE names"
 
 
 @dataclass(frozen=True)
@@ -172,7 +172,7 @@ def refused(answer: str, status: int, path: str, text: str) -> Exception:
     """What an answer is that is no trace."""
     if status == NO and answer.startswith("status no\n"):
         return Trouble("no run has this log: " + differs(answer))
-    return refusal(Answer(answer, status, "dcop_trace", path), "no answer of `dcop_trace`", text)
+    return refusal(Answer(answer, status, "dcop_trace", path), "an answer of dcop_trace", text)
 
 
 class Channels:

@@ -195,7 +195,7 @@ def check_shape(source: Source) -> None:
             )
     cells = sum(prod(len(source.values[v]) for v in c.scope) for c in source.constraints)
     if cells > MOST_CELLS:
-        raise Trouble(f"the constraints have {cells} combinations of values together; dcop takes {MOST_CELLS}")
+        raise Trouble(f"all constraints together have {cells} combinations of values; dcop takes up to {MOST_CELLS}")
 
 
 def without_forbidden_values(source: Source) -> Source:

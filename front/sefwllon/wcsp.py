@@ -30,7 +30,7 @@ class Words:
     def number(self) -> int:
         word = self.next()
         if not is_number(word):
-            raise Trouble(f"line {self.words[self.at - 1][0]}: {word} is no whole number from 0 up, of 1 to 19 digits")
+            raise Trouble(f"line {self.words[self.at - 1][0]}: {word} is not a whole number from 0 up with 1 to 19 digits")
         return int(word)
 
     def real(self) -> float:
@@ -38,7 +38,7 @@ class Words:
         try:
             return float(word)
         except ValueError:
-            raise Trouble(f"line {self.words[self.at - 1][0]}: {word} is no number") from None
+            raise Trouble(f"line {self.words[self.at - 1][0]}: {word} is not a number") from None
 
 
 def read_wcsp(text: str, title: str) -> Source:
@@ -60,7 +60,7 @@ def read_wcsp(text: str, title: str) -> Source:
             choice = tuple(words.number() for _ in scope)
             wrong = next((at for at, value in zip(scope, choice) if value >= sizes[at]), None)
             if wrong is not None:
-                raise Trouble(f"function {number} names value {choice[scope.index(wrong)]} of variable {wrong}")
+                raise Trouble(f"function {number} names value {choice[scope.index(wrong)]} of variable {wrong}, which has no such value")
             told[choice] = words.number()
         costs = {choice: None if c >= top else Fraction(c) for choice, c in told.items()}
         other = None if default >= top else Fraction(default)

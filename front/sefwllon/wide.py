@@ -97,8 +97,8 @@ def by_choices(relation: Relation, result: Source) -> None:
     if len(choices) > MOST_VALUES or (relation.default is not None and count > MOST_VALUES):
         allowed = len(choices) if relation.default is None else count
         raise Trouble(
-            f"{relation.name} is over {len(sizes)} variables and leaves {allowed} choices of their values; dcop takes tables of up to "
-            f"{MOST_SCOPE} variables, and wider ones where they are sums of such or leave at most {MOST_VALUES} choices"
+            f"{relation.name} is over {len(sizes)} variables and allows {allowed} choices of their values; the limit is {MOST_SCOPE} variables, "
+            f"or {MOST_VALUES} allowed choices, unless it is a sum of constraints over up to {MOST_SCOPE} variables"
         )
     place, name = len(result.names), f"choice of {relation.name}"
     result.names.append(name if name not in result.names else f"{name} ({place})")

@@ -123,7 +123,7 @@ class Killed(OnCluster):
         self.assertIsNone(process.poll(), "the sweep goes on with the other worker")
         engine.scheduler.send_signal(signal.SIGKILL)
         _, why = process.communicate(timeout=SECONDS)
-        self.assertEqual((process.returncode, "is gone; run the same command again to go on" in why, why.count("Traceback")), (3, True, 0), why)
+        self.assertEqual((process.returncode, "no longer answers; run the same command again to go on" in why, why.count("Traceback")), (3, True, 0), why)
         limit.write_text("1000")
         kept = Path(self.out).read_text()
         self.assertLess(kept.count("\n"), 21)

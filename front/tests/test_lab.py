@@ -113,9 +113,9 @@ class Generate(Lab):
 
     def test_wrong_numbers_are_told(self):
         for words, wanted in (
-            (("sensors", "--targets", "99"), "--targets is from 1 to 40"),
-            (("meetings", "--attend", "11"), "--attend is from 1 to"),
-            (("scale-free", "--links", "30"), "there is no such graph"),
+            (("sensors", "--targets", "99"), "--targets must be from 1 to 40"),
+            (("meetings", "--attend", "11"), "--attend must be from 1 to"),
+            (("scale-free", "--links", "30"), "no graph has these numbers"),
             (("random", "--variables", "1001", "--density", "0"), "dcop takes up to 1000"),
         ):
             status, _, why = self.front("generate", *words, "-o", self.folder)
@@ -206,9 +206,9 @@ class Sweep(Lab):
             ((problems, "-o", f"{empty}/x/y.csv"), "can't be written: No such file or directory"),
             ((problems, "-o", self.out, "--methods", "dpop,best"), "there is no method best: --methods takes plain, dpop"),
             ((problems, "-o", self.out, "--methods", "dpop:tries=3"), "dpop:tries=3: tries=3 is not an option of dpop"),
-            ((problems, "-o", self.out, "--methods", "adopt:error=x"), "adopt:error=x: the error x is no number"),
+            ((problems, "-o", self.out, "--methods", "adopt:error=x"), "adopt:error=x: the error must be a number from 0 up, not x"),
             ((problems, "-o", self.out, "--methods", "dpop,dpop"), "--methods names dpop twice"),
-            ((f"{problems}/p0.dcop", "-o", f"{problems}/p0.dcop"), "is one of the files that are read, so no rows are appended to it"),
+            ((f"{problems}/p0.dcop", "-o", f"{problems}/p0.dcop"), "is one of the problems, so rows can't be appended to it"),
         ):
             status, _, why = self.front("sweep", *words, **PROGRAMS)
             self.assertEqual((status, wanted in why), (3, True), why)
@@ -339,8 +339,8 @@ class Plot(Lab):
         wrong, empty = self.file("wrong.csv", line_of(COLUMNS) + line_of(cells)), self.file("empty.csv", line_of(COLUMNS))
         for name, wanted in (
             (other, f"{other}, line 1: that is not a file of results"),
-            (wrong, f"{wrong}, line 2: seconds is `many`, which is no number"),
-            (empty, "there is no row yet"),
+            (wrong, f"{wrong}, line 2: seconds is `many`, which is not a number"),
+            (empty, "there are no rows yet"),
             (f"{self.folder}/none.csv", "can't be read: No such file"),
         ):
             status, _, why = self.front("plot", name, "-o", f"{self.folder}/plots")

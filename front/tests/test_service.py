@@ -166,17 +166,17 @@ class Answers(Case):
     def test_what_is_wrong_is_told_in_a_sentence(self):
         for where, told, status, why in (
             ("solve", {"text": "nonsense"}, 202, None),
-            ("solve", {}, 422, "there is no text"),
+            ("solve", {}, 422, "the request has no `text`"),
             ("solve", {"text": PAIR, "path": "/etc/passwd"}, 422, "takes name, text"),
-            ("solve", {"text": 7}, 422, "`text` is a text"),
-            ("solve", {"text": PAIR, "time": "soon"}, 422, "`time` is a number of seconds"),
-            ("solve", {"text": PAIR, "workers": -1}, 422, "`workers` is a whole number"),
-            ("solve?wait=x", {"text": PAIR}, 422, "`wait` is a number of seconds"),
-            ("meetings", {"text": WEEK, "fixed": ["standup"]}, 422, "`fixed` is the slot"),
-            ("timetable/look", {"text": "slot,A\nmeting,X,y\n", "values": {}}, 422, "line 2: a line begins with"),
+            ("solve", {"text": 7}, 422, "`text` must be a text"),
+            ("solve", {"text": PAIR, "time": "soon"}, 422, "`time` must be a number of seconds"),
+            ("solve", {"text": PAIR, "workers": -1}, 422, "`workers` must be a whole number"),
+            ("solve?wait=x", {"text": PAIR}, 422, "`wait` must be a number of seconds"),
+            ("meetings", {"text": WEEK, "fixed": ["standup"]}, 422, "`fixed` must be an object"),
+            ("timetable/look", {"text": "slot,A\nmeting,X,y\n", "values": {}}, 422, "line 2: a line must begin with"),
             ("solve", [], 422, "the request must be a JSON object"),
             ("nothing", {}, 404, "there is nothing"),
-            ("health", {}, 405, "does not take that method"),
+            ("health", {}, 405, "does not take that HTTP method"),
         ):
             found, body = self.post(where, told)
             self.assertEqual(found, status, (where, told, body))
@@ -224,7 +224,7 @@ class Answers(Case):
         self.assertEqual(bare.health()["version"], sefwllon.__version__)
         with self.assertRaisesRegex(Trouble, "the token is missing"):
             sefwllon.Client(f"http://127.0.0.1:{self.served.port}").health()
-        with self.assertRaisesRegex(Trouble, "the service is not there"):
+        with self.assertRaisesRegex(Trouble, "the service does not answer"):
             sefwllon.Client("http://127.0.0.1:9/").health()
 
     @unittest.skipUnless(REAL and ORDER, "no built programs")
@@ -253,7 +253,7 @@ class Running(unittest.TestCase):
             until(lambda: served.client.job(first["job"])["state"] == "running")
             below = until(lambda: (found := children(served.process.pid)) and len(found) >= 2 and found)
             second = served.client.begin("solve", text=PAIR, method="plain")
-            with self.assertRaisesRegex(Trouble, "1 requests wait already: try again later"):
+            with self.assertRaisesRegex(Trouble, "1 requests already wait: try again later"):
                 served.client.begin("solve", text=PAIR, method="cut")
             self.assertEqual(served.client.health()["jobs"], {"waiting": 1, "running": 1})
             self.assertEqual(served.client.cancel(second["job"])["state"], "cancelled")
@@ -343,8 +343,8 @@ class Starting(Case):
             told = self.start("serve", "--port", str(served.port))
             self.assertEqual((told.returncode, told.stdout), (3, ""))
             self.assertIn(f"the port {served.port} can't be used", told.stderr)
-        self.assertIn("SEFWLLON_TOKEN has at least 16", self.start("serve", SEFWLLON_TOKEN="short").stderr)
-        self.assertIn("--processes is a number from 1 to 64", self.start("serve", "--processes", "0").stderr)
+        self.assertIn("SEFWLLON_TOKEN must have at least 16", self.start("serve", SEFWLLON_TOKEN="short").stderr)
+        self.assertIn("--processes must be a number from 1 to 64", self.start("serve", "--processes", "0").stderr)
         self.assertIn("can't be read", self.start("web", "nowhere.csv").stderr)
 
     @unittest.skipUnless(HAS_FLASK, NO_FLASK)

@@ -85,7 +85,7 @@ class Reading(Case):
                 for part in ("slots", "meetings", "absences", "wishes"):
                     mine, its = ([replace(it, line=0) for it in getattr(it, part)] if part != "meetings" else {n: replace(m, line=0) for n, m in it.meetings.items()} for it in (wanted, told))
                     self.assertEqual(mine, its)
-        self.assertEqual(timetable.read(several["a heading"]).notes, ["line 1 is taken for a heading (`what;name;when or who;more`)"])
+        self.assertEqual(timetable.read(several["a heading"]).notes, ["line 1 is ignored, since it looks like a heading (`what;name;when or who;more`)"])
         self.assertEqual(timetable.read(TWO + "meeting,m,Ann\nabsent,Zoe,a\n").absences[0].who, "Zoe")
 
     def test_slips_are_told_with_their_lines(self):
@@ -95,26 +95,26 @@ class Reading(Case):
             ('meeting,"Design" team,Ida\n', "line 4: `team,Ida` follows a closing quote"),
             ('meeting,Design "A",Ida\n', "line 4: there is a quote inside the cell `Design \"A\"`"),
             ("meeting;n;Ann\n", "line 4: its cells are separated by semicolons, but those of the other lines by commas"),
-            ("slto,c,2026-03-02 11:00\nabsent,Ann,c\n", "line 4: a line begins with slot, .*: is slot meant\\? \\(`slto,c,2026-03-02 11:00`\\)$"),
-            ("absent,Ann,A\n", "line 4: Ann is absent in A, which is no slot"),
-            ("slot,Mon 9\nabsent,Ann,Mon 09\n", "line 5: .*which is no slot: is Mon 9 meant\\?"),
-            ("slot,c,2026-02-30 09:00\n", "line 4: 2026-02-30 09:00 is no day of the calendar"),
-            ("slot,c,03/02/2026 9:00\n", "line 4: 03/02/2026 9:00 may be the 3 of month 2 or the 2 of month 3"),
-            ("slot,c,2026-03-02 25:00\n", "line 4: 2026-03-02 25:00 is no time as"),
-            ("like,Ann,a,2,5\n", "line 4: 2 of Ann is no slot: is the cost 2.5 meant\\?"),
-            ("optional,m,Ann\n", "line 4: Ann must come to m, and need not"),
+            ("slto,c,2026-03-02 11:00\nabsent,Ann,c\n", "line 4: a line must begin with slot, .*: is slot meant\\? \\(`slto,c,2026-03-02 11:00`\\)$"),
+            ("absent,Ann,A\n", "line 4: Ann is absent in A, which is not a slot"),
+            ("slot,Mon 9\nabsent,Ann,Mon 09\n", "line 5: .*which is not a slot: is Mon 9 meant\\?"),
+            ("slot,c,2026-02-30 09:00\n", "line 4: 2026-02-30 09:00 is not a day of the calendar"),
+            ("slot,c,03/02/2026 9:00\n", "line 4: 03/02/2026 9:00 can be two days: write it as 2026-02-03 or 2026-03-02"),
+            ("slot,c,2026-03-02 25:00\n", "line 4: 2026-03-02 25:00 is not a time such as"),
+            ("like,Ann,a,2,5\n", "line 4: Ann likes or dislikes 2, which is not a slot: is the cost 2.5 meant\\?"),
+            ("optional,m,Ann\n", "line 4: Ann must come to m, but is optional by this line"),
             ("fixed,m,a\nfixed,m,b\n", "line 5: m is fixed twice"),
-            ("like,An,a,2\n", "line 4: An likes or dislikes slots, and is neither a person nor a meeting: is Ann meant\\?"),
-            ("before,m,n\n", "line 4: n is no meeting"),
+            ("like,An,a,2\n", "line 4: An likes or dislikes slots, but is neither a person nor a meeting: is Ann meant\\?"),
+            ("before,m,n\n", "line 4: n is not a meeting"),
             ("before,m,m\n", "line 4: m can't be before itself"),
             ("needs,m,beamer\n", "line 4: m needs something in its room, but there is no line `room`"),
-            ("room,Blue,8,beamer\nneeds,m,beemer\n", "line 5: no room has or is beemer: is beamer meant\\?"),
+            ("room,Blue,8,beamer\nneeds,m,beemer\n", "line 5: no room is called beemer or has beemer: is beamer meant\\?"),
             ("zone,Europe/Berln\n", "line 4: Europe/Berln is not a time zone"),
             ("zone,Europe/Berlin\nslot,c,2026-03-29 02:30\n", "line 5: 2026-03-29 02:30 does not exist in Europe/Berlin"),
             ("every,m,2\n", "line 4: m takes place every 2 weeks, but the week recurs 1 times"),
-            ("most,Ann,0\n", "line 4: 0 is no number of meetings a day"),
+            ("most,Ann,0\n", "line 4: the number of meetings a day must be a whole number from 1 up, not 0"),
             ("slot,c\nsame day,m,m\n", "line 5: a cell is missing"),
-            ("slot,c\nmost,Ann,1\n", "line 5: days are those of the slots' times, and the slot c has none"),
+            ("slot,c\nmost,Ann,1\n", "line 5: a rule about days needs the times of all slots, but the slot c has none"),
             ("busy,Ann,2026-03-02 10:00,2026-03-02 09:00\n", "line 4: 2026-03-02 09:00 is not after 2026-03-02 10:00"),
             ("person,Ann,ann at example\n", "line 4: ann at example is not an address"),
         ):
@@ -130,12 +130,12 @@ class Reading(Case):
     def test_faults_are_told_by_line(self):
         for text, why in (
             ("slot,a\nslot,a\n", "line 2: the slot a is given twice"),
-            ("slot,a,tomorrow\n", "line 1: tomorrow is no time"),
-            ("slot,a\nmeeting,,Ann\n", "line 2: a cell is missing, or is one too many: the line is meeting,NAME"),
+            ("slot,a,tomorrow\n", "line 1: tomorrow is not a time"),
+            ("slot,a\nmeeting,,Ann\n", "line 2: a cell is missing, or there is one too many: write the line as meeting,NAME"),
             ("slot,a\nmeeting,m,Ann\nlike,Ann,a,\n", "line 3: a cell is missing"),
             ("slot,a\nmeeting,m,Ann\nlike,Ann,a,-2\n", "line 3: the cost -2 is negative"),
             ("slot,a\nmeeting,m,Ann\nlike,Ann,3,a\n", "line 3: the last cell must be the cost"),
-            ("slot,a,2026-03-02 09:00,²\n", "line 1: ² is no number of minutes"),
+            ("slot,a,2026-03-02 09:00,²\n", "line 1: the number of minutes must be a whole number from 1 up, not ²"),
             ("slot,a,2026-03-02 09:00+01:00\n", "line 1: .* names a time zone"),
             ("slot,a\n", "the file needs at least one line `slot,..` and one line `meeting,..`"),
             ("slot,a\nmeeting,m,Ann;Bo\nabsent,Bo,a\n", "m has no slot: in each of them, or in one that overlaps it, somebody of Ann, Bo is absent"),
@@ -148,10 +148,10 @@ class Reading(Case):
     def test_what_is_likely_a_slip_is_a_note(self):
         text = "slot,a,2026-03-02\nmeeting,m,Kim;Lea\nmeeting,n,Kmi;Lea\nmeeting,Lea,Kim\nmeeting,o,\n"
         wanted = [
-            "line 1: the slot a begins at midnight, since its cell has a date alone: is a time missing?",
+            "line 1: the slot a begins at midnight, since its cell has only a date: is a time missing?",
             "line 3: Kmi is only in this line: is Kim meant?",
-            "line 4: the meeting Lea is named as a person is: what Lea likes counts for both",
-            "line 5: o is a meeting of nobody",
+            "line 4: the meeting Lea has the name of a person: what Lea likes counts for both",
+            "line 5: nobody takes part in the meeting o",
         ]
         self.assertEqual(timetable.read(text).notes, wanted)
         _, told, _ = self.front("meetings", self.file("week.csv", text))
@@ -164,10 +164,10 @@ class Reading(Case):
     def test_a_csv_is_explained_as_one(self):
         status, _, why = self.front("explain", self.file("week.csv", "slot,a\nmeeting,m,Ann\nabsent,Ann,b\n"))
         self.assertEqual(status, 3)
-        self.assertIn("line 3: Ann is absent in b, which is no slot", why)
+        self.assertIn("line 3: Ann is absent in b, which is not a slot", why)
         bad = self.file("week.csv", "")
         Path(bad).write_bytes("slot,a\nmeeting,m,J\xfcrgen\n".encode("latin-1"))
-        self.assertIn("no UTF-8 text from line 2 on", self.front("meetings", bad)[2])
+        self.assertIn("is not UTF-8 text from line 2 on", self.front("meetings", bad)[2])
 
 
 class Meetings(Case):
@@ -297,7 +297,7 @@ class Meetings(Case):
     def test_why_a_meeting_has_no_place(self):
         for lines, why in (
             ("room,Blue,1\nmeeting,m,Ann;Bo\n", r"no room has what m needs, 2 seats \(Blue: 1 seats\)"),
-            ("room,Blue\nmeeting,m,Ann\nabsent,Blue,a;b\n", r"m has no slot: where nobody of Ann is absent each room that suits it is closed \(Blue\)"),
+            ("room,Blue\nmeeting,m,Ann\nabsent,Blue,a;b\n", r"m has no slot: whenever all of Ann can come, each room that suits it is closed \(Blue\)"),
             ("meeting,m,Ann\nfixed,m,a\nabsent,Ann,a\n", r"m is fixed in a, and somebody of Ann is absent there or in a slot that overlaps it \(Ann: a\)"),
             ("meeting,m,Ann\nbusy,Ann,2026-03-02 09:30,2026-03-02 10:30\n", r"m has no slot: .*\(Ann: a, b\)"),
         ):
@@ -316,7 +316,7 @@ class Meetings(Case):
         wide = slots + "".join(f"meeting,m{at},Ann\n" for at in range(200))
         status, _, why = self.front("meetings", self.file("week.csv", wide))
         self.assertEqual(status, 3)
-        self.assertIn("19,900 pairs of meetings share somebody or have a rule, and they have 31,840,000 pairs of slots together; dcop takes 4,194,304", why)
+        self.assertIn("19,900 pairs of meetings share somebody or have a rule, and together have 31,840,000 pairs of slots; dcop takes up to 4,194,304", why)
         counted = "".join(f"slot,s{at},2026-03-{2 + at:02} 09:00\n" for at in range(20)) + "".join(f"meeting,m{at},Ann\n" for at in range(70)) + "most,Ann,5\n"
         status, _, why = self.front("meetings", self.file("week.csv", counted))
         self.assertEqual(status, 3)
@@ -542,7 +542,7 @@ class Keeping(Case):
         for wrong in (re.sub(r"^cost (\d+)", lambda it: f"cost {int(it[1]) - 1}", text, 1, re.M), text.replace("value Retro Wed_10", "value Retro Mon_11", 1)):
             status, told, _ = self.front("check", week, self.file("wrong.report", wrong), "--keep", old)
             self.assertEqual((status, told[:4]), (1, "no: "))
-            self.assertTrue(told.endswith("; this report is about what --keep named when it was made\n"), told)
+            self.assertTrue(told.endswith("; the report only holds with what --keep named when it was made\n"), told)
 
     def test_a_report_says_what_it_was_made_with(self):
         week, old, report = self.kept_report()
@@ -550,7 +550,7 @@ class Keeping(Case):
             status, told, why = self.front(*words)
             self.assertEqual((status, told, why), (3, "", "sefwllon: this report was made with --keep: name the old timetable by --keep OLD\n"))
         _, _, why = self.front("trace", week, report)
-        self.assertIn("`meetings --problem OUT` writes its problem beside it", why)
+        self.assertIn("`meetings --problem OUT` writes its problem, so name OUT instead of", why)
         plain = self.file("plain.report", "")
         self.front("meetings", week, "--report", plain)
         self.assertNotIn("\nwith ", Path(plain).read_text())
@@ -646,7 +646,7 @@ class Keeping(Case):
         self.assertEqual(told.splitlines()[0], "o can't be in b: no timetable keeps all the rules then (verified)")
         crowd = self.file("week.csv", CROWD)
         self.assertIn("no timetable keeps all the rules (added up), so it is not asked what Board", self.front("why", crowd, "Board", "Tue 18")[1])
-        for words, why in ((("Retr", "Mon 9"), "Retr is no meeting of the file: is Retro meant?"), (("Retro", "Mon 10"), "Mon 10 is no slot of the file: is Mon 11 meant?")):
+        for words, why in ((("Retr", "Mon 9"), "the file has no meeting Retr: is Retro meant?"), (("Retro", "Mon 10"), "the file has no slot Mon 10: is Mon 11 meant?")):
             status, _, told = self.front("why", week, *words)
             self.assertEqual(status, 3)
             self.assertIn(why, told)
@@ -789,8 +789,8 @@ class Calendars(Case):
 
     def test_what_a_calendar_lacks_is_told(self):
         zone, people = "zone,Europe/Berlin\n", "".join(f"person,{name},{name}@example.org\n" for name in ("Ida", "Jon", "Kim", "Lea"))
-        no_mail = "note: the calendar has no address of {}: a line person,{},MAIL gives one\n"
-        no_zone = "note: the calendar's times have no zone: a line zone,Europe/Berlin gives one\n"
+        no_mail = "note: the calendar has no address of {}: add one by a line person,{},MAIL\n"
+        no_zone = "note: the calendar's times have no zone: add one by a line such as zone,Europe/Berlin\n"
         for text, wanted in (
             (WEEK, [no_mail.format("Ida, Jon, Kim, Lea", "Ida"), no_zone]),
             (zone + WEEK + "person,Ida,i@example.org\n", [no_mail.format("Jon, Kim, Lea", "Jon")]),

@@ -48,7 +48,7 @@ class Without(Case):
 
     def test_a_report_that_tells_no_run_is_refused(self):
         pair, report = str(PROBLEMS / "pair.dcop"), self.file("report", "")
-        for method, words in (("plain", "this report is by plain"), ("adopt", "the report has no certificate")):
+        for method, words in (("plain", "this report is of the method plain"), ("adopt", "the report has no certificate")):
             self.front("solve", pair, "--method", method, "--certificate", "no", "--report", report)
             status, _, why = self.front("trace", pair, report)
             self.assertEqual(status, 3)

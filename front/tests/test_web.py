@@ -307,7 +307,7 @@ class Timetables(Page):
     def test_what_is_wrong_stands_at_its_row(self):
         self.open_week()
         self.type("people", 1, "; Wed 11", column=1)
-        self.sees("#grid-people tr.wrong .fault", "Lea is absent in Wed 11, which is no slot")
+        self.sees("#grid-people tr.wrong .fault", "Lea is absent in Wed 11, which is not a slot")
         self.sees("#refused", "A row is marked red")
         self.click("#solve")
         self.sees("#answer", "The tables are refused: a row is marked red")

@@ -170,7 +170,7 @@ def take(pair: Pair, told: Translation, given: dict[int, Pair]) -> None:
     own = [v.name for v in told.problem.variables]
     place = told.names.index(pair.name) if pair.name in told.names else own.index(pair.name) if pair.name in own else None
     if place is None:
-        raise Trouble(f"{pair.place}: there is no {pair.name}{meant(pair.name, told.names)}")
+        raise Trouble(f"{pair.place}: the file has no {pair.name}{meant(pair.name, told.names)}")
     if place in given and given[place].value != pair.value:
         raise Trouble(f"{pair.place}: {pair.name} already has the value {given[place].value}, from {given[place].place}")
     given[place] = pair
@@ -181,11 +181,11 @@ def value_of(pair: Pair, place: int, told: Translation) -> int:
     value = own.index(pair.value) if pair.value in own else variable.value_of(pair.value)
     if value is None:
         shown = f"; it has {', '.join(own)}" if len(own) <= 8 else ""
-        raise Trouble(f"{pair.place}: {pair.value} is no value of {pair.name}{meant(pair.value, own) or shown}")
+        raise Trouble(f"{pair.place}: {pair.value} is not a value of {pair.name}{meant(pair.value, own) or shown}")
     return value
 
 
 def meant(word: str, known: list[str]) -> str:
     """What a wrong word probably means."""
     near = difflib.get_close_matches(word, known, 1)
-    return f": {near[0]}?" if near else ""
+    return f": is {near[0]} meant?" if near else ""

@@ -37,7 +37,7 @@ def add(commands: Commands) -> None:
 def run(options: argparse.Namespace) -> int:
     what = options.words.pop(0) if options.words[0] in ("graph", "tree", "bounds") else None
     if not 1 <= len(options.words) <= 2:
-        raise Trouble("draw takes a FILE and, after it, a REPORT if there is one")
+        raise Trouble("name one FILE and, if there is one, a REPORT after it")
     file, *reports = options.words
     options.text = read_text(file)
     programs = Programs()
@@ -74,7 +74,7 @@ def tree_of(programs: Programs, told: Translation, report: str | None) -> str:
     problem = told.problem if report is None else fitted(told.problem, report)
     answer = programs.run(["tree"], problem.text())
     if answer.status != 0:
-        raise refusal(answer, "no answer of `dcop tree`")
+        raise refusal(answer, "an answer of `dcop tree`")
     try:
         nodes = read_tree(answer.text)
     except Trouble as trouble:

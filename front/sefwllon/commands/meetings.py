@@ -116,7 +116,7 @@ def alternatives(session: Session, plan: Plan, count: int) -> tuple[list[Plan], 
         except (OutOfTime, KeyboardInterrupt):
             other = None
         except Trouble as trouble:
-            return found, f"no further timetable can be asked for: {trouble}"
+            return found, f"the search for a further timetable failed: {trouble}"
         if other is None or not as_good(other, plan, found):
             known = other is not None and other.best.solved
             what = "no further timetable is as good" if known else "no further timetable as good was found in time"

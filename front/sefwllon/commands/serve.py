@@ -30,7 +30,7 @@ def add_limits(command: argparse.ArgumentParser) -> None:
 
 def port(word: str) -> int:
     if natural(word) not in range(1024, 65536):
-        raise argparse.ArgumentTypeError(f"{word} is no port from 1024 to 65535")
+        raise argparse.ArgumentTypeError(f"the port must be from 1024 to 65535, not {word}")
     return int(word)
 
 
@@ -46,7 +46,7 @@ def limits(options: argparse.Namespace) -> Limits:  # type: ignore[name-defined]
 
     processes = options.processes if options.processes is not None else Limits.processes
     if not 1 <= processes <= 64:
-        raise Trouble("--processes is a number from 1 to 64")
+        raise Trouble("--processes must be a number from 1 to 64")
     return Limits(
         processes=processes,
         waiting=options.waiting,

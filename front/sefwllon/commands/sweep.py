@@ -47,10 +47,10 @@ def run(options: argparse.Namespace) -> int:
     from ..lab.sweep import Plan, Told, files_of, programs_of, sweep
 
     if options.time <= 0 or options.processes == 0:
-        raise Trouble("--time and --processes are above 0")
+        raise Trouble("--time and --processes must be above 0")
     methods, files = read_methods(options.methods), files_of(options.problems)
     if Path(options.out).exists() and any(path.exists() and path.samefile(options.out) for path in files):
-        raise Trouble(f"{options.out} is one of the files that are read, so no rows are appended to it: name another file by -o")
+        raise Trouble(f"{options.out} is one of the problems, so rows can't be appended to it: name another file by -o")
     programs, sums = programs_of(methods, Programs())
     plan, failed, stopped = Plan(files, methods, options.time, sums), [], ""
     with Results(options.out) as results:

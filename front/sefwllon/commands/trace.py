@@ -141,6 +141,6 @@ def line(told: Told) -> str:
 def untold(read: Report) -> str:
     """Why a run can't be told from a report."""
     if read.method not in ("adopt", "dpop"):
-        return f"trace tells runs of ADOPT and of DPOP, and this report is by {read.method}"
+        return f"trace only shows runs of ADOPT and DPOP, but this report is of the method {read.method}"
     words = "--method adopt" if read.method == "adopt" else "--method dpop"
     return f"the report has no certificate, which is needed to show the run: make the report with `sefwllon solve {words} --report OUT`"

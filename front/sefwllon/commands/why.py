@@ -66,7 +66,7 @@ def run(options: argparse.Namespace) -> int:
     if held.impossible:
         say("\n".join(refused(session, fixed, name, slot, held.none_keeps or "")) + "\n")
         return SOLVED
-    say("\n".join([f"no timetable with {name} in {slot} was found, and it is not known that there is none: give it more --time", *telling.details(held)]) + "\n")
+    say("\n".join([f"no timetable with {name} in {slot} was found in time, but there may be one: give it more --time", *telling.details(held)]) + "\n")
     return OPEN
 
 
@@ -80,7 +80,7 @@ def named(word: str, names: Iterable[str], what: str) -> str:
     if word in names:
         return word
     near = get_close_matches(word, list(names), 1, 0.6)
-    raise Trouble(f"{word} is no {what} of the file" + (f": is {near[0]} meant?" if near else f"; it has {', '.join(list(names)[:20])}"))
+    raise Trouble(f"the file has no {what} {word}" + (f": is {near[0]} meant?" if near else f"; it has {', '.join(list(names)[:20])}"))
 
 
 def barred_by(told: Timetable, name: str, slot: str) -> list[str]:

@@ -32,7 +32,7 @@ class Gone(Trouble):
     """The scheduler does not answer any more."""
 
     def __init__(self, address: str) -> None:
-        super().__init__(f"the scheduler at {address} is gone")
+        super().__init__(f"the scheduler at {address} no longer answers")
 
 
 class Cluster:
@@ -127,7 +127,7 @@ class Cluster:
 def failure(fault: Exception) -> str:
     """Why Dask gave a task up, in a sentence."""
     if type(fault).__name__ == "KilledWorker":
-        return "each worker that took it died"
+        return "each worker that tried it died"
     return f"it failed on a worker: {type(fault).__name__}: {fault}"
 
 

@@ -44,14 +44,14 @@ def part(word: str) -> float:
             return float(word)
     except ValueError:
         pass
-    raise argparse.ArgumentTypeError(f"{word} is no part from 0 to 1, as 0.4")
+    raise argparse.ArgumentTypeError(f"{word} is not a number from 0 to 1, such as 0.4")
 
 
 def costs(word: str) -> tuple[int, int]:
     """The least and the greatest cost, as 0..100."""
     least, dots, most = word.partition("..")
     if not (dots and least.isdigit() and most.isdigit() and int(least) <= int(most) <= 10**15):
-        raise argparse.ArgumentTypeError(f"{word} is no range of costs, as 0..100")
+        raise argparse.ArgumentTypeError(f"{word} is not a range of costs such as 0..100")
     return int(least), int(most)
 
 
@@ -61,7 +61,7 @@ def graph(name: str, *words: Any, **more: Any) -> Any:
     try:
         return getattr(library, name)(*words, **more)
     except library.NetworkXError as fault:
-        raise Trouble(f"there is no such graph: {fault}") from None
+        raise Trouble(f"no graph has these numbers: {fault}") from None
 
 
 def pairs_of(made: Any) -> list[tuple[int, int]]:
@@ -123,7 +123,7 @@ def scale_free(given: Given, draw: Random) -> Problem:
 def meetings(given: Given, draw: Random) -> Problem:
     """Meetings take slots, or none; two that share somebody are not in one slot."""
     if not 1 <= given.attend <= given.people:
-        raise Trouble("--attend is from 1 to the number of --people")
+        raise Trouble("--attend must be from 1 to the number of --people")
     who = [set(draw.sample(range(given.people), given.attend)) for _ in range(given.meetings)]
     pairs = [pair for pair in combinations(range(given.meetings), 2) if who[pair[0]] & who[pair[1]]]
     return slotted("m", given.meetings, pairs, given, draw)
@@ -134,7 +134,7 @@ def sensors(given: Given, draw: Random) -> Problem:
     made = graph("grid_2d_graph", given.rows, given.columns)
     between = sorted(tuple(sorted(edge)) for edge in made.edges())
     if not 1 <= given.targets <= len(between):
-        raise Trouble(f"--targets is from 1 to {len(between)}, the number of pairs of neighbouring sensors of such a grid")
+        raise Trouble(f"--targets must be from 1 to {len(between)}, the number of pairs of neighbouring sensors in this grid")
     places = sorted(draw.sample(between, given.targets))
     pairs = [pair for pair in combinations(range(given.targets), 2) if set(places[pair[0]]) & set(places[pair[1]])]
     return slotted("t", given.targets, pairs, given, draw)

@@ -81,12 +81,12 @@ def checked(words: str, key: str, value: str) -> str:
                 return value
         except Exception:
             pass
-        raise Trouble(f"{words}: the error {value} is no number from 0 up")
+        raise Trouble(f"{words}: the error must be a number from 0 up, not {value}")
     if key == "certificate" and value in ("yes", "no"):
         return value
     if key != "certificate" and value.isascii() and value.isdigit() and len(value) < 20:
         return value
-    raise Trouble(f"{words}: {key} can't be `{value}`; it is {'yes or no' if key == 'certificate' else 'a whole number'}")
+    raise Trouble(f"{words}: {key} must be {'yes or no' if key == 'certificate' else 'a whole number'}, not `{value}`")
 
 
 def read_methods(word: str) -> list[Method]:

@@ -64,7 +64,7 @@ def read_rows(name: str) -> list[dict[str, str]]:
     except OSError as fault:
         raise Trouble(f"{name} can't be read: {fault.strerror}") from None
     except UnicodeDecodeError:
-        raise Trouble(f"{name} is no file of results of `sefwllon sweep`: it is no UTF-8 text") from None
+        raise Trouble(f"{name} is not a file of results of `sefwllon sweep`: it is not UTF-8 text") from None
     return parsed(name, text[: text.rfind("\n") + 1])
 
 

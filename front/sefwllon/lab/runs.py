@@ -121,7 +121,7 @@ class Run:
                 return
             report = read_report(ran.text, problem)
             if problem.cost(report.values) != report.cost:
-                raise Trouble("dcop printed a cost that its values do not have")
+                raise Trouble("dcop printed a wrong cost for its values: don't trust this program")
             self.report, self.problem, self.certified = report, problem, ran.text if report.certificate else None
             self.take(in_order(report, problem, self.told.problem).values, report.cost, report.bound(self.goal))
             if self.status == "solved":
@@ -147,7 +147,7 @@ class Run:
             answer = Answer(ran.text, ran.status, "dcop_search", self.programs["dcop_search"])
             found = read_found(answer, self.told.problem, self.cost, error)
             if found.values is not None and self.told.problem.cost(found.values) != found.cost:
-                raise Trouble("dcop_search printed a cost that its values do not have")
+                raise Trouble("dcop_search printed a wrong cost for its values: don't trust this program")
             self.nodes += found.nodes
             self.take(found.values, found.cost, found.bound)
             if found.ended:
@@ -160,7 +160,7 @@ class Run:
             self.values, self.cost = values, cost
         self.bound = nearest(self.bound, bound, self.goal)
         if self.cost is not None and is_better(self.cost, self.bound, self.goal):
-            raise Trouble(f"its sum {self.cost} is better than its bound {self.bound}")
+            raise Trouble(f"its sum {self.cost} is better than its bound {self.bound}: don't trust this program")
         self.moments.append((self.seconds, self.cost, self.bound))
 
     def row(self) -> dict[str, object]:

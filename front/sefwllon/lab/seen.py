@@ -40,7 +40,7 @@ def seen(names: Sequence[str]) -> list[Seen]:
         for line, row in enumerate(read_rows(name), 2):
             found.append(one(f"{name}, line {line}", row))
     if not found:
-        raise Trouble(f"{', '.join(names)}: there is no row yet: `sefwllon sweep` appends them")
+        raise Trouble(f"{', '.join(names)}: there are no rows yet: run `sefwllon sweep` first")
     return found
 
 
@@ -50,7 +50,7 @@ def one(place: str, row: dict[str, str]) -> Seen:
     for told in filter(None, row["bounds"].split("; ")):
         words = told.split()
         if len(words) != 3:
-            raise Trouble(f"{place}: bounds has `{told}`, which is no time, cost and bound")
+            raise Trouble(f"{place}: bounds has `{told}`, but it must be a time, a cost and a bound")
         at = number(place, "bounds", words[0])
         moments.append((at, 1.0 if "-" in words else part(*(number(place, "bounds", word) for word in words[1:]))))
     return Seen(row["file"], row["checksum"], row["method"], row["status"], numbers, tuple(moments))
@@ -60,7 +60,7 @@ def number(place: str, name: str, word: str) -> float:
     try:
         return float(word)
     except ValueError:
-        raise Trouble(f"{place}: {name} is `{word}`, which is no number") from None
+        raise Trouble(f"{place}: {name} is `{word}`, which is not a number") from None
 
 
 def part(cost: float, bound: float) -> float:

@@ -151,7 +151,7 @@ class Sharing:
             found = read_found(answer, sliced, told.get("better"), self.aim.error)
             values = None if found.values is None else [part.fixed.get(at, value) for at, value in enumerate(found.values)]
             if values is not None and self.problem.cost(values) != found.cost:
-                raise Trouble(f"{answer.who} printed a cost that its values do not have: don't trust this program")
+                raise Trouble(f"{answer.who} printed a wrong cost for its values: don't trust this program")
         except Trouble as trouble:
             self.fail(part, str(trouble))
             return

@@ -72,7 +72,7 @@ def read_content(path: Path) -> bytes:
     except OSError as fault:
         raise Trouble(f"{path} can't be read: {fault.strerror}") from None
     if len(content) > MOST_BYTES:
-        raise Trouble(f"{path} is longer than 2^28 bytes")
+        raise Trouble(f"{path} is longer than 2^28 bytes, which is the limit")
     return content
 
 

@@ -108,7 +108,7 @@ def test_alone(file: str, report: str) -> None:
 
 
 def problem_written(file: str) -> str:
-    return f"`meetings --problem OUT` writes its problem beside it, and OUT is named in place of {file}"
+    return f"`meetings --problem OUT` writes its problem, so name OUT instead of {file}"
 
 
 def only_with(options: argparse.Namespace, report: str) -> str:
@@ -118,7 +118,7 @@ def only_with(options: argparse.Namespace, report: str) -> str:
         return ""
     if not set(named) <= set(made_with(report)):
         return f"; this report does not say that it was made with {words(named)}"
-    return f"; this report is about what {words(named)} named when it was made"
+    return f"; the report only holds with what {words(named)} named when it was made"
 
 
 __all__ = ["Asked", "add_besides", "asked", "of_plan", "only_with", "test_alone"]

@@ -43,8 +43,8 @@ def lacking(told: Timetable) -> list[str]:
     """What a calendar of a timetable lacks that its file may have."""
     unknown = [person for person in told.people() if person not in told.mails]
     names = ", ".join(unknown[:5]) + (" and others" if len(unknown) > 5 else "")
-    notes = [f"the calendar has no address of {names}: a line person,{unknown[0]},MAIL gives one"] if unknown else []
-    return notes + (["the calendar's times have no zone: a line zone,Europe/Berlin gives one"] if told.zone is None else [])
+    notes = [f"the calendar has no address of {names}: add one by a line person,{unknown[0]},MAIL"] if unknown else []
+    return notes + (["the calendar's times have no zone: add one by a line such as zone,Europe/Berlin"] if told.zone is None else [])
 
 
 def written(
@@ -190,7 +190,7 @@ def parsed(text: str, name: str) -> Any:
     try:
         return icalendar.Calendar.from_ical(text.lstrip("\ufeff"))
     except (ValueError, IndexError, KeyError) as fault:
-        raise Trouble(f"{name} is no calendar that can be read: {str(fault)[:120]}") from None
+        raise Trouble(f"{name} can't be read as a calendar: {str(fault)[:120]}") from None
 
 
 def earlier(told: Timetable, text: str) -> Earlier:

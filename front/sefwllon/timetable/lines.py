@@ -107,7 +107,7 @@ class Reading:
         """The meeting that a line names."""
         if name not in self.told.meetings:
             if name not in self.suspects:
-                self.fault(row.number, f"{name} is no meeting{meant(name, self.told.meetings)}")
+                self.fault(row.number, f"{name} is not a meeting{meant(name, self.told.meetings)}")
             return None
         return self.told.meetings[name]
 
@@ -144,8 +144,8 @@ def kind_of(row: Row, reading: Reading) -> str:
         return word
     near = get_close_matches(word, FORMS, 1, 0.6)
     reading.suspects.update(parts(row.cells[1:2]))
-    told = f": is {FORMS[near[0]].split(',')[0]} meant?" if near else "; a heading stands in the first line alone"
-    reading.fault(row.number, f"a line begins with {', '.join(form.split(',')[0] for form in FORMS.values())}, and not with `{row.cells[0]}`{told}")
+    told = f": is {FORMS[near[0]].split(',')[0]} meant?" if near else "; only the first line can be a heading"
+    reading.fault(row.number, f"a line must begin with {', '.join(form.split(',')[0] for form in FORMS.values())}, not with `{row.cells[0]}`{told}")
     return ""
 
 
@@ -158,7 +158,7 @@ def without_heading(rows: list[Row], reading: Reading) -> list[Row]:
     plain = not any(re.search("[0-9]", cell) for cell in first.cells) and len(first.cells) > 1
     if word in FORMS or word in _SAME_WORD or not plain or get_close_matches(word, FORMS, 1, 0.7):
         return rows
-    reading.told.notes.append(f"line {first.number} is taken for a heading (`{first.text.strip()[:80]}`)")
+    reading.told.notes.append(f"line {first.number} is ignored, since it looks like a heading (`{first.text.strip()[:80]}`)")
     return rows[1:]
 
 
@@ -187,7 +187,7 @@ def fits(kind: str, row: list[str]) -> bool:
 
 
 def wrong_form(kind: str, row: list[str]) -> str:
-    return f"a cell is missing, or is one too many: the line is {FORMS[kind]}"
+    return f"a cell is missing, or there is one too many: write the line as {FORMS[kind]}"
 
 
 def meant(name: str, names: Iterable[str]) -> str:
@@ -233,7 +233,7 @@ def begin(reading: Reading, slot: Slot, told: When) -> None:
         slot.begin = in_zone(told, reading.told.zone)
 
     if told.date_alone:
-        reading.told.notes.append(f"line {slot.line}: the slot {slot.name} begins at midnight, since its cell has a date alone: is a time missing?")
+        reading.told.notes.append(f"line {slot.line}: the slot {slot.name} begins at midnight, since its cell has only a date: is a time missing?")
     reading.times.append((slot.line, settle))
 
 
@@ -252,7 +252,7 @@ def read_room(reading: Reading, row: Row) -> None:
     reading.told.rooms[name] = room
     if rest and rest[0]:
         if not rest[0].isdigit():
-            raise Trouble(f"{rest[0]} is no number of seats: the line is {FORMS['room']}")
+            raise Trouble(f"{rest[0]} is not a number of seats: write the line as {FORMS['room']}")
         room.seats = whole(rest[0], "seats")
     room.has = parts(rest[1:])
 
@@ -263,7 +263,7 @@ def read_optional(reading: Reading, row: Row) -> None:
     cost = price(rest.pop()) if len(rest) > 1 and is_price(rest[-1]) else Fraction(0)
     for person in parts(rest):
         if meeting and person in meeting.people:
-            reading.fault(row.number, f"{person} must come to {name}, and need not: leave one of the two out")
+            reading.fault(row.number, f"{person} must come to {name}, but is optional by this line: leave one of the two out")
         elif meeting:
             meeting.optional[person] = cost
 
@@ -271,7 +271,7 @@ def read_optional(reading: Reading, row: Row) -> None:
 def read_absent(reading: Reading, row: Row) -> None:
     one_alone(row)
     _, who, *rest = row.cells
-    slots = reading.slots(row, parts(rest), f"{who} is absent in {{}}, which is no slot")
+    slots = reading.slots(row, parts(rest), f"{who} is absent in {{}}, which is not a slot")
     reading.told.absences.append(Absence(who, slots, row.number))
 
 
@@ -295,10 +295,10 @@ def read_wish(reading: Reading, row: Row) -> None:
     _, who, *rest, cost = row.cells
     if who not in reading.told.meetings and who not in reading.told.people() and who not in reading.suspects:
         names = [*reading.told.people(), *reading.told.meetings]
-        reading.fault(row.number, f"{who} likes or dislikes slots, and is neither a person nor a meeting{meant(who, names)}")
+        reading.fault(row.number, f"{who} likes or dislikes slots, but is neither a person nor a meeting{meant(who, names)}")
     if rest[-1].isdigit() and cost.isdigit() and rest[-1] not in reading.told.slot_at and len(rest) > 1:
-        raise Trouble(f"{rest[-1]} of {who} is no slot: is the cost {rest[-1]}.{cost} meant? write it so, or in quotes, since a comma parts cells here")
-    slots = reading.slots(row, parts(rest), f"{{}} of {who} is no slot")
+        raise Trouble(f"{who} likes or dislikes {rest[-1]}, which is not a slot: is the cost {rest[-1]}.{cost} meant? Write it so, or in quotes: a comma separates cells")
+    slots = reading.slots(row, parts(rest), f"{who} likes or dislikes {{}}, which is not a slot")
     reading.told.wishes.append(Wish(word_of(row.cells[0]), who, slots, price(cost), row.number))
 
 
@@ -306,7 +306,7 @@ def read_fixed(reading: Reading, row: Row) -> None:
     one_alone(row)
     _, name, *rest = row.cells
     meeting = reading.meeting(row, name)
-    slots = reading.slots(row, parts(rest), f"{name} is fixed in {{}}, which is no slot")
+    slots = reading.slots(row, parts(rest), f"{name} is fixed in {{}}, which is not a slot")
     if meeting and meeting.fixed:
         raise Trouble(f"{name} is fixed twice: name all slots that it may take in one line")
     if meeting:
@@ -362,7 +362,7 @@ def read_needs(reading: Reading, row: Row) -> None:
             meeting.needs.append(need)
             things = [*reading.told.rooms, *(thing for room in reading.told.rooms.values() for thing in room.has)]
             if reading.told.rooms and need not in things:
-                reading.fault(row.number, f"no room has or is {need}{meant(need, things)}")
+                reading.fault(row.number, f"no room is called {need} or has {need}{meant(need, things)}")
     if not reading.told.rooms and not meeting.roomless:
         raise Trouble(f"{meeting.name} needs something in its room, but there is no line `room`")
 
@@ -417,21 +417,21 @@ def check_whole(reading: Reading) -> None:
     timed = [slot for slot in told.slots if slot.begin is not None]
     untimed = next((slot for slot in told.slots if slot.begin is None), None)
     needing = [
-        *((rule.line, "days are those of the slots' times") for rule in told.together),
-        *((rule.line, "days are those of the slots' times") for rule in told.most),
-        *((meeting.line, "its minutes count from the slot's time") for meeting in told.meetings.values() if meeting.minutes),
-        *((busy.line, "a time is compared with those of the slots") for busy in told.busy),
-        *((untimed.line, "a week that recurs needs times") for _ in range(1) if untimed and told.weeks > 1),
+        *((rule.line, "a rule about days needs the times of all slots") for rule in told.together),
+        *((rule.line, "a rule about days needs the times of all slots") for rule in told.most),
+        *((meeting.line, "a meeting with minutes needs the times of all slots") for meeting in told.meetings.values() if meeting.minutes),
+        *((busy.line, "a line `busy` needs the times of all slots") for busy in told.busy),
+        *((untimed.line, "a week that recurs needs the times of all slots") for _ in range(1) if untimed and told.weeks > 1),
     ]
     for line, why in needing:
         if untimed is not None:
-            reading.fault(line, f"{why}, and the slot {untimed.name} has none: write it as slot,{untimed.name},2026-03-02 09:00")
+            reading.fault(line, f"{why}, but the slot {untimed.name} has none: write it as slot,{untimed.name},2026-03-02 09:00")
     if told.weeks > 1 and len(timed) > 1:
         begins = [instant(slot.begin) for slot in timed if slot.begin is not None]
         first, last = min(begins), max(begins)
         if (last - first).days >= 7:
             late = timed[begins.index(last)]
-            reading.fault(late.line, "the slots of a week that recurs lie within seven days")
+            reading.fault(late.line, "the slots of a week that recurs must lie within seven days")
     for person in told.mails:
         if person not in told.people():
             told.notes.append(f"{person} has an address, but takes part in no meeting")

@@ -192,7 +192,7 @@ def no_place(told: Timetable, meeting: Meeting) -> str:
     if told.takes_room(meeting) and not told.rooms_for(meeting):
         needs = [f"{meeting.size} seats", *meeting.needs]
         rooms = "; ".join(f"{room.name}: {'any number of' if room.seats is None else room.seats} seats{''.join(f', {it}' for it in room.has)}" for room in told.rooms.values())
-        return f"no room has what {name} needs, {', '.join(needs)} ({rooms}): a line needs,{name},no room or needs,{name},SEATS says less"
+        return f"no room has what {name} needs, {', '.join(needs)} ({rooms}): write needs,{name},no room or, for fewer seats, needs,{name},SEATS"
     slots = [slot.name for slot in told.slots if not meeting.fixed or slot.name in meeting.fixed]
     barred = {
         person: [told.slots[place.slot].name for place in told.places_for(meeting) if told.clock.why_away(person, meeting, place)]
@@ -203,7 +203,7 @@ def no_place(told: Timetable, meeting: Meeting) -> str:
         why = f"somebody of {people} is absent there or in a slot that overlaps it ({gone})" if gone else "no room that suits it is open"
         return f"{name} is fixed in {' or '.join(meeting.fixed)}, and {why}"
     if told.takes_room(meeting) and any(not any(told.clock.why_away(person, meeting, it) for person in meeting.people) for it in told.places_for(meeting)):
-        return f"{name} has no slot: where nobody of {people} is absent each room that suits it is closed ({', '.join(room.name for room in told.rooms_for(meeting))})"
+        return f"{name} has no slot: whenever all of {people} can come, each room that suits it is closed ({', '.join(room.name for room in told.rooms_for(meeting))})"
     return f"{name} has no slot: in each of them, or in one that overlaps it, somebody of {people} is absent ({gone})"
 
 
@@ -214,8 +214,8 @@ def check_cells(told: Timetable, places: dict[str, list[Place]], pairs: list[Pai
     cells = sum(size[first] * size[second] for first, second in (*both, *soft))
     if cells > MOST_CELLS:
         raise Trouble(
-            f"{len(both):,} pairs of meetings share somebody or have a rule, and they have {cells:,} pairs of slots together; dcop takes "
-            f"{MOST_CELLS:,}: fewer slots, lines `fixed`, or a file for a part of the meetings make it fit"
+            f"{len(both):,} pairs of meetings share somebody or have a rule, and together have {cells:,} pairs of slots; dcop takes up to "
+            f"{MOST_CELLS:,}: use fewer slots, add lines `fixed`, or make a file for a part of the meetings"
         )
 
 

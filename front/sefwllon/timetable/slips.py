@@ -64,9 +64,9 @@ def folded(name: str) -> str:
 def two_kinds(told: Timetable) -> list[str]:
     """Meetings and rooms that are named as people are."""
     people = set(told.people())
-    notes = [f"line {it.line}: the meeting {name} is named as a person is: what {name} likes counts for both" for name, it in told.meetings.items() if name in people]
-    return notes + [f"line {it.line}: the room {name} is named as a person is: both are absent at once" for name, it in told.rooms.items() if name in people]
+    notes = [f"line {it.line}: the meeting {name} has the name of a person: what {name} likes counts for both" for name, it in told.meetings.items() if name in people]
+    return notes + [f"line {it.line}: the room {name} has the name of a person: both are absent at the same times" for name, it in told.rooms.items() if name in people]
 
 
 def empty(told: Timetable) -> list[str]:
-    return [f"line {meeting.line}: {name} is a meeting of nobody" for name, meeting in told.meetings.items() if not meeting.everybody]
+    return [f"line {meeting.line}: nobody takes part in the meeting {name}" for name, meeting in told.meetings.items() if not meeting.everybody]

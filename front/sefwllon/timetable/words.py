@@ -37,7 +37,8 @@ def parts(cells: list[str]) -> list[str]:
 
 def whole(word: str, what: str, least: int = 1, most: int = 10**6 - 1) -> int:
     if not re.fullmatch(r"[0-9]{1,6}", word) or not least <= int(word) <= most:
-        raise Trouble(f"{word or 'nothing'} is no number of {what}, a whole number from {least} {'up' if most == 10**6 - 1 else f'to {most}'}")
+        told = f", not {word}" if word else ""
+        raise Trouble(f"the number of {what} must be a whole number from {least} {'up' if most == 10**6 - 1 else f'to {most}'}{told}")
     return int(word)
 
 
@@ -75,7 +76,7 @@ def when(word: str) -> When:
 
 
 def no_time(word: str) -> Trouble:
-    return Trouble(f"{word} is no time as {EXAMPLE}")
+    return Trouble(f"{word} is not a time such as {EXAMPLE}")
 
 
 def day_before(text: str, word: str) -> tuple[datetime.date, str]:
@@ -92,7 +93,7 @@ def day_before(text: str, word: str) -> tuple[datetime.date, str]:
         try:
             return datetime.date(year + 2000 if year < 100 else year, month, day), rest.lstrip("T ,")
         except ValueError:
-            raise Trouble(f"{word} is no day of the calendar") from None
+            raise Trouble(f"{word} is not a day of the calendar") from None
     raise no_time(word)
 
 
@@ -100,7 +101,7 @@ def by_slashes(numbers: list[int], word: str) -> list[int]:
     first, second, year = numbers
     if first > 12 or second > 12 or first == second:
         return [year, second, first] if first > 12 else [year, first, second]
-    raise Trouble(f"{word} may be the {first} of month {second} or the {second} of month {first}: write it as {year}-{second:02}-{first:02}")
+    raise Trouble(f"{word} can be two days: write it as {year}-{second:02}-{first:02} or {year}-{first:02}-{second:02}")
 
 
 def zone_behind(word: str) -> tuple[str, datetime.tzinfo | None]:

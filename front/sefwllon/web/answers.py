@@ -170,7 +170,7 @@ def by_wish(asked: Request, teller: Any) -> Told:
     wish = asked["wish"]
     meeting = told.meetings.get(wish["meeting"])
     if meeting is None:
-        raise Trouble(f"{wish['meeting']} is no meeting")
+        raise Trouble(f"{wish['meeting']} is not a meeting")
     answer = timetabled(asked, text + csv_lines([[wish["taste"], meeting.name, ";".join(wish["slots"]), price_above(told)]]), teller)
     slot = told.slots[told.place_of(meeting, answer["values"][meeting.name]).slot].name
     found: Told = {name: answer[name] for name in ("solved", "rests_on", "stopped")}
@@ -262,7 +262,7 @@ def where(text: str, values: dict[str, str], name: str) -> list[Told]:
     """For each slot what a timetable costs more with a meeting moved there, and what that breaks."""
     told = read_plan(text)
     if name not in told.meetings:
-        raise Trouble(f"{name} is no meeting")
+        raise Trouble(f"{name} is not a meeting")
     meeting, chosen = told.meetings[name], placed_of(told, values)
     part = part_of(told, {*chosen, name})
     places = {other: part.place_of(part.meetings[other], place) for other, place in chosen.items()}
@@ -339,13 +339,13 @@ def problem_text(told: Request) -> str:
         tables = [Table(tuple(at[name] for name in table["scope"]), tuple(table["costs"])) for table in told["tables"]]
         goal = told.get("goal", "min")
     except (KeyError, TypeError, AttributeError) as fault:
-        raise Trouble(f"a problem as JSON has variables, a list of values for each name, and tables, each with scope and costs: {fault} is wrong") from None
+        raise Trouble(f"a problem as JSON must have `variables`, a list of values for each name, and `tables`, each with `scope` and `costs`: {fault} is wrong") from None
     words = [word for variable in variables for word in (variable.name, *(variable.values or ()))]
     strange = next((word for word in words if not is_name(word)), None)
     if strange is not None:
         raise Trouble(f"{strange[:40]!r} is not a name for dcop: a name has up to 32 letters, digits, _, . and -, and begins with a letter or _")
     if goal not in ("min", "max") or not all(type(cost) is int and cost >= 0 for table in tables for cost in table.costs):
-        raise Trouble("a problem as JSON has the goal min or max, and costs that are whole numbers from 0 up")
+        raise Trouble("a problem as JSON must have the goal min or max, and costs that are whole numbers from 0 up")
     return Problem(goal, variables, tables).text()
 
 
@@ -367,7 +367,7 @@ def ordered_text(programs: Programs, problem: Problem, tries: int, seconds: floa
     if answer is None or answer.status is None:
         return None
     if answer.status != 0:
-        raise refusal(answer, "no answer of dcop_order", problem.text())
+        raise refusal(answer, "an answer of dcop_order", problem.text())
     return answer.text
 
 
@@ -375,7 +375,7 @@ def tree_of(programs: Programs, told: Translation, text: str) -> list[Told]:
     """The tree of the agents of a problem's text, with separators and the cells of each agent's joined table."""
     answer = programs.run(["tree"], text)
     if answer.status != 0:
-        raise refusal(answer, "no answer of `dcop tree`", text)
+        raise refusal(answer, "an answer of `dcop tree`", text)
     own = {v.name: name for v, name in zip(told.problem.variables, told.names)}
     sizes = {v.name: v.size for v in told.problem.variables}
     nodes = []
@@ -415,7 +415,7 @@ def by_view(asked: Request, teller: Any) -> Told:
     }
     text = ordered_text(programs, problem, ORDERS, ORDER_SECONDS)
     if text is None:
-        answer["why_no_order"] = "it takes dcop_order too long" if programs.order else "the program dcop_order is not there"
+        answer["why_no_order"] = "dcop_order takes too long" if programs.order else "the program dcop_order is missing"
     else:
         answer["ordered"] = tree_of(programs, told, text)
     return {"answer": answer, "final": True}
@@ -465,7 +465,7 @@ def by_dpop(asked: Request, teller: Any) -> Told:
     told = loaded(asked, programs)
     answer = programs.run(["solve", "--method", "dpop", "--certificate", "yes"], told.problem.text())
     if answer.status != 0:
-        raise refusal(answer, "no report of `dcop solve`", told.problem.text())
+        raise refusal(answer, "a report of `dcop solve`", told.problem.text())
     run = trace.Run(programs, told.problem, answer.text)
     sure = run.checked()
     read = read_report(answer.text, told.problem)

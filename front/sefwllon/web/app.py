@@ -125,9 +125,9 @@ def make_app(pool: Pool, first: Told | None = None) -> Flask:
         return jsonify(why=str(fault)), 404
 
     for code, why in (
-        (400, "the request is no JSON that this address takes"),
+        (400, "the request is not JSON, which this address needs"),
         (404, "there is nothing at this address"),
-        (405, "this address does not take that method"),
+        (405, "this address does not take that HTTP method"),
         (500, "the service failed on this request"),
     ):
         app.register_error_handler(code, lambda fault, code=code, why=why: (jsonify(why=why), code))
@@ -143,7 +143,7 @@ def make_app(pool: Pool, first: Told | None = None) -> Flask:
     @app.get("/d3.js")
     def d3() -> Response:
         if not D3.is_file():
-            raise Unknown("D3 is not there: install Debian's node-d3")
+            raise Unknown("D3 is missing: install Debian's node-d3")
         return send_file(D3, mimetype="text/javascript")
 
     @app.get("/first")
@@ -199,7 +199,7 @@ def make_app(pool: Pool, first: Told | None = None) -> Flask:
         if len(text) > MOST_PLAN:
             raise Trouble(f"the timetable is longer than {MOST_PLAN:,} letters")
         if not isinstance(values, dict):
-            raise Trouble("`values` is the slot of each meeting, by its name")
+            raise Trouble("`values` must be an object with the slot of each meeting")
         if what == "look":
             return jsonify(answers.look(text, values))
         if what == "where":
@@ -239,7 +239,7 @@ def seconds_of(name: str, most: float) -> float:
     with contextlib.suppress(ValueError):
         if 0 <= float(word):
             return min(float(word), most)
-    raise Trouble(f"`{name}` is a number of seconds, and `{word[:40]}` is none")
+    raise Trouble(f"`{name}` must be a number of seconds, not `{word[:40]}`")
 
 
 def body() -> Told:
@@ -284,11 +284,11 @@ def checked(kind: str, told: Told, limits: Limits) -> Told:
         raise Trouble(f"/{kind} takes {', '.join(FIELDS[kind])}, not {strange[0][:40]}")
     for name in ("text", "name", "report"):
         if not isinstance(told.get(name, ""), str):
-            raise Trouble(f"`{name}` is a text")
+            raise Trouble(f"`{name}` must be a text")
     if not told.get("text"):
-        raise Trouble("there is no text of a problem in the request")
+        raise Trouble("the request has no `text`, which must be the problem")
     if kind == "check" and not told.get("report"):
-        raise Trouble("/check takes the report that is to be checked as `report`")
+        raise Trouble("the request has no `report`, which must be the report to check")
     for name in ("tries", "budget", "workers", "cells"):
         if name in told:
             told[name] = whole(name, told[name])
@@ -298,11 +298,11 @@ def checked(kind: str, told: Told, limits: Limits) -> Told:
         told["certificate"] = told["certificate"] in (True, "yes", "true", "1", 1)
     fixed: Any = told.get("fixed", {})
     if not isinstance(fixed, dict) or not all(isinstance(slot, str) for slot in fixed.values()):
-        raise Trouble("`fixed` is the slot of each meeting that is held, by its name")
+        raise Trouble("`fixed` must be an object with the slot of each meeting that is held")
     if kind == "wish":
         wish: Any = told.get("wish")
         if not isinstance(wish, dict) or not isinstance(wish.get("slots"), list) or wish.get("taste") not in ("like", "dislike"):
-            raise Trouble("`wish` has a meeting, a taste, like or dislike, and slots")
+            raise Trouble("`wish` must have a meeting, a taste (like or dislike) and slots")
     return told
 
 
@@ -312,7 +312,7 @@ def whole(name: str, told: Any) -> int:
             raise ValueError
         return int(told)
     except (TypeError, ValueError, OverflowError):
-        raise Trouble(f"`{name}` is a whole number from 0 up") from None
+        raise Trouble(f"`{name}` must be a whole number from 0 up") from None
 
 
 def number_of(name: str, told: Any) -> float:
@@ -321,4 +321,4 @@ def number_of(name: str, told: Any) -> float:
             raise ValueError
         return float(told)
     except (TypeError, ValueError):
-        raise Trouble(f"`{name}` is a number of seconds above 0") from None
+        raise Trouble(f"`{name}` must be a number of seconds above 0") from None

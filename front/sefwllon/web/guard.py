@@ -28,11 +28,11 @@ class Guard:
 
     def __call__(self, environ: Environ, start: Callable[..., Any]) -> Iterable[bytes]:
         if environ.get("HTTP_HOST") not in self.hosts:
-            return refuse(start, HTTPStatus.FORBIDDEN, "the request names another host: the service answers as 127.0.0.1 alone")
+            return refuse(start, HTTPStatus.FORBIDDEN, "the request names another host: the service only answers as 127.0.0.1")
         if environ.get("HTTP_ORIGIN") not in (None, *self.origins):
             return refuse(start, HTTPStatus.FORBIDDEN, "the request comes from another site's page")
         if "HTTP_TRANSFER_ENCODING" in environ:
-            return refuse(start, HTTPStatus.LENGTH_REQUIRED, "say how long the request is, by Content-Length")
+            return refuse(start, HTTPStatus.LENGTH_REQUIRED, "the request must give its length by Content-Length")
         first, slash, rest = environ.get("PATH_INFO", "").removeprefix("/").partition("/")
         if self.same(first):
             if not slash:

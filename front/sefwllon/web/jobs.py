@@ -157,7 +157,7 @@ class Pool:
                 job.kept, job.state, job.answer = True, "done", answer
                 job.began = job.ended = time.monotonic()
             elif self.count("waiting") >= self.limits.waiting:
-                raise Full(f"{self.limits.waiting} requests wait already: try again later")
+                raise Full(f"{self.limits.waiting} requests already wait: try again later")
             self.jobs[job.id] = job
             self.forget()
             self.touch(job)
@@ -265,7 +265,7 @@ class Pool:
             try:
                 self.run(job)
             except Exception as fault:  # a job may fail, and the pool goes on
-                self.finish(job, "failed", why=f"the service failed on it: {fault}")
+                self.finish(job, "failed", why=f"the service failed on this job: {fault}")
 
     def run(self, job: Job) -> None:
         """Runs a job's worker to its end, in a folder of its own that is taken away behind it."""
@@ -332,7 +332,7 @@ class Pool:
         try:
             told = json.loads(printed)
         except ValueError:
-            self.finish(job, "failed", why=f"its process ended with {status} and without an answer")
+            self.finish(job, "failed", why=f"its process ended without an answer, with exit status {status}")
             return
         if "refused" in told:
             self.finish(job, "refused", why=told["refused"])

@@ -93,7 +93,7 @@ def token_of() -> str:
     if told is None:
         return secrets.token_urlsafe(24)
     if len(told) < SHORTEST_TOKEN or not all(letter.isascii() and (letter.isalnum() or letter in "-_") for letter in told):
-        raise Trouble(f"SEFWLLON_TOKEN has at least {SHORTEST_TOKEN} letters, digits, - and _")
+        raise Trouble(f"SEFWLLON_TOKEN must have at least {SHORTEST_TOKEN} characters, and only letters, digits, - and _")
     return told
 
 
