@@ -89,7 +89,7 @@ def joined(programs: Programs, told: Translation, groups: list[list[int]], answe
             values[variable] = value
     cost = told.problem.cost(values)
     if cost != sum(answer.cost or 0 for answer in answers):
-        raise Trouble("the parts do not add up to the whole: don't trust these programs")
+        raise Trouble("the costs of the parts do not add up to that of the whole: don't trust these programs")
     best.lower = sum(answer.lower or 0 for answer in answers)
     best.smaller = any(answer.smaller for answer in answers)
     best.checked = sum(answer.checked or 0 for answer in answers)

@@ -165,5 +165,5 @@ def own_costs(told: Translation) -> str | None:
         return missed
     less = f" - {hard}" if hard else ""
     shift = f" + {number(told.shift)}" if told.shift else ""
-    counted = f"Sums are told as the programs count them; by the file's own count N is (N{less}) / {told.scale}{shift}."
+    counted = f"Sums are those of the programs: in the file's own costs a sum N is (N{less}) / {told.scale}{shift}."
     return f"{counted} {missed}" if missed else counted

@@ -178,7 +178,7 @@ class Solver:
         if last.budget:
             self.best.stopped = f"the budget of {last.budget:,} {last.unit} is spent"
             if last.way == "search" and self.until is None:
-                self.best.stopped += ", which is the last one where no --time is given"
+                self.best.stopped += "; to search longer give it --time"
 
     def failed(self, step: Step, fault: Crashed | Wrong) -> None:
         """A program failed: what was found before is kept. Without an order the other ways are left."""

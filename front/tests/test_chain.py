@@ -206,7 +206,7 @@ class Chain(Case):
         with mock.patch("sefwllon.solving.LAST_NODES", 10**5):
             answer = self.solved(FAKE_SEARCH="spends")
             self.assertEqual((answer["status"], answer["solved"], answer["lower"], answer["upper"]), (1, False, 2, 3))
-            self.assertRegex(str(answer["stopped"]), "^the budget of 100,000 nodes is spent, which is the last one where no --time is given")
+            self.assertRegex(str(answer["stopped"]), "^the budget of 100,000 nodes is spent; to search longer give it --time")
         with mock.patch("sefwllon.solving.MESSAGES", (1_000,)):
             _, told, _ = self.front("solve", "--method", "adopt", self.file("p.dcop", PAIR), fake="spends")
             self.assertIn("\nstopped: the budget of 1,000 messages is spent\n", told)

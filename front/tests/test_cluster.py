@@ -80,7 +80,7 @@ class Cluster(OnCluster):
         self.assertEqual(status, 0, why)
         self.assertEqual(answer["rests_on"], "each slice proved, their combination not")
         self.assertEqual(len(answer["slices"]["workers"]), 2, answer["slices"])
-        self.assertIn("that their answers together are one of the whole is not proved", answer["note"])
+        self.assertIn("it is not proved that their answers together answer the whole problem", answer["note"])
 
     def test_a_slice_that_fails_is_tried_again_and_then_told(self):
         """The program dies at one slice each time: the others are answered, and what is said allows for that one."""

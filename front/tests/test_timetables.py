@@ -645,7 +645,7 @@ class Keeping(Case):
         _, told, _ = self.front("why", ring, "o", "b")
         self.assertEqual(told.splitlines()[0], "o can't be in b: no timetable keeps all the rules then (verified)")
         crowd = self.file("week.csv", CROWD)
-        self.assertIn("no timetable keeps all the rules (added up), so it is not asked what Board", self.front("why", crowd, "Board", "Tue 18")[1])
+        self.assertIn("no timetable keeps all the rules (added up), so the cost of Board in Tue 18 is not known", self.front("why", crowd, "Board", "Tue 18")[1])
         for words, why in ((("Retr", "Mon 9"), "the file has no meeting Retr: is Retro meant?"), (("Retro", "Mon 10"), "the file has no slot Mon 10: is Mon 11 meant?")):
             status, _, told = self.front("why", week, *words)
             self.assertEqual(status, 3)
@@ -782,7 +782,7 @@ class Calendars(Case):
         self.assertEqual(self.front("check", busy_week, report)[0::2], (3, "sefwllon: this report was made with --busy: name the calendars by --busy PERSON=ICS\n"))
         _, told, _ = self.front("why", self.file("week.csv", week), "m", "d3", "--busy", f"Ann={calendar}")
         self.assertEqual(told, "m can't be in d3: Ann can't: a calendar\n")
-        for words, why in (((f"Zoe={calendar}",), "Zoe takes part in no meeting"), ((calendar,), "does not name a person and a calendar"), ((f"Ann={self.file('x.ics', 'BEGIN:VCALENDAR')}",), "")):
+        for words, why in (((f"Zoe={calendar}",), "Zoe takes part in no meeting"), ((calendar,), "must name a person and a calendar"), ((f"Ann={self.file('x.ics', 'BEGIN:VCALENDAR')}",), "")):
             status, _, told = self.front("meetings", self.file("week.csv", week), "--busy", *words)
             self.assertEqual(status, 3 if why else status)
             self.assertIn(why, told)

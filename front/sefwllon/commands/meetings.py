@@ -109,7 +109,7 @@ def alternatives(session: Session, plan: Plan, count: int) -> tuple[list[Plan], 
     if not count:
         return found, None
     if not plan.exact:
-        return found, "no alternatives: the timetable is not known to be the best, so it is not known what others may cost"
+        return found, "no alternatives: it is not known that this timetable is the best, so others can't be compared with it"
     while len(found) < count:
         try:
             other = next_alternative(session, plan, [plan, *found])

@@ -73,7 +73,7 @@ def run(options: argparse.Namespace) -> int:
 def no_base(known: str | None, name: str, slot: str) -> str:
     """That there is no timetable to compare with."""
     none = f"no timetable keeps all the rules ({known})" if known else "no timetable that keeps all the rules was found"
-    return f"{none}, so it is not asked what {name} in {slot} costs: `sefwllon meetings` says what is in the way\n"
+    return f"{none}, so the cost of {name} in {slot} is not known: `sefwllon meetings` says what is in the way\n"
 
 
 def named(word: str, names: Iterable[str], what: str) -> str:
@@ -102,7 +102,7 @@ def compared(told: Timetable, best: Plan, held: Plan, name: str, slot: str) -> l
         lines = [f"{name} in {slot} costs {telling.money(more)} more: {telling.money(held.cost)}, and without that {telling.money(best.cost)}"]
     else:
         lines = [f"{name} in {slot} costs nothing more: there is a timetable with it that costs {telling.money(held.cost)}, as the best one that was found"]
-    lines[0] += f" ({known})" if known else " (not the least for certain: give it more --time)"
+    lines[0] += f" ({known})" if known else " (not certain: give it more --time)"
     lines += met(told, best, held, name)
     lines += [f"then {other} goes from {best.chosen[other]} to {held.chosen[other]}" for other in told.meetings if other != name and held.chosen[other] != best.chosen[other]]
     before, after = [cost.sentence() for cost in best.costs], [cost.sentence() for cost in held.costs]

@@ -201,8 +201,8 @@ class Sharing:
         self.best.sliced = answered > 1
         if answered > 1:
             self.best.notes.append(
-                f"{answered} slices of the problem were answered, each by the proved dcop_search, on {len(self.places)} workers; that "
-                "their answers together are one of the whole is not proved; the cost is added up from the file"
+                f"{answered} slices of the problem were answered, each by the proved dcop_search, on {len(self.places)} workers; it is "
+                "not proved that their answers together answer the whole problem; the cost is added up from the file"
             )
         for part, why in self.failed:
             self.best.notes.append(f"a slice with {counted(len(part.fixed), 'variable')} fixed was not answered: {why}")

@@ -49,8 +49,8 @@ class PairRule:
             names = f"{first} and {second}" if here == there else f"{first} in {here} and {second} in {there}"
             return f"{names} {where}, and {self.name.removeprefix(f'{first} and {second} ')}"
         if self.kind == "before":
-            return f"{first} in {here} has not ended when {second} in {there} begins, though the line {line} says so"
-        return f"{first} in {here} and {second} in {there} {'are not' if self.kind == 'sameday' else 'are'} on one day, though the line {line} says otherwise"
+            return f"{first} in {here} has not ended when {second} in {there} begins, against the line {line}"
+        return f"{first} in {here} and {second} in {there} {'are not' if self.kind == 'sameday' else 'are'} on one day, against the line {line}"
 
 
 def shared_by(told: Timetable) -> dict[tuple[str, str], list[str]]:
@@ -194,7 +194,7 @@ def breaches(told: Timetable, chosen: dict[str, object]) -> list[Breach]:
         for day, group in day_groups(told, most).items():
             on = [name for name in group if rows[name] in group[name]]
             if len(on) > most.count:
-                found.append(Breach(tuple(on), f"{most.who} has {len(on)} meetings on {day}, {', '.join(on)}, and at most {most.count} are to be"))
+                found.append(Breach(tuple(on), f"{most.who} has {len(on)} meetings on {day}, {', '.join(on)}, but may have {most.count} at most"))
     return found
 
 

@@ -32,7 +32,7 @@ def opened(options: argparse.Namespace) -> Timetable:
     for word in options.busy or []:
         who, found, name = word.partition("=")
         if not found or not who or not name:
-            raise Trouble(f"{word} does not name a person and a calendar, such as Ida=ida.ics")
+            raise Trouble(f"--busy {word} must name a person and a calendar, such as --busy Ida=ida.ics")
         told.busy += busy.taken(told, who, read_text(name), name)
     return replace(told)
 

@@ -73,7 +73,7 @@ class Run:
         """What each agent has come to after so many events; and with `dcop_trace` what it knows, what was taken and sent in the last
         of these events, and what is on its way."""
         if not self.programs.trace:
-            return {"agents": self.replayed(count), "untold": f"{missing('dcop_trace')}; it tells what the messages say."}
+            return {"agents": self.replayed(count), "untold": f"{missing('dcop_trace')}; without it the messages can't be shown."}
         with _ONE_BY_ONE:
             recorded = _recorded(self.programs.trace, self.problem.text() + self.report)
         return seen(recorded, count, names)
