@@ -76,7 +76,7 @@ def formats() -> str:
     for path in (here / "FORMATS.md", here.parents[1] / "docs" / "FORMATS.md"):
         if path.is_file():
             return path.read_text()
-    raise Trouble(f"{here.parents[1] / 'docs' / 'FORMATS.md'} is missing, from which the page is made: install Sefwllon again")
+    raise Trouble(f"the page is made from {here.parents[1] / 'docs' / 'FORMATS.md'}, which is missing: install Sefwllon again")
 
 
 def content(page: Page, text: str) -> list[Block]:

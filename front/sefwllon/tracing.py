@@ -191,7 +191,7 @@ class Channels:
             if head == "took":
                 waiting = self.waiting.get((other, event.agent))
                 if not waiting or waiting[0][1] != words:
-                    raise Trouble(f"dcop_trace says that {event.agent} takes `{words}` of {other} in event {event.number}, which is not what was sent: don't trust it")
+                    raise Trouble(f"dcop_trace says that {event.agent} takes `{words}` from {other} in event {event.number}, which is not what was sent: don't trust it")
                 origins.append(waiting.popleft()[0])
             elif head == "sent":
                 self.waiting.setdefault((event.agent, other), deque()).append((event.number, words))

@@ -297,7 +297,7 @@ class Meetings(Case):
     def test_why_a_meeting_has_no_place(self):
         for lines, why in (
             ("room,Blue,1\nmeeting,m,Ann;Bo\n", r"no room has what m needs, 2 seats \(Blue: 1 seats\)"),
-            ("room,Blue\nmeeting,m,Ann\nabsent,Blue,a;b\n", r"m has no slot: whenever all of Ann can come, each room that suits it is closed \(Blue\)"),
+            ("room,Blue\nmeeting,m,Ann\nabsent,Blue,a;b\n", r"m has no slot: whenever Ann can come, each room that suits it is closed \(Blue\)"),
             ("meeting,m,Ann\nfixed,m,a\nabsent,Ann,a\n", r"m is fixed in a, and somebody of Ann is absent there or in a slot that overlaps it \(Ann: a\)"),
             ("meeting,m,Ann\nbusy,Ann,2026-03-02 09:30,2026-03-02 10:30\n", r"m has no slot: .*\(Ann: a, b\)"),
         ):

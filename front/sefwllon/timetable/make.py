@@ -148,7 +148,7 @@ def make(told: Timetable, title: str, aim: Aim | None = None) -> Made:
 
 def check_count(told: Timetable) -> None:
     if len(told.meetings) > MOST_VARIABLES:
-        raise Trouble(f"there are {len(told.meetings):,} meetings; dcop takes up to {MOST_VARIABLES:,}: make a file for each group of meetings that shares nobody with the others")
+        raise Trouble(f"there are {len(told.meetings):,} meetings; dcop takes up to {MOST_VARIABLES:,}: make a file for each group that shares nobody with the others")
     most = max((min(meeting.every, told.weeks) for meeting in told.meetings.values()), default=1)
     if len(told.slots) * most > MOST_VALUES * 16:
         raise Trouble(f"there are {len(told.slots):,} slots; a meeting can have up to {MOST_VALUES:,}: leave some out")
@@ -203,7 +203,7 @@ def no_place(told: Timetable, meeting: Meeting) -> str:
         why = f"somebody of {people} is absent there or in a slot that overlaps it ({gone})" if gone else "no room that suits it is open"
         return f"{name} is fixed in {' or '.join(meeting.fixed)}, and {why}"
     if told.takes_room(meeting) and any(not any(told.clock.why_away(person, meeting, it) for person in meeting.people) for it in told.places_for(meeting)):
-        return f"{name} has no slot: whenever all of {people} can come, each room that suits it is closed ({', '.join(room.name for room in told.rooms_for(meeting))})"
+        return f"{name} has no slot: whenever {people} can come, each room that suits it is closed ({', '.join(room.name for room in told.rooms_for(meeting))})"
     return f"{name} has no slot: in each of them, or in one that overlaps it, somebody of {people} is absent ({gone})"
 
 
