@@ -320,7 +320,7 @@ class Running(unittest.TestCase):
             until(lambda: served.client.job(job["job"])["said"])
             os.kill(worker, signal.SIGKILL)
             told = until(lambda: (found := served.client.job(job["job"]))["state"] == "failed" and found)
-            self.assertIn("ended with -9", told["why"])
+            self.assertIn("ended without an answer, by the signal 9", told["why"])
 
 
 class Starting(Case):

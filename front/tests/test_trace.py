@@ -55,7 +55,7 @@ class Without(Case):
             self.assertIn(words, why)
 
     def test_an_answer_that_is_no_trace_is_told(self):
-        with self.assertRaisesRegex(Trouble, "no trace"):
+        with self.assertRaisesRegex(Trouble, "is not a trace"):
             list(read_events(["start x", "state value 0 lower 0 upper - threshold 0 ended no"]))
         with self.assertRaisesRegex(Trouble, "SEFWLLON_TRACE"):
             list(read_events(["agent x"]))

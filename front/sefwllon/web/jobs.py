@@ -332,7 +332,8 @@ class Pool:
         try:
             told = json.loads(printed)
         except ValueError:
-            self.finish(job, "failed", why=f"its process ended without an answer, with exit status {status}")
+            how = f"by the signal {-status}" if status < 0 else f"with exit status {status}"
+            self.finish(job, "failed", why=f"its process ended without an answer, {how}")
             return
         if "refused" in told:
             self.finish(job, "refused", why=told["refused"])
