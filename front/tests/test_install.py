@@ -196,7 +196,7 @@ class Installed(unittest.TestCase):
         told = ran("man", "dcop", home=self.home)
         self.assertEqual((told.returncode, told.stderr), (0, ""))
         self.assertIn("dcop - solve a problem of distributed constraint optimisation", " ".join(told.stdout.split()))
-        self.assertRegex(told.stdout, r"\n +2\. +Then +the +pairs +are +tested")
+        self.assertRegex(told.stdout, r"\n +2\. +Each +pair +is +tested")
 
     def test_python_finds_the_package(self):
         told = ran(FRONT / "python.sh", "-c", "import sefwllon; print(sefwllon.__version__)", home=self.home)
@@ -217,7 +217,7 @@ class Installed(unittest.TestCase):
             self.assertIn(f"without words it prints `{refused[0]}`, and for `--help` `{refused[1]}`", told)
         ended = ran("sefwllon", "dcop", "solve", home=self.home)
         self.assertEqual((ended.returncode, ended.stdout), (3, ""))
-        self.assertIn("run `dcop solve` itself", ended.stderr)
+        self.assertIn("write `dcop solve`", ended.stderr)
 
     def test_the_pages_of_the_manual(self):
         pages = sorted((self.prefix / "share/man").rglob("*.*"))
