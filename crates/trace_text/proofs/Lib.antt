@@ -1,3 +1,4 @@
+pub mod WordLaws
 pub mod LineLaws
 pub mod PlayLaws
 pub mod TraceLaws

@@ -1,5 +1,5 @@
 -- The lines of a trace, as they are written piece by piece.
-use Rattle.std.proofs.Common.{◌≡◌, ℕ, ◌+◌, ◌<◌, ◌≤◌, suc, Bool, List, [], ◌∷◌, ◌++◌, map, length, drop, get_or, Option, Some, None, Result, Ok, Err, OnOk, refl, sym, ap, subst, ◌∙◌, append_assoc, drop-cons, add-one, codes}
+use Rattle.std.proofs.Common.{◌≡◌, ℕ, ◌+◌, ◌<◌, ◌≤◌, suc, Bool, List, [], ◌∷◌, ◌++◌, map, length, drop, get_or, Option, Some, None, refl, sym, ap, ◌∙◌, append_assoc, drop-cons, add-one, codes}
 use Rattle.std.specs.List.{flat_map}
 use Rattle.std.specs.Option.{option_map}
 use Rattle.std.specs.Fmt.{decimal}
@@ -18,11 +18,6 @@ use Rattle.solve_report.specs.Replay.{standing_words}
 use Rattle.trace_text.specs.Lines.{name_in, pair_words, took_words, sent_words, known_words, agent_lines, event_words}
 use Rattle.trace_text.specs.Told.{start_told, event_told}
 
--- what holds of a success still holds if more follows from it
-pub on-ok : {A E : Type 0} (r : Result A E) (P Q : Type 0) → (P → Q) → OnOk r P → OnOk r Q
-on-ok (Ok x) P Q f h = f h
-on-ok (Err e) P Q f h = tt
-
 -- a line of a word, a name and further words
 pub named-line : (word name : List ℕ) (words : List (List ℕ))
     → line (word ∷ name ∷ words) ≡ word ++ (32 ∷ (name ++ (flat_map spaced words ++ (10 ∷ []))))
@@ -30,12 +25,6 @@ named-line word name words =
     line-cons word (name ∷ words)
     ∙ append_assoc word (32 ∷ (name ++ flat_map spaced words)) (10 ∷ [])
     ∙ ap (λ (text : List ℕ). word ++ (32 ∷ text)) (append_assoc name (flat_map spaced words) (10 ∷ []))
-
--- a line of a word, a name and further words, written piece by piece
-pub named-written : (old new word name : List ℕ) (words : List (List ℕ))
-    → new ≡ old ++ (word ++ (32 ∷ (name ++ (flat_map spaced words ++ (10 ∷ [])))))
-    → new ≡ old ++ line (word ∷ name ∷ words)
-named-written old new word name words h = h ∙ ap (λ (text : List ℕ). old ++ text) (sym (named-line word name words))
 
 -- one more element of a list, each written as these bytes
 pub one-more : {A : Type 0} (f : A → List ℕ) (xs : List A) (k : ℕ) (x : A) (text new all : List ℕ) → k < length xs → x ≡ get_or xs k x
@@ -123,24 +112,9 @@ start-written old first second new names core i sent h1 h2 h3 =
         ∙ append_assoc old (codes "start " ++ (name ++ (10 ∷ []))) (a ++ b)
         ∙ ap (λ (text : List ℕ). old ++ (codes "start " ++ text)) (append_assoc name (10 ∷ []) (a ++ b))
 
--- the first line of an event
-event-line : (names : List (List ℕ)) (number : ℕ) (e : LogEvent) (rest : List ℕ)
-    → line (event_words names number e) ++ rest ≡ codes "event " ++ (decimal number ++ (32 ∷ (name_in names e.agent ++ (32 ∷ (decimal e.stamp ++ (10 ∷ rest))))))
-event-line names number e rest =
-    ap (λ (text : List ℕ). text ++ rest) (named-line (codes "event") (decimal number) (name_in names e.agent ∷ decimal e.stamp ∷ []))
-    ∙ ap (λ (text : List ℕ). codes "event " ++ text) (pieces (decimal number) (name_in names e.agent) (decimal e.stamp))
-  where
-    pieces : (a b c : List ℕ) → (a ++ (((32 ∷ b) ++ ((32 ∷ c) ++ [])) ++ (10 ∷ []))) ++ rest ≡ a ++ (32 ∷ (b ++ (32 ∷ (c ++ (10 ∷ rest)))))
-    pieces a b c =
-        append_assoc a ((32 ∷ (b ++ (32 ∷ (c ++ [])))) ++ (10 ∷ [])) rest
-        ∙ ap (λ (text : List ℕ). a ++ (32 ∷ text))
-        (append_assoc (b ++ (32 ∷ (c ++ []))) (10 ∷ []) rest
-        ∙ append_assoc b (32 ∷ (c ++ [])) (10 ∷ rest)
-        ∙ ap (λ (text : List ℕ). b ++ (32 ∷ (text ++ (10 ∷ rest)))) (append-nil c))
-
 -- the lines of an event, written part by part
 pub event-written : (old first second third new : List ℕ) (names : List (List ℕ)) (core : CoreView) (number : ℕ) (e : LogEvent) (took sent : List (ℕ × Message))
-    → first ≡ old ++ (codes "event " ++ (decimal number ++ (32 ∷ (name_in names e.agent ++ (32 ∷ (decimal e.stamp ++ (10 ∷ [])))))))
+    → first ≡ old ++ line (event_words names number e)
     → second ≡ first ++ flat_map line (map (took_words names) took)
     → third ≡ second ++ flat_map line (agent_lines names (view_at core e.agent))
     → new ≡ third ++ flat_map line (map (sent_words names) sent)
@@ -150,10 +124,8 @@ event-written old first second third new names core number e took sent h1 h2 h3 
     let a : List ℕ = flat_map line (map (took_words names) took) in
     let b : List ℕ = flat_map line (agent_lines names (view_at core e.agent)) in
     let d : List ℕ = flat_map line (map (sent_words names) sent) in
-    let head : first ≡ old ++ one =
-    h1 ∙ ap (λ (text : List ℕ). old ++ text) (sym (event-line names number e []) ∙ append-nil one) in
     h4
-    ∙ ap (λ (text : List ℕ). text ++ d) (h3 ∙ ap (λ (text : List ℕ). text ++ b) (h2 ∙ ap (λ (text : List ℕ). text ++ a) head))
+    ∙ ap (λ (text : List ℕ). text ++ d) (h3 ∙ ap (λ (text : List ℕ). text ++ b) (h2 ∙ ap (λ (text : List ℕ). text ++ a) h1))
     ∙ pieces one a b d
     ∙ ap (λ (text : List ℕ). old ++ (one ++ text)) (sym (lines-behind (map (took_words names) took) (agent_lines names (view_at core e.agent)) (map (sent_words names) sent)))
   where

@@ -8,5 +8,6 @@
 
 mod lines;
 mod tracing;
+mod words;
 
 pub use tracing::write_trace;

@@ -8,16 +8,18 @@ ghost use Rattle.problem_text.specs.Canonical.{line};
 ghost use Rattle.delivery_core.specs.State.{view_at, context_in};
 ghost use Rattle.solve_report.specs.Replay.{bound_word};
 ghost use Rattle.trace_text.specs.Spaced.{spaced};
-ghost use Rattle.trace_text.specs.Lines.{name_in, pair_words, message_words, took_words, sent_words, known_words, agent_lines};
+ghost use Rattle.trace_text.specs.Lines.{name_in, pair_words, message_words, took_words, sent_words, known_words, agent_lines, event_words};
 ghost use Rattle.trace_text.specs.Told.{start_told, event_told};
 
+use crate::words::{
+    number_of, write_bound, write_number, write_numbered, write_standing, write_word,
+};
 use adopt_context::AgentContext;
 use dcop_base::{NoMemory, Val, VarId};
 use delivery_core::{CoreState, Exchange};
 use problem_text::Names;
 use protocol_steps::{Letter, Message, Parcel};
 use run_log::LogEvent;
-use solve_report::{write_bound, write_standing};
 
 /// The name of a variable; empty if the list has none for it.
 fn name_in(names: &Names, var: VarId) -> &str
@@ -63,12 +65,26 @@ pub(crate) fn write_event(
         ≡ string_bytes text.old ++ flat_map line (event_told names.now core.now number event.now
         exchange.now.took.items exchange.now.sent.items)) }
 {
-    let name = name_in(names, event.agent);
-    let stamp = event.stamp;
-    write!(text, "event {number} {name} {stamp}\n")?;
+    write_heading(text, names, number, event)?;
     write_took(text, names, exchange.took.as_slice())?;
     write_agent(text, names, core, event.agent)?;
     write_sent(text, names, exchange.sent.as_slice())
+}
+
+/// Writes the first line of an event: `event K NAME STAMP`.
+fn write_heading(
+    text: &mut String,
+    names: &Names,
+    number: u64,
+    event: &LogEvent,
+) -> Result<(), NoMemory>
+    ensures { OnOk result (string_bytes text.new
+        ≡ string_bytes text.old ++ line (event_words names.now number event.now)) }
+{
+    text.push_str("event")?;
+    write_number(text, number)?;
+    write_numbered(text, name_in(names, event.agent), event.stamp)?;
+    Ok(text.push_str("\n")?)
 }
 
 /// Writes the state of an agent: a line `state ..`, and a line `context ..` of what it knows about
@@ -104,7 +120,7 @@ fn write_known(
         ++ spaced (known_words names.now (context_in (view_at core.now me)))) }
 {
     match core.context(me) {
-        Some(context) => write_pairs(text, names, context.pairs()),
+        Some(context) => write_context(text, names, context),
         None => Ok(()),
     }
 }
@@ -124,8 +140,8 @@ fn write_letter(text: &mut String, names: &Names, letter: &Letter) -> Result<(),
     ensures { OnOk result (string_bytes text.new
         ≡ string_bytes text.old ++ line (took_words names.now letter.now)) }
 {
-    let name = name_in(names, letter.from);
-    write!(text, "took {name}")?;
+    text.push_str("took")?;
+    write_word(text, name_in(names, letter.from))?;
     write_message(text, names, &letter.message)?;
     Ok(text.push_str("\n")?)
 }
@@ -145,8 +161,8 @@ fn write_parcel(text: &mut String, names: &Names, parcel: &Parcel) -> Result<(),
     ensures { OnOk result (string_bytes text.new
         ≡ string_bytes text.old ++ line (sent_words names.now parcel.now)) }
 {
-    let name = name_in(names, parcel.to);
-    write!(text, "sent {name}")?;
+    text.push_str("sent")?;
+    write_word(text, name_in(names, parcel.to))?;
     write_message(text, names, &parcel.message)?;
     Ok(text.push_str("\n")?)
 }
@@ -178,8 +194,7 @@ fn write_value(text: &mut String, value: Val) -> Result<(), NoMemory>
     ensures { OnOk result (string_bytes text.new
         ≡ string_bytes text.old ++ spaced (codes "value" ∷ decimal value ∷ [])) }
 {
-    let value = value.0;
-    Ok(write!(text, " value {value}")?)
+    write_numbered(text, "value", number_of(value))
 }
 
 /// ` cost L U` and the pairs of its context.
@@ -194,9 +209,9 @@ fn write_cost(
         ≡ string_bytes text.old ++ spaced (codes "cost" ∷ decimal lower ∷ bound_word upper
         ∷ pair_words names.now context.now)) }
 {
-    write!(text, " cost {lower} ")?;
+    write_numbered(text, "cost", lower)?;
     write_bound(text, upper)?;
-    write_pairs(text, names, context.pairs())
+    write_context(text, names, context)
 }
 
 /// ` threshold T` and the pairs of its context.
@@ -210,8 +225,8 @@ fn write_threshold(
         ≡ string_bytes text.old
         ++ spaced (codes "threshold" ∷ decimal amount ∷ pair_words names.now context.now)) }
 {
-    write!(text, " threshold {amount}")?;
-    write_pairs(text, names, context.pairs())
+    write_numbered(text, "threshold", amount)?;
+    write_context(text, names, context)
 }
 
 /// ` terminate` and the pairs of its context.
@@ -220,6 +235,14 @@ fn write_terminate(text: &mut String, names: &Names, context: &AgentContext) -> 
         ≡ string_bytes text.old ++ spaced (codes "terminate" ∷ pair_words names.now context.now)) }
 {
     text.push_str(" terminate")?;
+    write_context(text, names, context)
+}
+
+/// Writes the name and the value of each pair of a context, each after a space.
+fn write_context(text: &mut String, names: &Names, context: &AgentContext) -> Result<(), NoMemory>
+    ensures { OnOk result (string_bytes text.new
+        ≡ string_bytes text.old ++ spaced (pair_words names.now context.now)) }
+{
     write_pairs(text, names, context.pairs())
 }
 
@@ -238,7 +261,5 @@ fn write_pair(text: &mut String, names: &Names, var: VarId, value: Val) -> Resul
     ensures { OnOk result (string_bytes text.new
         ≡ string_bytes text.old ++ spaced (name_in names.now var ∷ decimal value ∷ [])) }
 {
-    let name = name_in(names, var);
-    let value = value.0;
-    Ok(write!(text, " {name} {value}")?)
+    write_numbered(text, name_in(names, var), number_of(value))
 }

@@ -1,11 +1,19 @@
-use Rattle.std.proofs.Common.{codes, arith}
-use Rattle.std.proofs.lemmas.Grind.{common_steps}
+use Rattle.std.proofs.Common.{ℕ, List, [], ◌∷◌, ◌++◌, codes, ap, ◌∙◌}
 use Rattle.std.specs.String.{string_bytes}
-use Rattle.trace_text.specs.Lines.{name_in, message_words}
-use Rattle.trace_text.proofs.LineLaws.{named-written}
+use Rattle.protocol_steps.specs.declared.message.Message.{Message}
+use Rattle.problem_text.specs.Canonical.{line}
+use Rattle.trace_text.specs.Spaced.{spaced}
+use Rattle.trace_text.specs.Lines.{name_in, message_words, took_words}
+use Rattle.trace_text.proofs.WordLaws.{line-written}
 use Rattle.trace_text.proofs.lines.write_letter.Goals as goal
 
 pub returns : goal.returns
 returns c =
-    named-written (string_bytes c.args.text.now) (string_bytes c.push_str.new.self) (codes "took") (name_in c.args.names.now c.args.letter.now.0) (message_words c.args.names.now c.args.letter.now.1)
-    (grind (arith, common_steps))
+    let names = c.args.names.now in
+    line-written (string_bytes c.args.text.now) (string_bytes c.push_str.new.self) (string_bytes c.write_word.new.text) (string_bytes c.write_message.new.text) (string_bytes c.push_str-2.new.self)
+    (codes "took") (name_in names c.letter.inside.from ∷ []) (message_words names c.letter.inside.message)
+    c.in_ok-push_str.ensures.bytes
+    (c.in_ok-write_word.ensures ∙ ap (λ (name : List ℕ). string_bytes c.push_str.new.self ++ spaced (name ∷ [])) c.name_in.ensures)
+    c.in_ok-write_message.ensures
+    c.in_ok-push_str-2.ensures.bytes
+    ∙ ap (λ (l : ℕ × Message). string_bytes c.args.text.now ++ line (took_words names l)) c.letter.view_is

@@ -1,7 +1,8 @@
 use Rattle.std.proofs.Common.{arith}
 use Rattle.std.proofs.lemmas.Grind.{common_steps}
 use Rattle.std.specs.String.{string_bytes}
-use Rattle.trace_text.proofs.LineLaws.{on-ok, start-written}
+use Rattle.trace_text.proofs.WordLaws.{on-ok}
+use Rattle.trace_text.proofs.LineLaws.{start-written}
 use Rattle.trace_text.proofs.lines.write_start.Goals as goal
 
 pub returns : goal.returns
