@@ -5,7 +5,7 @@
 # DCOP and SEARCH are the built programs `dcop` and `dcop_search`, without them those of crates/*/out. It needs networkx, and measures
 # a Dask cluster of this machine too if distributed is there. Run it on an idle machine: seconds are of the clock.
 # First 1,000 runs of about 10 ms each, by DPOP on as many colourings; goal: at most 1.5 times their processor time, over all
-# processors. That of a run is what `dcop solve` takes; the sweep also runs `dcop tree` for each, of which the figures of messages are made.
+# processors. That of a run is what `dcop solve` takes.
 # The front's modules are compiled first, as those of each command are that was run before. Then `solve --cluster local:4` against `local:1` on the hardest problem of bench/search.sh that one process solves, the best of
 # three each; goal: at least 2.5 times as fast. Ends with status 1 if a goal is missed.
 set -eu

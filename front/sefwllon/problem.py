@@ -4,7 +4,7 @@ from __future__ import annotations
 
 import re
 from dataclasses import dataclass, field
-from itertools import filterfalse, product
+from itertools import product
 from math import prod
 
 MOST_VARIABLES = 1_000
@@ -15,9 +15,10 @@ MOST_CELLS = 2**22
 MOST_SUM = 2**62
 MOST_BYTES = 2**28
 MOST_NAME = 32
+MOST_DIGITS = 19
 
 _NAME = re.compile(r"[A-Za-z_][A-Za-z0-9_.-]{0,31}\Z")
-_NUMBER = re.compile(r"[0-9]{1,19}\Z")
+_NUMBER = re.compile(rf"[0-9]{{1,{MOST_DIGITS}}}\Z")
 
 
 class Trouble(Exception):
@@ -73,7 +74,13 @@ class Problem:
 
     def cost(self, assignment: list[int]) -> int:
         """The sum of all tables at an assignment."""
-        return sum(self.cell(table, assignment) for table in self.tables)
+        sizes, total = [variable.size for variable in self.variables], 0
+        for table in self.tables:
+            place = 0
+            for variable in table.scope:
+                place = place * sizes[variable] + assignment[variable]
+            total += table.costs[place]
+        return total
 
     def neighbours(self) -> list[set[int]]:
         """For each variable those that it shares a table with."""
@@ -152,12 +159,22 @@ def is_number(word: str) -> bool:
     return bool(_NUMBER.match(word))
 
 
+def no_number(words: list[str]) -> str | None:
+    """The first of these words that is no number, if there is one."""
+    digits = "".join(words)
+    if digits.isascii() and digits.isdigit() and max(map(len, words)) <= MOST_DIGITS:
+        return None
+    return next((word for word in words if not _NUMBER.match(word)), None)
+
+
 def lines_of(text: str) -> list[tuple[int, list[str], str]]:
     """The lines that have words, each with its number, its words, and itself."""
     found = []
     for number, line in enumerate(text.split("\n"), 1):
         bare = line[:-1] if line.endswith("\r") else line
-        words = [word for word in bare.split("#", 1)[0].replace("\t", " ").split(" ") if word]
+        words = bare.split("#", 1)[0].replace("\t", " ").split(" ")
+        if "" in words:
+            words = [word for word in words if word]
         if words:
             found.append((number, words, line))
     return found
@@ -170,16 +187,9 @@ def parse(text: str) -> Problem:
         raise TextFault(lines[0][0] if lines else 1, "the first line must be `dcop 1` or `dcop 2`")
     problem = Problem("min", [], [])
     places: dict[str, int] = {}
+    sizes: list[int] = []
     for at, (number, words, _) in enumerate(lines[1:], 2):
         match words:
-            case ["goal", ("min" | "max") as goal]:
-                problem.goal = goal
-            case ["var", name, ":", *values] if values:
-                places[name] = len(problem.variables)
-                problem.variables.append(Variable(name, len(values), tuple(values)))
-            case ["var", name, size] if is_number(size):
-                places[name] = len(problem.variables)
-                problem.variables.append(Variable(name, int(size)))
             case ["table", *rest] if ":" in rest:
                 colon = rest.index(":")
                 try:
@@ -187,14 +197,24 @@ def parse(text: str) -> Problem:
                 except KeyError as fault:
                     raise TextFault(number, f"the table names {fault}, which is not a variable") from None
                 cells = rest[colon + 1 :]
-                bad = next(filterfalse(_NUMBER.match, cells), None)
+                bad = no_number(cells)
                 if bad is not None:
                     raise TextFault(number, f"{bad} is not a number")
                 costs = tuple(map(int, cells))
-                wanted = prod(problem.variables[v].size for v in scope)
+                wanted = prod(map(sizes.__getitem__, scope))
                 if len(costs) != wanted:
                     raise TextFault(number, f"the table has {len(costs)} costs, but it needs {wanted}")
                 problem.tables.append(Table(scope, costs))
+            case ["goal", ("min" | "max") as goal]:
+                problem.goal = goal
+            case ["var", name, ":", *values] if values:
+                places[name] = len(problem.variables)
+                problem.variables.append(Variable(name, len(values), tuple(values)))
+                sizes.append(len(values))
+            case ["var", name, size] if is_number(size):
+                places[name] = len(problem.variables)
+                problem.variables.append(Variable(name, int(size)))
+                sizes.append(int(size))
             case ["end"] if at == len(lines):
                 problem.source = "\n".join(text.split("\n")[:number]) + "\n"
                 return problem

@@ -11,6 +11,7 @@ import subprocess
 import sys
 import tempfile
 import unittest
+from math import prod
 from pathlib import Path
 from unittest import mock
 
@@ -19,10 +20,11 @@ from sefwllon.lab.generators import KINDS
 from sefwllon.lab.measured import measured
 from sefwllon.lab.pool import Local, Task
 from sefwllon.lab.rows import COLUMNS, line_of, read_rows
-from sefwllon.lab.runs import tree_of
 from sefwllon.lab.slices import restricted
 from sefwllon.lab.sweep import Told
-from sefwllon.problem import Trouble, parse
+from sefwllon.lab.trees import tree_of
+from sefwllon.problem import Problem, Table, Trouble, Variable, parse
+from sefwllon.report import read_tree
 
 from .case import FAKE, FAKE_SEARCH, FRONT, ORDER, PAIR, REAL, SEARCH, Case
 from .lab import HAS, SECONDS, begun, held, script, steady, until
@@ -41,7 +43,6 @@ class Lab(Case):
         self.addCleanup(folder.cleanup)
         self.folder = folder.name
         self.out = f"{self.folder}/results.csv"
-        tree_of.cache_clear()
 
     def problems(self, count: int = 3) -> str:
         """A folder of small problems that are drawn here."""
@@ -169,6 +170,17 @@ class Sweep(Lab):
             self.assertEqual(int(row["greatest_util"]), max((cells for _, cells in sent), default=0))
             self.assertEqual(int(row["bytes"]), sum(17 + 4 * names + 8 * cells + 13 + 6 * names for names, cells in sent))
             self.assertEqual((int(row["messages"]), int(row["util_messages"])), (2 * len(sent), len(sent)))
+
+    @unittest.skipUnless(REAL, "passed over: no built dcop")
+    def test_the_tree_is_that_of_dcop(self):
+        draw = random.Random(1)
+        for count in [*range(1, 12)] * 4 + [300]:
+            variables = [Variable(f"v{at}", draw.randrange(1, 3)) for at in draw.sample(range(count), count)]
+            scopes = [draw.sample(range(count), min(count, draw.randrange(1, 5))) for _ in range(draw.randrange(2 * count))]
+            tables = [Table(tuple(scope), (1,) * prod(variables[at].size for at in scope)) for scope in scopes]
+            problem = Problem("min", variables, tables)
+            told = subprocess.run([REAL, "tree"], input=problem.text(), capture_output=True, text=True).stdout
+            self.assertEqual(tree_of(problem), read_tree(told), problem.text())
 
     def test_what_is_refused_or_wrong_has_a_row(self):
         wide, bad = self.file("wide.dcop", PAIR), self.file("bad.dcop", PAIR.replace("end", "and"))

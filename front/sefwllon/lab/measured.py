@@ -14,6 +14,8 @@ from functools import lru_cache
 
 FIRST_TICK, LAST_TICK = 0.002, 0.1
 """How often, in seconds, it is looked how much memory a program has: often at first, and then less."""
+PROCESSORS = os.cpu_count() or 1
+"""Asked for once, as it takes a file of the system."""
 UNHEARD = (signal.SIGPIPE, signal.SIGXFSZ)
 """The signals that Python passes over, and a program that it begins does not."""
 SPARE_SECONDS = 2
@@ -83,7 +85,7 @@ def watched(pid: int, seconds: float, until: float) -> tuple[bool, int]:
     """Waits for the end of a process: whether it ended before its time was over, and its greatest resident size in KiB. What it has
     taken is asked for once all processors together can have taken as much since it began."""
     seen, tick, began = 0, FIRST_TICK, time.monotonic()
-    sure = began + seconds / (os.cpu_count() or 1)
+    sure = began + seconds / PROCESSORS
     handle = os.pidfd_open(pid)
     try:
         poll = select.poll()

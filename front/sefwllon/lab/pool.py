@@ -3,8 +3,10 @@
 from __future__ import annotations
 
 import importlib
+import math
 import multiprocessing
 import os
+import select
 import signal
 import sys
 import threading
@@ -13,7 +15,7 @@ from collections import deque
 from collections.abc import Iterator
 from contextlib import contextmanager, suppress
 from dataclasses import dataclass
-from multiprocessing.connection import Connection, wait
+from multiprocessing.connection import Connection
 from typing import Any, Protocol
 
 from ..problem import Trouble
@@ -122,12 +124,15 @@ class Local:
     def next(self, seconds: float) -> Done | None:
         until = time.monotonic() + seconds
         while not self.over:
-            busy = {member.pipe: at for at, member in enumerate(self.members) if member.task is not None}
-            ready = wait(list(busy), max(0.0, until - time.monotonic())) if busy else []
+            busy = {member.pipe.fileno(): at for at, member in enumerate(self.members) if member.task is not None}
+            pipes = select.poll()
+            for pipe in busy:
+                pipes.register(pipe, select.POLLIN)
+            ready = pipes.poll(math.ceil(1000 * max(0.0, until - time.monotonic()))) if busy else []
             if not ready:
                 return None
-            for pipe in ready:
-                self.take(busy[pipe])  # type: ignore[index]
+            for pipe, _ in ready:
+                self.take(busy[pipe])
             self.hand_out()
         return self.over.popleft()
 

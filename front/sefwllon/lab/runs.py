@@ -16,7 +16,7 @@ from ..best import is_better, nearest
 from ..files import load
 from ..problem import Problem, Trouble
 from ..programs import Answer, Crashed
-from ..report import Node, Report, read_report, read_tree
+from ..report import Report, read_report
 from ..searching import read_found
 from ..solving import in_order, reordered
 from ..tracing import traced
@@ -24,15 +24,14 @@ from ..translate import Translation, number
 from .figures import message_figures
 from .measured import Ran, measured
 from .methods import Method, read_method
+from .trees import tree_of
 
 STATUS = {0: "solved", 1: "spent", 4: "wide", 7: "memory", 11: "many"}
 """How an exit status of a program is told; without one its time was over."""
 CLOCK_TIMES, CLOCK_SECONDS = 10, 60
 """A run is also ended after so many times its processor time by the clock, and so many seconds more, whatever it does."""
-TREE_SECONDS = 10.0
-"""How long it may take to ask for the agents' tree, from which the figures of DPOP follow. It does not count."""
 KEPT = 4
-"""How many problems and trees a process keeps, for the other methods on them."""
+"""How many problems a process keeps, for the other methods on them."""
 
 
 @dataclass
@@ -200,18 +199,11 @@ class Run:
         """The figures of the messages, if the run ended with a report."""
         if self.report is None or self.problem is None or self.status not in ("solved", "spent"):
             return {}
-        tree = tree_of(self.programs["dcop"], self.problem.text()) if self.report.method == "dpop" else None
+        tree = tree_of(self.problem) if self.report.method == "dpop" else None
         if self.report.certificate != "log" or self.certified is None or "dcop_trace" not in self.programs:
             return message_figures(self.problem, self.report, tree)
         with closing(traced(self.programs["dcop_trace"], self.problem.text() + self.certified)) as events:
             return message_figures(self.problem, self.report, events=events)
-
-
-@lru_cache(maxsize=KEPT)
-def tree_of(dcop: str, text: str) -> list[Node] | None:
-    """The agents' tree of a problem, if it can be had."""
-    ran = measured([dcop, "tree"], text, TREE_SECONDS)
-    return read_tree(ran.text) if ran.status == 0 else None
 
 
 @lru_cache(maxsize=KEPT)

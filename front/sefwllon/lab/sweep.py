@@ -86,7 +86,7 @@ def files_of(words: Sequence[str]) -> list[Path]:
         if not path.is_dir():
             found.append(path)
             continue
-        inside = sorted(it for it in path.rglob("*") if it.suffix.lower() in NAMES and it.is_file())
+        inside = sorted((it for it in path.rglob("*") if it.suffix.lower() in NAMES and it.is_file()), key=lambda it: it.parts)
         if not inside:
             raise Trouble(f"the folder {word} has no problem: no file in it ends with {', '.join(sorted(NAMES))}")
         found += inside
