@@ -1,12 +1,12 @@
-"""Makes the pages of docs/reference and the table of docs/BENCHMARKS.md, and sets the lines to which links of other pages lead.
+"""Makes the pages of docs/reference, the table of docs/BENCHMARKS.md and what pages quote, and sets the lines to which links of pages lead.
 
     front/python.sh -m release.reference            writes them
     front/python.sh -m release.reference --check    says whether they are fresh
 
 Definitions and public calls come from the sources, here; crates and their times from `release/crates_page.py`, wrong bodies from
-`release/wrong_page.py`, measurements from `release/benchmarks.py`. A definition's sentence is the comment above it in `specs/`, a call's
-sentence the first one of its doc comment. The page has a definition if a clause of a public call cites it, or if one that such a clause
-cites rests on it; others only help proofs.
+`release/wrong_page.py`, measurements from `release/benchmarks.py`, what pages quote from `release/quotes.py`. A definition's sentence is the
+comment above it in `specs/`, a call's sentence the first one of its doc comment. The page has a definition if a clause of a public call cites
+it, or if one that such a clause cites rests on it; others only help proofs.
 """
 
 from __future__ import annotations
@@ -19,7 +19,7 @@ from dataclasses import dataclass, field
 from functools import cached_property
 from pathlib import Path
 
-from . import benchmarks, crates_page, wrong_page
+from . import benchmarks, crates_page, quotes, wrong_page
 from .markdown import MADE, PAGES, Layers, cell, first_sentence, link
 from .programs import TOP, below
 
@@ -85,7 +85,7 @@ def pages() -> dict[Path, str]:
     """The text of each page."""
     sources = Sources()
     made = {DEFINITIONS: definitions_page(sources), CALLS: calls_page(sources), crates_page.PAGE: crates_page.page(), wrong_page.PAGE: wrong_page.page()}
-    linking = {page: relinked(page) for page in LINKING}
+    linking = {page: quotes.page(relinked(page)) for page in LINKING}
     return made | linking | {benchmarks.PAGE: benchmarks.page(linking[benchmarks.PAGE])}
 
 
@@ -94,7 +94,7 @@ def relinked(page: Path) -> str:
 
     def leading(link: re.Match[str]) -> str:
         name, path = link[1], link[2]
-        declared = re.compile(rf"(?:\b(?:record|data|fn|trait|struct|enum|type)|abbrev pub) {name}\b")
+        declared = re.compile(rf"(?:\b(?:record|data|fn|trait|struct|enum|type|ensures)|abbrev pub) {name}\b")
         lines = (page.parent / path).read_text().splitlines()
         places = [number for number, line in enumerate(lines, 1) if declared.search(line)]
         return f"[`{name}`]({path}#L{places[0]})" if places else link[0]
