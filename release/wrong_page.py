@@ -13,8 +13,9 @@ from .programs import TOP, below
 
 PAGE = PAGES / "wrong-bodies.md"
 NAMED = TOP / "docs" / "data" / "wrong-bodies.toml"
-OPENING = """A wrong body is an altered piece of code. The check refuses each of these, so the clause beside it is strong enough to exclude it. An edit lies in
-`crates/CRATE/must-fail`, where the gate tries it, or in `wrong/CRATE`, where `wrong/try` does ([CONTRIBUTING.md](../../CONTRIBUTING.md), "Wrong bodies").
+OPENING = """A wrong body is an altered piece of code. The check refuses each of these, since its proof fails; the table names the function and mostly
+the clause. An edit lies in `crates/CRATE/must-fail`, where the gate tries it, or in `wrong/CRATE`, where `wrong/try` does
+([CONTRIBUTING.md](../../CONTRIBUTING.md), "Wrong bodies").
 """
 
 
