@@ -170,7 +170,7 @@ def unbuilt(clone: Path) -> str:
     here = clone if (clone / "crates").is_dir() else Path("the clone of Sefwllon")
     return (
         f"the program dcop is not built: in {here} run `./build --quick`, which compiles the programs without proofs in minutes, "
-        "or `./build`, which proves them first and takes about half an hour; or name the built program by SEFWLLON_DCOP"
+        "or `./build`, which proves them first and takes hours of processor time; or name the built program by SEFWLLON_DCOP"
     )
 
 

@@ -191,7 +191,7 @@ class Meetings(Case):
         status, told, _ = self.front("meetings", week, "--report", report)
         wanted = ["no timetable keeps all the rules; this one breaks 1, and none breaks fewer (verified)"]
         wanted += ["no assignment keeps all hard constraints (verified)", "broken: m and n are both in a, and share Ann"]
-        wanted += ["why: Ann has two meetings and one slot for them (a): m, n", "why: without any of these it could (added up)"]
+        wanted += ["why: Ann has two meetings and one slot for them (a): m, n", "why: if any one of these is left out, the others can go together (added up)"]
         wanted += ["to relax: it is enough to leave out one of Ann in m; Ann in n; the meeting m; the meeting n"]
         self.assertEqual((status, told.splitlines()[:6]), (1, wanted))
         _, told, _ = self.front("check", week, report)
@@ -441,7 +441,7 @@ class Brute(Case):
                 if held is None:
                     self.assertTrue(first.startswith(f"{name} can't be in {slot}: "), told)
                 elif held > best:
-                    self.assertTrue(first.startswith(f"{name} in {slot} costs {float(held - best):g} more: {float(held):g}, and without that {float(best):g} ("), told)
+                    self.assertTrue(first.startswith(f"{name} in {slot} costs {float(held - best):g} more: the timetable then costs {float(held):g}, and the best one {float(best):g} ("), told)
                 else:
                     self.assertRegex(first, f"^{name} in {slot} costs nothing more: .* costs {float(best):g}|^{name} is in {slot} in the best timetable.* costs {float(best):g} ")
                 tried += 1
@@ -632,7 +632,7 @@ class Keeping(Case):
         week = self.file("week.csv", WEEK)
         status, told, _ = self.front("why", week, "Retro", "Mon 11")
         self.assertEqual(status, 0)
-        wanted = ["Retro in Mon 11 costs 5 more: 5, and without that 0 (verified)", "it meets Design there, to which Ida, Kim must come too"]
+        wanted = ["Retro in Mon 11 costs 5 more: the timetable then costs 5, and the best one 0 (verified)", "it meets Design there, to which Ida, Kim must come too"]
         self.assertEqual(told.splitlines()[:2], wanted)
         self.assertIn("\nthen it costs 5: Retro is in Mon 11, and Retro likes Wed 10\n", told)
         self.assertEqual(self.front("why", week, "Retro", "Mon 9")[1], "Retro can't be in Mon 9: Ida can't: `absent,Ida,Mon 9` (line 9)\n")

@@ -99,7 +99,7 @@ def compared(told: Timetable, best: Plan, held: Plan, name: str, slot: str) -> l
     if told.slot_of(best.chosen, name).name == slot:
         lines = [f"{name} is in {slot} in the best timetable that was found, which costs {telling.money(best.cost)}"]
     elif more > 0:
-        lines = [f"{name} in {slot} costs {telling.money(more)} more: {telling.money(held.cost)}, and without that {telling.money(best.cost)}"]
+        lines = [f"{name} in {slot} costs {telling.money(more)} more: the timetable then costs {telling.money(held.cost)}, and the best one {telling.money(best.cost)}"]
     else:
         lines = [f"{name} in {slot} costs nothing more: there is a timetable with it that costs {telling.money(held.cost)}, as the best one that was found"]
     lines[0] += f" ({known})" if known else " (not the least for certain: give it more --time)"

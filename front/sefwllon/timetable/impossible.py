@@ -320,7 +320,7 @@ def sentences(told: Timetable, reason: Reason) -> list[str]:
             lines.append(f"why: with {name} fixed in {' or '.join(told.meetings[name].fixed)}")
     if reason.rooms:
         lines.append(f"why: with the rooms {', '.join(told.rooms)}")
-    least = "without any of these it could" if reason.least else "less than this may be enough, which was not decided in time"
+    least = "if any one of these is left out, the others can go together" if reason.least else "less than this may be enough, which was not decided in time"
     lines.append(f"why: {least} ({reason.known})")
     if reason.relaxed:
         more = [words for words in reason.relaxed if words.startswith(ANOTHER_ROOM)]
