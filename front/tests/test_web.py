@@ -51,6 +51,7 @@ def opened() -> list[Any]:
         browser = open_browser(folder)
         unittest.addModuleCleanup(browser.quit)
         OPENED[:] = [browser, folder]
+        unittest.addModuleCleanup(OPENED.clear)  # whoever runs a test once more gets a new one
     return OPENED
 
 
