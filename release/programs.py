@@ -10,7 +10,7 @@ TOP = Path(__file__).resolve().parents[1]
 
 PROGRAMS = {
     "dcop": "solve_cli",
-    "dcop_order": "order_cli",
+    "dcop_order": "dcop_order",
     "dcop_search": "dcop_search",
     "dcop_serve": "serve_cli",
     "dcop_trace": "dcop_trace",

@@ -35,7 +35,7 @@ VERIFIED_UNPROVED = "verified by a check that was compiled without proofs"
 
 PLACES = {
     "dcop": ("SEFWLLON_DCOP", "solve_cli"),
-    "dcop_order": ("SEFWLLON_ORDER", "order_cli"),
+    "dcop_order": ("SEFWLLON_ORDER", "dcop_order"),
     "dcop_search": ("SEFWLLON_SEARCH", "dcop_search"),
     "dcop_trace": ("SEFWLLON_TRACE", "dcop_trace"),
 }

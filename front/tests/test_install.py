@@ -117,7 +117,7 @@ class Crates(unittest.TestCase):
         while any(set(below[crate]) & set(below) - wanted for crate in wanted):
             wanted |= {it for crate in wanted for it in below[crate] if it in below}
         self.assertEqual((set(crates), len(crates)), (wanted, len(wanted)))
-        self.assertFalse([crate for crate in crates if crate.endswith("_rows") or crate == "worked_cases"])
+        self.assertFalse([crate for crate in crates if crate.startswith("test_") or crate == "worked_cases"])
         for name, (_, crate) in programs.PLACES.items():
             self.assertEqual(named.get(name), crate if crate in below else None)
 

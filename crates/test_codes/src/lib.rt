@@ -1,0 +1,14 @@
+//! Tests of codes, frames, numbered names and a log, with ample memory, and of sources and sinks
+//! that fail. The program does not make these calls.
+#![tactic(auto)]
+
+#[cfg(test)]
+mod codes;
+#[cfg(test)]
+mod edges;
+#[cfg(test)]
+mod frames;
+#[cfg(test)]
+mod logs;
+#[cfg(test)]
+mod texts;
