@@ -1,4 +1,4 @@
-"""Puts the clone's files VERSION and docs/FORMATS.md into the package that is built; all else stands in pyproject.toml."""
+"""Puts the clone's VERSION and docs/formats into the package that is built; all else stands in pyproject.toml."""
 
 from pathlib import Path
 
@@ -14,8 +14,9 @@ class WithVersion(build_py):
     def run(self) -> None:
         super().run()
         if not self.editable_mode:
-            for file in (CLONE / "VERSION", CLONE / "docs" / "FORMATS.md"):
-                self.copy_file(str(file), str(Path(self.build_lib) / "sefwllon" / file.name))
+            package = Path(self.build_lib) / "sefwllon"
+            self.copy_file(str(CLONE / "VERSION"), str(package / "VERSION"))
+            self.copy_tree(str(CLONE / "docs" / "formats"), str(package / "formats"))
 
 
 setup(cmdclass={"build_py": WithVersion})

@@ -45,7 +45,7 @@ class Program:
 
 
 def programs(names: list[str], text: str) -> list[Program]:
-    """`sefwllon` by its own words, and these programs by FORMATS.md's text."""
+    """`sefwllon` by its own words, and these programs by the text of docs/formats."""
     return [front(), *(of_formats(name, text) for name in names)]
 
 

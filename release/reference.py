@@ -23,7 +23,7 @@ from . import benchmarks, crates_page, quotes, wrong_page
 from .markdown import MADE, PAGES, Layers, cell, first_sentence, link
 from .programs import TOP, below
 
-LINKING = [TOP / "README.md", TOP / "CONTRIBUTING.md", *sorted([*(TOP / "docs").glob("*.md"), *(TOP / "docs" / "guide").glob("*.md")])]
+LINKING = [TOP / "README.md", TOP / "CONTRIBUTING.md", *sorted(it for it in (TOP / "docs").rglob("*.md") if it.parent != PAGES)]
 """The pages that link to lines of the sources."""
 DEFINITIONS, CALLS = PAGES / "definitions.md", PAGES / "calls.md"
 DECLARED = re.compile(r"^ *(?:pub (?:record|data)|abbrev pub) ([^ :]+)")

@@ -9,7 +9,7 @@ from sefwllon.pages import Page, content
 
 
 def manual(page: Page, text: str, version: str) -> str:
-    """A page that is made from FORMATS.md's text."""
+    """A page that is made from the text of docs/formats."""
     about = "File Formats" if page.section == 5 else "User Commands"
     told = [f'.TH "{page.name.upper()}" "{page.section}" "" "Sefwllon {version}" "{about}"']
     for block in content(page, text):

@@ -64,9 +64,8 @@ def build(to: Path) -> None:
 
 def pages() -> list[Path]:
     """The pages of the site."""
-    folders = [TOP / "docs", TOP / "docs" / "guide", TOP / "docs" / "reference"]
     apart = [TOP / "README.md", TOP / "CONTRIBUTING.md", TOP / "CHANGELOG.md", TOP / "front" / "README.md"]
-    return [*apart, *(it for folder in folders for it in sorted(folder.glob("*.md")))]
+    return [*apart, *sorted((TOP / "docs").rglob("*.md"))]
 
 
 def copied(to: Path) -> None:

@@ -7,7 +7,7 @@ from collections.abc import Iterator
 from dataclasses import dataclass
 from pathlib import Path
 
-from sefwllon.pages import PAGES
+from sefwllon.pages import PAGES, formats
 
 from . import completion
 from .programs import BUILT, PROGRAMS, TOP, UNPROVED, Trouble, built, version
@@ -71,7 +71,7 @@ def front(places: Places) -> Iterator[tuple[str, Piece]]:
     for name in ("sefwllon.sh", "python.sh"):
         yield f"{HOME}/front/{name}", Piece((TOP / "front" / name).read_bytes(), runs=True)
     yield f"{HOME}/VERSION", Piece((TOP / "VERSION").read_bytes())
-    yield f"{HOME}/docs/FORMATS.md", Piece((TOP / "docs" / "FORMATS.md").read_bytes())
+    yield from copies(TOP / "docs" / "formats", f"{HOME}/docs/formats")
     yield from copies(TOP / "front" / "sefwllon", f"{HOME}/front/sefwllon")
     if places.python:
         up = "/".join(".." for _ in places.python.split("/"))
@@ -80,7 +80,7 @@ def front(places: Places) -> Iterator[tuple[str, Piece]]:
 
 def manuals(names: list[str]) -> Iterator[tuple[str, Piece]]:
     """The pages of the manual."""
-    text = (TOP / "docs" / "FORMATS.md").read_text()
+    text = formats()
     for page in PAGES:
         if page.name in names:
             yield f"share/man/man{page.section}/{page.name}.{page.section}", Piece(manual(page, text, version()).encode())
@@ -89,7 +89,7 @@ def manuals(names: list[str]) -> Iterator[tuple[str, Piece]]:
 
 def completions(names: list[str], places: Places) -> Iterator[tuple[str, Piece]]:
     """What the shells complete."""
-    for program in completion.programs([name for name in names if name != "dcop_serve"], (TOP / "docs" / "FORMATS.md").read_text()):
+    for program in completion.programs([name for name in names if name != "dcop_serve"], formats()):
         yield f"share/bash-completion/completions/{program.name}", Piece(completion.bash(program).encode())
         yield f"{places.zsh}/_{program.name}", Piece(completion.zsh(program).encode())
         yield f"share/fish/vendor_completions.d/{program.name}.fish", Piece(completion.fish(program).encode())

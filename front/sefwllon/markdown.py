@@ -1,4 +1,4 @@
-"""The few forms of Markdown that docs/FORMATS.md has, and how they are printed as plain text."""
+"""The few forms of Markdown that the pages of docs/formats have, and how they are printed as plain text."""
 
 from __future__ import annotations
 

@@ -1,13 +1,23 @@
-"""The manual pages of the proved programs: which parts of docs/FORMATS.md stand on which page, and what stands above them."""
+"""The manual pages of the proved programs: which parts of docs/formats stand on which page, and what stands above them."""
 
 from __future__ import annotations
 
+import re
 from collections.abc import Iterator
 from dataclasses import dataclass
 from pathlib import Path
 
 from .markdown import Block, Code, Heading, Paragraph, Table, blocks
 from .problem import Trouble
+
+FORMATS = (
+    "problem-text", "wcsp-text", "command-words", "dcop_order", "dcop_search", "dcop_trace", "report", "reading-a-report",
+    "checking", "answers", "drill", "edit-session", "refusals", "message-bytes", "dcop_serve",
+)  # fmt: skip
+"""The pages of docs/formats from which the manual is made, in its order."""
+
+LINK = re.compile(r"\[([^]]+)\]\([^)]+\)")
+"""A link of such a page, which names the title to which it leads."""
 
 NO_HELP = "`{name}` has no help of its own: {refused}, with exit status 2. `sefwllon {name} --help` prints this page."
 """What each page of a program begins with."""
@@ -23,14 +33,14 @@ class Page:
     """What the program does, in a line without a point."""
     usage: tuple[str, ...]
     refused: str
-    """What it prints for no words and for `--help`, with `{kind N}` for what FORMATS says of that kind."""
+    """What it prints for no words and for `--help`, with `{kind N}` for what docs/formats says of that kind."""
     parts: tuple[str, ...]
-    """The titles of FORMATS.md that stand here, each with what stands below it, but for what another page has."""
+    """The titles of docs/formats that stand here, each with what stands below it, but for what another page has."""
     others: tuple[str, ...]
     """What the page points to."""
 
     def has(self, title: str) -> bool:
-        """Whether a title of FORMATS.md belongs here."""
+        """Whether a title of docs/formats belongs here."""
         return title in self.parts or (self.section == 1 and title.endswith(f" `{self.name}`"))
 
 
@@ -41,7 +51,7 @@ PAGES = (
         "dcop", 1, "solve a problem of distributed constraint optimisation, and check an answer",
         ("dcop COMMAND [OPTION VALUE] .. < FILE", "cat FILE REPORT | dcop check", "cat FILE REPORT | dcop replay"),
         "without words it prints `refused words at 1 kind 1` ({kind 1}), and for `--help` `refused words at 1 kind 2` ({kind 2})",
-        ("Command words", "Answers"), ("dcop(5)", "dcop_order(1)", "dcop_search(1)", "dcop_serve(1)", "dcop_trace(1)", "sefwllon(1)"),
+        ("Command words", "Checking a certificate", "Answers", "Drill", "Edit session", "Refusals"), ("dcop(5)", "dcop_order(1)", "dcop_search(1)", "dcop_serve(1)", "dcop_trace(1)", "sefwllon(1)"),
     ),
     Page(
         "dcop_order", 1, "write a problem with its variables in a narrower order",
@@ -49,17 +59,17 @@ PAGES = (
     ),
     Page(
         "dcop_search", 1, "solve a problem that is too wide for DPOP, or bound its best sum",
-        ("dcop_search [OPTION VALUE] .. < FILE",), _NO_OPTION, ("Search",), ("dcop(1)", "dcop(5)", "sefwllon(1)"),
+        ("dcop_search [OPTION VALUE] .. < FILE",), _NO_OPTION, (), ("dcop(1)", "dcop(5)", "sefwllon(1)"),
     ),
     Page(
         "dcop_trace", 1, "print what the agents of a run of ADOPT took, sent and came to",
-        ("cat FILE REPORT | dcop_trace [OPTION VALUE] ..",), _NO_OPTION, ("Trace",), ("dcop(1)", "dcop(5)", "sefwllon(1)"),
+        ("cat FILE REPORT | dcop_trace [OPTION VALUE] ..",), _NO_OPTION, (), ("dcop(1)", "dcop(5)", "sefwllon(1)"),
     ),
     Page(
         "dcop_serve", 1, "answer problems over sockets of 127.0.0.1",
         ("dcop_serve PORT CLIENTS ENTRIES WORKERS",),
         "without words it prints `refused words at 1 kind 4`, and for `--help` `refused words at 2 kind 4`, since it takes four words",
-        ("A server's words, sessions and summary", "Frames"), ("dcop(1)", "dcop(5)", "sefwllon(1)"),
+        ("Frames",), ("dcop(1)", "dcop(5)", "sefwllon(1)"),
     ),
     Page(
         "dcop", 5, "what the programs dcop, dcop_order, dcop_search, dcop_serve and dcop_trace read",
@@ -67,20 +77,23 @@ PAGES = (
         ("Problem text", "WCSP text", "Report", "Reading a report"), ("dcop(1)", "sefwllon(1)"),
     ),
 )  # fmt: skip
-"""The pages that are made from FORMATS.md."""
+"""The pages that are made from docs/formats."""
 
 
 def formats() -> str:
-    """The text of FORMATS.md: the one that an installer put beside this file, or that of the clone."""
+    """The text of docs/formats, one page after the other, with titles in quotes in place of links.
+
+    The pages are those that an installer put beside this file, or those of the clone.
+    """
     here = Path(__file__).resolve().parent
-    for path in (here / "FORMATS.md", here.parents[1] / "docs" / "FORMATS.md"):
-        if path.is_file():
-            return path.read_text()
-    raise Trouble(f"the page is made from {here.parents[1] / 'docs' / 'FORMATS.md'}, which is missing: install Sefwllon again")
+    for folder in (here / "formats", here.parents[1] / "docs" / "formats"):
+        if folder.is_dir():
+            return LINK.sub(r'"\1"', "\n".join((folder / f"{name}.md").read_text() for name in FORMATS))
+    raise Trouble(f"the page is made from {here.parents[1] / 'docs' / 'formats'}, which is missing: install Sefwllon again")
 
 
 def content(page: Page, text: str) -> list[Block]:
-    """What stands on a page, from FORMATS.md's text: a title and the blocks below it, one after the other."""
+    """What stands on a page, from the text of docs/formats: a title and the blocks below it, one after the other."""
     told: list[Block] = [Heading(1, "NAME"), Paragraph(f"{page.name} - {page.does}"), Heading(1, "SYNOPSIS")]
     told += [Code(page.usage), Heading(1, "DESCRIPTION")]
     if page.refused:
@@ -108,7 +121,7 @@ def kinds_of_words(text: str) -> dict[str, tuple[str, str]]:
 
 
 def parts(page: Page, text: str) -> Iterator[Block]:
-    """The parts of FORMATS.md that belong to a page, with the titles that stand above them."""
+    """The parts of docs/formats that belong to a page, with the titles that stand above them."""
     depth: int | None = None
     for heading, below in cut(blocks(text)):
         if depth is not None and heading.level <= depth:
@@ -117,7 +130,7 @@ def parts(page: Page, text: str) -> Iterator[Block]:
             depth = heading.level
         others = (other for other in PAGES if other is not page)
         if depth is not None and (page.has(heading.text) or not any(other.has(heading.text) for other in others)):
-            yield Heading(1 if heading.level <= 2 or heading.level == depth else 2, heading.text)
+            yield Heading(1 if heading.level == depth else 2, heading.text)
             yield from below
 
 

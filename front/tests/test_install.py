@@ -17,6 +17,7 @@ from collections.abc import Iterator
 from pathlib import Path
 
 from sefwllon import __version__, programs
+from sefwllon.pages import formats
 
 from . import clean
 from .case import FRONT, ORDER, PROBLEMS, REAL, SEARCH, SERVE, TRACE
@@ -68,10 +69,10 @@ def typed(shell: str, keys: str, wanted: str, home: Path) -> str:
     return shown
 
 
-def options_of(formats: str) -> Iterator[tuple[str, str]]:
-    """Each option of FORMATS.md's text, behind the program whose it is."""
+def options_of(text: str) -> Iterator[tuple[str, str]]:
+    """Each option in the text of docs/formats, behind the program whose it is."""
     program = "dcop"
-    for line in formats.splitlines():
+    for line in text.splitlines():
         if line.startswith("#"):
             found = re.search(r"Words of `(\w+)`", line)
             program = found[1] if found else "dcop"
@@ -223,7 +224,7 @@ class Installed(unittest.TestCase):
         pages = sorted((self.prefix / "share/man").rglob("*.*"))
         self.assertEqual([it.name for it in pages], [*(f"{name}.1" for name in sorted([*BUILT, "sefwllon"])), "dcop.5"])
         told = (self.prefix / "share/man/man1/dcop.1").read_text().replace("\\-", "-")
-        for place, option in options_of((TOP / "docs/FORMATS.md").read_text()):
+        for place, option in options_of(formats()):
             if place in BUILT:
                 page = self.prefix / f"share/man/man1/{place}.1"
                 self.assertIn(f"\\fB{option}\\fR", page.read_text().replace("\\-", "-"), page)

@@ -12,7 +12,7 @@ from pathlib import Path
 from .case import FRONT
 
 TOP = FRONT.parent
-PAGES = [TOP / "README.md", TOP / "CONTRIBUTING.md", FRONT / "README.md", *(TOP / "docs").glob("*.md"), *(TOP / "docs" / "guide").glob("*.md")]
+PAGES = [TOP / "README.md", TOP / "CONTRIBUTING.md", FRONT / "README.md", *(it for it in TOP.glob("docs/**/*.md") if it.parent.name != "reference")]
 
 
 def anchors(page: Path) -> set[str]:
