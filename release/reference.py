@@ -1,4 +1,4 @@
-"""Makes the pages of docs/reference, the table of docs/BENCHMARKS.md and what pages quote, and sets the lines to which links of pages lead.
+"""Makes the pages of docs/reference and what pages quote, and sets the lines to which links of pages lead.
 
     front/python.sh -m release.reference            writes them
     front/python.sh -m release.reference --check    says whether they are fresh
@@ -85,8 +85,8 @@ def pages() -> dict[Path, str]:
     """The text of each page."""
     sources = Sources()
     made = {DEFINITIONS: definitions_page(sources), CALLS: calls_page(sources), crates_page.PAGE: crates_page.page(), wrong_page.PAGE: wrong_page.page()}
-    linking = {page: quotes.page(relinked(page)) for page in LINKING}
-    return made | linking | {benchmarks.PAGE: benchmarks.page(linking[benchmarks.PAGE])}
+    made[benchmarks.PAGE] = benchmarks.page()
+    return made | {page: quotes.page(relinked(page)) for page in LINKING}
 
 
 def relinked(page: Path) -> str:
