@@ -6,7 +6,7 @@
 # workers, dpop and adopt, and the files of examples/*.dcop that dpop solves with one node, besides a random tree of 100 variables
 # of size 3, which adopt solves within an error of 50. A run by dpop must write the bytes of the run with one node; a run by adopt
 # must be solved at that cost, or within the error. Each run must end within 120 s, with nothing on standard error. No run gets more
-# descriptors than docs/FORMATS.md says: two for each two nodes, and nine more.
+# descriptors than docs/formats/command-words.md says: two for each two nodes, and nine more.
 #
 # 32 runs go on beside each other. While they last, their descriptors and threads are looked at again and again. Before the
 # first 32 and behind each 32 the script looks at its own descriptors, at its children, and at the sockets over IPv4 by their

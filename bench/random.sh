@@ -9,12 +9,12 @@
 # problems with up to six variables, drawn from SEED, those of examples/ and of the worked cases, their reports with
 # tables, with logs and with cuts, one of them of two turns, WCSP texts and edit lines.
 # Each time the program must end within a second of processor time, but for a run of ADOPT of 100,000 messages or more,
-# with an exit status that stands in docs/FORMATS.md and comes without a fault of the machine, with nothing on standard
+# with an exit status that stands in docs/formats/refusals.md and comes without a fault of the machine, with nothing on standard
 # error, and with output that ends in a line and begins as its status asks. Where it accepts an altered problem, the cost
 # must be that of the printed values, added up by another reader in Python, and by plain, dpop, or adopt that is solved
 # with error 0, the best of all assignments where they are few. Where `check` says yes to an altered report, its values
 # must cost what it says, and the best sum, as method plain tells it, must lie within the error that it prints. Its whole
-# answer on tables that it can read must be the one that bench/verdict.py reckons anew from docs/FORMATS.md.
+# answer on tables that it can read must be the one that bench/verdict.py reckons anew from docs/formats/checking.md.
 # Prints how often each kind of trial ended with each status. Stops with status 1 at the first trial that is wrong, prints
 # it, and leaves its input in the file that it names.
 set -eu

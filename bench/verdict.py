@@ -1,4 +1,4 @@
-"""What `check` has to say of a report with tables, reckoned anew from docs/FORMATS.md, "Checking a certificate"."""
+"""What `check` has to say of a report with tables, reckoned anew from docs/formats/checking.md."""
 import itertools
 
 

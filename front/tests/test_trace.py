@@ -217,7 +217,7 @@ class Figures(Case):
             self.assertEqual((int(row["messages"]), int(row["bytes"]), int(row["longest_chain"])), (sum(counted.values()), size, longest))
 
     def counted(self, trace: str) -> tuple[dict[str, int], int, int]:
-        """The messages taken by kind, their bytes as FORMATS.md has them, and the longest chain, by another way than that of the front."""
+        """The messages taken by kind, their bytes as docs/formats/message-bytes.md has them, and the longest chain, by another way than that of the front."""
         kinds, size, events = Counter(), 0, []
         for line in trace.splitlines():
             words = line.split()
