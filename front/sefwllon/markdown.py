@@ -121,8 +121,8 @@ def as_text(found: list[Block]) -> str:
 
 
 def wrapped(text: str, indent: int, first: str = "") -> str:
-    """A paragraph, so far from the left, with this before its first word."""
+    """A paragraph, so far from the left, with this before its first word, and without the stars of bold words."""
     margin = " " * indent
     return textwrap.fill(
-        text, WIDTH, initial_indent=margin + first, subsequent_indent=margin + " " * len(first), break_long_words=False, break_on_hyphens=False
+        text.replace("**", ""), WIDTH, initial_indent=margin + first, subsequent_indent=margin + " " * len(first), break_long_words=False, break_on_hyphens=False
     )

@@ -12,7 +12,7 @@ from .problem import Trouble
 
 FORMATS = (
     "problem-text", "wcsp-text", "command-words", "dcop_order", "dcop_search", "dcop_trace", "report", "reading-a-report",
-    "checking", "answers", "drill", "edit-session", "refusals", "message-bytes", "dcop_serve",
+    "checking", "answers", "drill", "edit-session", "refusals", "dcop_serve", "message-bytes",
 )  # fmt: skip
 """The pages of docs/formats from which the manual is made, in its order."""
 
