@@ -69,7 +69,7 @@ def proved(programs: dict[str, str], folder: Path) -> dict[str, Path]:
     need("rt", "the Rattle kit's rt is not on the path: it proves and builds the programs")
     crates = stood_on(list(programs.values()))
     copy_crates(crates, folder)
-    print(f"build: {len(crates)} crates are to be proved, and those that this machine keeps are not proved again", flush=True)
+    print(f"build: {len(crates)} crates are to be proved; some versions of the kit skip what they proved before", flush=True)
     done: set[str] = set()
     lines: list[str] = []
     with said(lambda: f"{len(done)} of {len(crates)} crates are proved"):
@@ -83,7 +83,7 @@ def proved(programs: dict[str, str], folder: Path) -> dict[str, Path]:
                 process.terminate()
                 raise
     if process.returncode < 0:
-        raise Trouble(f"`rt ci` was ended by the signal {-process.returncode}: run this again, and it goes on from what was proved")
+        raise Trouble(f"`rt ci` was ended by the signal {-process.returncode}: run this again")
     if process.returncode:
         raise Trouble(f"not all is proved; the last lines of `rt ci`:\n{''.join(lines[-TAIL:])}")
     return {name: folder / "crates" / crate / "out" / crate for name, crate in programs.items()}

@@ -14,7 +14,7 @@ from .programs import TOP, below
 
 PAGE = PAGES / "crates.md"
 TIMES = TOP / "docs" / "data" / "times.toml"
-HEAD = "| Crate | What it is for | Uses | Crates above | Proof, s | Tests, s | All again, min |\n|---|---|---|---|---|---|---|"
+HEAD = "| Crate | What it is for | Uses | Used by | Proof, s | Tests, s | All again, min |\n|---|---|---|---|---|---|---|"
 
 
 def page() -> str:
