@@ -1,6 +1,7 @@
 -- How an ADOPT agent's messages, batches and starts make up those of a machine.
-use Rattle.std.proofs.Common.{◌≡◌, ℕ, ◌+◌, ◌<◌, ◌≤◌, Bool, true, List, ◌∷◌, length, drop, get_or, sym, ap, ap₂, ◌∙◌}
+use Rattle.std.proofs.Common.{◌≡◌, ℕ, ◌+◌, ◌<◌, ◌≤◌, Bool, true, List, ◌∷◌, length, drop, get_or, refl, sym, ap, ap₂, ◌∙◌}
 use Rattle.std.specs.List.{All, fold}
+use Rattle.std.proofs.lemmas.Bool.{false≢true}
 use Rattle.std.proofs.lemmas.List.{at_drop_more, at_drop_all}
 use Rattle.std.proofs.lemmas.List.Elements.{All-same}
 use Rattle.protocol_steps.specs.declared.message.Message.{Message}
@@ -18,7 +19,7 @@ use Rattle.adopt_context.specs.Bounds.{Entry}
 use Rattle.protocol_steps.specs.Agent.{Phase, not_started}
 use Rattle.protocol_steps.specs.AdoptBounds.{best_lower}
 use Rattle.adopt_agent.specs.declared.stage.Stage.{Stage}
-use Rattle.adopt_agent.specs.declared.stage.Stage.TheVariants.{Working}
+use Rattle.adopt_agent.specs.declared.stage.Stage.TheVariants.{Waiting, Working, Ended, Failed}
 use Rattle.adopt_agent.specs.Stage.{phase_at, view_at}
 use Rattle.adopt_agent.specs.Deed.{Gives}
 
@@ -54,6 +55,13 @@ is_step v w ls ps g = record { viewed = ap (λ (x : AdoptView). AdoptKind x) g.v
 pub step_reaches : (v w : AdoptView) (ls ps : List (ℕ × Message)) → All (IsToNeighbour (AdoptKind v)) ls → Gives (adopt_step v ls) w ps → All (IsToNeighbour (AdoptKind v)) ps
 unfolding step_of
 step_reaches v w ls ps near g = All-same (IsToNeighbour (AdoptKind v)) ps (adopt_step v ls).sends g.sent (parcels_go_to_neighbours.stepped (AdoptKind v) ls tt near).receivers
+
+-- an agent whose phase is that of a failure has failed
+pub has_failed : (s : Stage) → (phase_at s).failed ≡ true → s ≡ Failed
+has_failed Waiting h = absurd (false≢true h)
+has_failed Working h = absurd (false≢true h)
+has_failed Ended h = absurd (false≢true h)
+has_failed Failed h = refl
 
 -- the view with which a start ends its activation
 abbrev pub awake : AdoptView → AdoptView

@@ -1,8 +1,9 @@
 -- The bounds of an agent, from its costs and the bounds of its children.
-use Rattle.std.proofs.Common.{◌≡◌, ℕ, zero, suc, ◌+◌, ◌-◌, ◌<◌, ◌≤◌, Bool, true, ◌&&◌, eqb, cond, nat_lt, List, [], ◌∷◌, ◌++◌, map, length, take, drop, get_or, set, replicate, Some, None, refl, sym, ap, ap₂, subst, ◌∙◌, arith}
+use Rattle.std.proofs.Common.{◌≡◌, ℕ, zero, suc, ◌+◌, ◌-◌, ◌<◌, ◌≤◌, Bool, true, ◌&&◌, eqb, cond, nat_lt, List, [], ◌∷◌, ◌++◌, map, length, take, drop, get_or, set, replicate, Option, Some, None, refl, sym, ap, ap₂, subst, ◌∙◌, arith}
 use Rattle.std.specs.Cmp.Lexicographic.{pointwise}
 use Rattle.std.proofs.lemmas.Bool.{and_parts, cond_both, cond-true, eqb-true, false≢true}
 use Rattle.std.proofs.lemmas.List.{length-map, length-set, length-replicate, take_at}
+use Rattle.std.proofs.lemmas.List.Sums.{sum_by-cons}
 use Rattle.dcop_base.specs.declared.knowledge.Private.{Private}
 use Rattle.pseudotree.specs.declared.agent.Place.{Place}
 use Rattle.adopt_context.specs.Context.{Context, names_all, part_of}
@@ -13,7 +14,9 @@ use Rattle.adopt_bounds.specs.Rows.{BoundsView}
 use Rattle.protocol_steps.specs.Adopt.{AdoptView, higher}
 use Rattle.protocol_steps.specs.AdoptBounds.{at_context, lower_of, upper_of, best_lower, best_upper}
 use Rattle.protocol_steps.specs.AdoptStep.{to_allot, allotted}
+use Rattle.adopt_agent.specs.declared.best.Best.{Best}
 use Rattle.adopt_agent.specs.declared.stage.Stage.{Stage}
+use Rattle.adopt_agent.specs.Best.{AreBest, AreLeast}
 use Rattle.adopt_agent.specs.Costs.{cost_where}
 use Rattle.adopt_agent.specs.Stage.{view_at}
 use Rattle.adopt_agent.specs.Sound.{AreCosts, RestOn, AreBacked}
@@ -53,24 +56,71 @@ backed_reset own place known x bounds after backed is = subst (λ (b : BoundsVie
       (cond_both (part_of e.context x) e blank (λ (f : Entry). part_of f.context x ≡ true) (λ part. part) (λ _. refl));
 })
 
-raise_context : (lack : ℕ) (row : List Entry) (k : ℕ) → (get_or (raise lack row) k blank).context ≡ (get_or row k blank).context
-raise_context lack [] k = refl
-raise_context lack (e ∷ es) zero = refl
-raise_context lack (e ∷ es) (suc k) = raise_context (lack + e.share - raised lack e) es k
+-- what does not speak of shares stays where a row is allotted
+allot_same : {X : Type 0} (f : List Entry → X) → ((lack : ℕ) (row : List Entry) → f (raise lack row) ≡ f row) → ((excess : ℕ) (row : List Entry) → f (cut excess row) ≡ f row)
+    → (goal : ℕ) (row : List Entry) → f (allot goal row) ≡ f row
+allot_same f up down goal row =
+    cond_both (nat_lt (share_sum row) goal) (raise (goal - share_sum row) row) (cond (nat_lt goal (share_sum row)) (cut (share_sum row - goal) row) row) (λ r. f r ≡ f row)
+    (λ _. up (goal - share_sum row) row)
+    (λ _. cond_both (nat_lt goal (share_sum row)) (cut (share_sum row - goal) row) row (λ r. f r ≡ f row) (λ _. down (share_sum row - goal) row) (λ _. refl))
 
-cut_context : (excess : ℕ) (row : List Entry) (k : ℕ) → (get_or (cut excess row) k blank).context ≡ (get_or row k blank).context
-cut_context excess [] k = refl
-cut_context excess (e ∷ es) zero = refl
-cut_context excess (e ∷ es) (suc k) = cut_context (excess + lowered excess e - e.share) es k
+raise_context : (k lack : ℕ) (row : List Entry) → (get_or (raise lack row) k blank).context ≡ (get_or row k blank).context
+raise_context k lack [] = refl
+raise_context zero lack (e ∷ es) = refl
+raise_context (suc k) lack (e ∷ es) = raise_context k (lack + e.share - raised lack e) es
+
+cut_context : (k excess : ℕ) (row : List Entry) → (get_or (cut excess row) k blank).context ≡ (get_or row k blank).context
+cut_context k excess [] = refl
+cut_context zero excess (e ∷ es) = refl
+cut_context (suc k) excess (e ∷ es) = cut_context k (excess + lowered excess e - e.share) es
 
 allot_context : (goal : ℕ) (row : List Entry) (k : ℕ) → (get_or (allot goal row) k blank).context ≡ (get_or row k blank).context
-allot_context goal row k =
-    cond_both (nat_lt (share_sum row) goal) (raise (goal - share_sum row) row) (cond (nat_lt goal (share_sum row)) (cut (share_sum row - goal) row) row)
-    (λ r. (get_or r k blank).context ≡ (get_or row k blank).context)
-    (λ _. raise_context (goal - share_sum row) row k)
-    (λ _. cond_both (nat_lt goal (share_sum row)) (cut (share_sum row - goal) row) row (λ r. (get_or r k blank).context ≡ (get_or row k blank).context)
-    (λ _. cut_context (share_sum row - goal) row k)
-    (λ _. refl))
+allot_context goal row k = allot_same (λ r. (get_or r k blank).context) (raise_context k) (cut_context k) goal row
+
+raise_lower : (lack : ℕ) (row : List Entry) → lower_sum (raise lack row) ≡ lower_sum row
+raise_lower lack [] = refl
+raise_lower lack (e ∷ es) =
+    let rest = raise_lower (lack + e.share - raised lack e) es in
+    let f : Entry → ℕ = λ (x : Entry). x.lower in
+    omega (arith, rest, sum_by-cons f (record e { share = raised lack e }) (raise (lack + e.share - raised lack e) es), sum_by-cons f e es)
+
+cut_lower : (excess : ℕ) (row : List Entry) → lower_sum (cut excess row) ≡ lower_sum row
+cut_lower excess [] = refl
+cut_lower excess (e ∷ es) =
+    let rest = cut_lower (excess + lowered excess e - e.share) es in
+    let f : Entry → ℕ = λ (x : Entry). x.lower in
+    omega (arith, rest, sum_by-cons f (record e { share = lowered excess e }) (cut (excess + lowered excess e - e.share) es), sum_by-cons f e es)
+
+allot_lower : (goal : ℕ) (row : List Entry) → lower_sum (allot goal row) ≡ lower_sum row
+allot_lower = allot_same lower_sum raise_lower cut_lower
+
+raise_upper : (lack : ℕ) (row : List Entry) → upper_sum (raise lack row) ≡ upper_sum row
+raise_upper lack [] = refl
+raise_upper lack (e ∷ es) = ap (λ (u : Option ℕ). plus_bound e.upper u) (raise_upper (lack + e.share - raised lack e) es)
+
+cut_upper : (excess : ℕ) (row : List Entry) → upper_sum (cut excess row) ≡ upper_sum row
+cut_upper excess [] = refl
+cut_upper excess (e ∷ es) = ap (λ (u : Option ℕ). plus_bound e.upper u) (cut_upper (excess + lowered excess e - e.share) es)
+
+allot_upper : (goal : ℕ) (row : List Entry) → upper_sum (allot goal row) ≡ upper_sum row
+allot_upper = allot_same upper_sum raise_upper cut_upper
+
+-- a row after one of the rows was allotted
+row_allotted : {X : Type 0} (f : List Entry → X) → ((goal : ℕ) (row : List Entry) → f (allot goal row) ≡ f row) → (rows : List (List Entry)) (d goal e : ℕ) → f (row_at (set rows d (allot goal (row_at rows d))) e) ≡ f (row_at rows e)
+row_allotted f same rows d goal = set_each [] (λ i row. f row ≡ f (row_at rows i)) rows d (allot goal (row_at rows d)) (same goal (row_at rows d)) (λ i. refl)
+
+-- the least bounds after a row was allotted
+pub best_allotted : (costs : List ℕ) (knows_higher : Bool) (bounds after : BoundsView) (d goal : ℕ) (best : Best) → AreBest costs knows_higher bounds.rows best → after ≡ record bounds { rows = set bounds.rows d (allot goal (row_at bounds.rows d)) } → AreBest costs knows_higher after.rows best
+best_allotted costs knows_higher bounds after d goal best least is =
+    let size : ℕ = length costs in
+    let rows : List (List Entry) = set bounds.rows d (allot goal (row_at bounds.rows d)) in
+    let own : ℕ → ℕ = λ e. get_or costs e 0 in
+    let whole : ℕ → Option ℕ = cost_where knows_higher costs in
+    let lowers : lower_at own rows ≡ lower_at own bounds.rows = λ i e. cap (own e + row_allotted lower_sum allot_lower bounds.rows d goal e i) in
+    let uppers : upper_at whole rows ≡ upper_at whole bounds.rows = λ i e. capped (plus_bound (whole e) (row_allotted upper_sum allot_upper bounds.rows d goal e i)) in
+    subst (λ (b : BoundsView). AreBest costs knows_higher b.rows best) (sym is)
+    (subst (λ (g : ℕ → Option ℕ). AreLeast size (lower_at own rows) g best) (sym uppers)
+    (subst (λ (f : ℕ → ℕ). AreLeast size f (upper_at whole bounds.rows) best) (sym lowers) least))
 
 -- bounds after a row was allotted
 pub backed_allot : (own : Private) (place : Place) (known : Context) (bounds after : BoundsView) (d goal : ℕ) → AreBacked own place known bounds → after ≡ record bounds { rows = set bounds.rows d (allot goal (row_at bounds.rows d)) } → AreBacked own place known after

@@ -22,6 +22,8 @@ use Rattle.protocol_steps.specs.Knowledge.{IsKnowledge, IsKnownTable}
 use Rattle.protocol_steps.specs.AdoptBounds.{at_context, counts}
 use Rattle.protocol_steps.proofs.PrivateLaws.{has_at}
 use Rattle.adopt_agent.specs.Costs.{IsGrown}
+use Rattle.adopt_agent.specs.declared.best.Best.{Best}
+use Rattle.adopt_agent.specs.Best.{AreBest}
 use Rattle.adopt_agent.specs.declared.stage.Stage.{Stage}
 use Rattle.adopt_agent.specs.Stage.{knowing, view_at}
 use Rattle.adopt_agent.specs.Sound.{AreAdded, AreCosts, IsGround, IsSound, RestOn}
@@ -189,11 +191,11 @@ ground_grows own place known u a x ground range is = record {
 }
 
 -- an agent stays sound where it knows one more variable, with the costs for what it knows
-pub sound_grows : (own : Private) (place : Place) (higher_ones : List ℕ) (error : ℕ) (known : Context) (costs : List ℕ) (knows : Bool) (bounds : BoundsView) (value threshold last : ℕ) → IsSound own place higher_ones error known costs knows bounds value threshold last
-    → (u a : ℕ) (x : Context) (new : List ℕ) (all : Bool) → value_in known u ≡ None → in_range (knowing own place known) u a ≡ true → x ≡ put known u a
-    → ((before : Context) → IsGrown before x u → AreCosts own place before costs → AreCosts own place x new) → all ≡ names_all x higher_ones
-    → IsSound own place higher_ones error x new all bounds value threshold last
-sound_grows own place higher_ones error known costs knows bounds value threshold last s u a x new all none range is grow names =
+pub sound_grows : (own : Private) (place : Place) (higher_ones : List ℕ) (error : ℕ) (known : Context) (costs : List ℕ) (knows : Bool) (bounds : BoundsView) (best : Best) (value threshold last : ℕ) → IsSound own place higher_ones error known costs knows bounds best value threshold last
+    → (u a : ℕ) (x : Context) (new : List ℕ) (all : Bool) (least : Best) → value_in known u ≡ None → in_range (knowing own place known) u a ≡ true → x ≡ put known u a
+    → ((before : Context) → IsGrown before x u → AreCosts own place before costs → AreCosts own place x new) → all ≡ names_all x higher_ones → AreBest new all bounds.rows least
+    → IsSound own place higher_ones error x new all bounds least value threshold last
+sound_grows own place higher_ones error known costs knows bounds best value threshold last s u a x new all least none range is grow names best_is =
     let grown : IsGrown known x u = subst (λ (y : Context). IsGrown known y u) (sym is) (put_grows known u a none) in
     record {
       ground = ground_grows own place known u a x s.ground range is;
@@ -201,6 +203,7 @@ sound_grows own place higher_ones error known costs knows bounds value threshold
       higher_is = s.higher_is;
       knows_higher_is = names ∙ ap (λ (near : List ℕ). names_all x near) s.higher_is;
       backed = record { children = s.backed.children; counted = s.backed.counted; rest = rest_grows known x u bounds.rows grown s.backed.rest };
+      best_is = best_is;
       value_below = s.value_below;
       error_within = s.error_within;
       threshold_within = s.threshold_within;

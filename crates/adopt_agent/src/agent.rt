@@ -16,9 +16,10 @@ ghost use Rattle.protocol_steps.specs.View.{AdoptKind, made_of};
 ghost use Rattle.adopt_agent.specs.Stage.{working};
 ghost use Rattle.adopt_agent.specs.Deed.{Gives, IsSameAgent};
 
+use crate::best::Best;
 use crate::choose;
 use crate::costs::{add_known, are_same, copy_of, higher_of, renew, set_costs};
-use crate::exchange::exchange;
+use crate::exchange::{exchange, set_shares};
 use crate::stage::Stage;
 use adopt_bounds::Bounds;
 use adopt_context::AgentContext;
@@ -27,11 +28,12 @@ use protocol_steps::{Batch, Letter, Machine, Outbox, Parcel, Standing};
 use pseudotree::Place;
 use std::alloc::Global;
 use std::marker::Model;
+use std::mem;
 
 /// An ADOPT agent: its part in the search with bounds. Contracts see its view.
 ///
 /// Besides what the view holds, it keeps what follows from that: the higher neighbours, whether all
-/// of them are known, and the costs of the own values.
+/// of them are known, the costs of the own values, and the least bounds.
 #[derive(Debug, Drop)]
 pub struct AdoptAgent {
     pub(crate) alloc: Global,
@@ -50,6 +52,10 @@ pub struct AdoptAgent {
     /// Whether all higher neighbours are known.
     pub(crate) knows_higher: bool,
     pub(crate) bounds: Bounds,
+    /// The least bounds of the own values.
+    pub(crate) best: Best,
+    /// A buffer for what some tables add to the costs.
+    pub(crate) shares: Vec<u64>,
     pub(crate) value: Val,
     pub(crate) threshold: u64,
     /// The last threshold received, which TERMINATE applies.
@@ -69,7 +75,7 @@ impl Model for AdoptAgent {
         a.told_to_end a.bounds.rows };
 
     ghost invariant = { λ a. IsSound a.own a.place a.higher a.error a.known a.costs.items a.knows_higher a.bounds
-        a.value a.threshold a.last_received };
+        a.best a.value a.threshold a.last_received };
 }
 
 impl AdoptAgent {
@@ -96,6 +102,7 @@ impl AdoptAgent {
         set_costs(costs.as_mut_slice(), &own, &place, &known);
         let higher = higher_of(alloc, own.neighbours.as_slice(), place.path.as_slice())?;
         let knows_higher = known.names_all(&higher);
+        let best = choose::best_of(costs.as_slice(), knows_higher, &bounds);
         Ok(AdoptAgent {
             alloc,
             own,
@@ -107,6 +114,8 @@ impl AdoptAgent {
             costs,
             knows_higher,
             bounds,
+            best,
+            shares: Vec::new(alloc),
             value: Val(0),
             threshold: 0,
             last_received: 0,
@@ -126,7 +135,7 @@ impl AdoptAgent {
         ensures best { result ≡ best_lower self.now }
         ensures within { result < self.now.own.size }
     {
-        choose::best_lower(self.costs.as_slice(), &self.bounds)
+        self.best.lower_value
     }
 
     /// The lowest value with the least UB(d).
@@ -134,7 +143,7 @@ impl AdoptAgent {
         ensures best { result ≡ best_upper self.now }
         ensures within { result < self.now.own.size }
     {
-        choose::best_upper(self.costs.as_slice(), self.knows_higher, &self.bounds)
+        self.best.upper_value
     }
 
     /// LB: the least LB(d).
@@ -142,8 +151,7 @@ impl AdoptAgent {
         ensures bound { result ≡ lower_bound self.now }
         ensures within { result ≤ amount_limit }
     {
-        let best = choose::best_lower(self.costs.as_slice(), &self.bounds);
-        choose::lower_of(self.costs.as_slice(), &self.bounds, best)
+        self.best.lower
     }
 
     /// UB: the least UB(d), if there is one.
@@ -151,8 +159,7 @@ impl AdoptAgent {
         ensures bound { result ≡ upper_bound self.now }
         ensures within { IsBound result }
     {
-        let best = choose::best_upper(self.costs.as_slice(), self.knows_higher, &self.bounds);
-        choose::upper_of(self.costs.as_slice(), self.knows_higher, &self.bounds, best)
+        self.best.upper
     }
 
     /// LB(d) of the agent's value.
@@ -189,6 +196,7 @@ impl AdoptAgent {
         );
         self.bounds.reset(&known);
         self.known = known;
+        self.best = choose::best_of(self.costs.as_slice(), self.knows_higher, &self.bounds);
     }
 
     /// Adds the value of a variable that was not known, and restores. What entries depend on is
@@ -209,6 +217,7 @@ impl AdoptAgent {
             var,
         );
         self.knows_higher = self.known.names_all(&self.higher);
+        self.best = choose::best_of(self.costs.as_slice(), self.knows_higher, &self.bounds);
         self.restore();
         Ok(())
     }
@@ -221,20 +230,27 @@ impl AdoptAgent {
         ensures known { OnOk result
             (self.new ≡ restore (at_context self.old (put self.old.known var value))) }
     {
-        let mut known = self.known.copy()?;
-        known.set(var, value)?;
-        let mut shares = vec![in self.alloc; 0; usize::from(self.own.size)]?;
-        exchange(
-            self.costs.as_mut_slice(),
+        let mut shares = mem::replace(&mut self.shares, Vec::new(self.alloc));
+        shares.resize(usize::from(self.own.size), 0)?;
+        set_shares(
             shares.as_mut_slice(),
             &self.own,
             &self.place,
             &self.known,
-            &known,
             var,
         );
-        self.bounds.reset(&known);
-        self.known = known;
+        self.known.set(var, value)?;
+        exchange(
+            self.costs.as_mut_slice(),
+            shares.as_slice(),
+            &self.own,
+            &self.place,
+            &self.known,
+            var,
+        );
+        self.shares = shares;
+        self.bounds.reset(&self.known);
+        self.best = choose::best_of(self.costs.as_slice(), self.knows_higher, &self.bounds);
         self.restore();
         Ok(())
     }
@@ -314,37 +330,43 @@ impl AdoptAgent {
         self.settle();
     }
 
-    /// backTrack: the end of an activation, with the messages to the neighbours.
-    fn back_track(&mut self) -> Result<Vec<Parcel>, NoMemory>
-        requires { self.old.phase ≡ working }
+    /// backTrack: the end of an activation, with the messages to the neighbours. They use the memory
+    /// of `lent`, which must be empty.
+    fn back_track(&mut self, lent: Vec<Parcel>) -> Result<Vec<Parcel>, NoMemory>
+        requires started { self.old.phase ≡ working }
+        requires empty { lent.items ≡ [] }
         ensures made { made_of (AdoptKind self.new) ≡ made_of (AdoptKind self.old) }
         ensures gives { IfOk result (λ ps. Gives (back_track self.old) self.new ps.items) }
     {
         self.close();
-        self.tell_all()
+        self.tell_all(lent)
     }
 
-    /// Handles all messages of a batch, in order, and then ends the activation.
-    fn handle_all(&mut self, letters: &[Letter]) -> Result<Vec<Parcel>, NoMemory>
-        requires { self.old.phase ≡ working }
+    /// Handles all messages of a batch, in order, and then ends the activation. What is sent uses the
+    /// memory of `lent`, which must be empty.
+    fn handle_all(&mut self, letters: &[Letter], lent: Vec<Parcel>) -> Result<Vec<Parcel>, NoMemory>
+        requires started { self.old.phase ≡ working }
+        requires empty { lent.items ≡ [] }
         ensures made { made_of (AdoptKind self.new) ≡ made_of (AdoptKind self.old) }
         ensures gives { IfOk result (λ ps. Gives (adopt_step self.old letters.now) self.new ps.items) }
     {
         for letter in letters {
             self.handle(letter)?;
         }
-        self.back_track()
+        self.back_track(lent)
     }
 
-    /// The start: the agent takes the lowest value with the least LB(d).
-    fn begin(&mut self) -> Result<Vec<Parcel>, NoMemory>
-        requires { self.old.phase ≡ not_started }
+    /// The start: the agent takes the lowest value with the least LB(d). What is sent uses the memory
+    /// of `lent`, which must be empty.
+    fn begin(&mut self, lent: Vec<Parcel>) -> Result<Vec<Parcel>, NoMemory>
+        requires waiting { self.old.phase ≡ not_started }
+        requires empty { lent.items ≡ [] }
         ensures made { made_of (AdoptKind self.new) ≡ made_of (AdoptKind self.old) }
         ensures gives { IfOk result (λ ps. Gives (adopt_start self.old) self.new ps.items) }
     {
         self.value = self.best_lower();
         self.stage = Stage::Working;
-        self.back_track()
+        self.back_track(lent)
     }
 
     /// The agent fails for good.
@@ -364,7 +386,8 @@ impl Machine for AdoptAgent {
         if matches!(self.stage, Stage::Failed) {
             return Err(NoMemory);
         }
-        let Ok(parcels) = self.begin() else {
+        let lent = mem::replace(out, Outbox::from_vec(Vec::new(self.alloc))).into_vec();
+        let Ok(parcels) = self.begin(lent) else {
             return Err(self.fail());
         };
         *out = Outbox::from_vec(parcels);
@@ -375,7 +398,8 @@ impl Machine for AdoptAgent {
         if matches!(self.stage, Stage::Failed) {
             return Err(NoMemory);
         }
-        let Ok(parcels) = self.handle_all(batch.as_slice()) else {
+        let lent = mem::replace(out, Outbox::from_vec(Vec::new(self.alloc))).into_vec();
+        let Ok(parcels) = self.handle_all(batch.as_slice(), lent) else {
             return Err(self.fail());
         };
         *out = Outbox::from_vec(parcels);

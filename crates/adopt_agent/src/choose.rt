@@ -6,8 +6,10 @@ ghost use Rattle.adopt_context.specs.Allot.{lower_to};
 ghost use Rattle.adopt_context.specs.Context.{is_value};
 ghost use Rattle.adopt_context.specs.Bounds.{cap, is_below, lower_at, lowest, upper_at};
 ghost use Rattle.protocol_steps.specs.Ranges.{IsBound};
+ghost use Rattle.adopt_agent.specs.Best.{AreBest};
 ghost use Rattle.adopt_agent.specs.Costs.{cost_where};
 
+use crate::best::Best;
 use adopt_bounds::Bounds;
 use dcop_base::{CAP, Val};
 
@@ -23,7 +25,7 @@ pub(crate) fn lower_of(costs: &[u64], bounds: &Bounds, d: Val) -> u64
 
 /// UB(d): the cost of an own value plus the upper bounds of the children; `None` if not all higher
 /// neighbours are known or an upper bound is not there.
-pub(crate) fn upper_of(costs: &[u64], knows_higher: bool, bounds: &Bounds, d: Val) -> Option<u64>
+fn upper_of(costs: &[u64], knows_higher: bool, bounds: &Bounds, d: Val) -> Option<u64>
     requires cost { d < length costs.now }
     requires row { d < length bounds.now.rows }
     ensures bound { result ≡ upper_at (cost_where knows_higher costs.now) bounds.now.rows d }
@@ -50,7 +52,7 @@ fn is_below(one: Option<u64>, other: Option<u64>) -> bool
 
 /// The lowest own value with the least LB(d).
 #[tactic(auto, using(crate::proofs::LowestLaws::lowest_next))]
-pub(crate) fn best_lower(costs: &[u64], bounds: &Bounds) -> Val
+fn best_lower(costs: &[u64], bounds: &Bounds) -> Val
     requires some { 1 ≤ length costs.now }
     requires few { length costs.now ≤ size_limit }
     requires rows { length bounds.now.rows ≡ length costs.now }
@@ -73,7 +75,7 @@ pub(crate) fn best_lower(costs: &[u64], bounds: &Bounds) -> Val
 
 /// The lowest own value with the least UB(d).
 #[tactic(auto, using(crate::proofs::LowestLaws::lowest_next))]
-pub(crate) fn best_upper(costs: &[u64], knows_higher: bool, bounds: &Bounds) -> Val
+fn best_upper(costs: &[u64], knows_higher: bool, bounds: &Bounds) -> Val
     requires some { 1 ≤ length costs.now }
     requires few { length costs.now ≤ size_limit }
     requires rows { length bounds.now.rows ≡ length costs.now }
@@ -92,6 +94,23 @@ pub(crate) fn best_upper(costs: &[u64], knows_higher: bool, bounds: &Bounds) -> 
         }
     }
     best
+}
+
+/// The least bounds of the own values, and the lowest values that have them.
+pub(crate) fn best_of(costs: &[u64], knows_higher: bool, bounds: &Bounds) -> Best
+    requires some { 1 ≤ length costs.now }
+    requires few { length costs.now ≤ size_limit }
+    requires rows { length bounds.now.rows ≡ length costs.now }
+    ensures { AreBest costs.now knows_higher bounds.now.rows result }
+{
+    let lower_value = best_lower(costs, bounds);
+    let upper_value = best_upper(costs, knows_higher, bounds);
+    Best {
+        lower_value,
+        lower: lower_of(costs, bounds, lower_value),
+        upper_value,
+        upper: upper_of(costs, knows_higher, bounds, upper_value),
+    }
 }
 
 /// The amount, or the bound if the amount is above it.

@@ -3,8 +3,7 @@
 ghost use Rattle.std.specs.Prelude.{◌≡◌, ℕ, ◌<◌, ◌≤◌, ◌-◌, ◌==◌, false, length, nat_lt, slice_index};
 ghost use Rattle.std.specs.List.{list_all};
 ghost use Rattle.dcop_base.specs.Limits.{amount_limit};
-ghost use Rattle.adopt_agent.specs.Costs.{Differ};
-ghost use Rattle.adopt_agent.specs.Sound.{AreCosts, IsGround};
+ghost use Rattle.adopt_agent.specs.Sound.{AreCosts, AreShares, IsGround, WereShared};
 
 use crate::costs::{add_tables, set_costs};
 use adopt_context::AgentContext;
@@ -30,30 +29,40 @@ fn take_off(costs: &mut [u64], shares: &[u64])
     }
 }
 
-/// The costs when one variable has another value than in `before`: the costs of the tables that
-/// name it are replaced. If a sum was cut off at the cap, all tables are added anew.
-pub(crate) fn exchange(
-    costs: &mut [u64],
+/// Sets the shares to what the tables that count and name a variable add to costs of 0.
+pub(crate) fn set_shares(
     shares: &mut [u64],
     own: &Private,
     place: &Place,
-    before: &AgentContext,
     known: &AgentContext,
     var: VarId,
 )
-    requires first { IsGround own.now place.now before.now }
     requires ground { IsGround own.now place.now known.now }
-    requires costed { AreCosts own.now place.now before.now costs.old }
     requires counted { length shares.old ≡ own.now.size }
-    requires others { Differ before.now known.now var }
+    ensures { AreShares own.now place.now known.now var shares.new }
+{
+    shares.fill(0);
+    add_tables(shares, own, place, known, var);
+}
+
+/// The costs once one variable has another value: the shares in them of the tables that name it are
+/// replaced. If a sum was cut off at the cap, all tables are added anew.
+pub(crate) fn exchange(
+    costs: &mut [u64],
+    shares: &[u64],
+    own: &Private,
+    place: &Place,
+    known: &AgentContext,
+    var: VarId,
+)
+    requires ground { IsGround own.now place.now known.now }
+    requires before { WereShared own.now place.now known.now var costs.old shares.now }
     ensures { AreCosts own.now place.now known.now costs.new }
 {
     if !are_whole(costs) {
         set_costs(costs, own, place, known);
         return;
     }
-    shares.fill(0);
-    add_tables(shares, own, place, before, var);
     take_off(costs, shares);
     add_tables(costs, own, place, known, var);
 }

@@ -8,6 +8,7 @@
 #![tactic(auto)]
 
 mod agent;
+mod best;
 mod choose;
 mod costs;
 mod exchange;

@@ -14,7 +14,7 @@ ghost use Rattle.protocol_steps.specs.AdoptMessage.{adopt_message, takes_from_pa
 ghost use Rattle.adopt_agent.specs.Deed.{IsSameAgent};
 
 use crate::agent::AdoptAgent;
-use crate::costs::are_same;
+use crate::choose::best_of;
 use crate::range::{fit, is_in_range, is_parent};
 use adopt_context::AgentContext;
 use dcop_base::{NoMemory, Val, VarId, position_of, stands_in};
@@ -92,11 +92,11 @@ impl AdoptAgent {
         self.know_other(from, value)
     }
 
-    /// Whether a context fits the path. What is known always does.
+    /// Whether a context fits the path. A part of what is known always does.
     fn fits(&self, context: &AgentContext) -> bool
         ensures { result ≡ fits self.now context.now }
     {
-        if are_same(self.known.pairs(), context.pairs()) {
+        if is_known(&self.known, context) {
             return true;
         }
         fit(&self.place, context.pairs())
@@ -189,6 +189,7 @@ impl AdoptAgent {
             return Ok(());
         }
         if self.bounds.store(d, child, rest, lower, upper)? {
+            self.best = best_of(self.costs.as_slice(), self.knows_higher, &self.bounds);
             self.restore();
         }
         Ok(())

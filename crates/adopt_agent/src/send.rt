@@ -1,6 +1,6 @@
 //! The messages of an agent to its neighbours at the end of an activation.
 
-ghost use Rattle.std.specs.Prelude.{◌≡◌, ◌++◌, true, IfOk, OnOk};
+ghost use Rattle.std.specs.Prelude.{◌≡◌, ◌++◌, [], true, IfOk, OnOk};
 ghost use Rattle.std.specs.List.{flat_map};
 ghost use Rattle.dcop_base.specs.Table.{has};
 ghost use Rattle.adopt_context.specs.Context.{put};
@@ -14,7 +14,6 @@ use crate::range::is_parent;
 use crate::stage::Stage;
 use dcop_base::{NoMemory, VarId, stands_in};
 use protocol_steps::{Message, Parcel};
-use std::alloc::Global;
 
 impl AdoptAgent {
     /// VALUE for a lower neighbour.
@@ -108,22 +107,29 @@ impl AdoptAgent {
         self.tell_parent(to, parcels)
     }
 
-    /// The messages to these neighbours, in their order.
-    fn tell_each(&self, alloc: Global, neighbours: &[VarId]) -> Result<Vec<Parcel>, NoMemory>
-        ensures { IfOk result (λ parcels. parcels.items
+    /// The messages to these neighbours, in their order. They use the memory of `parcels`, which
+    /// must be empty.
+    fn tell_each(
+        &self,
+        neighbours: &[VarId],
+        mut parcels: Vec<Parcel>,
+    ) -> Result<Vec<Parcel>, NoMemory>
+        requires { parcels.items ≡ [] }
+        ensures { IfOk result (λ ps. ps.items
             ≡ flat_map (λ j. all_to j (messages_for self.now j)) neighbours.now) }
     {
-        let mut parcels = Vec::new(alloc);
         for to in neighbours {
             self.tell(*to, &mut parcels)?;
         }
         Ok(parcels)
     }
 
-    /// The messages to all neighbours, in ascending order of the receivers.
-    pub(crate) fn tell_all(&self) -> Result<Vec<Parcel>, NoMemory>
-        ensures { IfOk result (λ parcels. parcels.items ≡ adopt_sends self.now) }
+    /// The messages to all neighbours, in ascending order of the receivers. They use the memory of
+    /// `lent`, which must be empty.
+    pub(crate) fn tell_all(&self, lent: Vec<Parcel>) -> Result<Vec<Parcel>, NoMemory>
+        requires { lent.items ≡ [] }
+        ensures { IfOk result (λ ps. ps.items ≡ adopt_sends self.now) }
     {
-        self.tell_each(self.alloc, self.own.neighbours.as_slice())
+        self.tell_each(self.own.neighbours.as_slice(), lent)
     }
 }

@@ -1,9 +1,9 @@
 -- Contexts: what they give after a value was put, and tests of all their pairs.
-use Rattle.std.proofs.Common.{◌≡◌, ℕ, Bool, true, false, cond, eqb, nat_lt, ◌==◌, if◌then◌else◌, [], ◌∷◌, Option, Some, None, refl, sym, ap, subst, ◌∙◌, inl, inr}
+use Rattle.std.proofs.Common.{◌≡◌, ℕ, ◌+◌, ◌≤◌, Bool, true, false, cond, eqb, nat_lt, ◌==◌, if◌then◌else◌, [], ◌∷◌, Option, Some, None, refl, sym, ap, ap₂, subst, ◌∙◌, inl, inr, arith}
 use Rattle.std.specs.List.{list_all}
-use Rattle.std.proofs.lemmas.Bool.{cases_eq, cond_both, and_parts, and_from, eqb-true, eq-eqb, ne_eqb, false≢true}
+use Rattle.std.proofs.lemmas.Bool.{cases_eq, cond_both, cond-true, cond-false, and_parts, and_from, eqb-true, eq-eqb, ne_eqb, le-ltb, false≢true}
 use Rattle.std.proofs.lemmas.Option.{none-some, same_Some}
-use Rattle.adopt_context.specs.Context.{Context, value_in, put, is_value, part_of, union}
+use Rattle.adopt_context.specs.Context.{AscendsFrom, Context, value_in, put, is_value, part_of, union}
 
 -- a test of all pairs, of the value of one variable
 pub each_pair : (q : ℕ → ℕ → Bool) (c : Context) → list_all (λ p. q p.0 p.1) c ≡ true → (v a : ℕ) → value_in c v ≡ Some a → q v a ≡ true
@@ -106,3 +106,37 @@ union_gives_right c r x one other v a h =
     let some = union_right c r v a h in
     let here = part_gives (union c r) x (union_part c r x one other) v some.0 some.1 in
     some.1 ∙ sym here ∙ part_gives r x other v a h
+
+-- no variable that is named stands below where a context begins
+pub named_from : (b : ℕ) (c : Context) (v a : ℕ) → AscendsFrom b c → value_in c v ≡ Some a → b ≤ v
+named_from b [] v a up h = absurd (none-some a h)
+named_from b (p ∷ ps) v a up h = elim (cases_eq p.0 v) [
+  | inl here ↦ let low = up.0 in omega (arith, low, here)
+  | inr other ↦
+      let low = up.0 in
+      let rest = named_from (p.0 + 1) ps v a up.1 (ap (λ (d : Bool). cond d (Some p.1) (value_in ps v)) (sym (ne_eqb p.0 v other)) ∙ h) in
+      omega (arith, low, rest)
+]
+
+-- a value that a variable has is put in vain
+pub put_same : (b : ℕ) (c : Context) (v a : ℕ) → AscendsFrom b c → value_in c v ≡ Some a → put c v a ≡ c
+put_same b [] v a up h = absurd (none-some a h)
+put_same b (p ∷ ps) v a up h = elim (cases_eq p.0 v) [
+  | inl here ↦
+      let value : p.1 ≡ a = same_Some p.1 a (ap (λ (d : Bool). cond d (Some p.1) (value_in ps v)) (sym (eq-eqb p.0 v here)) ∙ h) in
+      cond-true (eqb v p.0) ((v, a) ∷ ps) (cond (nat_lt v p.0) ((v, a) ∷ p ∷ ps) (p ∷ put ps v a)) (eq-eqb v p.0 (sym here))
+      ∙ ap₂ (λ (u : ℕ) (d : ℕ). (u, d) ∷ ps) (sym here) (sym value)
+  | inr other ↦
+      let later = ap (λ (d : Bool). cond d (Some p.1) (value_in ps v)) (sym (ne_eqb p.0 v other)) ∙ h in
+      let above = named_from (p.0 + 1) ps v a up.1 later in
+      cond-false (eqb v p.0) ((v, a) ∷ ps) (cond (nat_lt v p.0) ((v, a) ∷ p ∷ ps) (p ∷ put ps v a)) (ne_eqb v p.0 (λ same. other (sym same)))
+      ∙ cond-false (nat_lt v p.0) ((v, a) ∷ p ∷ ps) (p ∷ put ps v a) (le-ltb v p.0 (omega (arith, above)))
+      ∙ ap (λ (qs : Context). p ∷ qs) (put_same (p.0 + 1) ps v a up.1 later)
+]
+
+-- a part of a context is joined to it in vain
+pub union_same : (c r : Context) → AscendsFrom 0 c → part_of r c ≡ true → union c r ≡ c
+union_same c [] up part = refl
+union_same c (p ∷ ps) up part =
+    let both = and_parts (is_value (value_in c p.0) p.1) (part_of ps c) part in
+    ap (λ (x : Context). union x ps) (put_same 0 c p.0 p.1 up (value_is (value_in c p.0) p.1 both.0)) ∙ union_same c ps up both.1

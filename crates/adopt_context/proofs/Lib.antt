@@ -1,5 +1,6 @@
 pub mod ContextLaws
 pub mod HalvingLaws
 pub mod KnownLaws
+mod PartLaws
 pub mod RowLaws
 pub mod SizeLaws

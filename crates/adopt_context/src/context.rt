@@ -4,7 +4,7 @@ ghost use Rattle.std.specs.Prelude.{◌≡◌, ℕ, List, [], true, not, ◌==�
 ghost use Rattle.std.specs.List.{filter};
 ghost use Rattle.adopt_context.specs.Context.{AscendsFrom, value_in, put, compatible, part_of, union, names_all};
 
-use crate::pairs::{agree, joined, name_each, others, put, stand_in, value_in};
+use crate::pairs::{agree, join, name_each, others, put, stand_in, value_in};
 use dcop_base::{NoMemory, Val, VarId, VarList};
 use std::alloc::{AllocError, Global};
 use std::marker::Model;
@@ -102,12 +102,7 @@ impl AgentContext {
         ensures joined { OnOk result (self.new ≡ union self.old other.now) }
         ensures kept { OnErr result (self.new ≡ self.old) }
     {
-        self.pairs = joined(
-            self.pairs.as_slice(),
-            other.pairs.as_slice(),
-            *self.pairs.allocator(),
-        )?;
-        Ok(())
+        join(&mut self.pairs, other.pairs.as_slice())
     }
 
     /// The context without the pair of a variable.

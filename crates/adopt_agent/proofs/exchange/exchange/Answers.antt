@@ -1,4 +1,4 @@
-use Rattle.std.proofs.Common.{◌≡◌, ◌<◌, true, nat_lt, length, sym, ◌∙◌, arith}
+use Rattle.std.proofs.Common.{◌≡◌, ◌<◌, true, nat_lt, length, replicate, refl, sym, ◌∙◌, arith}
 use Rattle.std.specs.List.{list_all}
 use Rattle.dcop_base.specs.Limits.{amount_limit}
 use Rattle.adopt_agent.proofs.ExchangeLaws.{all_from_each, costs_exchanged, share_there, whole_at}
@@ -6,11 +6,12 @@ use Rattle.adopt_agent.proofs.exchange.exchange.Goals as goal
 
 pub take_off-requires-clause-enough : goal.take_off-requires-clause-enough
 take_off-requires-clause-enough c = λ d lt.
-    let counted = c.requires.costed.counted in
-    share_there c.args.own.now c.args.place.now c.args.before.now c.args.known.now c.args.var c.requires.others c.args.costs.now c.fill.new.self c.add_tables.new.costs (length c.args.shares.now) c.requires.costed (c.fill.ensures.after (λ y h. h)) c.add_tables.ensures d (omega (arith, lt, counted))
+    let b = c.requires.before in
+    let counted = b.costed.counted in
+    share_there c.args.own.now c.args.place.now b.before c.args.known.now c.args.var b.others c.args.costs.now (replicate b.shared.count 0) c.args.shares.now b.shared.count b.costed refl b.shared.added d (omega (arith, lt, counted))
 
-pub add_tables-requires-2-clause-within : goal.add_tables-requires-2-clause-within
-add_tables-requires-2-clause-within c =
+pub add_tables-requires-clause-within : goal.add_tables-requires-clause-within
+add_tables-requires-clause-within c =
     let whole : list_all (λ x. nat_lt x amount_limit) c.args.costs.now ≡ true = sym c.are_whole.ensures ∙ c.if-not-are_whole.false in
     let same = c.take_off.auto.costs in
     all_from_each c.take_off.new.costs amount_limit (λ d inside.
@@ -21,6 +22,7 @@ add_tables-requires-2-clause-within c =
 
 pub returns : goal.returns
 returns c =
+    let b = c.requires.before in
     let whole : list_all (λ x. nat_lt x amount_limit) c.args.costs.now ≡ true = sym c.are_whole.ensures ∙ c.if-not-are_whole.false in
-    costs_exchanged c.args.own.now c.args.place.now c.args.before.now c.args.known.now c.args.var c.requires.others c.args.costs.now c.fill.new.self c.add_tables.new.costs (length c.args.shares.now) c.requires.costed (c.fill.ensures.after (λ y h. h)) c.add_tables.ensures
-    c.take_off.new.costs c.add_tables-2.new.costs whole c.take_off.ensures c.add_tables-2.ensures
+    costs_exchanged c.args.own.now c.args.place.now b.before c.args.known.now c.args.var b.others c.args.costs.now (replicate b.shared.count 0) c.args.shares.now b.shared.count b.costed refl b.shared.added
+    c.take_off.new.costs c.add_tables.new.costs whole c.take_off.ensures c.add_tables.ensures

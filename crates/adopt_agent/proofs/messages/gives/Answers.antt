@@ -1,7 +1,7 @@
 use Rattle.std.proofs.Common.{ℕ, Some, sym, ap, subst, ◌∙◌}
 use Rattle.std.proofs.lemmas.Bool.{eqb-true}
 use Rattle.adopt_context.specs.Context.{AscendsFrom, Context}
-use Rattle.adopt_agent.proofs.LearnLaws.{put_same}
+use Rattle.adopt_context.proofs.KnownLaws.{put_same}
 use Rattle.adopt_agent.proofs.messages.gives.Goals as goal
 
 pub returns-in-Some : goal.returns-in-Some

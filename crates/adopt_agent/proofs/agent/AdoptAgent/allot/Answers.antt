@@ -1,4 +1,4 @@
-use Rattle.adopt_agent.proofs.BoundLaws.{backed_allot, allotted_shown}
+use Rattle.adopt_agent.proofs.BoundLaws.{backed_allot, best_allotted, allotted_shown}
 use Rattle.adopt_agent.proofs.agent.AdoptAgent.allot.Goals as goal
 
 pub invariant_of-self : goal.invariant_of-self
@@ -11,6 +11,7 @@ invariant_of-self c =
       higher_is = s.higher_is;
       knows_higher_is = s.knows_higher_is;
       backed = backed_allot a.own a.place a.known a.bounds c.allot.new.self a.value c.to_allot-goal.result s.backed c.allot.ensures;
+      best_is = best_allotted a.costs.items a.knows_higher a.bounds c.allot.new.self a.value c.to_allot-goal.result a.best s.best_is c.allot.ensures;
       value_below = s.value_below;
       error_within = s.error_within;
       threshold_within = s.threshold_within;

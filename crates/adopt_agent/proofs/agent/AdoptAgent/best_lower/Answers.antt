@@ -1,5 +1,4 @@
-use Rattle.std.proofs.Common.{ℕ, ◌-◌, nat_lt, List, length, get_or, ap, ◌∙◌}
-use Rattle.adopt_context.specs.Bounds.{lower_at, lowest}
+use Rattle.std.proofs.Common.{ap, ◌∙◌}
 use Rattle.protocol_steps.specs.Adopt.{AdoptView}
 use Rattle.protocol_steps.specs.AdoptBounds.{best_lower}
 use Rattle.adopt_agent.specs.Stage.{view_at}
@@ -11,5 +10,4 @@ returns-clause-best c =
     let a = c.self.inside in
     let s = c.self.invariant in
     let v : AdoptView = view_at a.own a.place a.error a.stage a.known a.value a.threshold a.last_received a.told_to_end a.bounds.rows in
-    c.best_lower.ensures.best ∙ ap (λ (xs : List ℕ). lowest nat_lt (lower_at (λ e. get_or xs e 0) a.bounds.rows) (length xs - 1)) c.as_slice.ensures.value
-    ∙ best_lower_shown v a.costs.items s.costed s.ground.own_fits.size.0 ∙ ap best_lower c.self.view_is
+    s.best_is.lowest_lower ∙ best_lower_shown v a.costs.items s.costed s.ground.own_fits.size.0 ∙ ap best_lower c.self.view_is

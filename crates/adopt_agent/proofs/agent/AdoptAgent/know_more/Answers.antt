@@ -5,6 +5,7 @@ use Rattle.adopt_context.specs.Context.{value_in}
 use Rattle.protocol_steps.specs.Adopt.{AdoptView}
 use Rattle.protocol_steps.specs.AdoptBounds.{restore}
 use Rattle.protocol_steps.specs.AdoptRange.{in_range}
+use Rattle.adopt_agent.specs.Best.{AreBest}
 use Rattle.adopt_agent.specs.Stage.{knowing}
 use Rattle.adopt_agent.specs.Sound.{AreCosts}
 use Rattle.adopt_agent.proofs.BoundLaws.{written_back}
@@ -42,10 +43,11 @@ invariant_of-self-2 c =
     let new = c.add_known.new.costs in
     let none : value_in a.known var ≡ None = subst (λ (w : AdoptView). value_in w.known var ≡ None) (sym c.self.view_is) c.requires.unnamed in
     let range : in_range (knowing a.own a.place a.known) var value ≡ true = subst (λ (w : AdoptView). in_range w var value ≡ true) (sym c.self.view_is) c.requires.range in
-    sound_grows a.own a.place a.higher a.error a.known a.costs.items a.knows_higher a.bounds a.value a.threshold a.last_received s var value x _ _ none range c.in_ok-set.ensures.given
+    sound_grows a.own a.place a.higher a.error a.known a.costs.items a.knows_higher a.bounds a.best a.value a.threshold a.last_received s var value x _ _ c.best_of-self-inside.result none range c.in_ok-set.ensures.given
     (λ before grown costed. subst (λ (xs : List ℕ). AreCosts a.own a.place x xs) (sym (written_back a.costs.len new a.costs.items (sym (c.add_known.auto.costs ∙ c.as_mut_slice.ensures.len))))
     (c.add_known.ensures before grown (subst (λ (xs : List ℕ). AreCosts a.own a.place before xs) (sym c.as_mut_slice.ensures.value) costed)))
     c.names_all-self-inside.ensures
+    (subst (λ (xs : List ℕ). AreBest xs c.names_all-self-inside.result a.bounds.rows c.best_of-self-inside.result) c.as_slice.ensures.value c.best_of-self-inside.ensures)
 
 pub returns-clause-known : goal.returns-clause-known
 returns-clause-known c =

@@ -3,6 +3,7 @@ use Rattle.std.specs.List.{filter}
 use Rattle.dcop_base.specs.Table.{has}
 use Rattle.adopt_context.specs.Context.{Context, names_all}
 use Rattle.protocol_steps.specs.AdoptRange.{fits}
+use Rattle.adopt_agent.specs.Best.{AreBest}
 use Rattle.adopt_agent.specs.Stage.{knowing}
 use Rattle.adopt_agent.specs.Sound.{AreCosts}
 use Rattle.adopt_agent.proofs.BoundLaws.{written_back, backed_new}
@@ -27,6 +28,7 @@ invariant_of-result c =
       higher_is = higher_is;
       knows_higher_is = c.names_all-knows_higher.ensures ∙ ap (λ (near : List ℕ). names_all known near) higher_is;
       backed = backed_new own place known c.in_ok-bounds.bounds (length c.in_ok-copy_of.field-0) none (c.in_ok-bounds.ensures.children ∙ c.in_ok-copy_of.ensures ∙ c.as_slice.ensures) c.in_ok-bounds.ensures.rows;
+      best_is = subst (λ (xs : List ℕ). AreBest xs c.names_all-knows_higher.result c.in_ok-bounds.bounds.rows c.best_of-best.result) c.as_slice-4.ensures.value c.best_of-best.ensures;
       value_below = omega (arith, some);
       error_within = c.requires.error;
       threshold_within = omega arith;

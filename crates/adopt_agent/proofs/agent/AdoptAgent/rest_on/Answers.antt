@@ -4,6 +4,7 @@ use Rattle.adopt_bounds.specs.Rows.{BoundsView}
 use Rattle.protocol_steps.specs.Adopt.{AdoptView}
 use Rattle.protocol_steps.specs.AdoptBounds.{at_context}
 use Rattle.protocol_steps.specs.AdoptRange.{fits}
+use Rattle.adopt_agent.specs.Best.{AreBest}
 use Rattle.adopt_agent.specs.Stage.{view_at}
 use Rattle.adopt_agent.specs.Sound.{AreCosts}
 use Rattle.adopt_agent.proofs.BoundLaws.{written_back, backed_reset}
@@ -24,6 +25,7 @@ invariant_of-self c =
       higher_is = s.higher_is;
       knows_higher_is = c.renew-self-inside.ensures.knows ∙ ap (λ (near : List ℕ). names_all known near) s.higher_is;
       backed = backed_reset a.own a.place a.known known a.bounds c.reset.new.self s.backed c.reset.ensures;
+      best_is = subst (λ (xs : List ℕ). AreBest xs c.renew-self-inside.result c.reset.new.self.rows c.best_of-self-inside.result) c.as_slice.ensures.value c.best_of-self-inside.ensures;
       value_below = s.value_below;
       error_within = s.error_within;
       threshold_within = s.threshold_within;

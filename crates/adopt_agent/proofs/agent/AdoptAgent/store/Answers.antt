@@ -1,7 +1,8 @@
-use Rattle.std.proofs.Common.{◌≡◌, Bool, true, cond, sym, ap, ◌∙◌}
+use Rattle.std.proofs.Common.{◌≡◌, ℕ, Bool, true, cond, List, sym, ap, subst, ◌∙◌}
 use Rattle.adopt_context.specs.Context.{part_of}
 use Rattle.adopt_bounds.specs.Rows.{place_of, entry_of, with_merged}
 use Rattle.protocol_steps.specs.Adopt.{AdoptView}
+use Rattle.adopt_agent.specs.Best.{AreBest}
 use Rattle.adopt_agent.proofs.StoreLaws.{parts_agree, backed_merged, stored_shown, not_stored}
 use Rattle.adopt_agent.proofs.agent.AdoptAgent.store.Goals as goal
 
@@ -26,6 +27,7 @@ invariant_of-self-then-branch c =
       higher_is = s.higher_is;
       knows_higher_is = s.knows_higher_is;
       backed = backed_merged a.own a.place a.known a.bounds c.store.new.self c.args.d c.args.child rest c.args.lower c.args.upper s.backed part merged;
+      best_is = subst (λ (xs : List ℕ). AreBest xs a.knows_higher c.store.new.self.rows c.best_of-self-inside.result) c.as_slice.ensures.value c.best_of-self-inside.ensures;
       value_below = s.value_below;
       error_within = s.error_within;
       threshold_within = s.threshold_within;
