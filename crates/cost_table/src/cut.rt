@@ -65,7 +65,7 @@ fn cut_tables(
     ensures { IfOk result (λ tables. AllZip
         (IsCutOf problem.now.sizes cut.now values.now) problem.now.tables tables) }
 {
-    let mut tables = Vec::new(alloc);
+    let mut tables = Vec::with_capacity(alloc, problem.tables.as_slice().len())?;
     for table in problem.tables.as_slice() {
         tables.push(cut_table(alloc, table, cut, values)?)?;
     }
@@ -120,21 +120,26 @@ fn keep_one(
         (record { scope = scope.now; sizes = sizes.now; cells = cells.now }) place val less) }
 {
     let kept = cells_at(alloc, sizes, cells, place, val)?;
-    let scope = Vec::from_slice(alloc, scope)?;
+    let scope = VarList::from_slice(alloc, scope)?;
     let sizes = one_at(alloc, sizes, place)?;
     Ok(Table {
-        scope: VarList::from_vec(scope),
-        sizes: SizeList::from_vec(sizes),
+        scope,
+        sizes,
         cells: CellList::shared(alloc, kept)?,
     })
 }
 
 /// The sizes with 1 at this place.
-fn one_at(alloc: Global, sizes: &[u16], place: usize) -> Result<Vec<u16>, NoMemory>
+fn one_at(alloc: Global, sizes: &[u16], place: usize) -> Result<SizeList, NoMemory>
     requires { place < length sizes.now }
-    ensures { IfOk result (λ less. less.items ≡ set sizes.now place 1) }
+    ensures { IfOk result (λ less. less ≡ set sizes.now place 1) }
 {
-    let mut less = Vec::from_slice(alloc, sizes)?;
-    less[place] = 1;
+    let (before, _) = sizes.split_at(place);
+    let mut less = SizeList::from_slice(alloc, before)?;
+    less.push(1)?;
+    let (_, behind) = sizes.split_at(place + 1);
+    for size in behind {
+        less.push(*size)?;
+    }
     Ok(less)
 }

@@ -95,7 +95,7 @@ fn runs_of(
     requires below { number < size }
     ensures { IfOk result (λ kept. AreRuns cells.now blocks size inner number kept.items) }
 {
-    let mut kept = Vec::new(alloc);
+    let mut kept = Vec::with_capacity(alloc, blocks.saturating_mul(inner))?;
     for block in 0..blocks {
         let start = (block * size + number) * inner;
         kept.extend_from_slice(&cells[start..start + inner])?;

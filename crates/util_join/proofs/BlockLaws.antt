@@ -11,17 +11,17 @@ use Rattle.dcop_base.specs.Limits.{amount_limit}
 use Rattle.dcop_base.specs.Table.{CostTable, product, cell_place, AreWithin}
 use Rattle.dcop_base.proofs.TableLaws.{cell_place-lt, capped}
 use Rattle.util_kernel.specs.Lanes.{plus}
-use Rattle.util_join.specs.Strides.{stride, strides, offset, last_values, IsRowSum, IsBlockSum}
+use Rattle.util_join.specs.Strides.{stride, strides, offset, last_values, along, AreRowSums, IsBlockSum}
 
 -- a block of which the first values of its first variable are done: so many, each with the rows of the other variables
-pub record IsPartSum (from ds sizes : List ℕ) (width step stride done : ℕ) (old new : List ℕ) : Type 0 where
+pub record IsPartSum (from ds sizes : List ℕ) (width : ℕ) (far : ℕ → ℕ) (stride done : ℕ) (old new : List ℕ) : Type 0 where
   pub count : length new ≡ length old
   pub small : All (λ n. n ≤ amount_limit) new
-  pub cells : (v : ℕ) (values : List ℕ) (p : ℕ) → v < done → AreWithin sizes values → p < width → get_or new ((v * product sizes + cell_place sizes values) * width + p) 0 ≡ plus (get_or old ((v * product sizes + cell_place sizes values) * width + p) 0) (get_or from (stride * v + offset ds values + step * p) 0)
+  pub cells : (v : ℕ) (values : List ℕ) (p : ℕ) → v < done → AreWithin sizes values → p < width → get_or new ((v * product sizes + cell_place sizes values) * width + p) 0 ≡ plus (get_or old ((v * product sizes + cell_place sizes values) * width + p) 0) (get_or from (stride * v + offset ds values + far p) 0)
   pub rest : (p : ℕ) → done * (product sizes * width) ≤ p → get_or new p 0 ≡ get_or old p 0
 
 -- places behind, in and before a part of a list that was written
-put-below : (a k : ℕ) (xs ys : List ℕ) (p : ℕ) → p < a → a ≤ length xs → get_or (put_mid a k xs ys) p 0 ≡ get_or xs p 0
+pub put-below : (a k : ℕ) (xs ys : List ℕ) (p : ℕ) → p < a → a ≤ length xs → get_or (put_mid a k xs ys) p 0 ≡ get_or xs p 0
 put-below zero k xs ys p h l = absurd (omega arith)
 put-below (suc a) k [] ys p h l = absurd (omega arith)
 put-below (suc a) k (x ∷ xs) ys zero h l = refl
@@ -32,7 +32,7 @@ first-of [] zs j h = absurd (omega arith)
 first-of (y ∷ ys) zs zero h = refl
 first-of (y ∷ ys) zs (suc j) h = first-of ys zs j (omega arith)
 
-put-in : (a k : ℕ) (xs ys : List ℕ) (j p : ℕ) → a + j ≡ p → j < length ys → a ≤ length xs → get_or (put_mid a k xs ys) p 0 ≡ get_or ys j 0
+pub put-in : (a k : ℕ) (xs ys : List ℕ) (j p : ℕ) → a + j ≡ p → j < length ys → a ≤ length xs → get_or (put_mid a k xs ys) p 0 ≡ get_or ys j 0
 put-in zero k xs ys j p e h l =
     let same : p ≡ j = omega (arith, e) in
     ap (λ i. get_or (put_mid zero k xs ys) i 0) same ∙ first-of ys (drop k xs) j h
@@ -48,7 +48,7 @@ later-of (y ∷ ys) [] (suc k) p e l h = absurd (omega arith)
 later-of (y ∷ ys) (x ∷ xs) (suc k) zero e l h = absurd (omega arith)
 later-of (y ∷ ys) (x ∷ xs) (suc k) (suc p) e l h = later-of ys xs k p (omega (arith, e)) (omega arith) (omega arith)
 
-put-above : (a k : ℕ) (xs ys : List ℕ) (p : ℕ) → length ys ≡ k → a + k ≤ length xs → a + k ≤ p → get_or (put_mid a k xs ys) p 0 ≡ get_or xs p 0
+pub put-above : (a k : ℕ) (xs ys : List ℕ) (p : ℕ) → length ys ≡ k → a + k ≤ length xs → a + k ≤ p → get_or (put_mid a k xs ys) p 0 ≡ get_or xs p 0
 put-above zero k xs ys p e l h = later-of ys xs k p e (omega arith) (omega arith)
 put-above (suc a) k [] ys p e l h = absurd (omega arith)
 put-above (suc a) k (x ∷ xs) ys zero e l h = absurd (omega arith)
@@ -61,12 +61,12 @@ length-later (y ∷ ys) xs zero e l = absurd (omega (arith, e))
 length-later (y ∷ ys) [] (suc k) e l = absurd (omega arith)
 length-later (y ∷ ys) (x ∷ xs) (suc k) e l = ap suc (length-later ys xs k (omega (arith, e)) (omega arith))
 
-length-put : (a k : ℕ) (xs ys : List ℕ) → length ys ≡ k → a + k ≤ length xs → length (put_mid a k xs ys) ≡ length xs
+pub length-put : (a k : ℕ) (xs ys : List ℕ) → length ys ≡ k → a + k ≤ length xs → length (put_mid a k xs ys) ≡ length xs
 length-put zero k xs ys e l = length-later ys xs k e (omega arith)
 length-put (suc a) k [] ys e l = absurd (omega arith)
 length-put (suc a) k (x ∷ xs) ys e l = ap suc (length-put a k xs ys e (omega arith))
 
-all-put : (P : ℕ → Type 0) (a k : ℕ) (xs ys : List ℕ) → All P xs → All P ys → All P (put_mid a k xs ys)
+pub all-put : (P : ℕ → Type 0) (a k : ℕ) (xs ys : List ℕ) → All P xs → All P ys → All P (put_mid a k xs ys)
 all-put P a k xs ys hx hy = All-append P (take a xs) (ys ++ drop k (drop a xs)) (All-take P a xs hx) (All-append P ys (drop k (drop a xs)) hy (All-drop P k (drop a xs) (All-drop P a xs hx)))
 
 -- how wide a part is, and that it lies within the block
@@ -105,25 +105,25 @@ part-below c p w j hc hj =
     omega (arith, mul-le-mul_right w more)
 
 -- the rows of the value that is added, and one more value
-part-now : (from ds sizes : List ℕ) (width step stride v at size : ℕ) (old now part values : List ℕ) (p : ℕ) → at ≡ v * (product sizes * width) → size ≡ product sizes * width → at + size ≤ length now → IsPartSum from ds sizes width step stride v old now → IsBlockSum (drop (stride * v) from) ds sizes width step (mid_of at size now) part → length part ≡ size → AreWithin sizes values → p < width → get_or (put_mid at size now part) ((v * product sizes + cell_place sizes values) * width + p) 0 ≡ plus (get_or old ((v * product sizes + cell_place sizes values) * width + p) 0) (get_or from (stride * v + offset ds values + step * p) 0)
-part-now from ds sizes width step stride v at size old now part values p at-is size-is fits so_far sum count within below =
+part-now : (from ds sizes : List ℕ) (width : ℕ) (far : ℕ → ℕ) (stride v at size : ℕ) (old now part values : List ℕ) (p : ℕ) → at ≡ v * (product sizes * width) → size ≡ product sizes * width → at + size ≤ length now → IsPartSum from ds sizes width far stride v old now → IsBlockSum (drop (stride * v) from) ds sizes width far (mid_of at size now) part → length part ≡ size → AreWithin sizes values → p < width → get_or (put_mid at size now part) ((v * product sizes + cell_place sizes values) * width + p) 0 ≡ plus (get_or old ((v * product sizes + cell_place sizes values) * width + p) 0) (get_or from (stride * v + offset ds values + far p) 0)
+part-now from ds sizes width far stride v at size old now part values p at-is size-is fits so_far sum count within below =
     let place = cell_place sizes values * width + p in
     let q = (v * product sizes + cell_place sizes values) * width + p in
-    let far = offset ds values + step * p in
+    let away = offset ds values + far p in
     let inside : place < product sizes * width = part-below (cell_place sizes values) (product sizes) width p (cell_place-lt sizes values within) below in
     let here : at + place ≡ q = omega (arith, at-is, place-in-part v (product sizes) (cell_place sizes values) width p) in
-    let there : stride * v + far ≡ stride * v + offset ds values + step * p = omega arith in
+    let there : stride * v + away ≡ stride * v + offset ds values + far p = omega arith in
     let before : get_or (mid_of at size now) place 0 ≡ get_or old q 0 =
     get_or-chunk at size now place 0 (omega (arith, inside, size-is)) ∙ ap (λ i. get_or now i 0) here ∙ so_far.rest q (omega (arith, here, at-is)) in
-    let added : get_or (drop (stride * v) from) far 0 ≡ get_or from (stride * v + offset ds values + step * p) 0 =
-    get_or-drop (stride * v) from far 0 ∙ ap (λ i. get_or from i 0) there in
+    let added : get_or (drop (stride * v) from) away 0 ≡ get_or from (stride * v + offset ds values + far p) 0 =
+    get_or-drop (stride * v) from away 0 ∙ ap (λ i. get_or from i 0) there in
     put-in at size now part place q here (omega (arith, count, inside, size-is)) (omega arith)
-    ∙ sum.cells values p within below ∙ ap (λ a. plus a (get_or (drop (stride * v) from) far 0)) before ∙ ap (λ b. plus (get_or old q 0) b) added
+    ∙ sum.cells values p within below ∙ ap (λ a. plus a (get_or (drop (stride * v) from) away 0)) before ∙ ap (λ b. plus (get_or old q 0) b) added
 
-pub part-more : (from ds sizes : List ℕ) (width step stride v at size : ℕ) (old now part : List ℕ) → at ≡ v * (product sizes * width) → size ≡ product sizes * width → at + size ≤ length old → IsPartSum from ds sizes width step stride v old now → IsBlockSum (drop (stride * v) from) ds sizes width step (mid_of at size now) part → IsPartSum from ds sizes width step stride (v + 1) old (put_mid at size now part)
-part-more from ds sizes width step stride v at size old now part at-is size-is room so_far sum =
+pub part-more : (from ds sizes : List ℕ) (width : ℕ) (far : ℕ → ℕ) (stride v at size : ℕ) (old now part : List ℕ) → at ≡ v * (product sizes * width) → size ≡ product sizes * width → at + size ≤ length old → IsPartSum from ds sizes width far stride v old now → IsBlockSum (drop (stride * v) from) ds sizes width far (mid_of at size now) part → IsPartSum from ds sizes width far stride (v + 1) old (put_mid at size now part)
+part-more from ds sizes width far stride v at size old now part at-is size-is room so_far sum =
     let fits : at + size ≤ length now = omega (arith, so_far.count) in
-    let count : length part ≡ size = sum.count ∙ length-chunk at size now fits in
+    let count : length part ≡ size = sum.counted ∙ length-chunk at size now fits in
     let next : (v + 1) * (product sizes * width) ≡ at + size = omega (arith, at-is, size-is) in
     record {
       count = length-put at size now part count fits ∙ so_far.count;
@@ -138,36 +138,36 @@ part-more from ds sizes width step stride v at size old now part at-is size-is r
             put-below at size now part ((u * product sizes + cell_place sizes values) * width + p) before (omega arith) ∙ so_far.cells u values p earlier within below)
         | inr later ↦ (
             let same : v ≡ u = omega arith in
-            subst (λ n. get_or (put_mid at size now part) ((n * product sizes + cell_place sizes values) * width + p) 0 ≡ plus (get_or old ((n * product sizes + cell_place sizes values) * width + p) 0) (get_or from (stride * n + offset ds values + step * p) 0)) same
-            (part-now from ds sizes width step stride v at size old now part values p at-is size-is fits so_far sum count within below))
+            subst (λ n. get_or (put_mid at size now part) ((n * product sizes + cell_place sizes values) * width + p) 0 ≡ plus (get_or old ((n * product sizes + cell_place sizes values) * width + p) 0) (get_or from (stride * n + offset ds values + far p) 0)) same
+            (part-now from ds sizes width far stride v at size old now part values p at-is size-is fits so_far sum count within below))
       ];
     }
 
 -- no value done, and all
-pub part-none : (from ds sizes : List ℕ) (width step stride : ℕ) (old : List ℕ) → All (λ n. n ≤ amount_limit) old → IsPartSum from ds sizes width step stride 0 old old
-part-none from ds sizes width step stride old small = record {
+pub part-none : (from ds sizes : List ℕ) (width : ℕ) (far : ℕ → ℕ) (stride : ℕ) (old : List ℕ) → All (λ n. n ≤ amount_limit) old → IsPartSum from ds sizes width far stride 0 old old
+part-none from ds sizes width far stride old small = record {
   count = refl;
   small = small;
   cells = λ v values p h within below. absurd (omega arith);
   rest = λ p h. refl;
 }
 
-whole-cell : (from ds sizes : List ℕ) (width step stride size : ℕ) (old new values : List ℕ) (p : ℕ) → IsPartSum from ds sizes width step stride size old new → AreWithin (size ∷ sizes) values → p < width → get_or new (cell_place (size ∷ sizes) values * width + p) 0 ≡ plus (get_or old (cell_place (size ∷ sizes) values * width + p) 0) (get_or from (offset (stride ∷ ds) values + step * p) 0)
-whole-cell from ds sizes width step stride size old new [] p part within below = absurd within
-whole-cell from ds sizes width step stride size old new (v ∷ vs) p part within below = part.cells v vs p within.0 within.1 below
+whole-cell : (from ds sizes : List ℕ) (width : ℕ) (far : ℕ → ℕ) (stride size : ℕ) (old new values : List ℕ) (p : ℕ) → IsPartSum from ds sizes width far stride size old new → AreWithin (size ∷ sizes) values → p < width → get_or new (cell_place (size ∷ sizes) values * width + p) 0 ≡ plus (get_or old (cell_place (size ∷ sizes) values * width + p) 0) (get_or from (offset (stride ∷ ds) values + far p) 0)
+whole-cell from ds sizes width far stride size old new [] p part within below = absurd within
+whole-cell from ds sizes width far stride size old new (v ∷ vs) p part within below = part.cells v vs p within.0 within.1 below
 
-pub part-whole : (from ds sizes : List ℕ) (width step stride size done : ℕ) (old new : List ℕ) → done ≡ size → IsPartSum from ds sizes width step stride done old new → IsBlockSum from (stride ∷ ds) (size ∷ sizes) width step old new
-part-whole from ds sizes width step stride size done old new e part =
-    let all = subst (λ n. IsPartSum from ds sizes width step stride n old new) e part in
-    record { count = part.count; small = part.small; cells = λ values p within below. whole-cell from ds sizes width step stride size old new values p all within below }
+pub part-whole : (from ds sizes : List ℕ) (width : ℕ) (far : ℕ → ℕ) (stride size done : ℕ) (old new : List ℕ) → done ≡ size → IsPartSum from ds sizes width far stride done old new → IsBlockSum from (stride ∷ ds) (size ∷ sizes) width far old new
+part-whole from ds sizes width far stride size done old new e part =
+    let all = subst (λ n. IsPartSum from ds sizes width far stride n old new) e part in
+    record { counted = part.count; small = part.small; cells = λ values p within below. whole-cell from ds sizes width far stride size old new values p all within below }
 
--- a row as a block of no variable
-row-cell : (from values : List ℕ) (width step : ℕ) (old new : List ℕ) (p : ℕ) → length old ≡ width → IsRowSum from step old new → AreWithin [] values → p < width → get_or new (0 * width + p) 0 ≡ plus (get_or old (0 * width + p) 0) (get_or from (0 + step * p) 0)
-row-cell from values width step old new p e row within below =
-    let place : p ≡ 0 * width + p = omega arith in
-    let far : step * p ≡ 0 + step * p = omega arith in
-    subst (λ i. get_or new i 0 ≡ plus (get_or old i 0) (get_or from (0 + step * p) 0)) place
-    (subst (λ i. get_or new p 0 ≡ plus (get_or old p 0) (get_or from i 0)) far (row.cells p (omega (arith, e))))
+-- rows as a block of no variable
+row-cell : (from values : List ℕ) (count width step : ℕ) (old new : List ℕ) (p : ℕ) → length old ≡ count → AreRowSums from width step old new → p < count → get_or new (0 * count + p) 0 ≡ plus (get_or old (0 * count + p) 0) (get_or from (0 + along width step p) 0)
+row-cell from values count width step old new p e rows below =
+    let place : p ≡ 0 * count + p = omega arith in
+    let away : along width step p ≡ 0 + along width step p = omega arith in
+    subst (λ i. get_or new i 0 ≡ plus (get_or old i 0) (get_or from (0 + along width step p) 0)) place
+    (subst (λ i. get_or new p 0 ≡ plus (get_or old p 0) (get_or from i 0)) away (rows.cells p (omega (arith, e))))
 
-pub row-block : (from : List ℕ) (width step : ℕ) (old new : List ℕ) → length old ≡ width → IsRowSum from step old new → IsBlockSum from [] [] width step old new
-row-block from width step old new e row = record { count = row.count; small = row.small; cells = λ values p within below. row-cell from values width step old new p e row within below }
+pub row-block : (from : List ℕ) (count width step : ℕ) (old new : List ℕ) → length old ≡ count → AreRowSums from width step old new → IsBlockSum from [] [] count (along width step) old new
+row-block from count width step old new e rows = record { counted = rows.count; small = rows.small; cells = λ values p within below. row-cell from values count width step old new p e rows below }

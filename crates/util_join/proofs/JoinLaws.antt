@@ -13,8 +13,9 @@ use Rattle.dcop_base.proofs.JointLaws.{eqb-swap}
 use Rattle.cost_table.specs.Cells.{place_in}
 use Rattle.util_kernel.specs.Lanes.{plus}
 use Rattle.util_join.specs.Join.{LiesIn}
-use Rattle.util_join.specs.Strides.{stride, strides, offset, last_values, IsRow, IsBlockSum}
+use Rattle.util_join.specs.Strides.{stride, strides, offset, last_values, along, IsRow, IsBlockSum}
 use Rattle.util_join.proofs.StrideLaws.{product-some, offset-place, offset-parts, product-parts, place-parts, within-parts, last-within, last-place}
+use Rattle.util_join.proofs.RowLaws.{last-mod}
 
 -- a table that has what one in which nothing is wrong has
 all-false : (a b c d e : Bool) → a ≡ false → b ≡ false → c ≡ false → d ≡ false → e ≡ false → cond a (Some Repeat) (cond (b || c) (Some Sizes) (cond d (Some CellCount) (cond e (Some CellTooLarge) None))) ≡ None
@@ -93,40 +94,40 @@ reach t over sizes values whole lies apart sized within long =
     omega (arith, sym named ∙ place, cell_place-lt t.sizes (map value t.scope) inside)
 
 -- the rows lie within the table
-pub rows-inside : (t : CostTable) (over sizes cells : List ℕ) (start width step : ℕ) → table_fault over sizes cells ≡ None → IsTable t → LiesIn over sizes t → IsRow (strides t over) sizes start width step → (1 ≤ width) × (length cells ≡ product (take start sizes) * width) × (offset (strides t (take start over)) (last_values (take start sizes)) + step * (width - 1) < product t.sizes)
-rows-inside t over sizes cells start width step whole table lies row =
+pub rows-inside : (t : CostTable) (over sizes cells : List ℕ) (start count width step : ℕ) → table_fault over sizes cells ≡ None → IsTable t → LiesIn over sizes t → IsRow (strides t over) sizes start count width step → ((1 ≤ count) × (1 ≤ width)) × (length cells ≡ product (take start sizes) * count) × (offset (strides t (take start over)) (last_values (take start sizes)) + step * (width - 1) < product t.sizes)
+rows-inside t over sizes cells start count width step whole table lies row =
     let parts = parts-of over sizes cells whole in
     let positive = All-drop (λ s. 1 ≤ s) start sizes parts.positive in
     let lasts = last_values sizes in
     let within = last-within sizes parts.positive in
     let behind = row.even (drop start lasts) (within-parts start sizes lasts within).1 in
-    let place : cell_place (drop start sizes) (drop start lasts) + 1 ≡ width =
+    let place : cell_place (drop start sizes) (drop start lasts) + 1 ≡ count =
     ap (λ (xs : List ℕ). cell_place (drop start sizes) xs + 1) (drop-map (λ s. s - 1) start sizes) ∙ last-place (drop start sizes) positive ∙ sym row.full in
-    let last : cell_place (drop start sizes) (drop start lasts) ≡ width - 1 = omega (arith, place) in
-    let far = ap (λ n. step * n) last in
+    let far : along width step (cell_place (drop start sizes) (drop start lasts)) ≡ step * (width - 1) =
+    ap (λ n. step * n) (last-mod row.whole.0 width (cell_place (drop start sizes) (drop start lasts)) (place ∙ row.whole.1) row.some) in
     let front : offset (strides t (take start over)) (last_values (take start sizes)) ≡ offset (take start (strides t over)) (take start lasts) =
     ap (λ (ds : List ℕ). offset ds (last_values (take start sizes))) (sym (take-map (λ v. stride t.scope t.sizes v) start over))
     ∙ ap (λ (vs : List ℕ). offset (take start (strides t over)) vs) (sym (take-map (λ s. s - 1) start sizes)) in
     let all = reach t over sizes lasts table lies parts.apart parts.sized within (length-map sizes (λ s. s - 1) ∙ parts.sized) in (
-      omega (arith, row.full, product-some (drop start sizes) positive),
+      (omega (arith, row.full, product-some (drop start sizes) positive), row.some),
       parts.full ∙ sym (product-parts start sizes) ∙ ap (λ n. product (take start sizes) * n) (sym row.full),
-      omega (arith, front, behind, far, offset-parts start (strides t over) lasts, all),
+      omega (arith, front, behind ∙ far, offset-parts start (strides t over) lasts, all),
     )
 
 -- each cell gains the one that the same values name
-pub cell-gains : (t : CostTable) (over sizes old new : List ℕ) (start width step : ℕ) (value : ℕ → ℕ) → table_fault over sizes old ≡ None → IsTable t → LiesIn over sizes t → IsRow (strides t over) sizes start width step → IsBlockSum t.cells (strides t (take start over)) (take start sizes) width step old new → AreWithin sizes (map value over) → get_or new (cell_place sizes (map value over)) 0 ≡ plus (get_or old (cell_place sizes (map value over)) 0) (get_or t.cells (cell_place t.sizes (map value t.scope)) 0)
-cell-gains t over sizes old new start width step value whole table lies row block within =
+pub cell-gains : (t : CostTable) (over sizes old new : List ℕ) (start count width step : ℕ) (value : ℕ → ℕ) → table_fault over sizes old ≡ None → IsTable t → LiesIn over sizes t → IsRow (strides t over) sizes start count width step → IsBlockSum t.cells (strides t (take start over)) (take start sizes) count (along width step) old new → AreWithin sizes (map value over) → get_or new (cell_place sizes (map value over)) 0 ≡ plus (get_or old (cell_place sizes (map value over)) 0) (get_or t.cells (cell_place t.sizes (map value t.scope)) 0)
+cell-gains t over sizes old new start count width step value whole table lies row block within =
     let values = map value over in
     let parts = parts-of t.scope t.sizes t.cells table in
     let halves = within-parts start sizes values within in
     let p = cell_place (drop start sizes) (drop start values) in
-    let below : p < width = omega (arith, cell_place-lt (drop start sizes) (drop start values) halves.1, row.full) in
-    let place : cell_place (take start sizes) (take start values) * width + p ≡ cell_place sizes values =
+    let below : p < count = omega (arith, cell_place-lt (drop start sizes) (drop start values) halves.1, row.full) in
+    let place : cell_place (take start sizes) (take start values) * count + p ≡ cell_place sizes values =
     ap (λ n. cell_place (take start sizes) (take start values) * n + p) row.full ∙ sym (place-parts start sizes values within) in
     let front = ap (λ (ds : List ℕ). offset ds (take start values)) (sym (take-map (λ v. stride t.scope t.sizes v) start over)) in
     let all = offset-place over value t.scope t.sizes (parts-of over sizes old whole).apart parts.apart parts.sized lies.among in
-    let far : offset (strides t (take start over)) (take start values) + step * p ≡ cell_place t.sizes (map value t.scope) =
+    let far : offset (strides t (take start over)) (take start values) + along width step p ≡ cell_place t.sizes (map value t.scope) =
     omega (arith, front, row.even (drop start values) halves.1, offset-parts start (strides t over) values, all) in
     subst (λ i. get_or new i 0 ≡ plus (get_or old i 0) (get_or t.cells (cell_place t.sizes (map value t.scope)) 0)) place
-    (subst (λ i. get_or new (cell_place (take start sizes) (take start values) * width + p) 0 ≡ plus (get_or old (cell_place (take start sizes) (take start values) * width + p) 0) (get_or t.cells i 0)) far
+    (subst (λ i. get_or new (cell_place (take start sizes) (take start values) * count + p) 0 ≡ plus (get_or old (cell_place (take start sizes) (take start values) * count + p) 0) (get_or t.cells i 0)) far
     (block.cells (take start values) p halves.0 below))

@@ -2,3 +2,4 @@ pub mod RowLaws
 pub mod BlockLaws
 pub mod StrideLaws
 pub mod JoinLaws
+pub mod AlikeLaws

@@ -5,9 +5,10 @@ ghost use Rattle.std.specs.List.{All};
 ghost use Rattle.dcop_base.specs.Limits.{amount_limit};
 ghost use Rattle.dcop_base.specs.Table.{product, table_fault};
 ghost use Rattle.util_join.specs.Join.{LiesIn, IsSum};
-ghost use Rattle.util_join.specs.Strides.{strides, offset, last_values, IsBlockSum};
+ghost use Rattle.util_join.specs.Strides.{strides, offset, last_values, along, IsBlockSum};
 
-use crate::row::{Row, add_row, row_of};
+use crate::alike::add_alike;
+use crate::row::{Row, row_of};
 use crate::stride::stride_of;
 use dcop_base::{CAP, Table, VarId, product_of};
 use util_kernel::add_lanes;
@@ -27,7 +28,7 @@ pub(crate) fn add_cells(cells: &mut [u64], over: &[VarId], sizes: &[u16], table:
     add_block(cells, from, table, &over[..start], &sizes[..start], row);
 }
 
-/// Adds the cells `from` of a table to the rows of a block, one for each choice of values of these
+/// Adds the cells `from` of a table to the rows of a block, for each choice of values of these
 /// variables, using the table's strides.
 fn add_block(
     cells: &mut [u64],
@@ -38,18 +39,18 @@ fn add_block(
     row: Row,
 )
     requires sized { length sizes.now ≡ length over.now }
-    requires full { length cells.old ≡ product sizes.now * row.width }
-    requires some { 1 ≤ row.width }
+    requires full { length cells.old ≡ product sizes.now * row.count }
+    requires some { (1 ≤ row.count) × (1 ≤ row.width) }
     requires inside { offset (strides table.now over.now) (last_values sizes.now)
         + row.step * (row.width - 1) < length from.now }
     requires table { product table.now.sizes ≤ usize.MAX }
     requires cells { All (λ n. n ≤ amount_limit) cells.old }
     requires from { All (λ n. n ≤ amount_limit) from.now }
-    ensures { IsBlockSum from.now (strides table.now over.now) sizes.now row.width row.step
-        cells.old cells.new }
+    ensures { IsBlockSum from.now (strides table.now over.now) sizes.now row.count
+        (along row.width row.step) cells.old cells.new }
 {
     let Some((var, over)) = over.split_first() else {
-        return add_row(cells, from, row.step);
+        return add_alike(cells, from, row);
     };
     let Some((size, sizes)) = sizes.split_first() else {
         return;
@@ -58,7 +59,7 @@ fn add_block(
     if over.is_empty() {
         return add_rows(cells, from, usize::from(*size), stride, row);
     }
-    let block = product_of(sizes).saturating_mul(row.width);
+    let block = product_of(sizes).saturating_mul(row.count);
     for k in 0..usize::from(*size) {
         let at = k * block;
         let (_, from) = from.split_at(stride * k);
@@ -69,21 +70,21 @@ fn add_block(
 /// Adds the cells `from` of a table to the rows for the `size` values of one variable, using its
 /// stride.
 fn add_rows(cells: &mut [u64], from: &[u64], size: usize, stride: usize, row: Row)
-    requires full { length cells.old ≡ size * row.width }
-    requires some { 1 ≤ row.width }
+    requires full { length cells.old ≡ size * row.count }
+    requires some { (1 ≤ row.count) × (1 ≤ row.width) }
     requires inside { stride * (size - 1) + row.step * (row.width - 1) < length from.now }
     requires cells { All (λ n. n ≤ amount_limit) cells.old }
     requires from { All (λ n. n ≤ amount_limit) from.now }
-    ensures { IsBlockSum from.now (stride ∷ []) (size ∷ []) row.width row.step
+    ensures { IsBlockSum from.now (stride ∷ []) (size ∷ []) row.count (along row.width row.step)
         cells.old cells.new }
 {
-    if row.step == 1 {
+    if row.step == 1 && row.count == row.width {
         return add_near_rows(cells, from, size, stride, row.width);
     }
     for k in 0..size {
-        let at = k * row.width;
+        let at = k * row.count;
         let (_, from) = from.split_at(stride * k);
-        add_row(&mut cells[at..at + row.width], from, row.step);
+        add_alike(&mut cells[at..at + row.count], from, row);
     }
 }
 
@@ -94,7 +95,8 @@ fn add_near_rows(cells: &mut [u64], from: &[u64], size: usize, stride: usize, wi
     requires inside { stride * (size - 1) + (width - 1) < length from.now }
     requires cells { All (λ n. n ≤ amount_limit) cells.old }
     requires from { All (λ n. n ≤ amount_limit) from.now }
-    ensures { IsBlockSum from.now (stride ∷ []) (size ∷ []) width 1 cells.old cells.new }
+    ensures { IsBlockSum from.now (stride ∷ []) (size ∷ []) width (along width 1)
+        cells.old cells.new }
 {
     for k in 0..size {
         let at = k * width;

@@ -6,6 +6,7 @@
 #![tactic(auto)]
 
 mod add;
+mod alike;
 mod joined;
 mod row;
 mod stride;

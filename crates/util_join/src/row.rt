@@ -1,6 +1,6 @@
 //! Rows of cells along which the place in a table moves evenly.
 
-ghost use Rattle.std.specs.Prelude.{◌≡◌, ℕ, ◌*◌, ◌-◌, ◌<◌, ◌≤◌, length, List, ◌∷◌};
+ghost use Rattle.std.specs.Prelude.{◌≡◌, ℕ, ◌*◌, ◌-◌, ◌<◌, ◌≤◌, true, length, List, ◌∷◌};
 ghost use Rattle.std.specs.List.{All};
 ghost use Rattle.dcop_base.specs.Limits.{amount_limit};
 ghost use Rattle.dcop_base.specs.Table.{product};
@@ -10,29 +10,33 @@ use crate::stride::stride_of;
 use dcop_base::{CAP, Table, VarId};
 use util_kernel::{add_lanes, add_one_lanes};
 
-/// The last variables of a joined table along whose cells the place in a table moves by a fixed
-/// step from each cell to the next.
+/// The last variables of a joined table, whose cells are rows to which a table adds the same
+/// amounts: along each row the place in the table moves by a fixed step from each cell to the next.
 #[derive(Clone, Copy)]
 pub(crate) struct Row {
     /// The number of variables before them.
     pub start: usize,
     /// The number of their cells.
+    pub count: usize,
+    /// The number of cells of a row.
     pub width: usize,
-    /// How far the place in the table moves from each cell to the next.
+    /// How far the place in the table moves from each cell of a row to the next.
     pub step: usize,
 }
 
-/// The longest row of the variables with these sizes, in a table. It has the last variable.
+/// The longest such rows of the variables with these sizes, in a table. They have the last
+/// variable.
 pub(crate) fn row_of(table: &Table, over: &[VarId], sizes: &[u16]) -> Row
     requires sized { length sizes.now ≡ length over.now }
     requires positive { All (λ s. 1 ≤ s) sizes.now }
     requires few { product sizes.now ≤ usize.MAX }
     requires table { product table.now.sizes ≤ usize.MAX }
-    ensures { IsRow (strides table.now over.now) sizes.now result.start result.width result.step }
+    ensures { IsRow (strides table.now over.now) sizes.now result.start result.count result.width result.step }
 {
     let Some((var, over)) = over.split_first() else {
         return Row {
             start: 0,
+            count: 1,
             width: 1,
             step: 0,
         };
@@ -40,6 +44,7 @@ pub(crate) fn row_of(table: &Table, over: &[VarId], sizes: &[u16]) -> Row
     let Some((size, sizes)) = sizes.split_first() else {
         return Row {
             start: 0,
+            count: 1,
             width: 1,
             step: 0,
         };
@@ -54,17 +59,19 @@ pub(crate) fn row_of(table: &Table, over: &[VarId], sizes: &[u16]) -> Row
     extended(row, usize::from(*size), stride_of(table, *var))
 }
 
-/// The longest row of all variables. `row` is that of all but the first, which has this size and
+/// The longest rows of all variables. `row` is that of all but the first, which has this size and
 /// stride.
 fn extended(row: Row, size: usize, stride: usize) -> Row
     requires all { row.start ≡ 0 }
-    requires few { size * row.width ≤ usize.MAX }
-    ensures { (ds sizes : List ℕ) → IsRow ds sizes row.start row.width row.step
-        → IsRow (stride ∷ ds) (size ∷ sizes) result.start result.width result.step }
+    requires positive { 1 ≤ size }
+    requires few { size * row.count ≤ usize.MAX }
+    ensures { (ds sizes : List ℕ) → IsRow ds sizes row.start row.count row.width row.step
+        → IsRow (stride ∷ ds) (size ∷ sizes) result.start result.count result.width result.step }
 {
-    if row.width == 1 {
+    if row.count == 1 {
         return Row {
             start: 0,
+            count: size,
             width: size,
             step: stride,
         };
@@ -72,13 +79,33 @@ fn extended(row: Row, size: usize, stride: usize) -> Row
     if size == 1 {
         return row;
     }
-    match row.step.checked_mul(row.width) {
-        Some(whole) if whole == stride => Row {
+    if goes_on(row, stride) {
+        return Row {
             start: 0,
-            width: size * row.width,
+            count: size * row.count,
+            width: size * row.count,
             step: row.step,
-        },
-        _ => Row { start: 1, ..row },
+        };
+    }
+    if stride == 0 {
+        return Row {
+            count: size * row.count,
+            ..row
+        };
+    }
+    Row { start: 1, ..row }
+}
+
+/// Whether this is one row, and a variable of this stride before it goes on with the same step.
+fn goes_on(row: Row, stride: usize) -> bool
+    ensures { result ≡ true → (row.count ≡ row.width) × (stride ≡ row.step * row.count) }
+{
+    if row.count != row.width {
+        return false;
+    }
+    match row.step.checked_mul(row.count) {
+        Some(whole) => whole == stride,
+        None => false,
     }
 }
 

@@ -4,8 +4,9 @@ use Rattle.std.proofs.lemmas.Simd.{length-chunk}
 use Rattle.std.proofs.lemmas.List.{length-drop}
 use borrow.Rule.Slice.PartMut.{mid_of}
 use Rattle.util_kernel.specs.Lanes.{sums}
+use Rattle.util_join.specs.Strides.{along}
 use Rattle.util_join.proofs.BlockLaws.{part-more, row-block}
-use Rattle.util_join.proofs.RowLaws.{row-sums}
+use Rattle.util_join.proofs.RowLaws.{row-sums, rows-one}
 use Rattle.util_join.proofs.add.add_near_rows.Goals as goal
 
 pub loop-k-preserved : goal.loop-k-preserved
@@ -22,6 +23,6 @@ loop-k-preserved c =
     let reach : width ≤ length behind = omega (arith, ap (λ (xs : List ℕ). length xs) c.split_at.ensures.back, c.split_at.ensures.back_len, length-drop (c.args.stride * c.loop-k.k) c.args.from.now, mul-le-mul_left c.args.stride (let last : c.loop-k.k ≤ c.args.size - 1 = omega (arith, more) in last)) in
     let row = row-sums behind 1 width here c.add_lanes.new.into refl (sym long) reach
     (subst (λ (xs : List ℕ). c.add_lanes.new.into ≡ sums here (take width xs)) c.split_at.ensures.back c.add_lanes.ensures) in
-    part-more c.args.from.now [] [] width 1 c.args.stride c.loop-k.k at many c.args.cells.now c.loop-k.cells c.add_lanes.new.into
+    part-more c.args.from.now [] [] width (along width 1) c.args.stride c.loop-k.k at many c.args.cells.now c.loop-k.cells c.add_lanes.new.into
     (ap (λ n. c.loop-k.k * n) one) (omega arith) room c.loop-k.invariant
-    (row-block behind width 1 here c.add_lanes.new.into long row)
+    (row-block behind width width 1 here c.add_lanes.new.into long (rows-one behind width 1 here c.add_lanes.new.into (omega (arith, long)) row))

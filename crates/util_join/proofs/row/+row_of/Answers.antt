@@ -14,6 +14,6 @@ row_of-row-requires t c =
 pub returns : goal.returns
 returns t c =
     row-whole c.args.table.now c.args.over.now c.in-Some.over.now c.args.sizes.now c.in-Some-split_first.sizes.now c.in-Some.var.now c.in-Some-split_first.size.now
-    c.stride_of.result c.from.result c.extended.result.start c.extended.result.width c.extended.result.step
+    c.stride_of.result c.from.result c.extended.result.start c.extended.result.count c.extended.result.width c.extended.result.step
     c.in-Some.ensures.cases.0 c.in-Some-split_first.ensures.cases.0 c.stride_of.ensures c.from.ensures
     (c.extended.ensures (strides c.args.table.now c.in-Some.over.now) c.in-Some-split_first.sizes.now c.row_of-row.ensures)
