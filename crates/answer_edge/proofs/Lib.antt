@@ -1,3 +1,4 @@
 mod PassLaws
+pub mod TakenLaws
 pub mod StatusLaws
 pub mod ShowLaws
