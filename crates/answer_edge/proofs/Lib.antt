@@ -1,4 +1,4 @@
 mod PassLaws
-pub mod TakenLaws
+pub mod InputLaws
 pub mod StatusLaws
 pub mod ShowLaws
