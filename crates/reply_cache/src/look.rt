@@ -5,6 +5,7 @@ ghost use Rattle.std.specs.Prelude.{◌≡◌};
 use crate::key::Key;
 
 /// A look at a cache for a key. Only the cache makes one, when it has looked.
+#[derive(Drop)]
 pub struct Look<'a> {
     key: &'a Key,
     found: bool,
