@@ -1,3 +1,4 @@
 mod PassLaws
+pub mod InputLaws
 pub mod StatusLaws
 pub mod ShowLaws

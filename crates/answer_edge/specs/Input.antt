@@ -1,5 +1,6 @@
 -- What a call read from its source.
-use Rattle.std.specs.Prelude.{◌≡◌, ℕ, ◌<◌, ◌≤◌, List, [], length, Option, Some, None, Result, Ok, Err}
+use Rattle.std.specs.Prelude.{◌≡◌, ℕ, ◌+◌, ◌≤◌, List, [], length, Option, Some, None, Result, Ok, Err}
+use Rattle.std.specs.Io.KnownBytes.{prepend_known}
 use Rattle.dcop_edge.specs.Faults.{Rose}
 use Rattle.dcop_edge.specs.declared.fault.ReadFault.{ReadFault}
 use Rattle.dcop_edge.specs.declared.fault.ReadFault.TheVariants as faults
@@ -14,6 +15,10 @@ pub data Input : Type 0 where
   Broken : Input
   TooLong : Input
   Whole : List ℕ → Input
+
+-- the most bytes of one read, 2^16
+abbrev pub read_limit : ℕ
+read_limit = 65536
 
 -- the end of a reading whose last read had this fault
 abbrev pub end_of : ReadFault → ReadEnd
@@ -34,23 +39,29 @@ abbrev pub IsAllOf : List ℕ → Option (List ℕ) → Option (List ℕ) → Ty
 IsAllOf bytes None after = Unit {0}
 IsAllOf bytes (Some left) after = (bytes ≡ left) × (after ≡ Some [])
 
--- if a source's bytes are known, it had more than input_limit of them left
-abbrev pub HadMore : Option (List ℕ) → Type 0
-HadMore None = Unit {0}
-HadMore (Some left) = input_limit < length left
+-- at least `least` and at most `most` bytes were taken from a source; if its bytes are known, these
+-- were the first of them, and the others are left
+pub record Took (least most : ℕ) (before after : Option (List ℕ)) : Type 0 where
+  pub bytes : List ℕ
+  pub front : before ≡ prepend_known bytes after
+  pub many : least ≤ length bytes
+  pub few : length bytes ≤ most
 
--- what was read from a source with this state before and this state after: a source that was not
--- read is unchanged, and the count of faults rose only if it failed
+-- what was read from a source with this state before and this state after. Of an input that is too
+-- long, more than input_limit bytes were taken, and at most read_limit above that limit. The count
+-- of faults rose if the source failed, and is otherwise as it was
 abbrev pub IsReadFrom : Input → SourceState → SourceState → Type 0
 IsReadFrom Unread before after = after ≡ before
-IsReadFrom Broken before after = Rose before.faults after.faults
-IsReadFrom TooLong before after = HadMore before.left × (after.faults ≡ before.faults)
+IsReadFrom Broken before after =
+    Rose before.faults after.faults × (before.faults ≤ after.faults) × Took 0 input_limit before.left after.left
+IsReadFrom TooLong before after =
+    Took (input_limit + 1) (input_limit + read_limit) before.left after.left × (after.faults ≡ before.faults)
 IsReadFrom (Whole bytes) before after =
     (length bytes ≤ input_limit) × IsAllOf bytes before.left after.left × (after.faults ≡ before.faults)
 
--- a reading to the end has this result; running out of memory promises nothing
+-- a reading to the end has this result; if memory ran out, no more was taken than an input may have
 abbrev pub IsReading : Result (List ℕ) ReadEnd → SourceState → SourceState → Type 0
 IsReading (Ok bytes) before after = IsReadFrom (Whole bytes) before after
 IsReading (Err ends.Failed) before after = IsReadFrom Broken before after
 IsReading (Err ends.TooLong) before after = IsReadFrom TooLong before after
-IsReading (Err ends.NoMemory) before after = Unit {0}
+IsReading (Err ends.NoMemory) before after = Took 0 input_limit before.left after.left × (after.faults ≡ before.faults)

@@ -1,5 +1,5 @@
 -- How an answer is shown, and the answer to a text that is refused.
-use Rattle.std.specs.Prelude.{◌≡◌, ℕ, ◌⊎◌, true}
+use Rattle.std.specs.Prelude.{◌≡◌, ℕ, ◌≤◌, ◌⊎◌, true}
 use Rattle.dcop_edge.specs.Faults.{Rose}
 use Rattle.dcop_edge.specs.Sink.{Adds}
 use Rattle.problem_text.specs.Kinds.{number_of_text, number_of_problem}
@@ -27,10 +27,14 @@ pub record IsCut (answer : Answer) (before after : SinkState) (status : Status) 
   pub prefix : AddsPrefix before.held (answer_text answer) after.held
   pub fault : status ≡ statuses.WriteFault
 
+-- a count of faults is as it was; or it rose, and then this holds
+abbrev pub StaysUnless : ℕ → ℕ → Type 0 → Type 0
+StaysUnless old new why = (new ≡ old) ⊎ ((old ≤ new) × Rose old new × why)
+
 -- an answer was shown by a sink that did not fail; or the sink failed and its count of faults rose;
 -- or memory ran out and no fault was counted
 abbrev pub Shows : Answer → SinkState → SinkState → ℕ → ℕ → Status → Type 0
 Shows answer sink sink' faults faults' status =
     ((status ≡ statuses.NoMemory) × (faults' ≡ faults))
     ⊎ (IsShown answer sink sink' status × (faults' ≡ faults))
-    ⊎ (IsCut answer sink sink' status × Rose faults faults')
+    ⊎ (IsCut answer sink sink' status × (faults ≤ faults') × Rose faults faults')

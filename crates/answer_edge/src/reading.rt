@@ -8,7 +8,7 @@ pub use dcop_base::MAX_INPUT;
 use dcop_edge::{ReadFault, Source};
 use std::alloc::Global;
 
-/// The most bytes that one read takes.
+/// The most bytes of one read.
 const BLOCK: usize = 65_536;
 
 /// Why a source was not read to its end.
@@ -35,12 +35,13 @@ impl From<ReadFault> for ReadEnd {
     }
 }
 
-/// Reads all bytes that the source has left; each turn takes at least one.
+/// Reads all bytes that the source has left, unless they are more than [`MAX_INPUT`].
 ///
 /// # Errors
 ///
-/// [`ReadEnd::Failed`] if the source fails, [`ReadEnd::TooLong`] as soon as more than [`MAX_INPUT`]
-/// bytes came, and [`ReadEnd::NoMemory`] if memory runs out.
+/// [`ReadEnd::Failed`] if the source fails, and [`ReadEnd::NoMemory`] if memory runs out; at most
+/// [`MAX_INPUT`] bytes were then taken. [`ReadEnd::TooLong`] if more than [`MAX_INPUT`] bytes came,
+/// and at most 65,536 above that limit.
 pub fn read_all<S: Source>(alloc: Global, source: &mut S) -> Result<Bytes, ReadEnd>
     ensures { IsReading result
         (source_state (S.left source.old) (S.faults source.old))

@@ -1,6 +1,6 @@
 //! The answer to words and a source.
 
-ghost use Rattle.std.specs.Prelude.{map, IfOk, string_bytes};
+ghost use Rattle.std.specs.Prelude.{◌≡◌, map, IfOk, OnErr, string_bytes};
 ghost use Rattle.dcop_base.specs.Whole.{IsProblem};
 ghost use Rattle.solve_report.specs.AnswerText.{HasText};
 ghost use Rattle.answer_edge.specs.Input.{source_state};
@@ -30,6 +30,7 @@ pub(crate) fn answer_of<S: Source>(
         (source_state (S.left source.old) (S.faults source.old))
         (source_state (S.left source.new) (S.faults source.new))) }
     ensures told { IfOk result HasText }
+    ensures quiet { OnErr result (S.faults source.new ≡ S.faults source.old) }
 {
     let asked = match read_order_words(words) {
         Ok(asked) => asked,

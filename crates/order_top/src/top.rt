@@ -1,9 +1,10 @@
 //! The top call.
 
-ghost use Rattle.std.specs.Prelude.{◌≡◌, ◌≢◌, ◌<◌, ◌⊎◌, ℕ, List, Some, map, string_bytes};
+ghost use Rattle.std.specs.Prelude.{◌≡◌, ◌≢◌, ◌⊎◌, ℕ, List, Some, map, string_bytes};
 ghost use Rattle.dcop_edge.specs.Faults.{Rose};
 ghost use Rattle.answer_edge.specs.Input.{source_state};
 ghost use Rattle.answer_edge.specs.Output.{sink_state};
+ghost use Rattle.answer_edge.specs.Showing.{StaysUnless};
 ghost use Rattle.order_top.specs.Ordering.{Orders, IsAccepted, GoesWell};
 
 use crate::answering::answer_of;
@@ -35,9 +36,10 @@ pub fn order<S: Source, K: Sink>(
         Rose (S.faults source.old) (S.faults source.new) }
     ensures write_fault { result ≡ Status.WriteFault →
         Rose (K.faults sink.old) (K.faults sink.new) }
-    ensures source_failed { S.faults source.old < S.faults source.new →
-        (result ≡ Status.ReadFault) ⊎ (result ≡ Status.WriteFault) ⊎ (result ≡ Status.NoMemory) }
-    ensures sink_failed { K.faults sink.old < K.faults sink.new → result ≡ Status.WriteFault }
+    ensures source_failed { StaysUnless (S.faults source.old) (S.faults source.new)
+        ((result ≡ Status.ReadFault) ⊎ (result ≡ Status.WriteFault) ⊎ (result ≡ Status.NoMemory)) }
+    ensures sink_failed { StaysUnless (K.faults sink.old) (K.faults sink.new)
+        (result ≡ Status.WriteFault) }
     ensures complete { (text : List ℕ) → S.left source.old ≡ Some text →
         IsAccepted (map string_bytes words.now) text →
         ¬ Rose (S.faults source.old) (S.faults source.new) →

@@ -1,3 +1,4 @@
 pub mod Limits
 pub mod Digest
+pub mod Steps
 pub mod Cache

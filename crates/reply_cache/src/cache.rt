@@ -5,9 +5,11 @@ ghost use Rattle.std.specs.Map.{lookup};
 ghost use Rattle.std.specs.NonZero.{non_zero_usize_get};
 ghost use Rattle.lru.specs.LruCache.{lru_cache, promoted, put_entries};
 ghost use Rattle.reply_cache.specs.Limits.{entry_limit, key_limit};
+ghost use Rattle.reply_cache.specs.Steps.{Looked};
 ghost use Rattle.reply_cache.specs.Cache.{fresh_cache, same_key, reply_at, looked_at, kept_at, IsFirst, missed, misses_of};
 
 use crate::key::Key;
+use crate::look::Look;
 use crate::maker::Maker;
 use crate::share::LookShare;
 use crate::shared::SharedBytes;
@@ -74,8 +76,9 @@ impl<M: Maker, A: Ledger, B: Ledger> ReplyCache<M, A, B> {
     /// Looks up the reply to a key, of which the cache stays one of the owners; `None` exactly if
     /// none is kept.
     ///
-    /// The look is counted in the share, and the entry that was found comes first. No key and no
-    /// reply is copied, so only comparing the keys takes longer for longer ones.
+    /// The look is counted in the share, the maker learns of it, and the entry that was found comes
+    /// first. No key and no reply is copied, so only comparing the keys takes longer for longer
+    /// ones.
     ///
     /// # Errors
     ///
@@ -83,6 +86,7 @@ impl<M: Maker, A: Ledger, B: Ledger> ReplyCache<M, A, B> {
     pub fn look(
         &mut self,
         share: &mut LookShare<A, B>,
+        maker: &mut M,
         key: &Key,
     ) -> Result<Option<SharedBytes>, NoMemory>
         requires parts { (0 < share.old.looks.parts) × (0 < share.old.misses.parts) }
@@ -92,7 +96,10 @@ impl<M: Maker, A: Ledger, B: Ledger> ReplyCache<M, A, B> {
         ensures counted { OnOk result (share.new.looks.amount ≡ share.old.looks.amount + 1) }
         ensures missed { IfOk result (λ found. share.new.misses.amount ≡ share.old.misses.amount + missed (is_some found)) }
         ensures parts { (share.new.looks.parts ≡ share.old.looks.parts) × (share.new.misses.parts ≡ share.old.misses.parts) }
+        ensures step { IfOk result (λ found. M.does maker.old (Looked key.now (is_some found)) maker.new) }
+        ensures calls { M.calls maker.new ≡ M.calls maker.old }
         ensures unchanged { OnErr result (self.new ≡ self.old) }
+        ensures no_step { OnErr result (maker.new ≡ maker.old) }
         ensures uncounted { OnErr result ((share.new.looks.amount ≡ share.old.looks.amount) × (share.new.misses.amount ≡ share.old.misses.amount)) }
     {
         self.finds.reserve(1)?;
@@ -104,6 +111,7 @@ impl<M: Maker, A: Ledger, B: Ledger> ReplyCache<M, A, B> {
             share,
             found.is_some(),
         );
+        maker.note(Look::new(key, found.is_some()));
         Ok(found)
     }
 

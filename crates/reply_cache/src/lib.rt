@@ -13,6 +13,7 @@
 mod cache;
 mod key;
 mod limit;
+mod look;
 mod maker;
 mod share;
 mod shared;
@@ -20,6 +21,7 @@ mod shared;
 pub use cache::ReplyCache;
 pub use key::Key;
 pub use limit::{MAX_ENTRIES, MAX_KEY, MAX_REPLY, limits_agree};
+pub use look::Look;
 pub use maker::{FreshMaker, Maker};
 pub use share::LookShare;
 pub use shared::SharedBytes;

@@ -3,7 +3,9 @@
 ghost use Rattle.std.specs.Prelude.{◌≡◌, ◌≤◌, ◌<◌, ◌+◌, ◌^◌, ℕ, List, length, IfOk};
 ghost use Rattle.std.specs.Thread.{IsSync};
 ghost use Rattle.reply_cache.specs.Limits.{reply_limit};
+ghost use Rattle.reply_cache.specs.Steps.{Step, Looked, Made};
 
+use crate::look::Look;
 use dcop_base::{Bytes, NoMemory};
 use std::alloc::Global;
 use std::marker::{Send, Sync};
@@ -21,6 +23,10 @@ pub trait Maker: Send + Drop {
     /// How many times this maker was called.
     ghost calls: { Self → ℕ };
 
+    /// Whether this maker goes from one state to another by this step. Code over any type of maker
+    /// knows a step only from [`make`](Maker::make) and from a look of the cache.
+    ghost does: { Self → Step → Self → Type 0 };
+
     /// Makes the reply to a key. The call is counted, even if it fails.
     ///
     /// # Errors
@@ -35,7 +41,13 @@ pub trait Maker: Send + Drop {
         requires calls { calls self.old < 2 ^ 63 }
         requires shared { IsSync R.row }
         ensures made { IfOk result (λ made. is_reply key.now made) }
-        ensures counted { calls self.new ≡ calls self.old + 1 };
+        ensures counted { calls self.new ≡ calls self.old + 1 }
+        ensures step { does self.old (Made key.now) self.new };
+
+    /// Learns of a look at the cache in the same session. It takes no memory.
+    fn note(&mut self, look: Look<'_>)
+        ensures uncounted { calls self.new ≡ calls self.old }
+        ensures step { does self.old (Looked look.entry.key.now look.entry.found) self.new };
 
     /// A key has at most one reply. The call does nothing: to use this law, call it.
     fn keys_have_one_reply()

@@ -1,5 +1,5 @@
 -- Which answer belongs to which words and input, and what its status says of the source.
-use Rattle.std.proofs.Common.{◌≡◌, ℕ, ◌<◌, List, Option, Some, Result, Ok, Err, IfOk, ap, subst, arith, refl}
+use Rattle.std.proofs.Common.{◌≡◌, ℕ, List, Option, Some, Result, Ok, Err, IfOk, ap, subst, arith, refl}
 use Rattle.dcop_edge.specs.Faults.{Rose}
 use Rattle.dcop_base.specs.declared.memory.NoMemory.{NoMemory}
 use Rattle.solve_words.specs.declared.fault.WordFault.{WordFault}
@@ -10,7 +10,9 @@ use Rattle.solve_inputs.specs.Inputs.{input_read}
 use Rattle.solve_inputs.specs.Told.{Told}
 use Rattle.solve_inputs.proofs.RefusalLaws.{input_told}
 use Rattle.answer_edge.specs.declared.status.Status.TheVariants.{ReadFault}
-use Rattle.answer_edge.specs.Input.{Input, Unread, Broken, TooLong, Whole, SourceState, IsAllOf, HadMore, IsReadFrom}
+use Rattle.answer_edge.proofs.InputLaws.{taken-least, count-stays}
+use Rattle.answer_edge.specs.Showing.{StaysUnless}
+use Rattle.answer_edge.specs.Input.{Input, Unread, Broken, TooLong, Whole, SourceState, IsAllOf, IsReadFrom}
 use Rattle.search_top.specs.declared.answer.SearchAnswer.{SearchAnswer}
 use Rattle.search_top.specs.declared.answer.SearchAnswer.TheVariants.{Searched, Refused}
 use Rattle.search_top.specs.declared.words.Asked.{Asked}
@@ -67,19 +69,14 @@ asked-broken (Err words.NoMemory) answer is = absurd is
 pub rose-answered : (words : List (List ℕ)) (before after : SourceState) (answer : SearchAnswer) → IsAnswered words before after answer
     → search_status_of answer ≡ ReadFault → Rose before.faults after.faults
 rose-answered words before after answer done fault =
-    subst (λ (i : Input). IsReadFrom i before after) (asked-sound (search_answer_to words) done.input answer done.belongs fault) done.read
+    (subst (λ (i : Input). IsReadFrom i before after) (asked-sound (search_answer_to words) done.input answer done.belongs fault) done.read).0
 
--- and it comes wherever the source failed
-failed-input : (words : List (List ℕ)) (before after : SourceState) (input : Input) (answer : SearchAnswer) → IsReadFrom input before after → IsAskedAnswer (search_answer_to words) input answer
-    → before.faults < after.faults → search_status_of answer ≡ ReadFault
-failed-input words before after Unread answer read is more = absurd (omega (arith, more, ap (λ (s : SourceState). s.faults) read))
-failed-input words before after Broken answer read is more = asked-broken (search_answer_to words) answer is
-failed-input words before after TooLong answer read is more = absurd (omega (arith, more, read.1))
-failed-input words before after (Whole bytes) answer read is more = absurd (omega (arith, more, read.2))
-
-pub fault-answered : (words : List (List ℕ)) (before after : SourceState) (answer : SearchAnswer) → IsAnswered words before after answer
-    → before.faults < after.faults → search_status_of answer ≡ ReadFault
-fault-answered words before after answer done more = failed-input words before after done.input answer done.read done.belongs more
+-- the source's count stays unless the answer is by a failed reading
+pub stays-answered : (words : List (List ℕ)) (before after : SourceState) (answer : SearchAnswer) → IsAnswered words before after answer
+    → StaysUnless before.faults after.faults (search_status_of answer ≡ ReadFault)
+stays-answered words before after answer done =
+    count-stays done.input before after (search_status_of answer ≡ ReadFault) done.read
+    (λ broken. asked-broken (search_answer_to words) answer (subst (λ (i : Input). IsAskedAnswer (search_answer_to words) i answer) broken done.belongs))
 
 -- the report of a search is a good answer
 file-well : (asked : Asked) (told : Told) (answer : SearchAnswer) → IsFileAnswer asked told answer → GoesWell (search_status_of answer)
@@ -90,9 +87,9 @@ file-well asked told (Refused refusal) is = absurd is
 input-well : (words : List (List ℕ)) (text : List ℕ) (accepted : IsAccepted words text) (before after : SourceState) (input : Input) (answer : SearchAnswer)
     → before.left ≡ Some text → ¬ Rose before.faults after.faults → IsReadFrom input before after → IsInputAnswer accepted.asked input answer → GoesWell (search_status_of answer)
 input-well words text accepted before after Unread answer told steady read is = absurd is
-input-well words text accepted before after Broken answer told steady read is = absurd (steady read)
+input-well words text accepted before after Broken answer told steady read is = absurd (steady read.0)
 input-well words text accepted before after TooLong answer told steady read is =
-    let more = subst HadMore told read.0 in absurd (omega (arith, more, accepted.short))
+    let more = taken-least _ _ before.left after.left text told read.0 in absurd (omega (arith, more, accepted.short))
 input-well words text accepted before after (Whole bytes) answer told steady read is =
     let all = subst (λ (l : Option (List ℕ)). IsAllOf bytes l after.left) told read.1 in
     file-well accepted.asked accepted.told answer

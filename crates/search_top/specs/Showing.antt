@@ -1,5 +1,5 @@
 -- How an answer of `dcop_search` is written: as the answers of `dcop` are.
-use Rattle.std.specs.Prelude.{◌≡◌, ℕ, ◌⊎◌, true, List}
+use Rattle.std.specs.Prelude.{◌≡◌, ℕ, ◌≤◌, ◌⊎◌, true, List}
 use Rattle.dcop_edge.specs.Faults.{Rose}
 use Rattle.dcop_edge.specs.Sink.{Adds}
 use Rattle.solve_report.specs.AnswerText.{answer_text}
@@ -45,4 +45,4 @@ abbrev pub Shows : SearchAnswer → SinkState → SinkState → ℕ → ℕ → 
 Shows answer sink sink' faults faults' status =
     ((status ≡ statuses.NoMemory) × (faults' ≡ faults))
     ⊎ (IsShown answer sink sink' status × (faults' ≡ faults))
-    ⊎ (IsCut answer sink sink' status × Rose faults faults')
+    ⊎ (IsCut answer sink sink' status × (faults ≤ faults') × Rose faults faults')

@@ -37,9 +37,9 @@ module _ {S K : Type 0} (left : S → Option (List ℕ)) (reads : S → ℕ) (he
   abbrev pub outside_with : S × K → Tally → Outside
   outside_with c t = outside (left c.0) (reads c.0) (answering (held c.1) (writes c.1) t)
 
-  -- a session with a fresh maker ended so
+  -- a session with a fresh maker ended so; of the maker's steps nothing is stated
   abbrev pub WasServed : (List ℕ → List ℕ → Type 0) → Session S K → Type 0
-  WasServed is_reply s = HasServed is_reply s.end (outside_with s.taken (tally 0 0 0)) (outside_with s.given s.tally)
+  WasServed is_reply s = HasServed is_reply (λ steps. Unit {0}) s.end (outside_with s.taken (tally 0 0 0)) (outside_with s.given s.tally)
 
   -- each session ended so
   abbrev pub WereServed : (List ℕ → List ℕ → Type 0) → List (Session S K) → Type 0

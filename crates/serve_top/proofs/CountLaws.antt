@@ -1,6 +1,7 @@
 -- How many requests all sessions of a server served together.
 use Rattle.std.proofs.Common.{◌≡◌, ℕ, ◌*◌, ◌<◌, ◌≤◌, ◌^◌, List, [], ◌∷◌, map, length, Option, sym, ap, subst, ◌∙◌, arith}
 use Rattle.std.proofs.lemmas.List.{length-map}
+use Rattle.reply_cache.specs.Steps.{Step}
 use Rattle.solve_serve.specs.Limits.{session_limit}
 use Rattle.solve_serve.specs.Session.{Outside, served_by, HasServed}
 use Rattle.solve_serve.specs.declared.end.SessionEnd.{SessionEnd}
@@ -9,20 +10,20 @@ use Rattle.serve_clients.specs.Sessions.{Session, WereServed, HaveServed}
 use Rattle.serve_words.specs.Text.{served_in}
 
 -- a session serves at most its limit
-served_few : (is_reply : List ℕ → List ℕ → Type 0) (end : SessionEnd) (before after : Outside) → HasServed is_reply end before after → served_by end ≤ session_limit
-served_few is_reply (ends.Closed served) before after h = omega (arith, h.cause.0)
-served_few is_reply (ends.Cut served) before after h = omega (arith, h.cause.0)
-served_few is_reply (ends.Long served place) before after h = omega (arith, h.cause.0)
-served_few is_reply (ends.Limit served) before after h = omega (arith, h.cause.0)
-served_few is_reply (ends.Read served) before after h = omega (arith, h.cause.0)
-served_few is_reply (ends.Write served) before after h = omega (arith, h.cause.0)
-served_few is_reply (ends.Memory served) before after h = omega (arith, h.cause.0)
+served_few : (is_reply : List ℕ → List ℕ → Type 0) (went : List Step → Type 0) (end : SessionEnd) (before after : Outside) → HasServed is_reply went end before after → served_by end ≤ session_limit
+served_few is_reply went (ends.Closed served) before after h = omega (arith, h.cause.0)
+served_few is_reply went (ends.Cut served) before after h = omega (arith, h.cause.0)
+served_few is_reply went (ends.Long served place) before after h = omega (arith, h.cause.0)
+served_few is_reply went (ends.Limit served) before after h = omega (arith, h.cause.0)
+served_few is_reply went (ends.Read served) before after h = omega (arith, h.cause.0)
+served_few is_reply went (ends.Write served) before after h = omega (arith, h.cause.0)
+served_few is_reply went (ends.Memory served) before after h = omega (arith, h.cause.0)
 
 module _ {S K : Type 0} (left : S → Option (List ℕ)) (reads : S → ℕ) (held : K → Option (List ℕ)) (writes : K → ℕ) (is_reply : List ℕ → List ℕ → Type 0) where
   served_by_all : (ss : List (Session S K)) → WereServed left reads held writes is_reply ss → served_in (map (λ s. s.end) ss) ≤ session_limit * length ss
   served_by_all [] h = omega arith
   served_by_all (s ∷ ss) h =
-      let first = served_few is_reply s.end _ _ h.0 in
+      let first = served_few is_reply (λ steps. Unit {0}) s.end _ _ h.0 in
       let others = served_by_all ss h.1 in
       omega (arith, first, others)
 

@@ -1,10 +1,12 @@
 -- A key has one reply, and what a call reads of a key is its input.
-use Rattle.std.proofs.Common.{◌≡◌, ℕ, ◌<◌, ◌≤◌, false, inl, inr, List, length, Option, Some, Result, Ok, Err, IfOk, refl, sym, ap, subst, ◌∙◌, arith}
+use Rattle.std.proofs.Common.{◌≡◌, ℕ, ◌+◌, ◌<◌, ◌≤◌, false, inl, inr, List, length, Option, Some, Result, Ok, Err, IfOk, refl, sym, ap, subst, ◌∙◌, arith}
 use Rattle.std.proofs.lemmas.Bool.{lt-ltb, le-ltb}
 use Rattle.dcop_base.specs.Limits.{input_limit}
 use Rattle.dcop_base.specs.declared.memory.NoMemory.{NoMemory}
+use Rattle.dcop_edge.specs.Faults.{Rose}
 use Rattle.solve_words.specs.declared.command.Format.TheVariants.{Dcop as Own}
 use Rattle.answer_edge.specs.Input.{Input, Unread, Broken, TooLong, Whole, source_state, IsReadFrom}
+use Rattle.answer_edge.proofs.InputLaws.{taken-least}
 use Rattle.solve_report.specs.AnswerText.{answer_text}
 use Rattle.solve_report.specs.declared.answer.Answer.{Answer}
 use Rattle.solve_top.specs.Answering.{IsInputAnswer, IsAnswer}
@@ -33,14 +35,19 @@ long_input key lt = rw (lt-ltb input_limit (length key) lt) refl
 whole_input : (key : List ℕ) → length key ≤ input_limit → input_of key ≡ Whole key
 whole_input key le = rw (le-ltb input_limit (length key) le) refl
 
+never_rose : ¬ Rose 0 0
+never_rose (inl more) = omega (arith, more)
+never_rose (inr last) = omega (arith, last)
+
 -- what a call reads from a source that never fails and has a key left has the same answer of DPOP
 -- as the key's input
 belongs_so : (key : List ℕ) (left : Option (List ℕ)) (input : Input) (answer : Answer) → IsReadFrom input (source_state (Some key) 0) (source_state left 0)
     → IsInputAnswer (File Own (tasks.Dpop false)) input answer → IsInputAnswer (File Own (tasks.Dpop false)) (input_of key) answer
 belongs_so key left Unread answer read belongs = absurd belongs
-belongs_so key left Broken answer (inl rose) belongs = absurd (omega (arith, rose))
-belongs_so key left Broken answer (inr last) belongs = absurd (omega (arith, last))
-belongs_so key left TooLong answer read belongs = subst (λ (i : Input). IsInputAnswer (File Own (tasks.Dpop false)) i answer) (sym (long_input key read.0)) belongs
+belongs_so key left Broken answer read belongs = absurd (never_rose read.0)
+belongs_so key left TooLong answer read belongs =
+    let long : input_limit + 1 ≤ length key = taken-least _ _ (Some key) left key refl read.0 in
+    subst (λ (i : Input). IsInputAnswer (File Own (tasks.Dpop false)) i answer) (sym (long_input key (omega (arith, long)))) belongs
 belongs_so key left (Whole bytes) answer read belongs =
     let same : bytes ≡ key = read.1.0 in
     let short : length key ≤ input_limit = subst (λ (bs : List ℕ). length bs ≤ input_limit) same read.0 in

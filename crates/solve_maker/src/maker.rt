@@ -5,7 +5,7 @@ ghost use Rattle.std.specs.Prelude.{◌≡◌, ◌+◌};
 use crate::answer::answer_bytes;
 use crate::handles::ThreadsAlone;
 use dcop_base::{Bytes, NoMemory};
-use reply_cache::{FreshMaker, Maker};
+use reply_cache::{FreshMaker, Look, Maker};
 use solve_top::dpop_answers_are_one;
 use std::alloc::Global;
 use std::marker::Sync;
@@ -28,11 +28,14 @@ impl SolveMaker {
 }
 
 impl Maker for SolveMaker {
+    ghost use Rattle.reply_cache.specs.Steps.{Counts};
     ghost use Rattle.solve_maker.specs.Reply.{IsReply};
 
     ghost is_reply = { IsReply };
 
     ghost calls = { λ maker. maker.calls };
+
+    ghost does = { λ before step after. Counts before.calls step after.calls };
 
     fn make<R: Threads + Wait + Sync>(
         &mut self,
@@ -43,6 +46,8 @@ impl Maker for SolveMaker {
         self.calls += 1;
         answer_bytes(&ThreadsAlone(rt, alloc), alloc, key)
     }
+
+    fn note(&mut self, _look: Look<'_>) {}
 
     fn keys_have_one_reply() {
         dpop_answers_are_one();

@@ -10,12 +10,13 @@ use Rattle.std.specs.List.{AllZip}
 use Rattle.std.specs.Int.{w32, to_be_bytes, from_be_bytes}
 use Rattle.std.specs.Io.KnownBytes.{prepend_known, IsAtEnd}
 use Rattle.dcop_base.specs.Limits.{count_limit}
+use Rattle.reply_cache.specs.Steps.{Step, Leads}
 use Rattle.wire_frames.specs.Frame.{payload_limit, framed, framed_all, length_field, EndsAt, IsTooLong}
 use Rattle.wire_frames.specs.Run.{Splits}
 use Rattle.wire_frames.proofs.StreamLaws.{splits_once}
 use Rattle.solve_serve.specs.Limits.{request_limit, session_limit}
 use Rattle.solve_serve.specs.Session.{Outside, served_by, HasServed}
-use Rattle.solve_serve.specs.Exact.{end_for, EndsExactly, AnswersFirst, RepliesAreOne}
+use Rattle.solve_serve.specs.Exact.{is_of_input, end_for, EndsExactly, AnswersFirst, RepliesAreOne}
 use Rattle.solve_serve.specs.declared.end.SessionEnd.{SessionEnd}
 use Rattle.solve_serve.specs.declared.end.SessionEnd.TheVariants as ends
 
@@ -106,9 +107,9 @@ limit_for : (ps : List (List ℕ)) (rest : List ℕ) (stuck : Bool) → session_
 limit_for ps rest stuck many = rw (le-leb session_limit (length ps) many) refl
 
 -- the whole input, if a session read it as far as these bytes after its requests
-whole_input : (is_reply : List ℕ → List ℕ → Type 0) (end : SessionEnd) (before after : Outside) (stream : List ℕ) → before.left ≡ Some stream → (h : HasServed is_reply end before after)
+whole_input : (is_reply : List ℕ → List ℕ → Type 0) (went : List Step → Type 0) (end : SessionEnd) (before after : Outside) (stream : List ℕ) → before.left ≡ Some stream → (h : HasServed is_reply went end before after)
     → (left : List ℕ) × (after.left ≡ Some left) × (stream ≡ framed_all h.requests ++ (h.behind ++ left))
-whole_input is_reply end before after stream is h =
+whole_input is_reply went end before after stream is h =
     let t = told stream (framed_all h.requests ++ h.behind) after.left (sym is ∙ h.read) in
     (t.0, t.1, t.2 ∙ append_assoc (framed_all h.requests) h.behind t.0)
 
@@ -118,33 +119,35 @@ none_behind behind left a b = rw (a, b) refl
 none_left : (behind left : List ℕ) → left ≡ [] → behind ++ left ≡ behind
 none_left behind left b = rw b (append-nil behind)
 
-pub ends_exactly : (is_reply : List ℕ → List ℕ → Type 0) → EndsExactly is_reply
-ends_exactly is_reply (ends.Closed served) before after stream payloads rest stuck is split h own =
-    let w = whole_input is_reply (ends.Closed served) before after stream is h in
+ends_so : (is_reply : List ℕ → List ℕ → Type 0) (went : List Step → Type 0) (end : SessionEnd) (before after : Outside) (stream : List ℕ) (payloads : List (List ℕ)) (rest : List ℕ) (stuck : Bool)
+    → before.left ≡ Some stream → Splits request_limit stream payloads rest stuck → HasServed is_reply went end before after → is_of_input end ≡ true → end ≡ end_for payloads rest stuck
+ends_so is_reply went (ends.Closed served) before after stream payloads rest stuck is split h own =
+    let w = whole_input is_reply went (ends.Closed served) before after stream is h in
     let none = none_behind h.behind w.0 h.cause.2 (at_end after.left w.0 w.1 h.cause.3) in
     let here : Splits request_limit stream h.requests [] false = record { whole = subst (λ (x : List ℕ). stream ≡ framed_all h.requests ++ x) none w.2; within = h.within; ends = tt } in
     same_end (ends.Closed served) h.requests payloads [] rest false stuck (closed_for h.requests served h.count h.cause.0) (splits_once request_limit stream h.requests payloads [] rest false stuck (omega arith) here split)
-ends_exactly is_reply (ends.Cut served) before after stream payloads rest stuck is split h own =
-    let w = whole_input is_reply (ends.Cut served) before after stream is h in
+ends_so is_reply went (ends.Cut served) before after stream payloads rest stuck is split h own =
+    let w = whole_input is_reply went (ends.Cut served) before after stream is h in
     let none = none_left h.behind w.0 (at_end after.left w.0 w.1 h.cause.4) in
     let here : Splits request_limit stream h.requests h.behind false = record { whole = subst (λ (x : List ℕ). stream ≡ framed_all h.requests ++ x) none w.2; within = h.within; ends = h.cause.3 } in
     same_end (ends.Cut served) h.requests payloads h.behind rest false stuck (cut_for h.requests served h.behind h.count h.cause.0 h.cause.2) (splits_once request_limit stream h.requests payloads h.behind rest false stuck (omega arith) here split)
-ends_exactly is_reply (ends.Long served place) before after stream payloads rest stuck is split h own =
-    let w = whole_input is_reply (ends.Long served place) before after stream is h in
+ends_so is_reply went (ends.Long served place) before after stream payloads rest stuck is split h own =
+    let w = whole_input is_reply went (ends.Long served place) before after stream is h in
     let here : Splits request_limit stream h.requests (h.behind ++ w.0) true = record { whole = w.2; within = h.within; ends = long_on request_limit h.behind w.0 h.cause.2 } in
     same_end (ends.Long served place) h.requests payloads (h.behind ++ w.0) rest true stuck (long_for h.requests served place (h.behind ++ w.0) h.count h.cause.0 h.cause.3) (splits_once request_limit stream h.requests payloads (h.behind ++ w.0) rest true stuck (omega arith) here split)
-ends_exactly is_reply (ends.Limit served) before after stream payloads rest stuck is split h own =
-    let w = whole_input is_reply (ends.Limit served) before after stream is h in
+ends_so is_reply went (ends.Limit served) before after stream payloads rest stuck is split h own =
+    let w = whole_input is_reply went (ends.Limit served) before after stream is h in
     let front = front_of request_limit h.requests payloads (h.behind ++ w.0) rest stuck (omega arith) h.within split.within split.ends (sym w.2 ∙ split.whole) in
     let many : session_limit ≤ length payloads = omega (arith, h.count, h.cause.0, ap length front.1, length-append h.requests front.0) in
     ap ends.Limit h.cause.0 ∙ limit_for payloads rest stuck many
-ends_exactly is_reply (ends.Read served) before after stream payloads rest stuck is split h own = cc
-ends_exactly is_reply (ends.Write served) before after stream payloads rest stuck is split h own = cc
-ends_exactly is_reply (ends.Memory served) before after stream payloads rest stuck is split h own = cc
+ends_so is_reply went (ends.Read served) before after stream payloads rest stuck is split h own = cc
+ends_so is_reply went (ends.Write served) before after stream payloads rest stuck is split h own = cc
+ends_so is_reply went (ends.Memory served) before after stream payloads rest stuck is split h own = cc
 
-pub answers_first : (is_reply : List ℕ → List ℕ → Type 0) → AnswersFirst is_reply
-answers_first is_reply end before after stream payloads rest stuck is split h =
-    let w = whole_input is_reply end before after stream is h in
+answers_so : (is_reply : List ℕ → List ℕ → Type 0) (went : List Step → Type 0) (end : SessionEnd) (before after : Outside) (stream : List ℕ) (payloads : List (List ℕ)) (rest : List ℕ) (stuck : Bool)
+    → before.left ≡ Some stream → Splits request_limit stream payloads rest stuck → (h : HasServed is_reply went end before after) → h.requests ≡ take (served_by end) payloads
+answers_so is_reply went end before after stream payloads rest stuck is split h =
+    let w = whole_input is_reply went end before after stream is h in
     let front = front_of request_limit h.requests payloads (h.behind ++ w.0) rest stuck (omega arith) h.within split.within split.ends (sym w.2 ∙ split.whole) in
     sym (take_at h.requests front.0 (served_by end) h.count) ∙ ap (take (served_by end)) (sym front.1)
 
@@ -158,6 +161,13 @@ one_list is_reply one (k ∷ ks) [] os a b = absurd a
 one_list is_reply one (k ∷ ks) (r ∷ rs) [] a b = absurd b
 one_list is_reply one (k ∷ ks) (r ∷ rs) (o ∷ os) a b = λ i. one k r o a.0 b.0 i ∷ one_list is_reply one ks rs os a.1 b.1 i
 
-pub replies_are_one : (is_reply : List ℕ → List ℕ → Type 0) → ((key reply other : List ℕ) → is_reply key reply → is_reply key other → reply ≡ other) → RepliesAreOne is_reply
-replies_are_one is_reply one end end' before after before' after' h h' same =
-    one_list is_reply one h.requests h.replies h'.replies h.replied (subst (λ (ks : List (List ℕ)). AllZip is_reply ks h'.replies) (sym same) h'.replied)
+module _ {S : Type 0} (does : S → Step → S → Type 0) (is_reply : List ℕ → List ℕ → Type 0) where
+  pub ends_exactly : EndsExactly does is_reply
+  ends_exactly a b end before after stream payloads rest stuck is split h own = ends_so is_reply (λ steps. Leads does steps a b) end before after stream payloads rest stuck is split h own
+
+  pub answers_first : AnswersFirst does is_reply
+  answers_first a b end before after stream payloads rest stuck is split h = answers_so is_reply (λ steps. Leads does steps a b) end before after stream payloads rest stuck is split h
+
+  pub replies_are_one : ((key reply other : List ℕ) → is_reply key reply → is_reply key other → reply ≡ other) → RepliesAreOne does is_reply
+  replies_are_one one a b a' b' end end' before after before' after' h h' same =
+      one_list is_reply one h.requests h.replies h'.replies h.replied (subst (λ (ks : List (List ℕ)). AllZip is_reply ks h'.replies) (sym same) h'.replied)

@@ -2,6 +2,7 @@
 -- replies are the only ones.
 use Rattle.std.specs.Prelude.{◌≡◌, ℕ, nat_le, min, Bool, true, false, List, [], ◌∷◌, length, take, Some, if◌then◌else◌}
 use Rattle.dcop_base.specs.Limits.{count_limit}
+use Rattle.reply_cache.specs.Steps.{Step, Leads}
 use Rattle.wire_frames.specs.Frame.{framed_all}
 use Rattle.wire_frames.specs.Run.{Splits}
 use Rattle.solve_serve.specs.Limits.{request_limit, session_limit}
@@ -32,19 +33,24 @@ end_for payloads rest stuck =
     else (if stuck then ends.Long (length payloads) (min (length (framed_all payloads)) count_limit)
     else end_behind rest (length payloads))
 
--- if a source's bytes are known, and neither a fault nor running out of memory ends the session,
--- its end is that of the whole input
-abbrev pub EndsExactly : (List ℕ → List ℕ → Type 0) → Type 0
-EndsExactly is_reply = (end : SessionEnd) (before after : Outside) (stream : List ℕ) (payloads : List (List ℕ)) (rest : List ℕ) (stuck : Bool)
-    → before.left ≡ Some stream → Splits request_limit stream payloads rest stuck → HasServed is_reply end before after → is_of_input end ≡ true → end ≡ end_for payloads rest stuck
+module _ {S : Type 0} (does : S → Step → S → Type 0) (is_reply : List ℕ → List ℕ → Type 0) where
+  -- a session ended so, and a maker went from one state to another
+  abbrev pub Serves : S → S → SessionEnd → Outside → Outside → Type 0
+  Serves a b end before after = HasServed is_reply (λ steps. Leads does steps a b) end before after
 
--- if a source's bytes are known, the requests that were answered are the first payloads of the
--- whole input
-abbrev pub AnswersFirst : (List ℕ → List ℕ → Type 0) → Type 0
-AnswersFirst is_reply = (end : SessionEnd) (before after : Outside) (stream : List ℕ) (payloads : List (List ℕ)) (rest : List ℕ) (stuck : Bool)
-    → before.left ≡ Some stream → Splits request_limit stream payloads rest stuck → (h : HasServed is_reply end before after) → h.requests ≡ take (served_by end) payloads
+  -- if a source's bytes are known, and neither a fault nor running out of memory ends the session,
+  -- its end is that of the whole input
+  abbrev pub EndsExactly : Type 0
+  EndsExactly = (a b : S) (end : SessionEnd) (before after : Outside) (stream : List ℕ) (payloads : List (List ℕ)) (rest : List ℕ) (stuck : Bool)
+      → before.left ≡ Some stream → Splits request_limit stream payloads rest stuck → Serves a b end before after → is_of_input end ≡ true → end ≡ end_for payloads rest stuck
 
--- two sessions that answered the same requests gave the same replies; so a cache changes no reply
-abbrev pub RepliesAreOne : (List ℕ → List ℕ → Type 0) → Type 0
-RepliesAreOne is_reply = (end end' : SessionEnd) (before after before' after' : Outside) (h : HasServed is_reply end before after) (h' : HasServed is_reply end' before' after')
-    → h.requests ≡ h'.requests → h.replies ≡ h'.replies
+  -- if a source's bytes are known, the requests that were answered are the first payloads of the
+  -- whole input
+  abbrev pub AnswersFirst : Type 0
+  AnswersFirst = (a b : S) (end : SessionEnd) (before after : Outside) (stream : List ℕ) (payloads : List (List ℕ)) (rest : List ℕ) (stuck : Bool)
+      → before.left ≡ Some stream → Splits request_limit stream payloads rest stuck → (h : Serves a b end before after) → h.requests ≡ take (served_by end) payloads
+
+  -- two sessions that answered the same requests gave the same replies; so a cache changes no reply
+  abbrev pub RepliesAreOne : Type 0
+  RepliesAreOne = (a b a' b' : S) (end end' : SessionEnd) (before after before' after' : Outside) (h : Serves a b end before after) (h' : Serves a' b' end' before' after')
+      → h.requests ≡ h'.requests → h.replies ≡ h'.replies

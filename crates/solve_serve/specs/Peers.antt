@@ -1,5 +1,6 @@
 -- Peers: the two ends of many sessions, and how each was served.
 use Rattle.std.specs.Prelude.{◌≡◌, ℕ, ◌<◌, ◌≤◌, ◌^◌, List, length, Option, None, IsSomeAnd, slice_index_or}
+use Rattle.reply_cache.specs.Steps.{Step, Leads}
 use Rattle.solve_serve.specs.declared.peers.Peer.{Peer}
 use Rattle.solve_serve.specs.Answers.{tally, answering}
 use Rattle.solve_serve.specs.Session.{Outside, outside, HasServed}
@@ -26,13 +27,14 @@ module _ {S K M A B : Type 0} (left : S → Option (List ℕ)) (reads : S → �
   abbrev pub outside_of : Peer S K M A B → Outside
   outside_of p = outside (left p.source) (reads p.source) (answering (held p.sink) (writes p.sink) (tally p.share.looks.amount p.share.misses.amount (made p.maker)))
 
-  -- a peer was served: its session has an end, which belongs to what was read and written
-  pub record IsServed (is_reply : List ℕ → List ℕ → Type 0) (before after : Peer S K M A B) : Type 0 where
-    pub ended : IsSomeAnd after.end (λ end. HasServed is_reply end (outside_of before) (outside_of after))
-    pub look_parts : after.share.looks.parts ≡ before.share.looks.parts
-    pub miss_parts : after.share.misses.parts ≡ before.share.misses.parts
+  module _ (does : M → Step → M → Type 0) where
+    -- a peer was served: its session has an end, which belongs to what was read and written
+    pub record IsServed (is_reply : List ℕ → List ℕ → Type 0) (before after : Peer S K M A B) : Type 0 where
+      pub ended : IsSomeAnd after.end (λ end. HasServed is_reply (λ steps. Leads does steps before.maker after.maker) end (outside_of before) (outside_of after))
+      pub look_parts : after.share.looks.parts ≡ before.share.looks.parts
+      pub miss_parts : after.share.misses.parts ≡ before.share.misses.parts
 
-  -- each peer was served
-  pub record AreServed (is_reply : List ℕ → List ℕ → Type 0) (before after : List (Peer S K M A B)) : Type 0 where
-    pub size : length after ≡ length before
-    pub each : (i : ℕ) (d : Peer S K M A B) → i < length before → IsServed is_reply (slice_index_or before i d) (slice_index_or after i d)
+    -- each peer was served
+    pub record AreServed (is_reply : List ℕ → List ℕ → Type 0) (before after : List (Peer S K M A B)) : Type 0 where
+      pub size : length after ≡ length before
+      pub each : (i : ℕ) (d : Peer S K M A B) → i < length before → IsServed is_reply (slice_index_or before i d) (slice_index_or after i d)

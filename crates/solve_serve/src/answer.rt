@@ -2,6 +2,7 @@
 
 ghost use Rattle.std.specs.Prelude.{◌≡◌, ◌≤◌, ◌<◌, ◌+◌, ◌^◌, length, IfOk};
 ghost use Rattle.reply_cache.specs.Limits.{reply_limit, key_limit};
+ghost use Rattle.reply_cache.specs.Steps.{Leads};
 ghost use Rattle.solve_serve.specs.Answers.{tally, answering, IsAnswered, IsReplied};
 
 use crate::stop::Stop;
@@ -28,7 +29,7 @@ pub(crate) fn answer<R: Threads + Wait + Sync, K: Sink, M: Maker, A: Ledger, B: 
 ) -> Result<(), Stop>
     requires parts { (0 < share.old.looks.parts) × (0 < share.old.misses.parts) }
     requires calls { M.calls maker.old < 2 ^ 63 }
-    ensures answered { IsAnswered (M.is_reply request) result
+    ensures answered { IsAnswered M.is_reply (λ steps. Leads M.does steps maker.old maker.new) request result
         (answering (K.held sink.old) (K.faults sink.old) (tally share.old.looks.amount share.old.misses.amount (M.calls maker.old)))
         (answering (K.held sink.new) (K.faults sink.new) (tally share.new.looks.amount share.new.misses.amount (M.calls maker.new))) }
     ensures parts { (share.new.looks.parts ≡ share.old.looks.parts) × (share.new.misses.parts ≡ share.old.misses.parts) }
@@ -55,13 +56,13 @@ fn reply_to<R: Threads + Wait + Sync, M: Maker, A: Ledger, B: Ledger>(
     requires calls { M.calls maker.old < 2 ^ 63 }
     ensures replied { IfOk result (λ reply. M.is_reply key reply) }
     ensures short { IfOk result (λ reply. length reply ≤ reply_limit) }
-    ensures tally { IsReplied result
+    ensures tally { IsReplied (λ steps. Leads M.does steps maker.old maker.new) key result
         (tally share.old.looks.amount share.old.misses.amount (M.calls maker.old))
         (tally share.new.looks.amount share.new.misses.amount (M.calls maker.new)) }
     ensures parts { (share.new.looks.parts ≡ share.old.looks.parts) × (share.new.misses.parts ≡ share.old.misses.parts) }
 {
     M::replies_are_short();
-    let found = cache.lock(rt).look(share, &key)?;
+    let found = cache.lock(rt).look(share, maker, &key)?;
     if let Some(reply) = found {
         return Ok(reply);
     }

@@ -2,9 +2,10 @@
 //!
 //! [`serve_one`] serves one session over a source, a sink and a maker of replies, with a cache of
 //! replies that many sessions share. Its clause says which requests were read, that what was
-//! written is the frames of their replies, and why the session ended. It also says that the maker
-//! was called as many times as a look at the cache found nothing. So a reply from the cache is the
-//! reply without it, since each key has only one ([`replies_are_one`]).
+//! written is the frames of their replies, and why the session ended. It also says that a look at
+//! the cache was made for each request, and that its reply was made exactly if this look found
+//! nothing. A reply from the cache is the reply without it, since each key has only one
+//! ([`replies_are_one`]).
 //!
 //! [`serve_peers`] serves many sessions concurrently, each as soon as a worker is free.
 #![tactic(auto)]

@@ -59,7 +59,7 @@ pub fn serve_peers<
     requires workers { (0 < workers) × (workers ≤ server_limit) }
     requires few { length peers.old.items ≤ peer_limit }
     requires fresh { All (λ p. IsFresh M.calls p) peers.old.items }
-    ensures served { AreServed S.left S.faults K.held K.faults M.calls M.is_reply peers.old.items peers.new.items }
+    ensures served { AreServed S.left S.faults K.held K.faults M.calls M.does M.is_reply peers.old.items peers.new.items }
 {
     serve_all(rt, alloc, peers.as_mut_slice(), cache, workers, gate);
 }
@@ -83,14 +83,14 @@ fn serve_all<
 )
     requires few { length peers.old ≤ peer_limit }
     requires fresh { All (λ p. IsFresh M.calls p) peers.old }
-    ensures served { AreServed S.left S.faults K.held K.faults M.calls M.is_reply peers.old peers.new }
+    ensures served { AreServed S.left S.faults K.held K.faults M.calls M.does M.is_reply peers.old peers.new }
 {
     let permits = Permits::new(workers);
     let permits = &permits;
     let serve = |i: usize, peer: &mut Peer<S, K, M, A, B>|
         requires inside { i < 64 }
         requires fresh { IsFresh M.calls peer.now }
-        ensures { IsServed S.left S.faults K.held K.faults M.calls M.is_reply peer.entry.now peer.exit.now }
+        ensures { IsServed S.left S.faults K.held K.faults M.calls M.does M.is_reply peer.entry.now peer.exit.now }
     {
         serve_peer(rt, alloc, i as u32, peer, cache, gate);
         permits.give(rt);
@@ -116,7 +116,7 @@ fn serve_peer<
     gate: &G,
 )
     requires { IsFresh M.calls peer.old }
-    ensures { IsServed S.left S.faults K.held K.faults M.calls M.is_reply peer.old peer.new }
+    ensures { IsServed S.left S.faults K.held K.faults M.calls M.does M.is_reply peer.old peer.new }
 {
     let end = serve_one(
         rt,

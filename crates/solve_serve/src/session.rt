@@ -1,6 +1,7 @@
 //! One session.
 
 ghost use Rattle.std.specs.Prelude.{◌≡◌, ◌≤◌, ◌<◌, ◌+◌, ◌^◌, OnOk};
+ghost use Rattle.reply_cache.specs.Steps.{Leads};
 ghost use Rattle.solve_serve.specs.Limits.{request_limit};
 ghost use Rattle.solve_serve.specs.Requests.{IsPlace};
 ghost use Rattle.solve_serve.specs.Answers.{tally, answering};
@@ -50,7 +51,7 @@ pub fn serve_one<
 ) -> SessionEnd
     requires parts { (0 < share.old.looks.parts) × (0 < share.old.misses.parts) }
     requires calls { M.calls maker.old ≤ 2 ^ 62 }
-    ensures served { HasServed M.is_reply result
+    ensures served { HasServed M.is_reply (λ steps. Leads M.does steps maker.old maker.new) result
         (outside (S.left source.old) (S.faults source.old)
         (answering (K.held sink.old) (K.faults sink.old) (tally share.old.looks.amount share.old.misses.amount (M.calls maker.old))))
         (outside (S.left source.new) (S.faults source.new)
@@ -97,7 +98,7 @@ fn turn<R: Threads + Wait + Sync, S: Source, K: Sink, M: Maker, A: Ledger, B: Le
     requires parts { (0 < share.old.looks.parts) × (0 < share.old.misses.parts) }
     requires calls { M.calls maker.old < 2 ^ 63 }
     ensures place { OnOk result (IsPlace place.new reader.new) }
-    ensures turn { IsTurn M.is_reply result
+    ensures turn { IsTurn M.is_reply (λ steps. Leads M.does steps maker.old maker.new) result
         reader.old
         (outside (S.left source.old) (S.faults source.old)
         (answering (K.held sink.old) (K.faults sink.old) (tally share.old.looks.amount share.old.misses.amount (M.calls maker.old))))

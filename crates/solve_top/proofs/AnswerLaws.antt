@@ -36,7 +36,9 @@ use Rattle.solve_methods.specs.Drill.{drilled}
 use Rattle.solve_methods.specs.Dpop.{wide_in, wide_answer, IsDpopSolved, IsAnswerBy, IsDpopAnswer}
 use Rattle.problem_solved.specs.Goal.{solved, problem_solved}
 use Rattle.solve_methods.specs.Goal.{TellsRight}
-use Rattle.answer_edge.specs.Input.{Input, Unread, Broken, TooLong, Whole, SourceState, IsAllOf, HadMore, IsReadFrom}
+use Rattle.answer_edge.proofs.InputLaws.{taken-least, count-stays}
+use Rattle.answer_edge.specs.Showing.{StaysUnless}
+use Rattle.answer_edge.specs.Input.{Input, Unread, Broken, TooLong, Whole, SourceState, IsAllOf, IsReadFrom}
 use Rattle.solve_top.specs.Served.{task_of}
 use Rattle.solve_top.specs.Drilling.{drill_of, made_for}
 use Rattle.solve_top.specs.declared.drilling.Drill.{Drill}
@@ -436,7 +438,7 @@ given-sound words input answer (inr links) fault = elim (links-status _ _ _ answ
 pub Rose-answered : (words : List (List ℕ)) (before after : SourceState) (answer : Answer) → Answered words before after answer
     → status_of answer ≡ ReadFault → Rose before.faults after.faults
 Rose-answered words before after answer done fault =
-    subst (λ (i : Input). IsReadFrom i before after) (given-sound words done.input answer done.belongs fault) done.read
+    (subst (λ (i : Input). IsReadFrom i before after) (given-sound words done.input answer done.belongs fault) done.read).0
 
 -- a broken input has no problem
 broken-untold : (task : Option Task) (drill : Option Drill) (done : FileTask) (told : Told) → ¬ TellsProblem task drill Broken done told
@@ -451,17 +453,12 @@ given-broken : (words : List (List ℕ)) (answer : Answer) → IsGiven words Bro
 given-broken words answer (inl is) = command-broken (answer_to words) answer is
 given-broken words answer (inr links) = absurd (broken-untold (task_of links.asks.command) (drill_of links.asks.command) links.task links.told links.read)
 
--- it comes whenever the source failed
-failed-input : (words : List (List ℕ)) (before after : SourceState) (input : Input) (answer : Answer) → IsReadFrom input before after → IsGiven words input answer
-    → before.faults < after.faults → status_of answer ≡ ReadFault
-failed-input words before after Unread answer read is more = absurd (omega (arith, more, ap (λ (s : SourceState). s.faults) read))
-failed-input words before after Broken answer read is more = given-broken words answer is
-failed-input words before after TooLong answer read is more = absurd (omega (arith, more, read.1))
-failed-input words before after (Whole bytes) answer read is more = absurd (omega (arith, more, read.2))
-
-pub ReadFault-answered : (words : List (List ℕ)) (before after : SourceState) (answer : Answer) → Answered words before after answer
-    → before.faults < after.faults → status_of answer ≡ ReadFault
-ReadFault-answered words before after answer done more = failed-input words before after done.input answer done.read done.belongs more
+-- the source's count stays unless the answer is by a failed reading
+pub stays-answered : (words : List (List ℕ)) (before after : SourceState) (answer : Answer) → Answered words before after answer
+    → StaysUnless before.faults after.faults (status_of answer ≡ ReadFault)
+stays-answered words before after answer done =
+    count-stays done.input before after (status_of answer ≡ ReadFault) done.read
+    (λ broken. given-broken words answer (subst (λ (i : Input). IsGiven words i answer) broken done.belongs))
 
 -- what is solved goes well
 solved-well : (status : Status) (task : Task) → status ≡ Solved → GoesWell status task
@@ -515,9 +512,9 @@ task-well Edit text answer fits is = solved-well (status_of answer) Edit (edits_
 input-well : (text : List ℕ) (words : List (List ℕ)) (accepts : Accepts words text) (before after : SourceState) (input : Input) (answer : Answer)
     → before.left ≡ Some text → ¬ Rose before.faults after.faults → IsReadFrom input before after → IsInputAnswer accepts.task input answer → GoesWell (status_of answer) accepts.task
 input-well text words accepts before after Unread answer told steady read is = absurd is
-input-well text words accepts before after Broken answer told steady read is = absurd (steady read)
+input-well text words accepts before after Broken answer told steady read is = absurd (steady read.0)
 input-well text words accepts before after TooLong answer told steady read is =
-    let more = subst HadMore told read.0 in absurd (omega (arith, more, accepts.short))
+    let more = taken-least _ _ before.left after.left text told read.0 in absurd (omega (arith, more, accepts.short))
 input-well text words accepts before after (Whole bytes) answer told steady read is =
     let all = subst (λ (l : Option (List ℕ)). IsAllOf bytes l after.left) told read.1 in
     task-well accepts.task text answer accepts.fits (subst (λ (t : List ℕ). IsTaskAnswer accepts.task t answer) all.0 is)

@@ -1,19 +1,19 @@
 -- What follows for a top call from an answer and from how it was shown.
-use Rattle.std.proofs.Common.{◌≡◌, ◌≢◌, ℕ, ◌<◌, ◌⊎◌, inl, inr, List, Some, refl, arith}
+use Rattle.std.proofs.Common.{◌≡◌, ◌≢◌, ℕ, ◌⊎◌, inl, inr, List, Some, refl}
 use Rattle.dcop_edge.specs.Faults.{Rose}
 use Rattle.solve_report.specs.declared.answer.Answer.{Answer}
 use Rattle.answer_edge.specs.declared.status.Status.{Status}
 use Rattle.answer_edge.specs.declared.status.Status.TheVariants.{Solved, Spent, No, BadWords, BadText, TooWide, ReadFault, WriteFault, NoMemory, LinkFault, LinkDiffers, TooMany}
 use Rattle.answer_edge.specs.Input.{SourceState}
 use Rattle.answer_edge.specs.Output.{SinkState}
-use Rattle.answer_edge.specs.Showing.{Shows}
+use Rattle.answer_edge.specs.Showing.{Shows, StaysUnless}
 use Rattle.answer_edge.specs.Statuses.{status_of}
 use Rattle.answer_edge.proofs.ShowLaws as shows
 use Rattle.solve_words.specs.declared.command.Format.TheVariants.{Dcop as Own}
 use Rattle.solve_top.specs.declared.task.Task.TheVariants.{File}
 use Rattle.solve_top.specs.Nodes.{AskForNodes, TellsAnswer}
 use Rattle.solve_top.specs.Solving.{GoesWell, Answered, Accepts, AsksDrill, Solves}
-use Rattle.solve_top.proofs.AnswerLaws.{Rose-answered, ReadFault-answered, well-answered, drill-well}
+use Rattle.solve_top.proofs.AnswerLaws.{Rose-answered, stays-answered, well-answered, drill-well}
 
 pub read-so : (words : List (List ℕ)) (source source' : SourceState) (answer : Answer) → Answered words source source' answer
     → (sink sink' : SinkState) (faults faults' : ℕ) (status : Status) → Shows answer sink sink' faults faults' status → status ≡ ReadFault
@@ -21,11 +21,11 @@ pub read-so : (words : List (List ℕ)) (source source' : SourceState) (answer :
 read-so words source source' answer answered sink sink' faults faults' status shown fault =
     Rose-answered words source source' answer answered (shows.read-so answer sink sink' faults faults' status shown fault)
 
-pub source-so : (words : List (List ℕ)) (source source' : SourceState) (answer : Answer) → Answered words source source' answer
-    → (sink sink' : SinkState) (faults faults' : ℕ) (status : Status) → Shows answer sink sink' faults faults' status → source.faults < source'.faults
-    → (status ≡ ReadFault) ⊎ (status ≡ WriteFault) ⊎ (status ≡ NoMemory)
-source-so words source source' answer answered sink sink' faults faults' status shown more =
-    shows.source-so answer sink sink' faults faults' status shown (ReadFault-answered words source source' answer answered more)
+pub source-stays : (words : List (List ℕ)) (source source' : SourceState) (answer : Answer) → Answered words source source' answer
+    → (sink sink' : SinkState) (faults faults' : ℕ) (status : Status) → Shows answer sink sink' faults faults' status
+    → StaysUnless source.faults source'.faults ((status ≡ ReadFault) ⊎ (status ≡ WriteFault) ⊎ (status ≡ NoMemory))
+source-stays words source source' answer answered sink sink' faults faults' status shown =
+    shows.source-stays source.faults source'.faults answer sink sink' faults faults' status shown (stays-answered words source source' answer answered)
 
 -- a status is that of failed links, or not
 is-link : (status : Status) → (status ≡ LinkFault) ⊎ (status ≢ LinkFault)
@@ -44,12 +44,6 @@ is-link TooMany = inr (λ e. cc e)
 
 -- the status of the call says about links what the answer says
 module _ (words : List (List ℕ)) (honest : Type 0) (old new : ℕ) (answer : Answer) (tells : TellsAnswer (AskForNodes words) honest old new answer) where
-  risen-failed : old < new → status_of answer ≡ LinkFault
-  risen-failed more = elim (is-link (status_of answer)) [
-    | inl failed ↦ failed
-    | inr other ↦ let still = tells.quiet other in absurd (omega (arith, still, more))
-  ]
-
   -- an answer says nothing about the links of a dialer that is honest and has not failed
   unfailed : ¬ Rose old new → status_of answer ≢ LinkFault
   unfailed still failed = still (tells.failed failed).2
@@ -72,8 +66,11 @@ module _ (words : List (List ℕ)) (honest : Type 0) (old new : ℕ) (answer : A
     pub differs-so : status ≡ LinkDiffers → AskForNodes words × (¬ honest)
     differs-so fault = tells.differs (shows.told-so LinkDiffers (λ e. cc e) (λ e. cc e) answer sink sink' faults faults' status shown fault)
 
-    pub dialer-so : old < new → (status ≡ LinkFault) ⊎ (status ≡ WriteFault) ⊎ (status ≡ NoMemory)
-    dialer-so more = shows.comes-so LinkFault answer sink sink' faults faults' status shown (risen-failed more)
+    pub dialer-stays : StaysUnless old new ((status ≡ LinkFault) ⊎ (status ≡ WriteFault) ⊎ (status ≡ NoMemory))
+    dialer-stays = elim (is-link (status_of answer)) [
+      | inl failed ↦ let t = tells.failed failed in inr (t.1, t.2, shows.comes-so LinkFault answer sink sink' faults faults' status shown failed)
+      | inr other ↦ inl (tells.quiet other)
+    ]
 
     pub complete-so : (source source' : SourceState) → Answered words source source' answer → (text : List ℕ) → source.left ≡ Some text → (accepts : Accepts words text)
         → ¬ Rose source.faults source'.faults → ¬ Rose faults faults' → ¬ Rose old new → (AskForNodes words → honest) → GoesWell status accepts.task

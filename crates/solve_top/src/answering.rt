@@ -1,6 +1,6 @@
 //! The answer to words and a source.
 
-ghost use Rattle.std.specs.Prelude.{◌≡◌, ◌<◌, ◌≤◌, length, map, IfOk, string_bytes};
+ghost use Rattle.std.specs.Prelude.{◌≡◌, ◌<◌, ◌≤◌, length, map, IfOk, OnErr, string_bytes};
 ghost use Rattle.dcop_base.specs.Limits.{input_limit};
 ghost use Rattle.solve_report.specs.AnswerText.{HasText};
 ghost use Rattle.problem_text.specs.Steps.{declared_by};
@@ -60,6 +60,7 @@ where
         (source_state (S.left source.new) (S.faults source.new))) }
     ensures told { IfOk result HasText }
     ensures links { TellsLinks (AskForNodes (map string_bytes words.now)) (D.is_honest dialer.old) (D.faults dialer.old) (D.faults dialer.new) result }
+    ensures quiet { OnErr result (S.faults source.new ≡ S.faults source.old) }
 {
     let command = match read_words(alloc, words) {
         Ok(command) => command,

@@ -1,9 +1,10 @@
 //! The top call.
 
-ghost use Rattle.std.specs.Prelude.{◌≡◌, ◌≢◌, ◌<◌, ◌⊎◌, ℕ, List, Some, map, string_bytes};
+ghost use Rattle.std.specs.Prelude.{◌≡◌, ◌≢◌, ◌⊎◌, ℕ, List, Some, map, string_bytes};
 ghost use Rattle.dcop_edge.specs.Faults.{Rose};
 ghost use Rattle.answer_edge.specs.Input.{source_state};
 ghost use Rattle.answer_edge.specs.Output.{sink_state};
+ghost use Rattle.answer_edge.specs.Showing.{StaysUnless};
 ghost use Rattle.solve_top.specs.Nodes.{AskForNodes};
 ghost use Rattle.solve_top.specs.Solving.{Solves, Accepts, AsksDrill, GoesWell};
 
@@ -90,11 +91,12 @@ pub fn solve<
         (sink_state (K.held sink.old) (K.finished sink.old))
         (sink_state (K.held sink.new) (K.finished sink.new)) result }
     ensures unwritten { result ≡ Status.NoMemory → sink.new ≡ sink.old }
-    ensures source_failed { S.faults source.old < S.faults source.new →
-        (result ≡ Status.ReadFault) ⊎ (result ≡ Status.WriteFault) ⊎ (result ≡ Status.NoMemory) }
-    ensures sink_failed { K.faults sink.old < K.faults sink.new → result ≡ Status.WriteFault }
-    ensures dialer_failed { D.faults dialer.old < D.faults dialer.new →
-        (result ≡ Status.LinkFault) ⊎ (result ≡ Status.WriteFault) ⊎ (result ≡ Status.NoMemory) }
+    ensures source_failed { StaysUnless (S.faults source.old) (S.faults source.new)
+        ((result ≡ Status.ReadFault) ⊎ (result ≡ Status.WriteFault) ⊎ (result ≡ Status.NoMemory)) }
+    ensures sink_failed { StaysUnless (K.faults sink.old) (K.faults sink.new)
+        (result ≡ Status.WriteFault) }
+    ensures dialer_failed { StaysUnless (D.faults dialer.old) (D.faults dialer.new)
+        ((result ≡ Status.LinkFault) ⊎ (result ≡ Status.WriteFault) ⊎ (result ≡ Status.NoMemory)) }
     ensures complete { (text : List ℕ) → S.left source.old ≡ Some text →
         (accepts : Accepts (map string_bytes words.now) text) →
         ¬ Rose (S.faults source.old) (S.faults source.new) →

@@ -4,6 +4,7 @@ use Rattle.dcop_edge.specs.Faults.{Rose}
 use Rattle.answer_edge.specs.declared.status.Status.{Status}
 use Rattle.answer_edge.specs.declared.status.Status.TheVariants.{ReadFault, WriteFault, NoMemory}
 use Rattle.answer_edge.specs.Output.{SinkState}
+use Rattle.answer_edge.specs.Showing.{StaysUnless}
 use Rattle.trace_top.specs.Showing.{IsShown, IsCut, Shows, trace_status_of}
 use Rattle.trace_top.specs.declared.answer.TraceAnswer.{TraceAnswer}
 use Rattle.trace_top.proofs.StatusLaws.{told-status}
@@ -27,7 +28,7 @@ pub write-so : (answer : TraceAnswer) (sink sink' : SinkState) (faults faults' :
     → Rose faults faults'
 write-so answer sink sink' faults faults' status (inl none) fault = let e = sym fault ∙ none.0 in cc
 write-so answer sink sink' faults faults' status (inr (inl shown)) fault = absurd (told-status answer (sym shown.0.same ∙ fault))
-write-so answer sink sink' faults faults' status (inr (inr cut)) fault = cut.1
+write-so answer sink sink' faults faults' status (inr (inr cut)) fault = cut.2
 
 -- if the answer's status is a failed reading, so is the call's, or it is one of the two that go
 -- before it
@@ -37,10 +38,24 @@ source-so answer sink sink' faults faults' status (inl none) told = inr (inr non
 source-so answer sink sink' faults faults' status (inr (inl shown)) told = inl (shown.0.same ∙ told)
 source-so answer sink sink' faults faults' status (inr (inr cut)) told = inr (inl cut.0.fault)
 
+-- if a count stays unless the answer's status is a failed reading, it stays unless the call's is, or
+-- one of the two that go before it
+pub source-stays : (old new : ℕ) (answer : TraceAnswer) (sink sink' : SinkState) (faults faults' : ℕ) (status : Status) → Shows answer sink sink' faults faults' status
+    → StaysUnless old new (trace_status_of answer ≡ ReadFault) → StaysUnless old new ((status ≡ ReadFault) ⊎ (status ≡ WriteFault) ⊎ (status ≡ NoMemory))
+source-stays old new answer sink sink' faults faults' status shown (inl same) = inl same
+source-stays old new answer sink sink' faults faults' status shown (inr rose) = inr (rose.0, rose.1, source-so answer sink sink' faults faults' status shown rose.2)
+
+-- the sink's count stays unless the status is a failed writing
+pub sink-stays : (answer : TraceAnswer) (sink sink' : SinkState) (faults faults' : ℕ) (status : Status) → Shows answer sink sink' faults faults' status
+    → StaysUnless faults faults' (status ≡ WriteFault)
+sink-stays answer sink sink' faults faults' status (inl none) = inl none.1
+sink-stays answer sink sink' faults faults' status (inr (inl shown)) = inl shown.1
+sink-stays answer sink sink' faults faults' status (inr (inr cut)) = inr (cut.1, cut.2, cut.0.fault)
+
 -- if the sink did not fail, what holds for running out of memory and for the answer's status holds
 -- for the status
 pub status-so : (P : Status → Type 0) (answer : TraceAnswer) (sink sink' : SinkState) (faults faults' : ℕ) (status : Status) → Shows answer sink sink' faults faults' status
     → ¬ Rose faults faults' → P NoMemory → P (trace_status_of answer) → P status
 status-so P answer sink sink' faults faults' status (inl none) quiet wanted well = subst P (sym none.0) wanted
 status-so P answer sink sink' faults faults' status (inr (inl shown)) quiet wanted well = subst P (sym shown.0.same) well
-status-so P answer sink sink' faults faults' status (inr (inr cut)) quiet wanted well = absurd (quiet cut.1)
+status-so P answer sink sink' faults faults' status (inr (inr cut)) quiet wanted well = absurd (quiet cut.2)

@@ -1,5 +1,5 @@
 -- How an answer of `dcop_trace` is shown, which is how answers of `dcop` are.
-use Rattle.std.specs.Prelude.{◌≡◌, ℕ, ◌⊎◌, true, List}
+use Rattle.std.specs.Prelude.{◌≡◌, ℕ, ◌≤◌, ◌⊎◌, true, List}
 use Rattle.dcop_edge.specs.Faults.{Rose}
 use Rattle.dcop_edge.specs.Sink.{Adds}
 use Rattle.solve_report.specs.AnswerText.{answer_text}
@@ -37,4 +37,4 @@ abbrev pub Shows : TraceAnswer → SinkState → SinkState → ℕ → ℕ → S
 Shows answer sink sink' faults faults' status =
     ((status ≡ statuses.NoMemory) × (faults' ≡ faults))
     ⊎ (IsShown answer sink sink' status × (faults' ≡ faults))
-    ⊎ (IsCut answer sink sink' status × Rose faults faults')
+    ⊎ (IsCut answer sink sink' status × (faults ≤ faults') × Rose faults faults')

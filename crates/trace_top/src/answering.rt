@@ -1,6 +1,6 @@
 //! The answer to words and a source.
 
-ghost use Rattle.std.specs.Prelude.{◌≡◌, ◌+◌, ◌≤◌, length, map, IfOk, string_bytes};
+ghost use Rattle.std.specs.Prelude.{◌≡◌, ◌+◌, ◌≤◌, length, map, IfOk, OnErr, string_bytes};
 ghost use Rattle.std.specs.List.{All};
 ghost use Rattle.dcop_base.specs.Limits.{amount_limit, input_limit};
 ghost use Rattle.dcop_base.specs.Whole.{IsProblem};
@@ -45,6 +45,7 @@ pub(crate) fn answer_of<S: Source>(
         (source_state (S.left source.old) (S.faults source.old))
         (source_state (S.left source.new) (S.faults source.new))) }
     ensures told { IfOk result IsTellable }
+    ensures quiet { OnErr result (S.faults source.new ≡ S.faults source.old) }
 {
     let asked = match read_trace_words(words) {
         Ok(asked) => asked,

@@ -1,6 +1,6 @@
 use Rattle.search_top.specs.Searching.{GoesWell}
-use Rattle.search_top.proofs.AnswerLaws.{rose-answered, fault-answered, well-answered}
-use Rattle.search_top.proofs.ShowLaws.{shown-so, read-so, write-so, source-so, status-so}
+use Rattle.search_top.proofs.AnswerLaws.{rose-answered, stays-answered, well-answered}
+use Rattle.search_top.proofs.ShowLaws.{shown-so, read-so, write-so, source-stays, sink-stays, status-so}
 use Rattle.search_top.proofs.top.search.Goals as goal
 
 pub returns-clause-answered : goal.returns-clause-answered
@@ -18,8 +18,11 @@ pub returns-clause-write_fault : goal.returns-clause-write_fault
 returns-clause-write_fault g c = λ fault. write-so c.in-Ok.answer _ _ _ _ _ c.show_answer.ensures.shows fault
 
 pub returns-clause-source_failed : goal.returns-clause-source_failed
-returns-clause-source_failed g c = λ more.
-    source-so c.in-Ok.answer _ _ _ _ _ c.show_answer.ensures.shows (fault-answered _ _ _ c.in-Ok.answer c.in-Ok.ensures.answered more)
+returns-clause-source_failed g c =
+    source-stays _ _ c.in-Ok.answer _ _ _ _ _ c.show_answer.ensures.shows (stays-answered _ _ _ c.in-Ok.answer c.in-Ok.ensures.answered)
+
+pub returns-clause-sink_failed : goal.returns-clause-sink_failed
+returns-clause-sink_failed g c = sink-stays c.in-Ok.answer _ _ _ _ _ c.show_answer.ensures.shows
 
 pub returns-clause-complete : goal.returns-clause-complete
 returns-clause-complete g c = λ text told accepted steady quiet.

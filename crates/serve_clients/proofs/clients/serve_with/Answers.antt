@@ -15,8 +15,8 @@ counted-looks-requires-after_bounds g c κs within =
     let ps = c.in_ok-peers.peers.items in
     let qs = c.serve_peers.new.peers.items in
     let count = c.in_ok-peers.ensures.count in
-    let looks = look_parts_back g.L.S.Source.left g.L.S.Source.faults g.L.K.Sink.held g.L.K.Sink.faults g.M.Maker.calls g.M.Maker.is_reply ps qs c.in_ok-peers.ensures.new c.serve_peers.ensures.served in
-    let misses = miss_parts_back g.L.S.Source.left g.L.S.Source.faults g.L.K.Sink.held g.L.K.Sink.faults g.M.Maker.calls g.M.Maker.is_reply ps qs c.in_ok-peers.ensures.new c.serve_peers.ensures.served in (
+    let looks = look_parts_back g.L.S.Source.left g.L.S.Source.faults g.L.K.Sink.held g.L.K.Sink.faults g.M.Maker.calls g.M.Maker.does g.M.Maker.is_reply ps qs c.in_ok-peers.ensures.new c.serve_peers.ensures.served in
+    let misses = miss_parts_back g.L.S.Source.left g.L.S.Source.faults g.L.K.Sink.held g.L.K.Sink.faults g.M.Maker.calls g.M.Maker.does g.M.Maker.is_reply ps qs c.in_ok-peers.ensures.new c.serve_peers.ensures.served in (
       omega (arith, c.give_all.ensures.look_parts, c.in_ok-peers.ensures.looks.0, looks, count, c.requires.looks.1, c.requires.looks.2),
       omega (arith, c.give_all.ensures.miss_parts, c.in_ok-peers.ensures.misses.0, misses, count, c.requires.misses.1, c.requires.misses.2),
     )
@@ -26,7 +26,7 @@ returns-clause-served g c =
     let ps = c.in_ok-peers.peers.items in
     let qs = c.serve_peers.new.peers.items in
     let given = c.give_all.ensures in
-    have_served g.L.S.Source.left g.L.S.Source.faults g.L.K.Sink.held g.L.K.Sink.faults g.M.Maker.calls g.M.Maker.is_reply c.args.plan.clients ps qs c.give_all.new.ends.items c.counted-looks.result
+    have_served g.L.S.Source.left g.L.S.Source.faults g.L.K.Sink.held g.L.K.Sink.faults g.M.Maker.calls g.M.Maker.does g.M.Maker.is_reply c.args.plan.clients ps qs c.give_all.new.ends.items c.counted-looks.result
     (g.L.Listener.waiting c.args.listener.now) (g.L.Listener.waiting c.give_all.new.listener) (g.L.Listener.closed c.args.listener.now) (g.L.Listener.closed c.give_all.new.listener)
     c.in_ok-peers.ensures.count c.in_ok-peers.ensures.new c.serve_peers.ensures.served
     (c.in_ok-peers.ensures.waiting ∙ ap (λ (w : Option (List (g.row.L-S.Denot × g.row.L-K.Denot))). all_before (map (λ p. connection p) ps) w) (sym given.waiting))

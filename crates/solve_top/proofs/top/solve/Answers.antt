@@ -1,5 +1,5 @@
-use Rattle.answer_edge.proofs.ShowLaws.{write-so}
-use Rattle.solve_top.proofs.ShowLaws.{solved-so, read-so, source-so, link-so, differs-so, dialer-so, complete-so, drill-so}
+use Rattle.answer_edge.proofs.ShowLaws.{write-so, sink-stays}
+use Rattle.solve_top.proofs.ShowLaws.{solved-so, read-so, source-stays, link-so, differs-so, dialer-stays, complete-so, drill-so}
 use Rattle.solve_top.proofs.top.solve.Goals as goal
 
 pub returns-clause-answered : goal.returns-clause-answered
@@ -15,8 +15,11 @@ returns-clause-write_fault g c = λ fault.
     write-so c.in-Ok.answer _ _ _ _ _ c.show.ensures.shows fault
 
 pub returns-clause-source_failed : goal.returns-clause-source_failed
-returns-clause-source_failed g c = λ more.
-    source-so _ _ _ c.in-Ok.answer c.in-Ok.ensures.answered _ _ _ _ _ c.show.ensures.shows more
+returns-clause-source_failed g c =
+    source-stays _ _ _ c.in-Ok.answer c.in-Ok.ensures.answered _ _ _ _ _ c.show.ensures.shows
+
+pub returns-clause-sink_failed : goal.returns-clause-sink_failed
+returns-clause-sink_failed g c = sink-stays c.in-Ok.answer _ _ _ _ _ c.show.ensures.shows
 
 pub returns-clause-link_fault : goal.returns-clause-link_fault
 returns-clause-link_fault g c = λ fault. link-so _ _ _ _ c.in-Ok.answer c.in-Ok.ensures.links _ _ _ _ _ c.show.ensures.shows fault
@@ -25,7 +28,7 @@ pub returns-clause-link_differs : goal.returns-clause-link_differs
 returns-clause-link_differs g c = λ fault. differs-so _ _ _ _ c.in-Ok.answer c.in-Ok.ensures.links _ _ _ _ _ c.show.ensures.shows fault
 
 pub returns-clause-dialer_failed : goal.returns-clause-dialer_failed
-returns-clause-dialer_failed g c = λ more. dialer-so _ _ _ _ c.in-Ok.answer c.in-Ok.ensures.links _ _ _ _ _ c.show.ensures.shows more
+returns-clause-dialer_failed g c = dialer-stays _ _ _ _ c.in-Ok.answer c.in-Ok.ensures.links _ _ _ _ _ c.show.ensures.shows
 
 pub returns-clause-complete : goal.returns-clause-complete
 returns-clause-complete g c = λ text told accepts steady quiet still so.
