@@ -67,9 +67,21 @@ impl Letters {
         ensures waiting { OnOk result (waiting_in self.new ≡ waiting_in self.old ++ letter ∷ []) }
     {
         match self {
+            Letters::Many(many) => many.waiting.push(letter),
+            _ => self.add_to_few(alloc, letter),
+        }
+    }
+
+    /// Does what [`Letters::add`] does, for a link that holds at most one letter. It stands apart, so
+    /// that the usual way stays short.
+    #[inline(never)]
+    fn add_to_few(&mut self, alloc: Global, letter: Letter) -> Result<(), NoMemory>
+        ensures taken { OnOk result (taken_in self.new ≡ taken_in self.old) }
+        ensures waiting { OnOk result (waiting_in self.new ≡ waiting_in self.old ++ letter ∷ []) }
+    {
+        match self {
             Letters::Nothing => *self = Letters::Waiting(letter),
-            Letters::Many(many) => many.waiting.push(letter)?,
-            Letters::Waiting(_) | Letters::Taken(_) => {
+            _ => {
                 let mut many = mem::replace(self, Letters::Nothing).into_many(alloc)?;
                 many.waiting.push(letter)?;
                 *self = Letters::Many(many);
@@ -80,6 +92,20 @@ impl Letters {
 
     /// Removes the first letter that waits, and returns it, if there is one.
     pub(crate) fn pop(&mut self) -> Option<Letter>
+        ensures taken { taken_in self.new ≡ taken_in self.old }
+        ensures items { waiting_in self.old ≡ option_to_list result ++ waiting_in self.new }
+        ensures none { MatchOption result (waiting_in self.old ≡ [])
+            (λ _. length (waiting_in self.old) ≡ length (waiting_in self.new) + 1) }
+    {
+        match self {
+            Letters::Many(many) => many.waiting.pop(),
+            _ => self.pop_of_few(),
+        }
+    }
+
+    /// Does what [`Letters::pop`] does, for a link that holds at most one letter.
+    #[inline(never)]
+    fn pop_of_few(&mut self) -> Option<Letter>
         ensures taken { taken_in self.new ≡ taken_in self.old }
         ensures items { waiting_in self.old ≡ option_to_list result ++ waiting_in self.new }
         ensures none { MatchOption result (waiting_in self.old ≡ [])
@@ -101,9 +127,23 @@ impl Letters {
         ensures waiting { OnOk result (waiting_in self.new ≡ waiting_in self.old) }
     {
         match self {
+            Letters::Many(many) => {
+                many.taken = Some(letter);
+                Ok(())
+            }
+            _ => self.keep_in_few(alloc, letter),
+        }
+    }
+
+    /// Does what [`Letters::keep`] does, for a link that holds at most one letter.
+    #[inline(never)]
+    fn keep_in_few(&mut self, alloc: Global, letter: Letter) -> Result<(), NoMemory>
+        ensures taken { OnOk result (taken_in self.new ≡ Some letter) }
+        ensures waiting { OnOk result (waiting_in self.new ≡ waiting_in self.old) }
+    {
+        match self {
             Letters::Nothing | Letters::Taken(_) => *self = Letters::Taken(letter),
-            Letters::Many(many) => many.taken = Some(letter),
-            Letters::Waiting(_) => {
+            Letters::Waiting(_) | Letters::Many(_) => {
                 let mut many = mem::replace(self, Letters::Nothing).into_many(alloc)?;
                 many.taken = Some(letter);
                 *self = Letters::Many(many);

@@ -59,9 +59,18 @@ impl Queue {
     {
         if self.len() == 0 {
             self.first = Some(letter);
-        } else {
-            self.behind.push_back(letter)?;
+            return Ok(());
         }
+        self.push_behind(letter)
+    }
+
+    /// Does what [`Queue::push`] does, for a queue that holds letters. It stands apart, so that the
+    /// way of a letter into an empty queue stays short.
+    #[inline(never)]
+    fn push_behind(&mut self, letter: Letter) -> Result<(), NoMemory>
+        ensures { OnOk result (self.new ≡ self.old ++ letter ∷ []) }
+    {
+        self.behind.push_back(letter)?;
         Ok(())
     }
 
