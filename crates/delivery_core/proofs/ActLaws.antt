@@ -18,14 +18,14 @@ use Rattle.protocol_steps.specs.Network.{Network, waiting, batch}
 use Rattle.protocol_steps.specs.Run.{form_fault, has_nothing, ascends_from}
 use Rattle.protocol_steps.specs.Effect.{effect, sends_by}
 use Rattle.protocol_steps.proofs.EventLaws.{not_then}
-use Rattle.delivery_core.specs.State.{LinkView, SeatView, waiting_from}
-use Rattle.delivery_core.specs.NetworkState.{letters_of}
-use Rattle.delivery_core.specs.Inboxes.{senders, letters_by, short_in}
+use Rattle.letter_queues.specs.Links.{LinkView, waiting_from, letters_of}
+use Rattle.letter_queues.specs.Inboxes.{senders, letters_by, short_in}
+use Rattle.letter_queues.proofs.InboxLaws.{letters_taken, asc_parts}
+use Rattle.delivery_core.specs.State.{SeatView}
 use Rattle.delivery_core.specs.SeatEvents.{seat_after, seat_sends, deliver_all, seats_after, seat_fault, core_fault}
 use Rattle.delivery_core.specs.Shown.{Shows, Moves}
 use Rattle.delivery_core.specs.Exchanges.{Trades}
 use Rattle.delivery_core.proofs.NearLaws.{near_back}
-use Rattle.delivery_core.proofs.InboxLaws.{letters_taken, asc_parts}
 use Rattle.delivery_core.proofs.ShownLaws.{view_there, ascend, waits_here, letters_same, inside, form, short, box, shown_after}
 
 -- the agent of an event without a fault

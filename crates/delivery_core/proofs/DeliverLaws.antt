@@ -10,11 +10,11 @@ use Rattle.protocol_steps.specs.declared.message.Message.{Message}
 use Rattle.protocol_steps.specs.View.{View}
 use Rattle.protocol_steps.specs.Network.{message_to, messages_to}
 use Rattle.protocol_steps.proofs.EventLaws.{get_same, get_other}
-use Rattle.delivery_core.specs.State.{LinkView, SeatView, link_from, waiting_on, taken_on, waiting_from, last_taken, inbox_of, inbox_at, views_of}
-use Rattle.delivery_core.specs.NetworkState.{letters_of}
-use Rattle.delivery_core.specs.Inboxes.{senders, with_letter, add_letter}
+use Rattle.letter_queues.specs.Links.{LinkView, link_from, waiting_on, taken_on, waiting_from, last_taken, letters_of}
+use Rattle.letter_queues.specs.Inboxes.{senders, with_letter, add_letter}
+use Rattle.letter_queues.proofs.InboxLaws.{map_link, link_edit, edit_senders}
+use Rattle.delivery_core.specs.State.{SeatView, inbox_of, inbox_at, views_of}
 use Rattle.delivery_core.specs.SeatEvents.{come, deliver, deliver_all}
-use Rattle.delivery_core.proofs.InboxLaws.{map_link, link_edit, edit_senders}
 
 -- an agent that is there
 pub record Sits (seats : List SeatView) (i : ℕ) : Type 0 where

@@ -1,7 +1,5 @@
 mod ListLaws
-pub mod LinkLaws
 mod KindLaws
-pub mod InboxLaws
 mod DeliverLaws
 mod CalmLaws
 pub mod NearLaws

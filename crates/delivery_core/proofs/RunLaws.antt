@@ -9,8 +9,9 @@ use Rattle.protocol_steps.specs.Network.{Network, waiting}
 use Rattle.protocol_steps.specs.Effect.{effect}
 use Rattle.protocol_steps.specs.Run.{event_fault, run}
 use Rattle.protocol_steps.proofs.RunLaws.{run_push}
-use Rattle.delivery_core.specs.State.{CoreView, message_of, waiting_from, inbox_at, count_waiting}
-use Rattle.delivery_core.specs.NetworkState.{IsStateOf, letters_of}
+use Rattle.letter_queues.specs.Links.{waiting_from, letters_of}
+use Rattle.delivery_core.specs.State.{CoreView, message_of, inbox_at, count_waiting}
+use Rattle.delivery_core.specs.NetworkState.{IsStateOf}
 use Rattle.delivery_core.specs.Shown.{IsCore}
 use Rattle.delivery_core.proofs.ShownLaws.{waits_is, last_append}
 

@@ -21,14 +21,14 @@ use Rattle.protocol_steps.specs.Run.{or_else, form_fault, too_many, takes_fault,
 use Rattle.protocol_steps.specs.Effect.{desk_after, network_after, effect, effect_at}
 use Rattle.protocol_steps.proofs.EventLaws.{Happens, get_same, get_other, link_after, added, not_then}
 use Rattle.protocol_steps.proofs.AccountLaws.{form_parts}
-use Rattle.delivery_core.specs.State.{LinkView, SeatView, link_from, waiting_on, taken_on, waiting_from, last_taken, inbox_of, inbox_at}
-use Rattle.delivery_core.specs.NetworkState.{letters_of}
-use Rattle.delivery_core.specs.Inboxes.{senders, without_next, take_off, letters_by, inbox_after, short_in}
+use Rattle.letter_queues.specs.Links.{LinkView, link_from, waiting_on, taken_on, waiting_from, last_taken, letters_of}
+use Rattle.letter_queues.specs.Inboxes.{senders, without_next, take_off, letters_by, inbox_after, short_in}
+use Rattle.letter_queues.proofs.InboxLaws.{map_link, with_lasts, from_of, link_off, link_kept, off_senders, kept_senders, letters_all, taken_of, none_of, asc_parts}
+use Rattle.delivery_core.specs.State.{SeatView, inbox_of, inbox_at}
 use Rattle.delivery_core.specs.SeatEvents.{seat_after, seat_sends, deliver_all, seats_after, seat_fault, core_fault}
 use Rattle.delivery_core.specs.Shown.{IsRunning, Shows}
 use Rattle.delivery_core.proofs.NearLaws.{near_back}
 use Rattle.protocol_steps.proofs.StartedLaws.{step_started, step_private}
-use Rattle.delivery_core.proofs.InboxLaws.{map_link, with_lasts, from_of, link_off, link_kept, off_senders, kept_senders, letters_all, taken_of, none_of, asc_parts}
 use Rattle.delivery_core.proofs.DeliverLaws.{Delivered, delivered, inbox_set, seen_from}
 
 pub there_is : {A : Type 0} (xs : List A) (i : ℕ) → i < length xs → (x : A) × (slice_get xs i ≡ Some x)

@@ -19,14 +19,14 @@ use Rattle.protocol_steps.specs.Step.{start_of}
 use Rattle.protocol_steps.specs.Machine.{MayStart, IsToNeighbour}
 use Rattle.protocol_steps.specs.Network.{Desk, start_state, messages_to, sent_at, takes_at, taken_from}
 use Rattle.protocol_steps.specs.Effect.{deliveries}
+use Rattle.letter_queues.specs.Links.{LinkView, link_from, waiting_on, taken_on, waiting_from, last_taken, letters_of, new_link}
+use Rattle.letter_queues.specs.Inboxes.{senders}
 use Rattle.delivery_core.specs.declared.start.Start.{Start}
 use Rattle.delivery_core.specs.declared.start.Start.TheVariants.{Token, Dpop, Adopt}
-use Rattle.delivery_core.specs.State.{LinkView, SeatView, link_from, waiting_on, taken_on, waiting_from, last_taken, inbox_of, inbox_at, views_of}
-use Rattle.delivery_core.specs.NetworkState.{letters_of}
-use Rattle.delivery_core.specs.Inboxes.{senders}
+use Rattle.delivery_core.specs.State.{SeatView, inbox_of, inbox_at, views_of}
 use Rattle.delivery_core.specs.SeatEvents.{deliver_all}
 use Rattle.delivery_core.specs.Agents.{agents_of}
-use Rattle.delivery_core.specs.Starts.{knowledge_for, agent_of, new_link, new_seat, sends_in, first_sends, IsFresh, Begun}
+use Rattle.delivery_core.specs.Starts.{knowledge_for, agent_of, new_seat, sends_in, first_sends, IsFresh, Begun}
 use Rattle.delivery_core.specs.Shown.{IsRunning, Shows}
 use Rattle.delivery_core.proofs.NearLaws.{near_back}
 use Rattle.protocol_steps.proofs.StartedLaws.{start_starts, start_private}

@@ -2,7 +2,6 @@ pub mod State
 pub mod Agents
 pub mod NetworkState
 pub mod Faults
-pub mod Inboxes
 pub mod SeatEvents
 pub mod Takes
 pub mod Starts
@@ -10,5 +9,3 @@ pub mod Kinds
 pub mod Shown
 pub mod Exchanges
 pub mod PlayedOut
-pub mod Queues
-pub mod Letters

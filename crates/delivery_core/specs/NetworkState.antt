@@ -1,19 +1,15 @@
 -- When a core state is a network state.
-use Rattle.std.specs.Prelude.{◌≡◌, ℕ, ◌<◌, List, map, length, None, min}
+use Rattle.std.specs.Prelude.{◌≡◌, ℕ, ◌<◌, length, None, min}
 use Rattle.std.specs.List.{last_or}
 use Rattle.dcop_base.specs.Limits.{count_limit}
-use Rattle.protocol_steps.specs.declared.message.Message.{Message}
 use Rattle.protocol_steps.specs.Network.{Network, link, waiting}
 use Rattle.protocol_steps.specs.Effect.{deliveries}
-use Rattle.delivery_core.specs.State.{CoreView, waiting_from, inbox_at, last_sent, views_of}
+use Rattle.letter_queues.specs.Links.{letters_of, waiting_from}
+use Rattle.delivery_core.specs.State.{CoreView, inbox_at, last_sent, views_of}
 
 -- the most deliveries that are counted, 2^64 - 1
 abbrev pub most_counted : ℕ
 most_counted = count_limit
-
--- messages as letters of one sender
-abbrev pub letters_of : ℕ → List Message → List (ℕ × Message)
-letters_of j ms = map (λ m. (j, m)) ms
 
 -- the core state is this network state: it has the same views, on each link the same messages that
 -- wait and the same last message, and the same number of deliveries, or 2^64 - 1 if they are more

@@ -9,8 +9,8 @@ use Rattle.protocol_steps.specs.declared.event.EventFault.TheVariants.{Nobody}
 use Rattle.protocol_steps.specs.View.{ended_of}
 use Rattle.protocol_steps.specs.Step.{step_of}
 use Rattle.protocol_steps.specs.Run.{or_else, form_fault}
+use Rattle.letter_queues.specs.Inboxes.{add_letter, letters_by, inbox_after, short_in}
 use Rattle.delivery_core.specs.State.{SeatView}
-use Rattle.delivery_core.specs.Inboxes.{add_letter, letters_by, inbox_after, short_in}
 
 -- an agent after its step on the letters of these takes, and what it sends in that step
 abbrev pub seat_after : SeatView → List Take → SeatView

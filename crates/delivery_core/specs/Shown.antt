@@ -11,9 +11,10 @@ use Rattle.protocol_steps.specs.declared.event.EventFault.{EventFault}
 use Rattle.protocol_steps.specs.Network.{Network, taken_from, takes_at, link, waiting}
 use Rattle.protocol_steps.specs.Effect.{effect, deliveries}
 use Rattle.protocol_steps.specs.Run.{event_fault, run}
-use Rattle.delivery_core.specs.State.{SeatView, CoreView, waiting_from, last_taken, inbox_at, views_of}
-use Rattle.delivery_core.specs.NetworkState.{letters_of, most_counted}
-use Rattle.delivery_core.specs.Inboxes.{senders}
+use Rattle.letter_queues.specs.Links.{waiting_from, last_taken, letters_of}
+use Rattle.letter_queues.specs.Inboxes.{senders}
+use Rattle.delivery_core.specs.State.{SeatView, CoreView, inbox_at, views_of}
+use Rattle.delivery_core.specs.NetworkState.{most_counted}
 
 -- the view of an agent of this problem that has started: its neighbours are those of variable i
 pub record IsRunning (p : Dcop) (i : ℕ) (v : View) : Type 0 where

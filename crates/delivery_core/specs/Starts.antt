@@ -12,11 +12,11 @@ use Rattle.protocol_steps.specs.View.{View, TokenKind, DpopKind, AdoptKind, priv
 use Rattle.protocol_steps.specs.TreeAgents.{place_at}
 use Rattle.protocol_steps.specs.Step.{start_of}
 use Rattle.protocol_steps.specs.Network.{messages_to}
+use Rattle.letter_queues.specs.Links.{new_link, waiting_from, last_taken, letters_of}
+use Rattle.letter_queues.specs.Inboxes.{senders}
 use Rattle.delivery_core.specs.declared.start.Start.{Start}
 use Rattle.delivery_core.specs.declared.start.Start.TheVariants.{Token, Dpop, Adopt}
-use Rattle.delivery_core.specs.State.{LinkView, SeatView, waiting_from, last_taken, inbox_at, views_of}
-use Rattle.delivery_core.specs.NetworkState.{letters_of}
-use Rattle.delivery_core.specs.Inboxes.{senders}
+use Rattle.delivery_core.specs.State.{SeatView, inbox_at, views_of}
 
 -- what the agent of a variable knows when it is made: a token agent gets no tables
 abbrev pub knowledge_for : Dcop → Start → ℕ → Private
@@ -29,10 +29,6 @@ abbrev pub agent_of : Dcop → Start → ℕ → View
 agent_of p Token i = TokenKind (new_token (acquaintance_of p i))
 agent_of p (Dpop tree) i = DpopKind (new_dpop (known_by p i) (place_at p tree.paths i))
 agent_of p (Adopt tree error) i = AdoptKind (new_adopt (known_by p i) (place_at p tree.paths i) error)
-
--- a link on which nothing was sent
-abbrev pub new_link : ℕ → LinkView
-new_link j = record { from = j; taken = None; waiting = [] }
 
 -- a new agent with a new link for each neighbour
 abbrev pub new_seat : View → SeatView

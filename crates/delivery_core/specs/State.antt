@@ -1,18 +1,12 @@
 -- What a core state has: the view of each agent, what waits for it and what it took last, and the
 -- number of deliveries.
-use Rattle.std.specs.Prelude.{ℕ, List, [], map, length, Option, Some, None, ◌==◌, slice_get}
-use Rattle.std.specs.List.{find, last_or}
+use Rattle.std.specs.Prelude.{ℕ, List, [], map, length, Option, Some, None, slice_get}
 use Rattle.dcop_base.specs.Table.{CostTable}
 use Rattle.pseudotree.specs.declared.agent.Place.{Place}
 use Rattle.protocol_steps.specs.declared.message.Message.{Message}
 use Rattle.adopt_context.specs.Context.{Context}
 use Rattle.protocol_steps.specs.View.{View, context_of, place_of, table_of}
-
--- what one sender sent to an agent: the last letter that was taken, and the letters that wait
-pub record LinkView : Type 0 where
-  pub from : ℕ
-  pub taken : Option (ℕ × Message)
-  pub waiting : List (ℕ × Message)
+use Rattle.letter_queues.specs.Links.{LinkView, waiting_from, last_letter}
 
 -- an agent: its view, and what it was sent, by sender
 pub record SeatView : Type 0 where
@@ -23,29 +17,6 @@ pub record SeatView : Type 0 where
 pub record CoreView : Type 0 where
   pub seats : List SeatView
   pub delivered : ℕ
-
--- the link of an inbox from one sender, if there is one
-abbrev pub link_from : ℕ → List LinkView → Option LinkView
-link_from j inbox = find (λ l. l.from == j) inbox
-
-abbrev pub waiting_on : Option LinkView → List (ℕ × Message)
-waiting_on None = []
-waiting_on (Some l) = l.waiting
-
-abbrev pub taken_on : Option LinkView → Option (ℕ × Message)
-taken_on None = None
-taken_on (Some l) = l.taken
-
--- the letters of one sender that wait, and the last one that was taken
-abbrev pub waiting_from : List LinkView → ℕ → List (ℕ × Message)
-waiting_from inbox j = waiting_on (link_from j inbox)
-
-abbrev pub last_taken : List LinkView → ℕ → Option (ℕ × Message)
-last_taken inbox j = taken_on (link_from j inbox)
-
--- the last letter of one sender: the last one that waits, or else the last one that was taken
-abbrev pub last_letter : List LinkView → ℕ → Option (ℕ × Message)
-last_letter inbox j = last_or (last_taken inbox j) (waiting_from inbox j)
 
 abbrev pub inbox_of : Option SeatView → List LinkView
 inbox_of None = []

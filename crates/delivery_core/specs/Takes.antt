@@ -1,18 +1,9 @@
 -- What an agent of a core state takes in a turn.
-use Rattle.std.specs.Prelude.{◌≡◌, ℕ, ◌≤◌, ◌<◌, Bool, true, false, List, [], ◌∷◌, length, Some, ◌==◌, if◌then◌else◌, min, slice_get, slice_index_or}
-use Rattle.std.specs.List.{flat_map}
+use Rattle.std.specs.Prelude.{◌≡◌, ℕ, ◌≤◌, ◌<◌, Bool, false, List, [], length, Some, if◌then◌else◌, slice_get, slice_index_or}
 use Rattle.protocol_steps.specs.declared.event.Take.{Take}
 use Rattle.protocol_steps.specs.View.{ended_of}
-use Rattle.protocol_steps.specs.Rounds.{link_share}
-use Rattle.delivery_core.specs.State.{LinkView, SeatView}
-
--- a take of `count` messages from agent j, or of 64 if they are more; no take if there are none
-abbrev pub take_some : ℕ → ℕ → List Take
-take_some j count = if count == 0 then [] else record { from = j; count = min count link_share } ∷ []
-
--- a take of each link of an inbox on which something waits, of at most 64 letters
-abbrev pub inbox_takes : List LinkView → List Take
-inbox_takes inbox = flat_map (λ l. take_some l.from (length l.waiting)) inbox
+use Rattle.letter_queues.specs.Takes.{inbox_takes}
+use Rattle.delivery_core.specs.State.{SeatView}
 
 -- what an agent takes in its turn; nothing if it has ended
 abbrev pub seat_takes : SeatView → List Take
@@ -21,10 +12,6 @@ seat_takes x = if ended_of x.view then [] else inbox_takes x.inbox
 -- the agents from place `from` up to, but not including, place `to` take nothing
 abbrev pub TakeNothing : List SeatView → ℕ → ℕ → Type 0
 TakeNothing seats from to = (k : ℕ) (d : SeatView) → from ≤ k → k < to → seat_takes (slice_index_or seats k d) ≡ []
-
--- the flag at this place is set
-abbrev pub IsSet : List Bool → ℕ → Type 0
-IsSet flags k = slice_get flags k ≡ Some true
 
 -- each agent has a flag, and an agent whose flag is not set takes nothing
 abbrev pub KnowsBusy : List Bool → List SeatView → Type 0

@@ -10,10 +10,10 @@ ghost use Rattle.delivery_core.specs.Shown.{Shows, Moves};
 ghost use Rattle.delivery_core.specs.Exchanges.{Trades};
 ghost use Rattle.delivery_core.specs.Takes.{KeepCalm};
 
-use crate::arrivals::Arrivals;
 use crate::exchange::Exchange;
 use crate::seat::Seat;
 use dcop_base::{NoMemory, VarId};
+use letter_queues::Arrivals;
 use protocol_steps::{Letter, Parcel, Take};
 use std::alloc::Global;
 

@@ -6,19 +6,15 @@
 //! [`CoreState::next_busy`] for an agent that may take something and [`CoreState::list_takes`] for
 //! what it takes, and play the event by [`CoreState::follow`]. To show a run, use [`first_parcels`]
 //! and [`CoreState::happen_telling`], which report what each agent took and sent. [`outcome_of`]
-//! turns the last state into the outcome of the run.
+//! turns the last state into the outcome of the run. What agents were sent is in inboxes of
+//! `letter_queues`.
 #![tactic(auto)]
 
 mod agent;
-mod arrivals;
 mod deliver;
 mod exchange;
-mod inbox;
 mod lawful;
-mod letters;
-mod link;
 mod outcome;
-mod queue;
 mod replaying;
 mod seat;
 mod start;

@@ -4,16 +4,15 @@ ghost use Rattle.std.specs.Prelude.{◌≡◌, OnOk};
 ghost use Rattle.std.specs.List.{All, fold};
 ghost use Rattle.protocol_steps.specs.Step.{start_of, step_of};
 ghost use Rattle.protocol_steps.specs.Machine.{MayStart, MayReact, IsBatch, IsToNeighbour};
-ghost use Rattle.delivery_core.specs.Inboxes.{edit_link, with_letter, letters_by, keep_last};
+ghost use Rattle.letter_queues.specs.Inboxes.{edit_link, with_letter, letters_by, keep_last};
 ghost use Rattle.delivery_core.specs.SeatEvents.{seat_after, seat_sends};
 ghost use Rattle.delivery_core.specs.Takes.{seat_takes};
 
 use crate::agent::Agent;
 use crate::exchange::{Exchange, copy_letters, copy_parcels};
-use crate::inbox;
-use crate::link::Link;
 use dcop_base::{NoMemory, Sequence, VarId};
 use dcop_edge::Gate;
+use letter_queues::Inbox;
 use protocol_steps::{Letter, Parcel, Take};
 use std::alloc::Global;
 use std::marker::Model;
@@ -23,7 +22,7 @@ use std::mem;
 #[derive(Drop)]
 pub(crate) struct Seat {
     agent: Agent,
-    links: Vec<Link>,
+    inbox: Inbox,
 }
 
 impl Model for Seat {
@@ -31,15 +30,15 @@ impl Model for Seat {
 
     ghost Value = { SeatView };
 
-    ghost view = { λ s. record { view = s.agent; inbox = s.links.items } };
+    ghost view = { λ s. record { view = s.agent; inbox = s.inbox } };
 }
 
 impl Seat {
-    /// An agent with these links.
-    pub(crate) fn new(agent: Agent, links: Vec<Link>) -> Seat
-        ensures { result ≡ record { view = agent; inbox = links.items } }
+    /// An agent with what it was sent.
+    pub(crate) fn new(agent: Agent, inbox: Inbox) -> Seat
+        ensures { result ≡ record { view = agent; inbox = inbox } }
     {
-        Seat { agent, links }
+        Seat { agent, inbox }
     }
 
     /// The agent.
@@ -49,18 +48,18 @@ impl Seat {
         &self.agent
     }
 
-    /// The agent, without its links.
+    /// The agent, without what it was sent.
     pub(crate) fn into_agent(self) -> Agent
         ensures { result ≡ self.view }
     {
         self.agent
     }
 
-    /// The links of the agent: what it was sent, by sender.
-    pub(crate) fn links(&self) -> &[Link]
+    /// What the agent was sent, by sender.
+    pub(crate) fn inbox(&self) -> &Inbox
         ensures { result.now ≡ self.now.inbox }
     {
-        self.links.as_slice()
+        &self.inbox
     }
 
     /// Adds a letter to the link of this sender.
@@ -68,7 +67,7 @@ impl Seat {
         ensures { OnOk result (self.new
             ≡ record self.old { inbox = edit_link from (with_letter letter) self.old.inbox }) }
     {
-        inbox::add(self.links.as_mut_slice(), from, letter)
+        self.inbox.add(from, letter)
     }
 
     /// Starts the agent, and replaces the content of `parcels` by what it sends.
@@ -100,7 +99,7 @@ impl Seat {
         ensures sends { OnOk result (parcels.new.items ≡ seat_sends self.old takes.now) }
         ensures receivers { OnOk result (All (IsToNeighbour self.old.view) parcels.new.items) }
     {
-        inbox::gather(self.links.as_mut_slice(), takes, letters)?;
+        self.inbox.gather(takes, letters)?;
         self.answer(alloc, letters, parcels)
     }
 
@@ -122,14 +121,14 @@ impl Seat {
         ensures sent { OnOk result (exchange.new.sent.items ≡ seat_sends self.old takes.now) }
     {
         let mut letters = Vec::new(alloc);
-        inbox::gather(self.links.as_mut_slice(), takes, &mut letters)?;
+        self.inbox.gather(takes, &mut letters)?;
         copy_letters(letters.as_slice(), &mut exchange.took)?;
         self.answer(alloc, &mut letters, parcels)?;
         copy_parcels(parcels.as_slice(), &mut exchange.sent)?;
         Ok(())
     }
 
-    /// Activates the agent once on a batch that was removed from its links, and replaces the
+    /// Activates the agent once on a batch that was removed from its inbox, and replaces the
     /// content of `parcels` by what it sends. `letters` is emptied and keeps its memory.
     fn answer(
         &mut self,
@@ -153,7 +152,7 @@ impl Seat {
         self.agent.react(&batch, &mut out)?;
         *parcels = out.into_vec();
         *letters = batch.into_vec();
-        inbox::keep_all(self.links.as_mut_slice(), letters)?;
+        self.inbox.keep_all(letters)?;
         Ok(())
     }
 
@@ -172,6 +171,6 @@ impl Seat {
             return Ok(());
         }
         gate.pass(me);
-        inbox::list_takes(self.links.as_slice(), takes)
+        self.inbox.list_takes(takes)
     }
 }

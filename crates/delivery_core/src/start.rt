@@ -17,11 +17,10 @@ ghost use Rattle.delivery_core.specs.Starts.{agent_of, knowledge_for, new_seat, 
 ghost use Rattle.delivery_core.specs.Takes.{KeepCalm};
 
 use crate::agent::Agent;
-use crate::arrivals::Arrivals;
 use crate::deliver::post;
-use crate::inbox::new_links;
 use crate::seat::Seat;
 use dcop_base::{MAX_VARIABLES, NoMemory, Private, Problem, Sequence, VarId, problem_is_whole};
+use letter_queues::{Arrivals, Inbox};
 use problem_parts::{acquaintances, privates};
 use protocol_steps::{Outbox, Parcel, acquaintance_is_knowledge, places_fit, private_is_knowledge};
 use pseudotree::{Place, Tree, place};
@@ -102,9 +101,9 @@ fn make_seat(
     requires known { own ≡ knowledge_for problem.now start.now own.me }
     ensures { IfOk result (λ seat. seat ≡ new_seat (agent_of problem.now start.now own.me)) }
 {
-    let links = new_links(alloc, own.neighbours.as_slice())?;
+    let inbox = Inbox::new(alloc, own.neighbours.as_slice())?;
     let agent = make_agent(alloc, problem, start, own)?;
-    Ok(Seat::new(agent, links))
+    Ok(Seat::new(agent, inbox))
 }
 
 /// Makes the agents of a start, in order.

@@ -12,16 +12,15 @@ ghost use Rattle.delivery_core.specs.Takes.{seat_takes, TakeNothing};
 ghost use Rattle.delivery_core.specs.Exchanges.{Exchanges};
 ghost use Rattle.delivery_core.specs.Shown.{IsCore, IsSomeCore, Advances, Refuses, CountsWaiting};
 
-use crate::arrivals::Arrivals;
 use crate::deliver::{act, act_telling, count_of};
 use crate::exchange::Exchange;
-use crate::inbox::{count_from, last_of};
 use crate::lawful::fault_of;
 use crate::seat::Seat;
 use crate::start::{Start, make, start_all};
 use adopt_context::AgentContext;
 use dcop_base::{MAX_VARIABLES, NoMemory, Problem, Table, Val, VarId};
 use dcop_edge::Gate;
+use letter_queues::Arrivals;
 use protocol_steps::{Event, EventFault, Letter, Message, Parcel, Standing, Take};
 use pseudotree::Place;
 use std::alloc::Global;
@@ -130,7 +129,7 @@ impl CoreState {
         ensures { MatchOption result (last_sent self.now from to ≡ None)
             (λ m. last_sent self.now from to ≡ Some m.now) }
     {
-        match last_of(self.seats[to.0 as usize].links(), from) {
+        match self.seats[to.0 as usize].inbox().last_of(from) {
             Some(letter) => Some(&letter.message),
             None => None,
         }
@@ -143,7 +142,7 @@ impl CoreState {
         ensures network { CountsWaiting self.now to from result }
     {
         match self.seats.get(to.0 as usize) {
-            Some(seat) => count_from(seat.links(), from) as u64,
+            Some(seat) => seat.inbox().count_from(from) as u64,
             None => 0,
         }
     }

@@ -14,7 +14,7 @@ use Rattle.protocol_steps.specs.Network.{Desk, Network, start_state, batch}
 use Rattle.protocol_steps.specs.Effect.{desk_after, effect, effect_at, pending, has_ended, deliveries}
 use Rattle.protocol_steps.proofs.TallyLaws.{sum-set}
 use Rattle.protocol_steps.specs.Rounds.{link_share}
-use Rattle.delivery_core.specs.Takes.{take_some}
+use Rattle.letter_queues.specs.Takes.{take_some}
 use Rattle.delivery_turns.specs.Turns.{turn_takes, turn, after, turns, round, stops}
 
 -- how many messages these takes take

@@ -16,7 +16,7 @@ use Rattle.protocol_steps.specs.Effect.{desk_after, network_after, effect_at, pe
 use Rattle.protocol_steps.specs.Run.{journal}
 use Rattle.protocol_steps.specs.Rounds.{taken_in, link_share}
 use Rattle.protocol_steps.proofs.EventLaws.{get_same, get_other}
-use Rattle.delivery_core.specs.Takes.{take_some}
+use Rattle.letter_queues.specs.Takes.{take_some}
 use Rattle.delivery_turns.specs.Turns.{turn_takes, turn, after, turns, round}
 use Rattle.delivery_turns.proofs.StopLaws.{past-none}
 

@@ -13,7 +13,7 @@ use Rattle.protocol_steps.specs.Network.{Desk, Network, messages_to, sent_at, ta
 use Rattle.protocol_steps.specs.Effect.{pending, pending_at, has_ended, deliveries}
 use Rattle.protocol_steps.specs.RunEnds.{NothingPending, IsRunEnd}
 use Rattle.protocol_steps.specs.Rounds.{link_share}
-use Rattle.delivery_core.specs.Takes.{take_some}
+use Rattle.letter_queues.specs.Takes.{take_some}
 use Rattle.delivery_turns.specs.Turns.{turn_takes, event_with, turn, after, turns, round, stops, PlaysTo}
 
 module _ {A : Type 0} where

@@ -17,12 +17,14 @@ use Rattle.protocol_steps.specs.View.{View, ended_of}
 use Rattle.protocol_steps.specs.Network.{Network, waiting}
 use Rattle.protocol_steps.specs.Run.{or_else, form_fault, has_nothing, ascends_from}
 use Rattle.protocol_steps.specs.Effect.{effect, pending, pending_at, deliveries}
-use Rattle.delivery_core.specs.State.{LinkView, SeatView, CoreView, link_from, waiting_on, waiting_from, inbox_of}
-use Rattle.delivery_core.specs.Inboxes.{senders, short_in}
+use Rattle.letter_queues.specs.Links.{LinkView, link_from, waiting_on, waiting_from}
+use Rattle.letter_queues.specs.Inboxes.{senders, short_in}
+use Rattle.letter_queues.specs.Takes.{take_some, inbox_takes}
+use Rattle.delivery_core.specs.State.{SeatView, CoreView, inbox_of}
 use Rattle.delivery_core.specs.SeatEvents.{seat_fault, core_fault}
 use Rattle.protocol_steps.specs.Rounds.{link_share, AreShares}
 use Rattle.delivery_turns.specs.Turns.{turn_takes, event_with, turn}
-use Rattle.delivery_core.specs.Takes.{take_some, inbox_takes, seat_takes}
+use Rattle.delivery_core.specs.Takes.{seat_takes}
 use Rattle.delivery_turns.specs.CoreTurns.{Leads}
 use Rattle.delivery_core.specs.Shown.{Shows, IsCore}
 use Rattle.delivery_core.proofs.NearLaws.{from_filter}

@@ -6,8 +6,8 @@ use Rattle.protocol_steps.specs.declared.event.Event.{Event}
 use Rattle.protocol_steps.specs.Network.{Network}
 use Rattle.protocol_steps.specs.Effect.{effect, pending, has_ended, deliveries}
 use Rattle.protocol_steps.specs.Run.{run}
+use Rattle.letter_queues.specs.Takes.{take_some}
 use Rattle.delivery_core.specs.State.{CoreView}
-use Rattle.delivery_core.specs.Takes.{take_some}
 use Rattle.delivery_core.specs.NetworkState.{IsStateOf}
 
 -- what agent i takes in its turn: from each sender what is pending, at most 64 messages

@@ -5,9 +5,10 @@ use Rattle.std.proofs.lemmas.Bool.{cond-false, eqb-true, eqb-false, ne_eqb}
 use Rattle.std.proofs.lemmas.List.Quantifiers.{position-Some}
 use Rattle.dcop_base.proofs.FirstLaws.{Contains-cases, Contains-head, Contains-tail, Contains-none}
 use Rattle.protocol_steps.proofs.EventLaws.{not_then}
-use Rattle.delivery_core.specs.State.{LinkView, CoreView, link_from, count_waiting}
-use Rattle.delivery_core.specs.Inboxes.{senders}
-use Rattle.delivery_core.proofs.LinkLaws.{find_first, find_none}
+use Rattle.letter_queues.specs.Links.{LinkView, link_from}
+use Rattle.letter_queues.specs.Inboxes.{senders}
+use Rattle.letter_queues.proofs.LinkLaws.{find_first, find_none}
+use Rattle.delivery_core.specs.State.{CoreView, count_waiting}
 use Rattle.log_replay.specs.Queues.{QueueView, queue_to, stamps_of, receivers, edit_queue, without_next, filled, new_queue}
 
 abbrev pub is_to : ℕ → QueueView → Bool

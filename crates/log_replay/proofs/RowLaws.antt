@@ -8,7 +8,7 @@ use Rattle.protocol_steps.specs.declared.event.Take.{Take}
 use Rattle.protocol_steps.specs.Network.{taken_from}
 use Rattle.protocol_steps.specs.Run.{ascends_from}
 use Rattle.protocol_steps.proofs.EventLaws.{get_same, get_other}
-use Rattle.delivery_core.proofs.InboxLaws.{asc_parts}
+use Rattle.letter_queues.proofs.InboxLaws.{asc_parts}
 use Rattle.delivery_core.proofs.ShownLaws.{there_is}
 use Rattle.log_replay.specs.Queues.{QueueView, queue_to, stamps_of, row_of, row_at, stamps_at, receivers, edit_queue, without_next, take_off, greatest_by}
 use Rattle.log_replay.proofs.MaxLaws.{greatest, greatest_append}

@@ -13,7 +13,8 @@ use Rattle.protocol_steps.specs.Links.{taken_at, sent_in, step_in, IsEffect}
 use Rattle.protocol_steps.specs.Run.{event_fault}
 use Rattle.protocol_steps.proofs.RunLaws.{happens_next}
 use Rattle.protocol_steps.proofs.LinkLaws.{links_grow}
-use Rattle.delivery_core.specs.State.{LinkView, CoreView, waiting_on, inbox_at, count_waiting}
+use Rattle.letter_queues.specs.Links.{LinkView, waiting_on}
+use Rattle.delivery_core.specs.State.{CoreView, inbox_at, count_waiting}
 use Rattle.delivery_core.specs.Shown.{IsCore}
 use Rattle.delivery_core.proofs.NearLaws.{from_filter, near_back}
 use Rattle.delivery_core.proofs.RunLaws.{counts_waiting}

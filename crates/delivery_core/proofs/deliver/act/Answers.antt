@@ -4,10 +4,10 @@ use Rattle.std.proofs.lemmas.List.{length-set}
 use Rattle.protocol_steps.specs.declared.message.Message.{Message}
 use Rattle.protocol_steps.specs.declared.event.Event.{Event}
 use Rattle.protocol_steps.specs.Machine.{MayReact, IsBatch, IsToNeighbour}
+use Rattle.letter_queues.specs.Inboxes.{letters_by}
+use Rattle.letter_queues.proofs.ListLaws.{on_ok}
 use Rattle.delivery_core.specs.State.{SeatView}
-use Rattle.delivery_core.specs.Inboxes.{letters_by}
 use Rattle.delivery_core.specs.SeatEvents.{seat_after, seat_sends}
-use Rattle.delivery_core.proofs.ListLaws.{on_ok}
 use Rattle.delivery_core.proofs.ActLaws.{seated, read_seat, may_react, is_batch, all_below, moved}
 use Rattle.delivery_core.proofs.deliver.act.Goals as goal
 

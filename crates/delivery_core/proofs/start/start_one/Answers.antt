@@ -4,10 +4,10 @@ use Rattle.std.proofs.lemmas.List.{length-set}
 use Rattle.protocol_steps.specs.declared.message.Message.{Message}
 use Rattle.protocol_steps.specs.Step.{start_of}
 use Rattle.protocol_steps.specs.Machine.{IsToNeighbour}
+use Rattle.letter_queues.proofs.ListLaws.{on_ok}
 use Rattle.delivery_core.specs.State.{SeatView}
 use Rattle.delivery_core.specs.SeatEvents.{deliver_all}
 use Rattle.delivery_core.specs.Starts.{Begun}
-use Rattle.delivery_core.proofs.ListLaws.{on_ok}
 use Rattle.delivery_core.proofs.StartLaws.{agent_there, may_start, start_below, start_next}
 use Rattle.delivery_core.proofs.start.start_one.Goals as goal
 

@@ -1,11 +1,11 @@
 use Rattle.std.proofs.Common.{◌≡◌, List, length, None, min, arith, sym, ap, subst, ◌∙◌}
 use Rattle.protocol_steps.specs.declared.event.Event.{Event}
 use Rattle.protocol_steps.specs.Effect.{effect, deliveries}
+use Rattle.letter_queues.proofs.ListLaws.{written_back}
 use Rattle.delivery_core.specs.State.{SeatView, CoreView}
 use Rattle.delivery_core.specs.NetworkState.{most_counted}
 use Rattle.delivery_core.specs.SeatEvents.{core_fault}
 use Rattle.delivery_core.specs.Shown.{IsCore, Shows}
-use Rattle.delivery_core.proofs.ListLaws.{written_back}
 use Rattle.delivery_core.proofs.ShownLaws.{fault_same}
 use Rattle.delivery_core.proofs.ActLaws.{seated}
 use Rattle.delivery_core.proofs.CountLaws.{deliveries_after, counts, counted}

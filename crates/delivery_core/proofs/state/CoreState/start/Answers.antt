@@ -1,12 +1,12 @@
 use Rattle.std.proofs.Common.{◌≡◌, ℕ, ◌≤◌, List, map, length, min, sym, ap, subst, ◌∙◌, arith}
 use Rattle.std.proofs.lemmas.List.{length-map}
 use Rattle.dcop_base.specs.Limits.{variable_limit}
+use Rattle.letter_queues.proofs.ListLaws.{written_back}
 use Rattle.delivery_core.specs.State.{SeatView}
 use Rattle.delivery_core.specs.NetworkState.{most_counted}
 use Rattle.delivery_core.specs.Agents.{agents_of, network_of}
 use Rattle.delivery_core.specs.Starts.{new_seat, Begun}
 use Rattle.delivery_core.specs.Shown.{Shows}
-use Rattle.delivery_core.proofs.ListLaws.{written_back}
 use Rattle.delivery_core.proofs.StartLaws.{begun_agents, begun_all, none_delivered}
 use Rattle.delivery_core.proofs.state.CoreState.start.Goals as goal
 

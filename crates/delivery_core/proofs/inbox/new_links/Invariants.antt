@@ -1,6 +1,0 @@
-use Rattle.std.proofs.Common.{◌≡◌, map, take}
-use Rattle.delivery_core.specs.Starts.{new_link}
-use Rattle.delivery_core.proofs.inbox.new_links.Given as goal
-
-abbrev pub invariant-loop-from : goal.invariant-loop-from
-invariant-loop-from l = l.links.items ≡ map new_link (take l.from-index l.senders)

@@ -1,0 +1,4 @@
+pub mod ListLaws
+pub mod LinkLaws
+mod FlagLaws
+pub mod InboxLaws

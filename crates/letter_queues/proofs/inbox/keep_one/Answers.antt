@@ -1,0 +1,15 @@
+use Rattle.std.proofs.Common.{ap, sym, ◌∙◌}
+use Rattle.letter_queues.proofs.ListLaws.{on_ok}
+use Rattle.std.specs.List.{slice_set}
+use Rattle.letter_queues.specs.Links.{LinkView}
+use Rattle.letter_queues.specs.Inboxes.{with_last}
+use Rattle.letter_queues.proofs.LinkLaws.{edited, unedited}
+use Rattle.letter_queues.proofs.inbox.keep_one.Goals as goal
+
+pub returns-in-Some : goal.returns-in-Some
+returns-in-Some c =
+    on_ok c.keep.result c.keep.ensures (λ new. ap (λ (x : LinkView). slice_set c.args.links.now c.in-Some.at x) new
+    ∙ edited c.args.from (with_last c.args.letter) c.args.links.now c.in-Some.at c.index-links-at.result (sym c.place_of.ensures ∙ c.in-Some.is))
+
+pub returns-in-None : goal.returns-in-None
+returns-in-None c = unedited c.args.from (with_last c.args.letter) c.args.links.now (sym c.place_of.ensures ∙ c.in-None.is)
