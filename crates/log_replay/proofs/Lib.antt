@@ -5,3 +5,7 @@ mod SentLaws
 mod FollowLaws
 mod StartLaws
 mod ReplayLaws
+mod TakesLaws
+mod StampOrderLaws
+mod NoteLaws
+mod LoggedLaws
