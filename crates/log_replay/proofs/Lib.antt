@@ -6,6 +6,5 @@ mod FollowLaws
 mod StartLaws
 mod ReplayLaws
 mod TakesLaws
-mod StampOrderLaws
 mod NoteLaws
 mod LoggedLaws

@@ -28,8 +28,8 @@ use Rattle.run_log.specs.Logs.{entries_of, events_of}
 use Rattle.run_log.specs.LogStamps.{start_stamps, stamp_difference, HasRightStamps}
 use Rattle.run_log.proofs.TakenLaws.{logged}
 use Rattle.run_log.proofs.StampStepLaws.{Marks, marks_start}
+use Rattle.run_log.proofs.LogStampLaws.{Followed, followed, right_from}
 use Rattle.log_replay.specs.Notes.{NotesView, AreNotes, IsLogOfRun, IsLogBy}
-use Rattle.log_replay.proofs.StampOrderLaws.{Followed, followed, right_from}
 
 -- an activation as an entry with its agent
 abbrev signed : Deed → ℕ × Entry

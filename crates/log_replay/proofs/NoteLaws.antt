@@ -33,6 +33,7 @@ use Rattle.run_log.specs.declared.log.LogEvent.{LogEvent}
 use Rattle.run_log.specs.LogStamps.{LinkStamps, start_stamps, stamps_after, taken_stamps}
 use Rattle.run_log.proofs.TakenLaws.{logged, takes_again, gained_first}
 use Rattle.run_log.proofs.StampStepLaws.{Marks, right_is as right_of, marks_after, marks_start}
+use Rattle.run_log.proofs.LogStampLaws.{own_alone, Next, next_of}
 use Rattle.delivery_core.specs.State.{SeatView, CoreView}
 use Rattle.delivery_core.specs.Shown.{IsCore}
 use Rattle.log_replay.specs.Queues.{stamp_by}
@@ -40,7 +41,6 @@ use Rattle.log_replay.specs.Notes.{NotesView, entered, first_notes, noted, AreNo
 use Rattle.log_replay.proofs.FollowLaws.{all_known, agent_there, senders_there, right_is, right_few, are_after}
 use Rattle.log_replay.proofs.StartLaws.{are_first}
 use Rattle.log_replay.proofs.TakesLaws.{none_past, fits_from}
-use Rattle.log_replay.proofs.StampOrderLaws.{own_alone, Next, next_of}
 
 module _ (p : Dcop) (made : List View) (before : List Event) (net : Network) (v : NotesView) (k : AreNotes p made before net v) (i : ℕ) (ts : List Take) where
   abbrev n : ℕ
