@@ -4,7 +4,7 @@ use Rattle.std.specs.List.{fold, slice_set, list_any, All}
 use Rattle.std.specs.Option.{option_map}
 use Rattle.std.proofs.lemmas.Bool.{cases_eq, cases_lt, eq-eqb, ne_eqb}
 use Rattle.std.proofs.lemmas.Option.{same_Some, slice_get_within, slice_get_cases}
-use Rattle.std.proofs.lemmas.List.{append-nil, map-append, length-map, length-set, length-replicate, get_or-set_same, get_or-set_other, get_or_past, get_or-replicate}
+use Rattle.std.proofs.lemmas.List.{append-nil, map-append, length-append, length-map, length-set, length-replicate, get_or-set_same, get_or-set_other, get_or_past, get_or-replicate}
 use Rattle.std.proofs.lemmas.List.Concat.{flat_map-append}
 use Rattle.dcop_base.specs.Limits.{amount_limit, count_limit}
 use Rattle.dcop_base.specs.Problem.{Dcop}
@@ -14,7 +14,7 @@ use Rattle.protocol_steps.specs.declared.event.Event.{Event}
 use Rattle.protocol_steps.specs.declared.event.Entry.{Entry}
 use Rattle.protocol_steps.specs.View.{View, ended_of}
 use Rattle.protocol_steps.specs.Step.{start_of}
-use Rattle.protocol_steps.specs.Network.{Network, start_state, taken_from, waiting}
+use Rattle.protocol_steps.specs.Network.{Network, start_state, taken_from, waiting, link}
 use Rattle.protocol_steps.specs.Effect.{effect}
 use Rattle.protocol_steps.specs.Run.{event_fault, form_fault, too_many, ascends_from}
 use Rattle.protocol_steps.specs.Stamps.{Gain, Deed, Account, account_of}
@@ -38,7 +38,8 @@ use Rattle.delivery_core.specs.State.{SeatView, CoreView}
 use Rattle.delivery_core.specs.Shown.{IsCore}
 use Rattle.log_replay.specs.Queues.{stamp_by}
 use Rattle.log_replay.specs.Notes.{NotesView, entered, first_notes, noted, AreNotes, MayBeNotes, KeepNotes, HasHappened, NotesEvent, StartNotes}
-use Rattle.log_replay.proofs.FollowLaws.{all_known, agent_there, senders_there, right_is, right_few, are_after}
+use Rattle.log_replay.proofs.MaxLaws.{greatest_replicate}
+use Rattle.log_replay.proofs.FollowLaws.{all_known, agent_there, senders_there, right_is, right_few, right_within, last_within, sent_within, are_after}
 use Rattle.log_replay.proofs.StartLaws.{are_first}
 use Rattle.log_replay.proofs.TakesLaws.{none_past, fits_from}
 
@@ -80,6 +81,13 @@ module _ (p : Dcop) (made : List View) (before : List Event) (net : Network) (v 
 
     pub stamp_few : stamp ≤ count_limit
     stamp_few = right_few p net k.marks v.stamps le k.stamps views_size desks_size fine
+
+    -- no stamp is above the number of events
+    pub stamp_within : stamp ≤ length before + 1
+    stamp_within = right_within p net k.marks v.stamps le k.stamps views_size desks_size fine (length before) k.few k.bounded
+
+    longer : length (before ++ e ∷ []) ≡ length before + 1
+    longer = length-append before (e ∷ [])
 
     abbrev next : Network
     next = effect net e
@@ -225,7 +233,7 @@ module _ (p : Dcop) (made : List View) (before : List Event) (net : Network) (v 
 
       -- the notes after the event
       pub noted_next : AreNotes p made (before ++ e ∷ []) next (noted core i ts v)
-      noted_next = record {
+      noted_next = let within = stamp_within in let size = longer in record {
         agents = k.agents;
         now = k.now;
         starts = k.starts;
@@ -237,6 +245,9 @@ module _ (p : Dcop) (made : List View) (before : List Event) (net : Network) (v 
         marks = s;
         last = later.last;
         sent = later.sent;
+        few = λ j. last_within p net k.marks v.stamps le k.stamps views_size desks_size fine (length (before ++ e ∷ [])) (omega (arith, within, size)) j (let old = k.few j in omega (arith, old, size));
+        bounded = λ a b.
+            sent_within p net k.marks v.stamps le k.stamps views_size desks_size fine (length (before ++ e ∷ [])) (omega (arith, within, size)) a b (let old = k.bounded a b in omega (arith, old, size));
         stamps = are_after p net k.marks v.stamps le k.stamps views_size desks_size fine core after small;
         sized = length-set v.journals i _ ∙ k.sized;
         journals = journals;
@@ -288,6 +299,8 @@ module _ (p : Dcop) (made : List View) (core : CoreView) (is : IsCore p (start_s
     marks = start_stamps (start_state made);
     last = first_marks.last;
     sent = first_marks.sent;
+    few = λ i. omega arith;
+    bounded = λ i j. let most = greatest_replicate (length (link (start_state made).desks j i)) 0 in omega (arith, most);
     stamps = are_first p made core is;
     sized = length-replicate (length p.sizes) none ∙ sym many;
     journals = no_entries;
@@ -312,6 +325,9 @@ module _ (i : ℕ) (ts : List Take) (s : CoreView) (notes : Option NotesView) (h
 
   pub happened_few : (v : NotesView) → notes ≡ Some v → stamp_by v.stamps i ts ≤ count_limit
   happened_few v is = stamp_few h.0 h.2 h.3 h.1 v (kept v is) i ts h.4
+
+  pub happened_small : (v : NotesView) → notes ≡ Some v → stamp_by v.stamps i ts ≤ amount_limit
+  happened_small v is = let within = stamp_within h.0 h.2 h.3 h.1 v (kept v is) i ts h.4 in let few = h.7 in omega (arith, within, few)
 
 -- the notes after the event, if they are kept
 pub notes_event : (i : ℕ) (ts : List Take) (s : CoreView) (old new : Option NotesView) → new ≡ option_map (noted s i ts) old

@@ -1,7 +1,7 @@
 -- What is kept of a run while its agents are played: the stamps, and each agent's journal.
-use Rattle.std.specs.Prelude.{◌≡◌, ℕ, ◌<◌, ◌≤◌, List, [], ◌∷◌, ◌++◌, map, length, replicate, Option, Some, None, IfSome, is_some, slice_set}
+use Rattle.std.specs.Prelude.{◌≡◌, ℕ, ◌<◌, ◌≤◌, List, [], ◌∷◌, ◌++◌, map, length, replicate, max, Option, Some, None, IfSome, is_some, slice_set}
 use Rattle.std.specs.List.{fold}
-use Rattle.dcop_base.specs.Limits.{variable_limit}
+use Rattle.dcop_base.specs.Limits.{variable_limit, amount_limit}
 use Rattle.dcop_base.specs.Problem.{Dcop}
 use Rattle.protocol_steps.specs.declared.message.Message.{Message}
 use Rattle.protocol_steps.specs.declared.event.Take.{Take}
@@ -51,8 +51,8 @@ noted s i ts v = record {
 
 -- the notes are those of a run: of agents made with these views, with these events, to this
 -- network. Each agent's account allows its activations, and so their stamps are right; the accounts
--- show the network; the stamps on the links are those of the accounts; and each agent's journal has
--- its activations
+-- show the network; the stamps on the links are those of the accounts, and none is above the number
+-- of events; and each agent's journal has its activations
 pub record AreNotes (p : Dcop) (made : List View) (es : List Event) (net : Network) (v : NotesView) : Type 0 where
   pub agents : length made ≡ length p.sizes
   pub now : ℕ → Account
@@ -65,6 +65,8 @@ pub record AreNotes (p : Dcop) (made : List View) (es : List Event) (net : Netwo
   pub marks : LinkStamps
   pub last : (i : ℕ) → i < length made → marks.last i ≡ (after_all now deeds i).stamp
   pub sent : (i j : ℕ) → i < length made → j < length made → marks.sent i j ≡ stamps_in (posted_to i (after_all now deeds j).posted)
+  pub few : (i : ℕ) → marks.last i ≤ length es
+  pub bounded : (i j : ℕ) → fold max 0 (marks.sent i j) ≤ length es
   pub stamps : AreStamps p net marks v.stamps
   pub sized : length v.journals ≡ length made
   pub journals : (i : ℕ) → journal_at v.journals i ≡ journal_of (deeds_of i deeds)
@@ -82,11 +84,11 @@ KeepNotes p net es old new =
     × ((made : List View) (before : List Event) → MayBeNotes p made before net old → MayBeNotes p made (before ++ es) (fold effect net es) new)
 
 -- an event of agent i with these takes has led to a core state, from a network of a run whose notes
--- these are, if notes are kept
+-- these are, if notes are kept; the run has fewer events than amount_limit
 abbrev pub HasHappened : ℕ → List Take → CoreView → Option NotesView → Type 0
 HasHappened i ts s notes =
     (p : Dcop) × (net : Network) × (made : List View) × (before : List Event) × (event_fault net (record { agent = i; takes = ts }) ≡ None)
-    × IsCore p (effect net (record { agent = i; takes = ts })) s × MayBeNotes p made before net notes
+    × IsCore p (effect net (record { agent = i; takes = ts })) s × MayBeNotes p made before net notes × (length before < amount_limit)
 
 -- the notes after an event of agent i with these takes that has led to this core state
 abbrev pub NotesEvent : ℕ → List Take → CoreView → Option NotesView → Option NotesView → Type 0

@@ -2,12 +2,12 @@
 
 ghost use Rattle.std.specs.Prelude.{◌≡◌, ◌<◌, ◌≤◌, ◌++◌, ◌∷◌, [], length, replicate, Some, IfOk, OnOk, is_some, option_map};
 ghost use Rattle.std.specs.List.{All};
-ghost use Rattle.dcop_base.specs.Limits.{amount_limit, count_limit};
+ghost use Rattle.dcop_base.specs.Limits.{count_limit};
 ghost use Rattle.log_replay.specs.Queues.{stamp_by};
 ghost use Rattle.log_replay.specs.Notes.{NotesView, entered, first_notes, noted, HasHappened, NotesEvent, StartNotes, AreSomeNotes, IsLogBy, MayBeLogBy};
 
 use crate::stamps::Stamps;
-use dcop_base::{CAP, NoMemory, Problem, VarId};
+use dcop_base::{NoMemory, Problem, VarId};
 use delivery_core::CoreState;
 use protocol_steps::{Entry, Journal, JournalList, Take, TakeList};
 use run_log::{Log, merge};
@@ -73,8 +73,7 @@ impl Notes {
         })
     }
 
-    /// Notes an event of this agent with these takes, which has led to this core state. A stamp
-    /// above 2^62 is refused; as many events fit into no memory.
+    /// Notes an event of this agent with these takes, which has led to this core state.
     fn add(
         &mut self,
         alloc: Global,
@@ -87,13 +86,9 @@ impl Notes {
         requires journal { agent < length self.old.journals }
         requires senders { All (λ t. t.from < length self.old.stamps.rows) takes.now }
         requires few { stamp_by self.old.stamps agent takes.now ≤ count_limit }
-        ensures small { OnOk result (stamp_by self.old.stamps agent takes.now ≤ amount_limit) }
-        ensures noted { OnOk result (self.new ≡ noted core.now agent takes.now self.old) }
+        ensures { OnOk result (self.new ≡ noted core.now agent takes.now self.old) }
     {
         let stamp = self.stamps.take(agent, takes);
-        if stamp > CAP {
-            return Err(NoMemory);
-        }
         self.stamps.send(core, agent, stamp)?;
         let entry = Entry {
             stamp,
@@ -137,9 +132,7 @@ fn note_in(
     requires journal { (v : NotesView) → notes.old ≡ Some v → agent < length v.journals }
     requires senders { (v : NotesView) → notes.old ≡ Some v → All (λ t. t.from < length v.stamps.rows) takes.now }
     requires few { (v : NotesView) → notes.old ≡ Some v → stamp_by v.stamps agent takes.now ≤ count_limit }
-    ensures noted { OnOk result (notes.new ≡ option_map (noted core.now agent takes.now) notes.old) }
-    ensures small { OnOk result ((v : NotesView) → notes.old ≡ Some v
-        → stamp_by v.stamps agent takes.now ≤ amount_limit) }
+    ensures { OnOk result (notes.new ≡ option_map (noted core.now agent takes.now) notes.old) }
 {
     if let Some(kept) = notes {
         kept.add(alloc, core, agent, takes)?;

@@ -1,4 +1,4 @@
-use Rattle.log_replay.proofs.NoteLaws.{happened_last, happened_row, happened_journal, happened_senders, happened_few, notes_event}
+use Rattle.log_replay.proofs.NoteLaws.{happened_last, happened_row, happened_journal, happened_senders, happened_few, happened_small, notes_event}
 use Rattle.log_replay.proofs.notes.note.Goals as goal
 
 pub note_in-requires-clause-agent : goal.note_in-requires-clause-agent
@@ -17,4 +17,5 @@ pub note_in-requires-clause-few : goal.note_in-requires-clause-few
 note_in-requires-clause-few c = happened_few c.args.agent c.args.takes.now c.args.core.now c.args.notes.now c.requires
 
 pub returns : goal.returns
-returns c = notes_event c.args.agent c.args.takes.now c.args.core.now c.args.notes.now c.note_in.new.notes c.in_ok-note_in.ensures.noted c.in_ok-note_in.ensures.small
+returns c = notes_event c.args.agent c.args.takes.now c.args.core.now c.args.notes.now c.note_in.new.notes c.in_ok-note_in.ensures
+    (happened_small c.args.agent c.args.takes.now c.args.core.now c.args.notes.now c.requires)
