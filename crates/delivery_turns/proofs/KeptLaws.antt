@@ -1,7 +1,7 @@
 -- Notes of a run that are kept turn by turn.
-use Rattle.std.proofs.Common.{◌≡◌, ℕ, Bool, true, false, ◌==◌, if◌then◌else◌, List, [], ◌∷◌, ◌++◌, length, Option, Some, None, refl, sym, ap, subst, ◌∙◌}
+use Rattle.std.proofs.Common.{◌≡◌, ℕ, ◌+◌, ◌≤◌, Bool, true, false, ◌==◌, if◌then◌else◌, List, [], ◌∷◌, ◌++◌, length, Option, Some, None, refl, sym, ap, subst, ◌∙◌, arith}
 use Rattle.std.proofs.lemmas.Option.{same_Some}
-use Rattle.std.proofs.lemmas.List.{append-nil, append_assoc}
+use Rattle.std.proofs.lemmas.List.{append-nil, append_assoc, length-append}
 use Rattle.std.proofs.lemmas.List.Sums.{fold-append}
 use Rattle.dcop_base.specs.Problem.{Dcop}
 use Rattle.protocol_steps.specs.declared.event.Event.{Event}
@@ -52,8 +52,16 @@ module _ (p : Dcop) where
   keep_then net mid es fs a b c is k j = keep_join net es fs a b c k (subst (λ (m : Network). KeepNotes p m fs b c) (sym is) j)
 
 -- the notes after some events
-pub still_noted : (s t : CoreView) (a b : Option NotesView) (n : IsSomeNoted s a) (es : List Event) (mid : Network) → after n.1 es ≡ mid → IsCore n.0 mid t → KeepNotes n.0 n.1 es a b → IsSomeNoted t b
-still_noted s t a b n es mid is core k = (n.0, mid, n.2, n.3 ++ es, core, subst (λ (m : Network). MayBeNotes n.0 n.2 (n.3 ++ es) m b) is (k.1 n.2 n.3 n.5))
+pub still_noted : (more left : ℕ) (s t : CoreView) (a b : Option NotesView) (n : IsSomeNoted more s a) (es : List Event) (mid : Network) → after n.1 es ≡ mid → IsCore n.0 mid t → KeepNotes n.0 n.1 es a b
+    → length es + left ≤ more → IsSomeNoted left t b
+still_noted more left s t a b n es mid is core k fits =
+    let size = length-append n.3 es in
+    let old = n.6 in
+    (n.0, mid, n.2, n.3 ++ es, core, subst (λ (m : Network). MayBeNotes n.0 n.2 (n.3 ++ es) m b) is (k.1 n.2 n.3 n.5), omega (arith, size, old, fits))
+
+-- fewer further events
+pub less_noted : (more left : ℕ) (s : CoreView) (a : Option NotesView) → left ≤ more → IsSomeNoted more s a → IsSomeNoted left s a
+less_noted more left s a le n = (n.0, n.1, n.2, n.3, n.4, n.5, let old = n.6 in omega (arith, old, le))
 
 -- the event of a turn
 module _ (k : ℕ) (s t : CoreView) (ts : List Take) (takes : TakesTurn k s t ts) where
@@ -76,11 +84,11 @@ module _ (k : ℕ) (s t : CoreView) (ts : List Take) (takes : TakesTurn k s t ts
         let one : Leads p net (e ∷ []) mid t = subst (λ (es : List Event). Leads p net es mid t) (event_is net with) leads in
         (one_lawful net mid e one.ran, subst (λ (m : Network). IsCore p m t) (sym one.is) one.core)
 
-    pub turn_happened : (a : Option NotesView) → IsSomeNoted s a → HasHappened k ts t a
+    pub turn_happened : (a : Option NotesView) → IsSomeNoted 1 s a → HasHappened k ts t a
     turn_happened a n =
         let one = takes n.0 n.1 n.4 in
         let both = fine n.0 n.1 one.0 one.1 one.2 in
-        (n.0, n.1, n.2, n.3, both.0, both.1, n.5)
+        (n.0, n.1, n.2, n.3, both.0, both.1, n.5, let few = n.6 in omega (arith, few))
 
     pub turn_noted : (a b : Option NotesView) → NotesEvent k ts t a b → NotesTurn k s a t b ts
     turn_noted a b noted = λ p net core.

@@ -71,6 +71,7 @@ module _ (p : Dcop) (budget : ℕ) (made : List View) (old new : CoreView) (a b 
           stopped = out.4;
           told = told-of p end new played.outcome out.5 (let none = none-taken made in let c = out.6 in omega (arith, none, c, few)) tells;
         };
+        due = record { busy = out.8; few = out.9 };
         asked = logged ∙ out.7.0 ∙ asked;
         kept = log p made (all_in rounds) end leads noted-end;
       }

@@ -4,6 +4,7 @@ use Rattle.std.specs.List.{flat_map}
 use Rattle.std.proofs.lemmas.Bool.{cases_eq, eqb-true, eqb-false, leb-false, or_parts}
 use Rattle.std.proofs.lemmas.List.{append-nil, length-append, length-map}
 use Rattle.std.proofs.lemmas.List.Concat.{flat_map-append}
+use Rattle.std.proofs.lemmas.List.Sums.{fold-append}
 use Rattle.std.proofs.lemmas.List.Elements.{All-nil}
 use Rattle.std.proofs.lemmas.Nat.{mul-le}
 use Rattle.dcop_base.specs.Limits.{variable_limit}
@@ -13,14 +14,14 @@ use Rattle.protocol_steps.specs.declared.event.Take.{Take}
 use Rattle.protocol_steps.specs.declared.run_end.RunEnd.{RunEnd}
 use Rattle.protocol_steps.specs.View.{View}
 use Rattle.protocol_steps.specs.Network.{Network}
-use Rattle.protocol_steps.specs.Effect.{has_ended, deliveries}
+use Rattle.protocol_steps.specs.Effect.{effect, has_ended, deliveries}
 use Rattle.protocol_steps.specs.Run.{journal}
 use Rattle.protocol_steps.specs.RunEnds.{IsRunEnd}
 use Rattle.protocol_steps.specs.Rounds.{most_events, AreShares, IsRound, AreRounds}
 use Rattle.delivery_core.specs.State.{CoreView}
 use Rattle.delivery_core.specs.NetworkState.{most_counted}
 use Rattle.delivery_core.specs.Takes.{TakeNothing}
-use Rattle.delivery_turns.specs.Turns.{turn_takes, event_with, turn, after, round, stops}
+use Rattle.delivery_turns.specs.Turns.{turn_takes, event_with, turn, after, round, AreBusy, stops}
 use Rattle.delivery_core.specs.Shown.{IsCore}
 use Rattle.log_replay.specs.Notes.{NotesView, KeepNotes}
 use Rattle.delivery_turns.specs.CoreTurns.{Leads, Turned, is_over}
@@ -253,6 +254,12 @@ sprint_end p net k s t a b c still none is le from takes =
     let next = sprint_next p net k s t a b c still none from takes in
     sprint_all p net (k + 1) t a c still le (next.0, sym (ap (λ (x : Bool). still && x) is ∙ and_true still) ∙ next.1, next.2)
 
+-- rounds that are busy, and one more
+busy_snoc : (net mid : Network) (pieces : List (List Event)) (es : List Event) → after net (flat_map (λ fs. fs) pieces) ≡ mid → AreBusy net pieces → has_ended mid ≡ false → es ≢ [] → AreBusy net (pieces ++ es ∷ [])
+busy_snoc net mid [] es is busy awake some = (subst (λ (n : Network). has_ended n ≡ false) (sym is) awake, some, tt)
+busy_snoc net mid (fs ∷ pieces) es is busy awake some =
+    (busy.0, busy.1, busy_snoc (after net fs) mid pieces es (sym (fold-append effect net fs (flat_map (λ gs. gs) pieces)) ∙ is) busy.2 awake some)
+
 -- rounds, and one more after them
 rounds_snoc : (budget : ℕ) (net mid end : Network) (pieces : List (List Event)) (es : List Event) → AreRounds budget net pieces mid → deliveries mid < budget → IsRound mid es end → AreRounds budget net (pieces ++ es ∷ []) end
 rounds_snoc budget net mid end [] es are lt one = (subst (λ (n : Network). deliveries n < budget) (sym are) lt, (end, subst (λ (n : Network). IsRound n es end) (sym are) one, refl))
@@ -267,7 +274,7 @@ all_snoc pieces es =
     ap (λ (fs : List Event). all_in pieces ++ fs) (sym (append-nil es)) ∙ sym (flat_map-append (λ (fs : List Event). fs) pieces (es ∷ []))
 
 pub sprinted_none : (p : Dcop) (budget : ℕ) (first : Network) (s : CoreView) (a : Option NotesView) → IsCore p first s → (h : Sprinted p budget first 0 s) × KeepNotes p first (flat_map (λ es. es) h.pieces) a a
-sprinted_none p budget first s a core = (record { pieces = []; mid = first; are = refl; core = core; spent = omega arith; counted = omega arith }, keep_none p first a)
+sprinted_none p budget first s a core = (record { pieces = []; mid = first; are = refl; busy = tt; played = refl; few = omega arith; core = core; spent = omega arith; counted = omega arith }, keep_none p first a)
 
 -- the notes of rounds, and of one more
 keep_round : (p : Dcop) (budget : ℕ) (first : Network) (k : ℕ) (s : CoreView) (a b c : Option NotesView) (h : Sprinted p budget first k s) (es : List Event) → KeepNotes p first (all_in h.pieces) a b → KeepNotes p h.mid es b c
@@ -292,6 +299,10 @@ sprinted_next p budget first k s t a b c still le from over plays moved =
         pieces = h.pieces ++ events ∷ [];
         mid = one.mid;
         are = rounds_snoc budget first h.mid one.mid h.pieces events h.are below is_round;
+        busy = busy_snoc first h.mid h.pieces events (ran_after first h.mid (all_in h.pieces) (rounds_are_a_run budget first h.mid h.pieces h.are)) h.busy
+        (or_parts (has_ended h.mid) (nat_le budget (deliveries h.mid)) on).0 (λ none. some (ap (λ (es : List Event). length es) none));
+        played = length-append h.pieces (events ∷ []) ∙ ap (λ (m : ℕ). m + 1) h.played;
+        few = let spent = h.spent in omega (arith, spent, below);
         core = one.leads.core;
         spent = let more = one.leads.more in let spent = h.spent in elim (cases_eq (length events) 0) [ inl none ↦ absurd (some none) | inr ne ↦ omega (arith, more, spent, ne) ];
         counted = let c = one.counted in omega (arith, c, below);
@@ -302,16 +313,16 @@ sprinted_next p budget first k s t a b c still le from over plays moved =
 -- playing stops
 pub sprints_stop : (p : Dcop) (budget : ℕ) (first : Network) (k : ℕ) (s : CoreView) (a b : Option NotesView) → (h : Sprinted p budget first k s) → KeepNotes p first (flat_map (λ es. es) h.pieces) a b → stops budget h.mid ≡ true
     → (pieces : List (List Event)) × (end : Network) × (how : RunEnd) × AreRounds budget first pieces end × IsRunEnd budget end how × IsCore p end s × (deliveries end ≤ deliveries first + budget + most_events * turn_share)
-    × KeepNotes p first (flat_map (λ es. es) pieces) a b
+    × KeepNotes p first (flat_map (λ es. es) pieces) a b × AreBusy first pieces × (length pieces ≤ budget)
 sprints_stop p budget first k s a b h keep stop =
     let how = stopped-how budget h.mid (core_desks p h.mid s h.core) stop in
-    (h.pieces, h.mid, how.0, h.are, how.1, h.core, h.counted, keep)
+    (h.pieces, h.mid, how.0, h.are, how.1, h.core, h.counted, keep, h.busy, let played = h.played in let few = h.few in omega (arith, played, few))
 
 -- a round had no event
 pub sprints_still : (p : Dcop) (budget : ℕ) (first : Network) (k : ℕ) (s t : CoreView) (a b c : Option NotesView) (still : Bool) → (h : Sprinted p budget first k s) × KeepNotes p first (flat_map (λ es. es) h.pieces) a b
     → PlaysSprint s b t c still → still ≡ true
     → (pieces : List (List Event)) × (end : Network) × (how : RunEnd) × AreRounds budget first pieces end × IsRunEnd budget end how × IsCore p end t × (deliveries end ≤ deliveries first + budget + most_events * turn_share)
-    × KeepNotes p first (flat_map (λ es. es) pieces) a c
+    × KeepNotes p first (flat_map (λ es. es) pieces) a c × AreBusy first pieces × (length pieces ≤ budget)
 sprints_still p budget first k s t a b c still from plays is =
     let h = from.0 in
     let played = plays p h.mid h.core in
@@ -321,5 +332,5 @@ sprints_still p budget first k s t a b c still from plays is =
     let now : IsCore p h.mid t = subst (λ (n : Network). IsCore p n t) same one.leads.core in
     let empty : all_in h.pieces ++ one.events ≡ all_in h.pieces = ap (λ (es : List Event). all_in h.pieces ++ es) (empty_by one.events none) ∙ append-nil (all_in h.pieces) in
     let keep : KeepNotes p first (all_in h.pieces) a c = keep_same p first (all_in h.pieces ++ one.events) (all_in h.pieces) a c empty (keep_round p budget first k s a b c h one.events from.1 played.2) in
-    sprints_stop p budget first k t a c (record { pieces = h.pieces; mid = h.mid; are = h.are; core = now; spent = h.spent; counted = h.counted }) keep
+    sprints_stop p budget first k t a c (record { pieces = h.pieces; mid = h.mid; are = h.are; busy = h.busy; played = h.played; few = h.few; core = now; spent = h.spent; counted = h.counted }) keep
     (stops_still budget h.mid (empty_by (round h.mid) (one.still none)))

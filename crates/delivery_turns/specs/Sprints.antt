@@ -1,7 +1,7 @@
 -- Rounds of many turns over the agents of a core state.
 use Rattle.std.specs.Prelude.{◌≡◌, ℕ, ◌+◌, ◌*◌, ◌≤◌, Bool, ◌==◌, List, length, min, Option}
 use Rattle.std.specs.List.{flat_map}
-use Rattle.dcop_base.specs.Limits.{variable_limit}
+use Rattle.dcop_base.specs.Limits.{variable_limit, amount_limit}
 use Rattle.dcop_base.specs.Problem.{Dcop}
 use Rattle.protocol_steps.specs.declared.event.Event.{Event}
 use Rattle.protocol_steps.specs.declared.event.Take.{Take}
@@ -13,7 +13,7 @@ use Rattle.protocol_steps.specs.Run.{journal}
 use Rattle.protocol_steps.specs.RunEnds.{IsRunEnd}
 use Rattle.protocol_steps.specs.Rounds.{most_events, link_share, taken_in, AreRounds}
 use Rattle.delivery_core.specs.State.{CoreView}
-use Rattle.delivery_turns.specs.Turns.{event_with, turn, round}
+use Rattle.delivery_turns.specs.Turns.{event_with, turn, round, AreBusy}
 use Rattle.delivery_turns.specs.CoreTurns.{Leads}
 use Rattle.delivery_core.specs.Shown.{IsCore}
 use Rattle.log_replay.specs.Notes.{NotesView, MayBeNotes, KeepNotes}
@@ -30,9 +30,18 @@ abbrev pub none_of : List Event → Bool
 none_of es = length es == 0
 
 -- a core state is a network that some run has reached, and these are the notes of that run, if notes
--- are kept
-abbrev pub IsSomeNoted : CoreView → Option NotesView → Type 0
-IsSomeNoted s notes = (p : Dcop) × (net : Network) × (made : List View) × (before : List Event) × IsCore p net s × MayBeNotes p made before net notes
+-- are kept; with `more` further events the run has at most amount_limit of them
+abbrev pub IsSomeNoted : ℕ → CoreView → Option NotesView → Type 0
+IsSomeNoted more s notes =
+    (p : Dcop) × (net : Network) × (made : List View) × (before : List Event) × IsCore p net s × MayBeNotes p made before net notes × (length before + more ≤ amount_limit)
+
+-- one more than the most messages that a round takes
+abbrev pub round_room : ℕ
+round_room = most_events * turn_share + 1
+
+-- one more than the most messages that rounds under this budget take, and a round after them
+abbrev pub run_room : ℕ → ℕ
+run_room budget = budget + most_events * turn_share + round_room
 
 -- the turn of agent k, which makes these takes, leads from one core state to another, and its
 -- event, if it has one, is noted
@@ -81,20 +90,23 @@ abbrev pub PlaysSprint : CoreView → Option NotesView → CoreView → Option N
 PlaysSprint old notes new noted still =
     (p : Dcop) (net : Network) → IsCore p net old → (h : Sprinting p net most_events new) × (still ≡ none_of h.events) × KeepNotes p net h.events notes noted
 
--- rounds under this budget lead from the first network to this core state, with at least k
--- deliveries
+-- k rounds under this budget lead from the first network to this core state, with at least k
+-- deliveries; each began while some agent had not ended, and has an event
 pub record Sprinted (p : Dcop) (budget : ℕ) (first : Network) (k : ℕ) (s : CoreView) : Type 0 where
   pub pieces : List (List Event)
   pub mid : Network
   pub are : AreRounds budget first pieces mid
+  pub busy : AreBusy first pieces
+  pub played : length pieces ≡ k
+  pub few : k ≤ budget
   pub core : IsCore p mid s
   pub spent : k ≤ deliveries mid
   pub counted : deliveries mid ≤ deliveries first + budget + most_events * turn_share
 
--- rounds under a budget lead from one core state to another, at which the run has ended, and their
--- events are noted
+-- at most `budget` busy rounds lead from one core state to another, at which the run has ended, and
+-- their events are noted
 abbrev pub PlaysSprints : ℕ → CoreView → Option NotesView → CoreView → Option NotesView → Type 0
 PlaysSprints budget old notes new noted =
     (p : Dcop) (first : Network) → IsCore p first old
     → (pieces : List (List Event)) × (end : Network) × (how : RunEnd) × AreRounds budget first pieces end × IsRunEnd budget end how × IsCore p end new
-    × (deliveries end ≤ deliveries first + budget + most_events * turn_share) × KeepNotes p first (flat_map (λ es. es) pieces) notes noted
+    × (deliveries end ≤ deliveries first + budget + most_events * turn_share) × KeepNotes p first (flat_map (λ es. es) pieces) notes noted × AreBusy first pieces × (length pieces ≤ budget)

@@ -1,12 +1,12 @@
 //! Playing in rounds of many turns.
 
-ghost use Rattle.std.specs.Prelude.{◌≡◌, ◌<◌, ◌≤◌, length, IfOk, OnOk};
+ghost use Rattle.std.specs.Prelude.{◌≡◌, ◌<◌, ◌≤◌, ◌+◌, length, IfOk, OnOk};
 ghost use Rattle.dcop_base.specs.Limits.{variable_limit, budget_limit};
 ghost use Rattle.protocol_steps.specs.Outcomes.{HaveRun};
 ghost use Rattle.protocol_steps.specs.Rounds.{most_events};
 ghost use Rattle.delivery_core.specs.Agents.{IsStartFor, agents_of};
-ghost use Rattle.delivery_turns.specs.Sprints.{IsSomeNoted, NotesTurn, TakesAll, TakesTurns, PlaysSprint, PlaysSprints};
-ghost use Rattle.delivery_turns.specs.PlayedOut.{HavePlayed};
+ghost use Rattle.delivery_turns.specs.Sprints.{turn_share, round_room, run_room, IsSomeNoted, NotesTurn, TakesAll, TakesTurns, PlaysSprint, PlaysSprints};
+ghost use Rattle.delivery_turns.specs.PlayedOut.{HaveDulyRun, HavePlayed};
 
 use crate::turn::{is_over, take_turn};
 use dcop_base::{NoMemory, Problem, VarId, problem_is_whole};
@@ -45,7 +45,7 @@ fn take_noted<G: Gate>(
     me: usize,
     takes: &mut Vec<Take>,
 ) -> Result<(), NoMemory>
-    requires core { IsSomeNoted state.old notes.old }
+    requires core { IsSomeNoted 1 state.old notes.old }
     requires inside { me < length state.old.seats }
     requires few { length state.old.seats ≤ variable_limit }
     ensures { OnOk result (NotesTurn me state.old notes.old state.new notes.new takes.new.items) }
@@ -66,7 +66,7 @@ fn play_all<G: Gate>(
     notes: &mut Option<Notes>,
     takes: &mut Vec<Take>,
 ) -> Result<bool, NoMemory>
-    requires core { IsSomeNoted state.old notes.old }
+    requires core { IsSomeNoted (turn_share + 1) state.old notes.old }
     requires few { length state.old.seats ≤ variable_limit }
     ensures { IfOk result (TakesAll state.old notes.old state.new notes.new) }
 {
@@ -90,7 +90,7 @@ fn play_turn<G: Gate>(
     notes: &mut Option<Notes>,
     takes: &mut Vec<Take>,
 ) -> Result<bool, NoMemory>
-    requires core { IsSomeNoted state.old notes.old }
+    requires core { IsSomeNoted (turn_share + 1) state.old notes.old }
     requires few { length state.old.seats ≤ variable_limit }
     ensures { IfOk result (TakesTurns state.old notes.old state.new notes.new) }
 {
@@ -113,7 +113,7 @@ fn play_sprint<G: Gate>(
     notes: &mut Option<Notes>,
     takes: &mut Vec<Take>,
 ) -> Result<bool, NoMemory>
-    requires core { IsSomeNoted state.old notes.old }
+    requires core { IsSomeNoted round_room state.old notes.old }
     requires few { length state.old.seats ≤ variable_limit }
     ensures { IfOk result (PlaysSprint state.old notes.old state.new notes.new) }
 {
@@ -135,7 +135,7 @@ fn play_sprints<G: Gate>(
     notes: &mut Option<Notes>,
     budget: u64,
 ) -> Result<(), NoMemory>
-    requires core { IsSomeNoted state.old notes.old }
+    requires core { IsSomeNoted (run_room budget) state.old notes.old }
     requires few { length state.old.seats ≤ variable_limit }
     requires budget { budget ≤ budget_limit }
     ensures { OnOk result (PlaysSprints budget state.old notes.old state.new notes.new) }
@@ -161,8 +161,9 @@ fn play_sprints<G: Gate>(
 /// first turn of a round visits all agents. Each later turn visits those that were sent something
 /// since they were last looked at. A round ends with a turn that takes nothing, or with its 32nd
 /// turn. Playing stops when, after the start or a round, all agents have ended, the deliveries are
-/// at least `budget`, or the round had no event. The budget must be at most 10,000,000. An agent
-/// passes the gate when it is looked at and something may wait for it.
+/// at least `budget`, or the round had no event. So there are at most `budget` rounds. The budget
+/// must be at most 10,000,000. An agent passes the gate when it is looked at and something may wait
+/// for it.
 ///
 /// # Errors
 ///
@@ -205,7 +206,8 @@ pub fn play_out<G: Gate>(
 ) -> Result<Outcome, NoMemory>
     requires start { IsStartFor problem.now start.now }
     requires budget { budget ≤ budget_limit }
-    ensures { IfOk result (HaveRun budget (agents_of problem.now start.now)) }
+    ensures run { IfOk result (HaveRun budget (agents_of problem.now start.now)) }
+    ensures rounds { IfOk result (HaveDulyRun budget (agents_of problem.now start.now)) }
 {
     let played = play_out_logged(alloc, gate, problem, start, budget, false)?;
     Ok(played.outcome)

@@ -1,6 +1,6 @@
-use Rattle.std.proofs.Common.{◌≡◌, ℕ, ◌==◌, ◌&&◌, [], length, ap, subst, arith, ◌∙◌}
+use Rattle.std.proofs.Common.{◌≡◌, ◌+◌, ℕ, ◌==◌, ◌&&◌, [], length, ap, subst, arith, ◌∙◌}
 use Rattle.delivery_core.specs.Takes.{TakeNothing}
-use Rattle.delivery_turns.specs.Sprints.{none_of}
+use Rattle.delivery_turns.specs.Sprints.{turn_share, none_of}
 use Rattle.delivery_turns.proofs.PlayLaws.{turned_none}
 use Rattle.delivery_turns.proofs.KeptLaws.{keep_none, keep_same, still_noted}
 use Rattle.delivery_turns.proofs.SprintLaws.{all_next, all_end}
@@ -18,7 +18,10 @@ pub take_noted-requires-clause-core : goal.take_noted-requires-clause-core
 take_noted-requires-clause-core g c κs within =
     let n = c.requires.core in
     let h = c.loop-me.invariant.0 n.0 n.1 n.4 in
-    still_noted c.args.state.now c.loop-me.state c.args.notes.now c.loop-me.notes n h.0.es h.0.mid h.0.leads.is h.0.leads.core h.2
+    let few = h.0.few in
+    let from = c.loop-me.invariant.1 in
+    let seats = c.requires.few in
+    still_noted (turn_share + 1) 1 c.args.state.now c.loop-me.state c.args.notes.now c.loop-me.notes n h.0.es h.0.mid h.0.leads.is h.0.leads.core h.2 (omega (arith, few, from, seats))
 
 pub take_noted-requires-clause-few : goal.take_noted-requires-clause-few
 take_noted-requires-clause-few g c κs within =

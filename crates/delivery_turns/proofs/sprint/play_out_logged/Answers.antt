@@ -8,7 +8,7 @@ play_sprints-requires-clause-core g c κs within =
     let p = c.args.problem.now in
     let start = c.args.start.now in
     let core = c.in_ok-state.ensures.core in
-    (p, network_of p start, agents_of p start, [], core, c.in_ok-notes.ensures.notes (agents_of p start) core)
+    (p, network_of p start, agents_of p start, [], core, c.in_ok-notes.ensures.notes (agents_of p start) core, let few = c.requires.budget in omega (arith, few))
 
 pub log_of-requires : goal.log_of-requires
 log_of-requires g c =

@@ -1,5 +1,6 @@
-use Rattle.std.proofs.Common.{◌≤◌, length, arith}
-use Rattle.delivery_turns.proofs.KeptLaws.{still_noted}
+use Rattle.std.proofs.Common.{◌+◌, ◌≤◌, length, arith}
+use Rattle.delivery_turns.specs.Sprints.{turn_share, round_room}
+use Rattle.delivery_turns.proofs.KeptLaws.{still_noted, less_noted}
 use Rattle.delivery_turns.proofs.SprintLaws.{sprint_first, sprint_some, sprint_end, sprint_all}
 use Rattle.delivery_turns.proofs.sprint.play_sprint.Goals as goal
 
@@ -12,11 +13,17 @@ loop-init g c = (
   omega arith,
 )
 
+pub play_all-requires-clause-core : goal.play_all-requires-clause-core
+play_all-requires-clause-core g c κs within = less_noted round_room (turn_share + 1) c.args.state.now c.args.notes.now (omega arith) c.requires.core
+
 pub play_turn-requires-clause-core : goal.play_turn-requires-clause-core
 play_turn-requires-clause-core g c κs within =
     let n = c.requires.core in
     let h = c.loop.invariant.0 n.0 n.1 n.4 in
-    still_noted c.args.state.now c.loop.state c.args.notes.now c.loop.notes n h.0.events h.0.mid h.0.leads.is h.0.leads.core h.2
+    let more = h.0.leads.more in
+    let most = h.0.counted in
+    let lt = c.loop-test.true in
+    still_noted round_room (turn_share + 1) c.args.state.now c.loop.state c.args.notes.now c.loop.notes n h.0.events h.0.mid h.0.leads.is h.0.leads.core h.2 (omega (arith, more, most, lt))
 
 pub play_turn-requires-clause-few : goal.play_turn-requires-clause-few
 play_turn-requires-clause-few g c κs within =

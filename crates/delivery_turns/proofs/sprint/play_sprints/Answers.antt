@@ -2,8 +2,10 @@ use Rattle.std.proofs.Common.{◌≤◌, List, sym, ◌∙◌, arith}
 use Rattle.std.specs.List.{flat_map}
 use Rattle.protocol_steps.specs.declared.event.Event.{Event}
 use Rattle.protocol_steps.proofs.RunLaws.{rounds_are_a_run}
+use Rattle.worker_runs.proofs.CellStampLaws.{run_delivers}
 use Rattle.delivery_core.specs.NetworkState.{most_counted}
 use Rattle.delivery_turns.proofs.PlayLaws.{over_is, stops_over, stops_spent}
+use Rattle.delivery_turns.specs.Sprints.{round_room, run_room}
 use Rattle.delivery_turns.proofs.KeptLaws.{ran_after, still_noted}
 use Rattle.delivery_turns.proofs.SprintLaws.{sprinted_none, sprinted_next, sprints_stop, sprints_still}
 use Rattle.delivery_turns.proofs.sprint.play_sprints.Goals as goal
@@ -25,7 +27,10 @@ play_sprint-requires-clause-core g c κs within =
     let k = c.loop.invariant n.0 n.1 n.4 in
     let h = k.0 in
     let all : List Event = flat_map (λ es. es) h.pieces in
-    still_noted c.args.state.now c.loop.state c.args.notes.now c.loop.notes n all h.mid (ran_after n.1 h.mid all (rounds_are_a_run c.args.budget n.1 h.mid h.pieces h.are)) h.core k.1
+    let ran = rounds_are_a_run c.args.budget n.1 h.mid h.pieces h.are in
+    let more = run_delivers n.1 h.mid all ran in
+    let most = h.counted in
+    still_noted (run_room c.args.budget) round_room c.args.state.now c.loop.state c.args.notes.now c.loop.notes n all h.mid (ran_after n.1 h.mid all ran) h.core k.1 (omega (arith, more, most))
 
 pub play_sprint-requires-clause-few : goal.play_sprint-requires-clause-few
 play_sprint-requires-clause-few g c κs within =

@@ -1,4 +1,5 @@
-use Rattle.std.proofs.Common.{◌≡◌, ◌≤◌, ◌==◌, ◌&&◌, length, ap, arith, ◌∙◌}
+use Rattle.std.proofs.Common.{◌≡◌, ◌+◌, ◌≤◌, ◌==◌, ◌&&◌, length, ap, arith, ◌∙◌}
+use Rattle.delivery_turns.specs.Sprints.{turn_share}
 use Rattle.delivery_turns.proofs.KeptLaws.{still_noted}
 use Rattle.delivery_turns.proofs.SprintLaws.{turning_none, turning_next, turning_all}
 use Rattle.delivery_turns.proofs.sprint.play_turn.Goals as goal
@@ -10,7 +11,11 @@ pub take_noted-requires-clause-core : goal.take_noted-requires-clause-core
 take_noted-requires-clause-core g c κs within =
     let n = c.requires.core in
     let h = c.loop-me.invariant.0 n.0 n.1 n.4 in
-    still_noted c.args.state.now c.loop-me.state c.args.notes.now c.loop-me.notes n h.0.es h.0.mid h.0.leads.is h.0.leads.core h.2
+    let more = h.0.leads.more in
+    let most = h.0.counted in
+    let from = c.loop-me.invariant.1 in
+    let seats = c.requires.few in
+    still_noted (turn_share + 1) 1 c.args.state.now c.loop-me.state c.args.notes.now c.loop-me.notes n h.0.es h.0.mid h.0.leads.is h.0.leads.core h.2 (omega (arith, more, most, from, seats))
 
 pub take_noted-requires-clause-few : goal.take_noted-requires-clause-few
 take_noted-requires-clause-few g c κs within =
