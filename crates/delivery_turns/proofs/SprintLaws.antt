@@ -300,7 +300,7 @@ sprinted_next p budget first k s t a b c still le from over plays moved =
         mid = one.mid;
         are = rounds_snoc budget first h.mid one.mid h.pieces events h.are below is_round;
         busy = busy_snoc first h.mid h.pieces events (ran_after first h.mid (all_in h.pieces) (rounds_are_a_run budget first h.mid h.pieces h.are)) h.busy
-        (or_parts (has_ended h.mid) (nat_le budget (deliveries h.mid)) on).0 (λ none. some (ap (λ (es : List Event). length es) none));
+            (or_parts (has_ended h.mid) (nat_le budget (deliveries h.mid)) on).0 (λ none. some (ap (λ (es : List Event). length es) none));
         played = length-append h.pieces (events ∷ []) ∙ ap (λ (m : ℕ). m + 1) h.played;
         few = let spent = h.spent in omega (arith, spent, below);
         core = one.leads.core;
