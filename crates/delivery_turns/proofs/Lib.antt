@@ -3,5 +3,6 @@ mod PlayLaws
 mod DeliveredLaws
 mod StopLaws
 mod RoundLaws
+mod KeptLaws
 mod SprintLaws
 mod PlayedOutLaws

@@ -1,5 +1,5 @@
 -- Rounds: turn by turn, and round by round until playing stops.
-use Rattle.std.proofs.Common.{◌≡◌, ◌≢◌, ℕ, suc, ◌+◌, ◌-◌, ◌<◌, ◌≤◌, Bool, true, false, ◌==◌, ◌||◌, nat_le, List, [], ◌∷◌, ◌++◌, length, min, Option, Some, refl, sym, ap, subst, ◌∙◌, inl, inr, arith}
+use Rattle.std.proofs.Common.{◌≡◌, ◌≢◌, ℕ, suc, ◌+◌, ◌-◌, ◌<◌, ◌≤◌, Bool, true, false, ◌==◌, ◌||◌, nat_le, if◌then◌else◌, List, [], ◌∷◌, ◌++◌, length, min, Option, Some, refl, sym, ap, subst, ◌∙◌, inl, inr, arith}
 use Rattle.std.specs.List.{fold, flat_map, range_with_len, list_all}
 use Rattle.std.proofs.lemmas.Bool.{cases_lt, ne_eqb, le-leb, lt-leb}
 use Rattle.std.proofs.lemmas.List.{append-nil, append_assoc, length-append, length-map}
@@ -8,6 +8,7 @@ use Rattle.std.proofs.lemmas.List.Concat.{flat_map-append}
 use Rattle.std.proofs.lemmas.List.Elements.{All-nil, All-append}
 use Rattle.dcop_base.specs.Problem.{Dcop}
 use Rattle.protocol_steps.specs.declared.event.Event.{Event}
+use Rattle.protocol_steps.specs.declared.event.Take.{Take}
 use Rattle.protocol_steps.specs.View.{View, ended_of}
 use Rattle.protocol_steps.specs.Network.{Network}
 use Rattle.protocol_steps.specs.Run.{happen, run}
@@ -15,7 +16,7 @@ use Rattle.protocol_steps.specs.Effect.{effect, has_ended, deliveries}
 use Rattle.protocol_steps.specs.Rounds.{AreShares}
 use Rattle.delivery_core.specs.State.{CoreView}
 use Rattle.delivery_core.specs.NetworkState.{most_counted}
-use Rattle.delivery_turns.specs.Turns.{turn, turns, round, after, stops, PlaysTo, IsPlayed}
+use Rattle.delivery_turns.specs.Turns.{turn_takes, turn, turns, round, after, stops, PlaysTo, IsPlayed}
 use Rattle.delivery_core.specs.Shown.{IsCore}
 use Rattle.delivery_turns.specs.CoreTurns.{Leads, Turned, PlaysRound, Playing, is_over}
 use Rattle.delivery_core.proofs.RunLaws.{is_state}
@@ -40,10 +41,19 @@ turned_none p net s core =
         es = [];
         mid = net;
         leads = record { ran = refl; is = refl; core = core; more = omega arith; bounded = All-nil (λ (e : Event). AreShares e.takes) };
+        few = omega arith;
         left = ap (λ (n : ℕ). turns net (range_with_len 0 n)) size;
       },
       refl,
     )
+
+one_event : (b : Bool) (e : Event) → length (if b then [] else e ∷ []) ≤ 1
+one_event true e = omega arith
+one_event false e = omega arith
+
+-- a turn has at most one event
+turn_one : (net : Network) (k : ℕ) → length (turn net k) ≤ 1
+turn_one net k = let ts : List Take = turn_takes net k in one_event (length ts == 0) (record { agent = k; takes = ts })
 
 -- the turn of the next agent
 pub turned_next : (p : Dcop) (net : Network) (k : ℕ) (s t : CoreView) → (h : Turned p net k s) → (mid : Network) → Leads p h.mid (turn h.mid k) mid t → k < length p.sizes
@@ -56,6 +66,7 @@ turned_next p net k s t h mid leads lt =
         es = h.es ++ fs;
         mid = mid;
         leads = leads_join p net h.mid mid h.es fs s t h.leads leads;
+        few = let all = length-append h.es fs in let old = h.few in let own = turn_one h.mid k in omega (arith, all, old, own);
         left = h.left
             ∙ ap (λ (n : ℕ). h.es ++ turns h.mid (range_with_len k n)) cut
             ∙ ap (λ (n : Network). h.es ++ (fs ++ turns n rest)) leads.is

@@ -1,7 +1,10 @@
 -- Rounds of many turns: turn by turn, and round by round until playing stops.
-use Rattle.std.proofs.Common.{◌≡◌, ◌≢◌, ℕ, zero, suc, ◌+◌, ◌-◌, ◌*◌, ◌<◌, ◌≤◌, Bool, true, false, ◌&&◌, ◌||◌, ◌==◌, nat_le, eqb, List, [], ◌∷◌, ◌++◌, length, refl, sym, ap, subst, ◌∙◌, inl, inr, arith}
+use Rattle.std.proofs.Common.{◌≡◌, ◌≢◌, ℕ, zero, suc, ◌+◌, ◌-◌, ◌*◌, ◌<◌, ◌≤◌, Bool, true, false, ◌&&◌, ◌||◌, ◌==◌, nat_le, eqb, List, [], ◌∷◌, ◌++◌, length, Option, refl, sym, ap, subst, ◌∙◌, inl, inr, arith}
+use Rattle.std.specs.List.{flat_map}
 use Rattle.std.proofs.lemmas.Bool.{cases_eq, eqb-true, eqb-false, leb-false, or_parts}
 use Rattle.std.proofs.lemmas.List.{append-nil, length-append, length-map}
+use Rattle.std.proofs.lemmas.List.Concat.{flat_map-append}
+use Rattle.std.proofs.lemmas.List.Sums.{fold-append}
 use Rattle.std.proofs.lemmas.List.Elements.{All-nil}
 use Rattle.std.proofs.lemmas.Nat.{mul-le}
 use Rattle.dcop_base.specs.Limits.{variable_limit}
@@ -11,20 +14,23 @@ use Rattle.protocol_steps.specs.declared.event.Take.{Take}
 use Rattle.protocol_steps.specs.declared.run_end.RunEnd.{RunEnd}
 use Rattle.protocol_steps.specs.View.{View}
 use Rattle.protocol_steps.specs.Network.{Network}
-use Rattle.protocol_steps.specs.Effect.{has_ended, deliveries}
+use Rattle.protocol_steps.specs.Effect.{effect, has_ended, deliveries}
 use Rattle.protocol_steps.specs.Run.{journal}
 use Rattle.protocol_steps.specs.RunEnds.{IsRunEnd}
 use Rattle.protocol_steps.specs.Rounds.{most_events, AreShares, IsRound, AreRounds}
 use Rattle.delivery_core.specs.State.{CoreView}
 use Rattle.delivery_core.specs.NetworkState.{most_counted}
 use Rattle.delivery_core.specs.Takes.{TakeNothing}
-use Rattle.delivery_turns.specs.Turns.{turn_takes, event_with, turn, after, round, stops}
+use Rattle.delivery_turns.specs.Turns.{turn_takes, event_with, turn, after, round, AreBusy, stops}
 use Rattle.delivery_core.specs.Shown.{IsCore}
-use Rattle.delivery_turns.specs.CoreTurns.{Leads, TakesTurn, Turned, is_over}
-use Rattle.delivery_turns.specs.Sprints.{agent_share, turn_share, none_of, TakesAll, Turning, TakesTurns, Sprinting, PlaysSprint, Sprinted}
+use Rattle.log_replay.specs.Notes.{NotesView, KeepNotes}
+use Rattle.delivery_turns.specs.CoreTurns.{Leads, Turned, is_over}
+use Rattle.delivery_turns.specs.Sprints.{agent_share, turn_share, none_of, NotesTurn, TakesAll, Turning, TakesTurns, Sprinting, PlaysSprint, Sprinted}
 use Rattle.delivery_turns.proofs.DeliveredLaws.{Delivers, turn-few, round-few}
 use Rattle.delivery_turns.proofs.RoundLaws.{journal-append, taken-append, event-one, turn-other, few-one, round-serves}
+use Rattle.protocol_steps.proofs.RunLaws.{rounds_are_a_run}
 use Rattle.delivery_turns.proofs.StopLaws.{stopped-how}
+use Rattle.delivery_turns.proofs.KeptLaws.{ran_after, keep_none, keep_same, keep_then}
 use Rattle.delivery_turns.proofs.PlayLaws.{leads_join, turned_next, turned_all, over_is, stops_still, empty_by}
 use Rattle.delivery_turns.proofs.TurnLaws.{turn_still, none_leads, none_with, still_more}
 
@@ -70,25 +76,30 @@ turned_past p net from (suc n) to s is le none h =
     (rest.0, one.1 ∙ rest.1)
 
 -- agents that take nothing are passed over, and the next one takes its turn
-pub all_next : (p : Dcop) (net : Network) (from k : ℕ) (s t : CoreView) (ts : List Take) (still : Bool) → from ≤ k → k < length p.sizes → TakeNothing s.seats from k
-    → (h : Turned p net from s) × (still ≡ none_of h.es) → TakesTurn k s t ts → (now : Turned p net (k + 1) t) × ((still && (length ts == 0)) ≡ none_of now.es)
-all_next p net from k s t ts still le lt none h takes =
+pub all_next : (p : Dcop) (net : Network) (from k : ℕ) (s t : CoreView) (a b c : Option NotesView) (ts : List Take) (still : Bool) → from ≤ k → k < length p.sizes → TakeNothing s.seats from k
+    → (h : Turned p net from s) × (still ≡ none_of h.es) × KeepNotes p net h.es a b → NotesTurn k s b t c ts
+    → (now : Turned p net (k + 1) t) × ((still && (length ts == 0)) ≡ none_of now.es) × KeepNotes p net now.es a c
+all_next p net from k s t a b c ts still le lt none h takes =
     let past = turned_past p net from (k - from) k s (omega (arith, le)) (omega (arith, lt)) none h.0 in
     let one = takes p past.0.mid past.0.leads.core in
     let now = turned_next p net k s t past.0 one.0 one.1 lt in
-    (now.0, still_on still past.0.es (turn past.0.mid k) now.0.es k ts (h.1 ∙ ap none_of past.1) one.2 now.1)
+    let fs : List Event = turn past.0.mid k in (
+      now.0,
+      still_on still past.0.es fs now.0.es k ts (h.1 ∙ ap none_of past.1) one.2 now.1,
+      keep_same p net (past.0.es ++ fs) now.0.es a c now.1 (keep_then p net past.0.mid past.0.es fs a b c past.0.leads.is (keep_same p net h.0.es past.0.es a b past.1 h.2) one.3),
+    )
 
 -- all that are left take nothing
-pub all_end : (p : Dcop) (net : Network) (from : ℕ) (s : CoreView) (still : Bool) → from ≤ length p.sizes → TakeNothing s.seats from (length p.sizes) → (h : Turned p net from s) × (still ≡ none_of h.es)
-    → (mid : Network) × Leads p net (round net) mid s × (still ≡ none_of (round net))
-all_end p net from s still le none h =
+pub all_end : (p : Dcop) (net : Network) (from : ℕ) (s : CoreView) (a b : Option NotesView) (still : Bool) → from ≤ length p.sizes → TakeNothing s.seats from (length p.sizes)
+    → (h : Turned p net from s) × (still ≡ none_of h.es) × KeepNotes p net h.es a b → (mid : Network) × Leads p net (round net) mid s × (still ≡ none_of (round net)) × KeepNotes p net (round net) a b
+all_end p net from s a b still le none h =
     let size : ℕ = length p.sizes in
     let past = turned_past p net from (size - from) size s (omega (arith, le)) (omega arith) none h.0 in
     let all = turned_all p net size s past.0 (omega arith) in
-    (all.0, all.1, h.1 ∙ ap none_of (past.1 ∙ all.2))
+    (all.0, all.1, h.1 ∙ ap none_of (past.1 ∙ all.2), keep_same p net h.0.es (round net) a b (past.1 ∙ all.2) h.2)
 
-pub turning_none : (p : Dcop) (net : Network) (s : CoreView) → IsCore p net s → (h : Turning p net 0 s) × (true ≡ none_of h.es)
-turning_none p net s core = (
+pub turning_none : (p : Dcop) (net : Network) (s : CoreView) (a : Option NotesView) → IsCore p net s → (h : Turning p net 0 s) × (true ≡ none_of h.es) × KeepNotes p net h.es a a
+turning_none p net s a core = (
   record {
     es = [];
     mid = net;
@@ -98,6 +109,7 @@ turning_none p net s core = (
     counted = omega arith;
   },
   refl,
+  keep_none p net a,
 )
 
 -- the next agents are passed over
@@ -145,21 +157,27 @@ turning_one p net k s t few h mid leads =
     )
 
 -- agents are passed over, and the next one takes its turn
-pub turning_next : (p : Dcop) (net : Network) (from k : ℕ) (s t : CoreView) (ts : List Take) (still : Bool) → length p.sizes ≤ 1000 → from ≤ k → (h : Turning p net from s) × (still ≡ none_of h.es) → TakesTurn k s t ts
-    → (now : Turning p net (k + 1) t) × ((still && (length ts == 0)) ≡ none_of now.es)
-turning_next p net from k s t ts still few le h takes =
+pub turning_next : (p : Dcop) (net : Network) (from k : ℕ) (s t : CoreView) (a b c : Option NotesView) (ts : List Take) (still : Bool) → length p.sizes ≤ 1000 → from ≤ k
+    → (h : Turning p net from s) × (still ≡ none_of h.es) × KeepNotes p net h.es a b → NotesTurn k s b t c ts
+    → (now : Turning p net (k + 1) t) × ((still && (length ts == 0)) ≡ none_of now.es) × KeepNotes p net now.es a c
+turning_next p net from k s t a b c ts still few le h takes =
     let past = turning_past p net from k s le h.0 in
     let one = takes p past.0.mid past.0.leads.core in
     let now = turning_one p net k s t few past.0 one.0 one.1 in
-    (now.0, still_on still past.0.es (turn past.0.mid k) now.0.es k ts (h.1 ∙ ap none_of past.1) one.2 now.1)
+    let fs : List Event = turn past.0.mid k in (
+      now.0,
+      still_on still past.0.es fs now.0.es k ts (h.1 ∙ ap none_of past.1) one.2 now.1,
+      keep_same p net (past.0.es ++ fs) now.0.es a c now.1 (keep_then p net past.0.mid past.0.es fs a b c past.0.leads.is (keep_same p net h.0.es past.0.es a b past.1 h.2) one.3),
+    )
 
-pub turning_all : (p : Dcop) (net : Network) (k : ℕ) (s : CoreView) (still : Bool) → k ≤ 1000 → (h : Turning p net k s) × (still ≡ none_of h.es)
-    → (es : List Event) × (mid : Network) × Leads p net es mid s × (still ≡ none_of es) × ((i : ℕ) → length (journal i es) ≤ 1) × (deliveries mid ≤ deliveries net + turn_share)
-turning_all p net k s still le h = (h.0.es, h.0.mid, h.0.leads, h.1, h.0.few, let c = h.0.counted in omega (arith, c, le))
+pub turning_all : (p : Dcop) (net : Network) (k : ℕ) (s : CoreView) (a b : Option NotesView) (still : Bool) → k ≤ 1000 → (h : Turning p net k s) × (still ≡ none_of h.es) × KeepNotes p net h.es a b
+    → (es : List Event) × (mid : Network) × Leads p net es mid s × (still ≡ none_of es) × ((i : ℕ) → length (journal i es) ≤ 1) × (deliveries mid ≤ deliveries net + turn_share) × KeepNotes p net es a b
+turning_all p net k s a b still le h = (h.0.es, h.0.mid, h.0.leads, h.1, h.0.few, (let c = h.0.counted in omega (arith, c, le)), h.2)
 
 -- the first turn, of all agents
-pub sprint_first : (p : Dcop) (net : Network) (s t : CoreView) (still : Bool) → length p.sizes ≤ 1000 → IsCore p net s → TakesAll s t still → (h : Sprinting p net 1 t) × (still ≡ none_of h.events)
-sprint_first p net s t still few core plays =
+pub sprint_first : (p : Dcop) (net : Network) (s t : CoreView) (a b : Option NotesView) (still : Bool) → length p.sizes ≤ 1000 → IsCore p net s → TakesAll s a t b still
+    → (h : Sprinting p net 1 t) × (still ≡ none_of h.events) × KeepNotes p net h.events a b
+sprint_first p net s t a b still few core plays =
     let one = plays p net core in
     let n : ℕ = length net.views in (
       record {
@@ -176,12 +194,13 @@ sprint_first p net s t still few core plays =
         still = λ none. none;
       },
       one.2,
+      one.3,
     )
 
 -- a later turn
-pub sprint_next : (p : Dcop) (net : Network) (k : ℕ) (s t : CoreView) (still none : Bool) → (h : Sprinting p net k s) × (still ≡ none_of h.events) → TakesTurns s t none
-    → (now : Sprinting p net (k + 1) t) × ((still && none) ≡ none_of now.events)
-sprint_next p net k s t still none from takes =
+pub sprint_next : (p : Dcop) (net : Network) (k : ℕ) (s t : CoreView) (a b c : Option NotesView) (still none : Bool) → (h : Sprinting p net k s) × (still ≡ none_of h.events) × KeepNotes p net h.events a b
+    → TakesTurns s b t c none → (now : Sprinting p net (k + 1) t) × ((still && none) ≡ none_of now.events) × KeepNotes p net now.events a c
+sprint_next p net k s t a b c still none from takes =
     let h = from.0 in
     let events : List Event = h.events in
     let one = takes p h.mid h.leads.core in
@@ -198,18 +217,21 @@ sprint_next p net k s t still none from takes =
         still = λ none. h.still (let sum = length-append events es in omega (arith, sum, none));
       },
       ap (λ (b : Bool). still && b) one.3 ∙ still_more still events es from.1,
+      keep_then p net h.mid events es a b c h.leads.is from.2 one.6,
     )
 
 -- a turn with some event
-pub sprint_some : (p : Dcop) (net : Network) (k : ℕ) (s t : CoreView) (still none : Bool) → none ≡ false → (h : Sprinting p net k s) × (still ≡ none_of h.events) → TakesTurns s t none
-    → (now : Sprinting p net (k + 1) t) × (false ≡ none_of now.events)
-sprint_some p net k s t still none some from takes =
-    let now = sprint_next p net k s t still none from takes in
-    (now.0, sym (ap (λ (b : Bool). still && b) some ∙ and_false still) ∙ now.1)
+pub sprint_some : (p : Dcop) (net : Network) (k : ℕ) (s t : CoreView) (a b c : Option NotesView) (still none : Bool) → none ≡ false
+    → (h : Sprinting p net k s) × (still ≡ none_of h.events) × KeepNotes p net h.events a b → TakesTurns s b t c none
+    → (now : Sprinting p net (k + 1) t) × (false ≡ none_of now.events) × KeepNotes p net now.events a c
+sprint_some p net k s t a b c still none some from takes =
+    let now = sprint_next p net k s t a b c still none from takes in
+    (now.0, sym (ap (λ (x : Bool). still && x) some ∙ and_false still) ∙ now.1, now.2)
 
 -- k turns are a round
-pub sprint_all : (p : Dcop) (net : Network) (k : ℕ) (s : CoreView) (still : Bool) → k ≤ most_events → (h : Sprinting p net k s) × (still ≡ none_of h.events) → (now : Sprinting p net most_events s) × (still ≡ none_of now.events)
-sprint_all p net k s still le from =
+pub sprint_all : (p : Dcop) (net : Network) (k : ℕ) (s : CoreView) (a b : Option NotesView) (still : Bool) → k ≤ most_events → (h : Sprinting p net k s) × (still ≡ none_of h.events) × KeepNotes p net h.events a b
+    → (now : Sprinting p net most_events s) × (still ≡ none_of now.events) × KeepNotes p net now.events a b
+sprint_all p net k s a b still le from =
     let h = from.0 in (
       record {
         events = h.events;
@@ -221,58 +243,94 @@ sprint_all p net k s still le from =
         still = h.still;
       },
       from.1,
+      from.2,
     )
 
 -- and so they are with one more that has no event
-pub sprint_end : (p : Dcop) (net : Network) (k : ℕ) (s t : CoreView) (still none : Bool) → none ≡ true → k + 1 ≤ most_events → (h : Sprinting p net k s) × (still ≡ none_of h.events) → TakesTurns s t none
-    → (now : Sprinting p net most_events t) × (still ≡ none_of now.events)
-sprint_end p net k s t still none is le from takes =
-    let next = sprint_next p net k s t still none from takes in
-    sprint_all p net (k + 1) t still le (next.0, sym (ap (λ (b : Bool). still && b) is ∙ and_true still) ∙ next.1)
+pub sprint_end : (p : Dcop) (net : Network) (k : ℕ) (s t : CoreView) (a b c : Option NotesView) (still none : Bool) → none ≡ true → k + 1 ≤ most_events
+    → (h : Sprinting p net k s) × (still ≡ none_of h.events) × KeepNotes p net h.events a b → TakesTurns s b t c none
+    → (now : Sprinting p net most_events t) × (still ≡ none_of now.events) × KeepNotes p net now.events a c
+sprint_end p net k s t a b c still none is le from takes =
+    let next = sprint_next p net k s t a b c still none from takes in
+    sprint_all p net (k + 1) t a c still le (next.0, sym (ap (λ (x : Bool). still && x) is ∙ and_true still) ∙ next.1, next.2)
+
+-- rounds that are busy, and one more
+busy_snoc : (net mid : Network) (pieces : List (List Event)) (es : List Event) → after net (flat_map (λ fs. fs) pieces) ≡ mid → AreBusy net pieces → has_ended mid ≡ false → es ≢ [] → AreBusy net (pieces ++ es ∷ [])
+busy_snoc net mid [] es is busy awake some = (subst (λ (n : Network). has_ended n ≡ false) (sym is) awake, some, tt)
+busy_snoc net mid (fs ∷ pieces) es is busy awake some =
+    (busy.0, busy.1, busy_snoc (after net fs) mid pieces es (sym (fold-append effect net fs (flat_map (λ gs. gs) pieces)) ∙ is) busy.2 awake some)
 
 -- rounds, and one more after them
 rounds_snoc : (budget : ℕ) (net mid end : Network) (pieces : List (List Event)) (es : List Event) → AreRounds budget net pieces mid → deliveries mid < budget → IsRound mid es end → AreRounds budget net (pieces ++ es ∷ []) end
 rounds_snoc budget net mid end [] es are lt one = (subst (λ (n : Network). deliveries n < budget) (sym are) lt, (end, subst (λ (n : Network). IsRound n es end) (sym are) one, refl))
 rounds_snoc budget net mid end (fs ∷ pieces) es are lt one = (are.0, (are.1.0, are.1.1, rounds_snoc budget are.1.0 mid end pieces es are.1.2 lt one))
 
-pub sprinted_none : (p : Dcop) (budget : ℕ) (first : Network) (s : CoreView) → IsCore p first s → Sprinted p budget first 0 s
-sprinted_none p budget first s core = record { pieces = []; mid = first; are = refl; core = core; spent = omega arith; counted = omega arith }
+-- all events of these rounds
+abbrev all_in : List (List Event) → List Event
+all_in pieces = flat_map (λ es. es) pieces
+
+all_snoc : (pieces : List (List Event)) (es : List Event) → all_in pieces ++ es ≡ all_in (pieces ++ es ∷ [])
+all_snoc pieces es =
+    ap (λ (fs : List Event). all_in pieces ++ fs) (sym (append-nil es)) ∙ sym (flat_map-append (λ (fs : List Event). fs) pieces (es ∷ []))
+
+pub sprinted_none : (p : Dcop) (budget : ℕ) (first : Network) (s : CoreView) (a : Option NotesView) → IsCore p first s → (h : Sprinted p budget first 0 s) × KeepNotes p first (flat_map (λ es. es) h.pieces) a a
+sprinted_none p budget first s a core = (record { pieces = []; mid = first; are = refl; busy = tt; played = refl; few = omega arith; core = core; spent = omega arith; counted = omega arith }, keep_none p first a)
+
+-- the notes of rounds, and of one more
+keep_round : (p : Dcop) (budget : ℕ) (first : Network) (k : ℕ) (s : CoreView) (a b c : Option NotesView) (h : Sprinted p budget first k s) (es : List Event) → KeepNotes p first (all_in h.pieces) a b → KeepNotes p h.mid es b c
+    → KeepNotes p first (all_in h.pieces ++ es) a c
+keep_round p budget first k s a b c h es keep one =
+    keep_then p first h.mid (all_in h.pieces) es a b c (ran_after first h.mid (all_in h.pieces) (rounds_are_a_run budget first h.mid h.pieces h.are)) keep one
 
 -- a round was played, with some event
-pub sprinted_next : (p : Dcop) (budget : ℕ) (first : Network) (k : ℕ) (s t : CoreView) (still : Bool) → budget ≤ most_counted → Sprinted p budget first k s → is_over budget s ≡ false → PlaysSprint s t still
-    → still ≡ false → Sprinted p budget first (k + 1) t
-sprinted_next p budget first k s t still le h over plays moved =
+pub sprinted_next : (p : Dcop) (budget : ℕ) (first : Network) (k : ℕ) (s t : CoreView) (a b c : Option NotesView) (still : Bool) → budget ≤ most_counted
+    → (h : Sprinted p budget first k s) × KeepNotes p first (flat_map (λ es. es) h.pieces) a b → is_over budget s ≡ false → PlaysSprint s b t c still → still ≡ false
+    → (now : Sprinted p budget first (k + 1) t) × KeepNotes p first (flat_map (λ es. es) now.pieces) a c
+sprinted_next p budget first k s t a b c still le from over plays moved =
+    let h = from.0 in
     let played = plays p h.mid h.core in
     let one = played.0 in
     let events : List Event = one.events in
     let some : length events ≢ 0 = eqb-false (length events) 0 (sym played.1 ∙ moved) in
     let on : (has_ended h.mid || nat_le budget (deliveries h.mid)) ≡ false = sym (over_is p budget h.mid s le h.core) ∙ over in
     let below : deliveries h.mid < budget = leb-false budget (deliveries h.mid) (or_parts (has_ended h.mid) (nat_le budget (deliveries h.mid)) on).1 in
-    let is_round : IsRound h.mid events one.mid = record { leads = one.leads.ran; few = one.few; bounded = one.leads.bounded; served = λ i j runs. one.served i j } in
-    record {
-      pieces = h.pieces ++ events ∷ [];
-      mid = one.mid;
-      are = rounds_snoc budget first h.mid one.mid h.pieces events h.are below is_round;
-      core = one.leads.core;
-      spent = let more = one.leads.more in let spent = h.spent in elim (cases_eq (length events) 0) [ inl none ↦ absurd (some none) | inr ne ↦ omega (arith, more, spent, ne) ];
-      counted = let c = one.counted in omega (arith, c, below);
-    }
+    let is_round : IsRound h.mid events one.mid = record { leads = one.leads.ran; few = one.few; bounded = one.leads.bounded; served = λ i j runs. one.served i j } in (
+      record {
+        pieces = h.pieces ++ events ∷ [];
+        mid = one.mid;
+        are = rounds_snoc budget first h.mid one.mid h.pieces events h.are below is_round;
+        busy = busy_snoc first h.mid h.pieces events (ran_after first h.mid (all_in h.pieces) (rounds_are_a_run budget first h.mid h.pieces h.are)) h.busy
+            (or_parts (has_ended h.mid) (nat_le budget (deliveries h.mid)) on).0 (λ none. some (ap (λ (es : List Event). length es) none));
+        played = length-append h.pieces (events ∷ []) ∙ ap (λ (m : ℕ). m + 1) h.played;
+        few = let spent = h.spent in omega (arith, spent, below);
+        core = one.leads.core;
+        spent = let more = one.leads.more in let spent = h.spent in elim (cases_eq (length events) 0) [ inl none ↦ absurd (some none) | inr ne ↦ omega (arith, more, spent, ne) ];
+        counted = let c = one.counted in omega (arith, c, below);
+      },
+      keep_same p first (all_in h.pieces ++ events) (all_in (h.pieces ++ events ∷ [])) a c (all_snoc h.pieces events) (keep_round p budget first k s a b c h events from.1 played.2),
+    )
 
 -- playing stops
-pub sprints_stop : (p : Dcop) (budget : ℕ) (first : Network) (k : ℕ) (s : CoreView) → (h : Sprinted p budget first k s) → stops budget h.mid ≡ true
+pub sprints_stop : (p : Dcop) (budget : ℕ) (first : Network) (k : ℕ) (s : CoreView) (a b : Option NotesView) → (h : Sprinted p budget first k s) → KeepNotes p first (flat_map (λ es. es) h.pieces) a b → stops budget h.mid ≡ true
     → (pieces : List (List Event)) × (end : Network) × (how : RunEnd) × AreRounds budget first pieces end × IsRunEnd budget end how × IsCore p end s × (deliveries end ≤ deliveries first + budget + most_events * turn_share)
-sprints_stop p budget first k s h stop =
+    × KeepNotes p first (flat_map (λ es. es) pieces) a b × AreBusy first pieces × (length pieces ≤ budget)
+sprints_stop p budget first k s a b h keep stop =
     let how = stopped-how budget h.mid (core_desks p h.mid s h.core) stop in
-    (h.pieces, h.mid, how.0, h.are, how.1, h.core, h.counted)
+    (h.pieces, h.mid, how.0, h.are, how.1, h.core, h.counted, keep, h.busy, let played = h.played in let few = h.few in omega (arith, played, few))
 
 -- a round had no event
-pub sprints_still : (p : Dcop) (budget : ℕ) (first : Network) (k : ℕ) (s t : CoreView) (still : Bool) → Sprinted p budget first k s → PlaysSprint s t still → still ≡ true
+pub sprints_still : (p : Dcop) (budget : ℕ) (first : Network) (k : ℕ) (s t : CoreView) (a b c : Option NotesView) (still : Bool) → (h : Sprinted p budget first k s) × KeepNotes p first (flat_map (λ es. es) h.pieces) a b
+    → PlaysSprint s b t c still → still ≡ true
     → (pieces : List (List Event)) × (end : Network) × (how : RunEnd) × AreRounds budget first pieces end × IsRunEnd budget end how × IsCore p end t × (deliveries end ≤ deliveries first + budget + most_events * turn_share)
-sprints_still p budget first k s t still h plays is =
+    × KeepNotes p first (flat_map (λ es. es) pieces) a c × AreBusy first pieces × (length pieces ≤ budget)
+sprints_still p budget first k s t a b c still from plays is =
+    let h = from.0 in
     let played = plays p h.mid h.core in
     let one = played.0 in
     let none : length one.events ≡ 0 = eqb-true (length one.events) 0 (sym played.1 ∙ is) in
     let same : one.mid ≡ h.mid = sym one.leads.is ∙ ap (λ (es : List Event). after h.mid es) (empty_by one.events none) in
     let now : IsCore p h.mid t = subst (λ (n : Network). IsCore p n t) same one.leads.core in
-    sprints_stop p budget first k t (record { pieces = h.pieces; mid = h.mid; are = h.are; core = now; spent = h.spent; counted = h.counted })
+    let empty : all_in h.pieces ++ one.events ≡ all_in h.pieces = ap (λ (es : List Event). all_in h.pieces ++ es) (empty_by one.events none) ∙ append-nil (all_in h.pieces) in
+    let keep : KeepNotes p first (all_in h.pieces) a c = keep_same p first (all_in h.pieces ++ one.events) (all_in h.pieces) a c empty (keep_round p budget first k s a b c h one.events from.1 played.2) in
+    sprints_stop p budget first k t a c (record { pieces = h.pieces; mid = h.mid; are = h.are; busy = h.busy; played = h.played; few = h.few; core = now; spent = h.spent; counted = h.counted }) keep
     (stops_still budget h.mid (empty_by (round h.mid) (one.still none)))

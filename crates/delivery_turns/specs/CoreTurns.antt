@@ -31,12 +31,13 @@ TakesTurn k old new ts = (p : Dcop) (net : Network) → IsCore p net old → (mi
 abbrev pub AddsTurn : ℕ → CoreView → List Event → CoreView → List Event → Type 0
 AddsTurn k old before new events = (p : Dcop) (net : Network) → IsCore p net old → (mid : Network) × Leads p net (turn net k) mid new × (events ≡ before ++ turn net k)
 
--- the turns of the first k agents of a round lead to this core state; the round has their events,
--- followed by those of the turns that are left
+-- the turns of the first k agents of a round lead to this core state, with at most one event each;
+-- the round has their events, followed by those of the turns that are left
 pub record Turned (p : Dcop) (net : Network) (k : ℕ) (s : CoreView) : Type 0 where
   pub es : List Event
   pub mid : Network
   pub leads : Leads p net es mid s
+  pub few : length es ≤ k
   pub left : round net ≡ es ++ turns mid (range_with_len k (length p.sizes - k))
 
 -- a round leads from one core state to another, and its events are appended to the events

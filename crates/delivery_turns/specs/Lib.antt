@@ -1,3 +1,4 @@
 pub mod Turns
 pub mod CoreTurns
 pub mod Sprints
+pub mod PlayedOut

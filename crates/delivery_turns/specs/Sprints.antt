@@ -1,18 +1,22 @@
 -- Rounds of many turns over the agents of a core state.
-use Rattle.std.specs.Prelude.{◌≡◌, ℕ, ◌+◌, ◌*◌, ◌≤◌, Bool, ◌==◌, List, length, min}
-use Rattle.dcop_base.specs.Limits.{variable_limit}
+use Rattle.std.specs.Prelude.{◌≡◌, ℕ, ◌+◌, ◌*◌, ◌≤◌, Bool, ◌==◌, List, length, min, Option}
+use Rattle.std.specs.List.{flat_map}
+use Rattle.dcop_base.specs.Limits.{variable_limit, amount_limit}
 use Rattle.dcop_base.specs.Problem.{Dcop}
 use Rattle.protocol_steps.specs.declared.event.Event.{Event}
+use Rattle.protocol_steps.specs.declared.event.Take.{Take}
 use Rattle.protocol_steps.specs.declared.run_end.RunEnd.{RunEnd}
+use Rattle.protocol_steps.specs.View.{View}
 use Rattle.protocol_steps.specs.Network.{Network}
 use Rattle.protocol_steps.specs.Effect.{pending, deliveries}
 use Rattle.protocol_steps.specs.Run.{journal}
 use Rattle.protocol_steps.specs.RunEnds.{IsRunEnd}
 use Rattle.protocol_steps.specs.Rounds.{most_events, link_share, taken_in, AreRounds}
 use Rattle.delivery_core.specs.State.{CoreView}
-use Rattle.delivery_turns.specs.Turns.{round}
+use Rattle.delivery_turns.specs.Turns.{event_with, turn, round, AreBusy}
 use Rattle.delivery_turns.specs.CoreTurns.{Leads}
 use Rattle.delivery_core.specs.Shown.{IsCore}
+use Rattle.log_replay.specs.Notes.{NotesView, MayBeNotes, KeepNotes}
 
 -- the most messages that one agent takes in a turn, and the most that all agents take
 abbrev pub agent_share : ℕ
@@ -25,10 +29,31 @@ turn_share = agent_share * variable_limit
 abbrev pub none_of : List Event → Bool
 none_of es = length es == 0
 
--- the turns of all agents lead from one core state to another; `still` says whether they have no
--- event
-abbrev pub TakesAll : CoreView → CoreView → Bool → Type 0
-TakesAll old new still = (p : Dcop) (net : Network) → IsCore p net old → (mid : Network) × Leads p net (round net) mid new × (still ≡ none_of (round net))
+-- a core state is a network that some run has reached, and these are the notes of that run, if notes
+-- are kept; with `more` further events the run has at most amount_limit of them
+abbrev pub IsSomeNoted : ℕ → CoreView → Option NotesView → Type 0
+IsSomeNoted more s notes =
+    (p : Dcop) × (net : Network) × (made : List View) × (before : List Event) × IsCore p net s × MayBeNotes p made before net notes × (length before + more ≤ amount_limit)
+
+-- one more than the most messages that a round takes
+abbrev pub round_room : ℕ
+round_room = most_events * turn_share + 1
+
+-- one more than the most messages that rounds under this budget take, and a round after them
+abbrev pub run_room : ℕ → ℕ
+run_room budget = budget + most_events * turn_share + round_room
+
+-- the turn of agent k, which makes these takes, leads from one core state to another, and its
+-- event, if it has one, is noted
+abbrev pub NotesTurn : ℕ → CoreView → Option NotesView → CoreView → Option NotesView → List Take → Type 0
+NotesTurn k old notes new noted ts =
+    (p : Dcop) (net : Network) → IsCore p net old → (mid : Network) × Leads p net (turn net k) mid new × (turn net k ≡ event_with k ts) × KeepNotes p net (turn net k) notes noted
+
+-- the turns of all agents lead from one core state to another, and their events are noted; `still`
+-- says whether they have no event
+abbrev pub TakesAll : CoreView → Option NotesView → CoreView → Option NotesView → Bool → Type 0
+TakesAll old notes new noted still =
+    (p : Dcop) (net : Network) → IsCore p net old → (mid : Network) × Leads p net (round net) mid new × (still ≡ none_of (round net)) × KeepNotes p net (round net) notes noted
 
 -- turns of agents below agent `from`, each at most once, lead from a network to a core state
 pub record Turning (p : Dcop) (net : Network) (from : ℕ) (s : CoreView) : Type 0 where
@@ -39,12 +64,13 @@ pub record Turning (p : Dcop) (net : Network) (from : ℕ) (s : CoreView) : Type
   pub none : (i : ℕ) → from ≤ i → length (journal i es) ≡ 0
   pub counted : deliveries mid ≤ deliveries net + from * agent_share
 
--- turns of agents, each at most once, lead from one core state to another; `still` says whether
--- they have no event
-abbrev pub TakesTurns : CoreView → CoreView → Bool → Type 0
-TakesTurns old new still =
+-- turns of agents, each at most once, lead from one core state to another, and their events are
+-- noted; `still` says whether they have no event
+abbrev pub TakesTurns : CoreView → Option NotesView → CoreView → Option NotesView → Bool → Type 0
+TakesTurns old notes new noted still =
     (p : Dcop) (net : Network) → IsCore p net old
     → (es : List Event) × (mid : Network) × Leads p net es mid new × (still ≡ none_of es) × ((i : ℕ) → length (journal i es) ≤ 1) × (deliveries mid ≤ deliveries net + turn_share)
+    × KeepNotes p net es notes noted
 
 -- turns lead from a network to this core state, at most k of each agent; they took from each link
 -- all that was pending at first, or at least 64 messages if that was more; if they have no event, a
@@ -58,24 +84,29 @@ pub record Sprinting (p : Dcop) (net : Network) (k : ℕ) (s : CoreView) : Type 
   pub counted : deliveries mid ≤ deliveries net + k * turn_share
   pub still : length events ≡ 0 → length (round net) ≡ 0
 
--- a round of at most 32 turns leads from one core state to another; `still` says whether it has no
--- event
-abbrev pub PlaysSprint : CoreView → CoreView → Bool → Type 0
-PlaysSprint old new still = (p : Dcop) (net : Network) → IsCore p net old → (h : Sprinting p net most_events new) × (still ≡ none_of h.events)
+-- a round of at most 32 turns leads from one core state to another, and its events are noted;
+-- `still` says whether it has no event
+abbrev pub PlaysSprint : CoreView → Option NotesView → CoreView → Option NotesView → Bool → Type 0
+PlaysSprint old notes new noted still =
+    (p : Dcop) (net : Network) → IsCore p net old → (h : Sprinting p net most_events new) × (still ≡ none_of h.events) × KeepNotes p net h.events notes noted
 
--- rounds under this budget lead from the first network to this core state, with at least k
--- deliveries
+-- k rounds under this budget lead from the first network to this core state, with at least k
+-- deliveries; each began while some agent had not ended, and has an event
 pub record Sprinted (p : Dcop) (budget : ℕ) (first : Network) (k : ℕ) (s : CoreView) : Type 0 where
   pub pieces : List (List Event)
   pub mid : Network
   pub are : AreRounds budget first pieces mid
+  pub busy : AreBusy first pieces
+  pub played : length pieces ≡ k
+  pub few : k ≤ budget
   pub core : IsCore p mid s
   pub spent : k ≤ deliveries mid
   pub counted : deliveries mid ≤ deliveries first + budget + most_events * turn_share
 
--- rounds under a budget lead from one core state to another, at which the run has ended
-abbrev pub PlaysSprints : ℕ → CoreView → CoreView → Type 0
-PlaysSprints budget old new =
+-- at most `budget` busy rounds lead from one core state to another, at which the run has ended, and
+-- their events are noted
+abbrev pub PlaysSprints : ℕ → CoreView → Option NotesView → CoreView → Option NotesView → Type 0
+PlaysSprints budget old notes new noted =
     (p : Dcop) (first : Network) → IsCore p first old
     → (pieces : List (List Event)) × (end : Network) × (how : RunEnd) × AreRounds budget first pieces end × IsRunEnd budget end how × IsCore p end new
-    × (deliveries end ≤ deliveries first + budget + most_events * turn_share)
+    × (deliveries end ≤ deliveries first + budget + most_events * turn_share) × KeepNotes p first (flat_map (λ es. es) pieces) notes noted × AreBusy first pieces × (length pieces ≤ budget)

@@ -1,5 +1,5 @@
 -- Playing in rounds: which events a round has, and when playing stops.
-use Rattle.std.specs.Prelude.{◌≡◌, ℕ, Bool, true, false, ◌||◌, List, [], ◌∷◌, ◌++◌, length, ◌==◌, nat_le, if◌then◌else◌, Some}
+use Rattle.std.specs.Prelude.{◌≡◌, ◌≢◌, ℕ, Bool, true, false, ◌||◌, List, [], ◌∷◌, ◌++◌, length, ◌==◌, nat_le, if◌then◌else◌, Some}
 use Rattle.std.specs.List.{flat_map, fold, range_with_len}
 use Rattle.protocol_steps.specs.declared.event.Take.{Take}
 use Rattle.protocol_steps.specs.declared.event.Event.{Event}
@@ -39,6 +39,11 @@ round net = turns net (range_with_len 0 (length net.views))
 -- no event
 abbrev pub stops : ℕ → Network → Bool
 stops budget net = has_ended net || nat_le budget (deliveries net) || (length (round net) == 0)
+
+-- each of these rounds began while some agent had not ended, and has an event
+abbrev pub AreBusy : Network → List (List Event) → Type 0
+AreBusy net [] = Unit {0}
+AreBusy net (es ∷ rounds) = (has_ended net ≡ false) × (es ≢ []) × AreBusy (after net es) rounds
 
 -- these are the events of rounds, round by round, that lead from one network to another; playing
 -- does not stop before any of them, and stops at the end

@@ -1,18 +1,20 @@
 //! Playing in rounds of many turns.
 
-ghost use Rattle.std.specs.Prelude.{◌≡◌, ◌≤◌, length, IfOk, OnOk};
+ghost use Rattle.std.specs.Prelude.{◌≡◌, ◌<◌, ◌≤◌, ◌+◌, length, IfOk, OnOk};
 ghost use Rattle.dcop_base.specs.Limits.{variable_limit, budget_limit};
 ghost use Rattle.protocol_steps.specs.Outcomes.{HaveRun};
 ghost use Rattle.protocol_steps.specs.Rounds.{most_events};
 ghost use Rattle.delivery_core.specs.Agents.{IsStartFor, agents_of};
-ghost use Rattle.delivery_core.specs.Shown.{IsSomeCore};
-ghost use Rattle.delivery_turns.specs.Sprints.{TakesAll, TakesTurns, PlaysSprint, PlaysSprints};
+ghost use Rattle.delivery_turns.specs.Sprints.{turn_share, round_room, run_room, IsSomeNoted, NotesTurn, TakesAll, TakesTurns, PlaysSprint, PlaysSprints};
+ghost use Rattle.delivery_turns.specs.PlayedOut.{HaveDulyRun, HavePlayed};
 
 use crate::turn::{is_over, take_turn};
-use dcop_base::{NoMemory, Problem, problem_is_whole};
+use dcop_base::{NoMemory, Problem, VarId, problem_is_whole};
 use dcop_edge::Gate;
 use delivery_core::{CoreState, Start, outcome_of};
+use log_replay::{Notes, log_of, note, notes_if};
 use protocol_steps::{Outcome, Take};
+use run_log::Log;
 use std::alloc::Global;
 
 /// The most turns of a round.
@@ -24,22 +26,54 @@ pub fn turns_agree()
     ensures { MOST_TURNS ≡ most_events }
 {}
 
+/// What agents that were played out have come to.
+#[derive(Debug, Drop)]
+pub struct PlayedOut {
+    /// The outcome of their run.
+    pub outcome: Outcome,
+    /// The log of their run, if it was requested.
+    pub log: Option<Log>,
+}
+
+/// Plays the turn of one agent: it takes what is pending. The content of `takes` is replaced by
+/// what it takes. If it takes something, its event is noted, if notes are kept.
+fn take_noted<G: Gate>(
+    alloc: Global,
+    gate: &G,
+    state: &mut CoreState,
+    notes: &mut Option<Notes>,
+    me: usize,
+    takes: &mut Vec<Take>,
+) -> Result<(), NoMemory>
+    requires core { IsSomeNoted 1 state.old notes.old }
+    requires inside { me < length state.old.seats }
+    requires few { length state.old.seats ≤ variable_limit }
+    ensures { OnOk result (NotesTurn me state.old notes.old state.new notes.new takes.new.items) }
+{
+    take_turn(alloc, gate, state, me, takes)?;
+    if takes.is_empty() {
+        return Ok(());
+    }
+    note(alloc, notes, state, VarId(me as u32), takes.as_slice())
+}
+
 /// Plays a turn of all agents, in ascending order, and passes over those that are known to take
 /// nothing. Returns whether the turn took nothing. `takes` is a buffer for what one agent takes.
 fn play_all<G: Gate>(
     alloc: Global,
     gate: &G,
     state: &mut CoreState,
+    notes: &mut Option<Notes>,
     takes: &mut Vec<Take>,
 ) -> Result<bool, NoMemory>
-    requires core { IsSomeCore state.old }
+    requires core { IsSomeNoted (turn_share + 1) state.old notes.old }
     requires few { length state.old.seats ≤ variable_limit }
-    ensures { IfOk result (TakesAll state.old state.new) }
+    ensures { IfOk result (TakesAll state.old notes.old state.new notes.new) }
 {
     let mut still = true;
     let mut from = 0;
     while let Some(me) = state.next_busy(from) {
-        take_turn(alloc, gate, state, me, takes)?;
+        take_noted(alloc, gate, state, notes, me, takes)?;
         still &= takes.is_empty();
         from = me + 1;
     }
@@ -53,16 +87,17 @@ fn play_turn<G: Gate>(
     alloc: Global,
     gate: &G,
     state: &mut CoreState,
+    notes: &mut Option<Notes>,
     takes: &mut Vec<Take>,
 ) -> Result<bool, NoMemory>
-    requires core { IsSomeCore state.old }
+    requires core { IsSomeNoted (turn_share + 1) state.old notes.old }
     requires few { length state.old.seats ≤ variable_limit }
-    ensures { IfOk result (TakesTurns state.old state.new) }
+    ensures { IfOk result (TakesTurns state.old notes.old state.new notes.new) }
 {
     let mut still = true;
     let mut from = 0;
     while let Some(me) = state.next_called(from) {
-        take_turn(alloc, gate, state, me, takes)?;
+        take_noted(alloc, gate, state, notes, me, takes)?;
         still &= takes.is_empty();
         from = me + 1;
     }
@@ -75,15 +110,16 @@ fn play_sprint<G: Gate>(
     alloc: Global,
     gate: &G,
     state: &mut CoreState,
+    notes: &mut Option<Notes>,
     takes: &mut Vec<Take>,
 ) -> Result<bool, NoMemory>
-    requires core { IsSomeCore state.old }
+    requires core { IsSomeNoted round_room state.old notes.old }
     requires few { length state.old.seats ≤ variable_limit }
-    ensures { IfOk result (PlaysSprint state.old state.new) }
+    ensures { IfOk result (PlaysSprint state.old notes.old state.new notes.new) }
 {
-    let mut still = play_all(alloc, gate, state, takes)?;
+    let mut still = play_all(alloc, gate, state, notes, takes)?;
     for _ in 1..MOST_TURNS {
-        if play_turn(alloc, gate, state, takes)? {
+        if play_turn(alloc, gate, state, notes, takes)? {
             return Ok(still);
         }
         still = false;
@@ -96,34 +132,64 @@ fn play_sprints<G: Gate>(
     alloc: Global,
     gate: &G,
     state: &mut CoreState,
+    notes: &mut Option<Notes>,
     budget: u64,
 ) -> Result<(), NoMemory>
-    requires core { IsSomeCore state.old }
+    requires core { IsSomeNoted (run_room budget) state.old notes.old }
     requires few { length state.old.seats ≤ variable_limit }
     requires budget { budget ≤ budget_limit }
-    ensures { OnOk result (PlaysSprints budget state.old state.new) }
+    ensures { OnOk result (PlaysSprints budget state.old notes.old state.new notes.new) }
 {
     let mut takes = Vec::new(alloc);
     for _ in 0..budget {
         if is_over(state, budget) {
             return Ok(());
         }
-        if play_sprint(alloc, gate, state, &mut takes)? {
+        if play_sprint(alloc, gate, state, notes, &mut takes)? {
             return Ok(());
         }
     }
     Ok(())
 }
 
-/// Plays the agents on this thread, in rounds from the start state, and returns the outcome.
+/// Plays the agents on this thread, in rounds from the start state, and returns the outcome. The log
+/// of the run is included exactly when one is requested; the agents are played in the same way with
+/// it and without it.
 ///
 /// A turn visits agents in ascending order. Each of them that has not ended and has something
 /// pending makes one event: it takes from each sender what is pending, at most 64 messages. The
 /// first turn of a round visits all agents. Each later turn visits those that were sent something
 /// since they were last looked at. A round ends with a turn that takes nothing, or with its 32nd
 /// turn. Playing stops when, after the start or a round, all agents have ended, the deliveries are
-/// at least `budget`, or the round had no event. The budget must be at most 10,000,000. An agent
-/// passes the gate when it is looked at and something may wait for it. No event is kept.
+/// at least `budget`, or the round had no event. So there are at most `budget` rounds. The budget
+/// must be at most 10,000,000. An agent passes the gate when it is looked at and something may wait
+/// for it.
+///
+/// # Errors
+///
+/// [`NoMemory`] if memory runs out.
+pub fn play_out_logged<G: Gate>(
+    alloc: Global,
+    gate: &G,
+    problem: &Problem,
+    start: &Start,
+    budget: u64,
+    certified: bool,
+) -> Result<PlayedOut, NoMemory>
+    requires start { IsStartFor problem.now start.now }
+    requires budget { budget ≤ budget_limit }
+    ensures { IfOk result (HavePlayed budget (agents_of problem.now start.now) certified) }
+{
+    problem_is_whole(problem);
+    let mut state = CoreState::start(alloc, problem, start)?;
+    let mut notes = notes_if(alloc, certified, problem, &state)?;
+    play_sprints(alloc, gate, &mut state, &mut notes, budget)?;
+    let log = log_of(alloc, notes)?;
+    let outcome = outcome_of(alloc, state)?;
+    Ok(PlayedOut { outcome, log })
+}
+
+/// The outcome of agents that are played as [`play_out_logged`] plays them, without a log.
 ///
 /// A run of `agent_workers` with one worker plays the same agents in this way too, with cells and
 /// links.
@@ -140,10 +206,9 @@ pub fn play_out<G: Gate>(
 ) -> Result<Outcome, NoMemory>
     requires start { IsStartFor problem.now start.now }
     requires budget { budget ≤ budget_limit }
-    ensures { IfOk result (HaveRun budget (agents_of problem.now start.now)) }
+    ensures run { IfOk result (HaveRun budget (agents_of problem.now start.now)) }
+    ensures rounds { IfOk result (HaveDulyRun budget (agents_of problem.now start.now)) }
 {
-    problem_is_whole(problem);
-    let mut state = CoreState::start(alloc, problem, start)?;
-    play_sprints(alloc, gate, &mut state, budget)?;
-    outcome_of(alloc, state)
+    let played = play_out_logged(alloc, gate, problem, start, budget, false)?;
+    Ok(played.outcome)
 }

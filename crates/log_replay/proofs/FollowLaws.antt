@@ -38,9 +38,9 @@ all_known n ts known k d lt =
       | inr below ↦ leb-false n (get_or ts k d).from below
     ]
 
-last_case : (b : Bool) (stamp last : ℕ) → stamp ≤ amount_limit → last ≤ amount_limit → (if b then stamp else last) ≤ amount_limit
-last_case true stamp last h k = h
-last_case false stamp last h k = k
+last_case : (b : Bool) (most stamp last : ℕ) → stamp ≤ most → last ≤ most → (if b then stamp else last) ≤ most
+last_case true most stamp last h k = h
+last_case false most stamp last h k = k
 
 module _ (p : Dcop) (net : Network) (s : LinkStamps) (v : StampsView) (e : LogEvent) (are : AreStamps p net s v) (agents : length net.views ≡ length p.sizes) (desks : length net.desks ≡ length p.sizes) (fine : event_fault net (event_of e) ≡ None) where
   abbrev n : ℕ
@@ -76,21 +76,37 @@ module _ (p : Dcop) (net : Network) (s : LinkStamps) (v : StampsView) (e : LogEv
       greatest_is e.agent 0 W v.rows e.takes in_rows ascend (λ j le. are.queues e.agent j agent_there) in
       ap (λ (k : ℕ). max k (greatest_by e.agent v.rows e.takes) + 1) last ∙ ap (λ (k : ℕ). max (s.last e.agent) k + 1) most
 
-  taken_few : greatest (taken_stamps net s e.agent e.takes) ≤ amount_limit
-  taken_few = greatest_all (next_stamps net s e.agent) amount_limit e.takes (λ t.
-      let sent : List ℕ = s.sent e.agent t.from in
-      let left : List ℕ = drop (taken_at net.desks e.agent t.from) sent in
-      let a = greatest_take t.count left in
-      let b = greatest_drop (taken_at net.desks e.agent t.from) sent in
-      let c = are.bounded e.agent t.from in
-      omega (arith, a, b, c))
+  -- a bound on all stamps
+  module _ (most : ℕ) (few : (i : ℕ) → s.last i ≤ most) (bounded : (i j : ℕ) → greatest (s.sent i j) ≤ most) where
+    taken_within : greatest (taken_stamps net s e.agent e.takes) ≤ most
+    taken_within = greatest_all (next_stamps net s e.agent) most e.takes (λ t.
+        let sent : List ℕ = s.sent e.agent t.from in
+        let left : List ℕ = drop (taken_at net.desks e.agent t.from) sent in
+        let a = greatest_take t.count left in
+        let b = greatest_drop (taken_at net.desks e.agent t.from) sent in
+        let c = bounded e.agent t.from in
+        omega (arith, a, b, c))
+
+    pub right_within : stamp_by v e.agent e.takes ≤ most + 1
+    right_within =
+        let last = few e.agent in
+        let same = right_is in
+        let taken = taken_within in
+        omega (arith, last, same, taken)
 
   pub right_few : stamp_by v e.agent e.takes ≤ count_limit
-  right_few =
-      let last = are.few e.agent in
-      let same = right_is in
-      let most = taken_few in
-      omega (arith, last, same, most)
+  right_few = let within = right_within amount_limit are.few are.bounded in omega (arith, within)
+
+  -- a bound on all stamps after the event
+  pub last_within : (most : ℕ) → e.stamp ≤ most → (i : ℕ) → s.last i ≤ most → (stamps_after net s e next).last i ≤ most
+  last_within most stamp i last = last_case (e.agent == i) most e.stamp (s.last i) stamp last
+
+  pub sent_within : (most : ℕ) → e.stamp ≤ most → (i j : ℕ) → greatest (s.sent i j) ≤ most → greatest ((stamps_after net s e next).sent i j) ≤ most
+  sent_within most stamp i j sent =
+      let more : ℕ = length (link next.desks j i) - length (link net.desks j i) in
+      let a = greatest_append (s.sent i j) (replicate more e.stamp) in
+      let b = greatest_replicate more e.stamp in
+      omega (arith, a, b, sent, stamp)
 
   module _ (core : CoreView) (after : IsCore p next core) (small : e.stamp ≤ amount_limit) where
     abbrev rows : List (List QueueView)
@@ -178,10 +194,6 @@ module _ (p : Dcop) (net : Network) (s : LinkStamps) (v : StampsView) (e : LogEv
           let d = grown i j in
           omega (arith, a, b, c, d);
       taken = λ i j lt. taken_sent p next core after i j lt;
-      few = λ i. last_case (e.agent == i) e.stamp (s.last i) small (are.few i);
-      bounded = λ i j.
-          let a = greatest_append (s.sent i j) (replicate (new i j - old i j) e.stamp) in
-          let b = greatest_replicate (new i j - old i j) e.stamp in
-          let c = are.bounded i j in
-          omega (arith, a, b, c, small);
+      few = λ i. last_within amount_limit small i (are.few i);
+      bounded = λ i j. sent_within amount_limit small i j (are.bounded i j);
     }

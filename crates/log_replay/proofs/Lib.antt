@@ -5,3 +5,6 @@ mod SentLaws
 mod FollowLaws
 mod StartLaws
 mod ReplayLaws
+mod TakesLaws
+mod NoteLaws
+mod LoggedLaws

@@ -3,3 +3,4 @@ pub mod Following
 pub mod Wrong
 pub mod Replays
 pub mod Steps
+pub mod Notes

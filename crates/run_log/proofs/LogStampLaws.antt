@@ -1,4 +1,4 @@
--- The merged journals of a run of cells have right stamps.
+-- Activations by stamp have right stamps as a log, and so have the merged journals of a run of cells.
 use Rattle.std.proofs.Common.{◌≡◌, ℕ, ◌+◌, ◌<◌, Bool, true, ◌==◌, if◌then◌else◌, nat_lt, ◌&&◌, List, [], ◌∷◌, ◌++◌, map, length, Option, Some, None, refl, sym, ap, subst, ◌∙◌, inl, inr, arith}
 use Rattle.std.specs.List.{fold}
 use Rattle.std.proofs.lemmas.Bool.{cases_eq, cases_lt, eq-eqb, ne_eqb, lt-ltb, or_left, or_right, and_from}
@@ -32,7 +32,7 @@ use Rattle.run_log.proofs.TakenLaws.{logged, deeds_in, deeds_own, told_again, de
 use Rattle.run_log.proofs.StampStepLaws.{Marks, right_is, marks_after, marks_start}
 
 -- each event follows the one before it
-abbrev Followed : Option LogEvent → List LogEvent → Type 0
+abbrev pub Followed : Option LogEvent → List LogEvent → Type 0
 Followed before [] = Unit {0}
 Followed before (e ∷ log) = ((k : ℕ) → order_difference k before e ≡ None) × Followed (Some e) log
 
@@ -51,21 +51,23 @@ followed_behind e (f ∷ log) first h = (
   followed_behind f log h.0 h.1,
 )
 
-followed : (log : List LogEvent) → IsOrdered (entries_of log) → Followed None log
+-- and so do those of a log in order
+pub followed : (log : List LogEvent) → IsOrdered (entries_of log) → Followed None log
 followed [] h = tt
 followed (e ∷ log) h = (λ k. refl, followed_behind e log h.0 h.1)
 
--- one activation of a run, by the network
-record Next (n : ℕ) (net : Network) (now : ℕ → Account) (d : Deed) : Type 0 where
-  net_is : Network
-  happens : happen (Some net) (event_done d) ≡ Some net_is
-  effected : effect net (event_done d) ≡ net_is
-  shows : Shows n net_is (after_one now d)
+-- the network after one activation of a run
+pub record Next (n : ℕ) (net : Network) (now : ℕ → Account) (d : Deed) : Type 0 where
+  pub net_is : Network
+  pub happens : happen (Some net) (event_done d) ≡ Some net_is
+  pub effected : effect net (event_done d) ≡ net_is
+  pub shows : Shows n net_is (after_one now d)
 
 effect_is : (net one : Network) (e : Event) → Happens net e one → effect net e ≡ one
 effect_is net one e h = rw (h.views, h.desks) h.after
 
-own_alone : (n : ℕ) (now : ℕ → Account) (d : Deed) → IsDeed n (now d.agent) d → (i : ℕ) → AreDeeds n (now i) (deeds_of i (d ∷ []))
+-- one activation that its agent's account allows
+pub own_alone : (n : ℕ) (now : ℕ → Account) (d : Deed) → IsDeed n (now d.agent) d → (i : ℕ) → AreDeeds n (now i) (deeds_of i (d ∷ []))
 own_alone n now d deed i = elim (cases_eq d.agent i) [
   | inl same ↦
       subst (λ (b : Bool). AreDeeds n (now i) ((if b then d ∷ [] else []) ++ [])) (sym (eq-eqb d.agent i same))
@@ -73,7 +75,8 @@ own_alone n now d deed i = elim (cases_eq d.agent i) [
   | inr other ↦ subst (λ (b : Bool). AreDeeds n (now i) ((if b then d ∷ [] else []) ++ [])) (sym (ne_eqb d.agent i other)) tt
 ]
 
-next_of : (n : ℕ) (net : Network) (now : ℕ → Account) (d : Deed) → Shows n net now → TakenIsPrefix now → IsDeed n (now d.agent) d → TakenIsPrefix (after_one now d) → Next n net now d
+-- it leads to a network, which the accounts after it show
+pub next_of : (n : ℕ) (net : Network) (now : ℕ → Account) (d : Deed) → Shows n net now → TakenIsPrefix now → IsDeed n (now d.agent) d → TakenIsPrefix (after_one now d) → Next n net now d
 next_of n net now d shows before deed taken =
     let ends : EndsAt n net (d ∷ []) (after_all now (d ∷ [])) =
     stamps_order n net now ((d ∷ []) ∷ []) shows before (own_alone n now d deed) ((omega arith, tt), subst TakenIsPrefix (same_after now d []) taken, tt) in
@@ -92,7 +95,7 @@ no_difference k right before e same after =
     ap (λ (b : Bool). let d : StampDifference = record { event = k; left = e.stamp; right = right } in if b then order_difference k before e else Some d) (eq-eqb e.stamp right same) ∙ after
 
 -- activations that the accounts allow, by stamp, have right stamps
-right_from : (n k : ℕ) (ds : List Deed) (b : ℕ) (net : Network) (now : ℕ → Account) (s : LinkStamps) (last : Option LogEvent) → Shows n net now → TakenIsPrefix now
+pub right_from : (n k : ℕ) (ds : List Deed) (b : ℕ) (net : Network) (now : ℕ → Account) (s : LinkStamps) (last : Option LogEvent) → Shows n net now → TakenIsPrefix now
     → ((i : ℕ) → AreDeeds n (now i) (deeds_of i ds)) → ByStampFrom b ds → TakenIsPrefix (after_all now ds) → Marks n now s → Followed last (map logged ds)
     → stamp_difference k (Some net) s last (map logged ds) ≡ None
 right_from n k [] b net now s last shows before deeds sorted after marks follow = refl

@@ -1,3 +1,4 @@
 mod NodeLaws
 mod CrewLaws
 mod WiringLaws
+mod PlayedLaws

@@ -1,6 +1,6 @@
 //! Running agents in one node, and the tree that they find.
 
-ghost use Rattle.std.specs.Prelude.{◌≡◌, ◌<◌, ◌≤◌, ℕ, false, length, is_some, IfOk, IfSome};
+ghost use Rattle.std.specs.Prelude.{◌≡◌, ◌<◌, ◌≤◌, ℕ, length, is_some, IfOk, IfSome};
 ghost use Rattle.dcop_base.specs.Limits.{budget_limit, variable_limit};
 ghost use Rattle.protocol_steps.specs.JournalStamps.{journal_at};
 ghost use Rattle.worker_runs.specs.CellRounds.{total};
@@ -27,7 +27,7 @@ use agent_workers::run;
 use dcop_base::{NoMemory, Problem, problem_is_whole};
 use dcop_edge::Gate;
 use delivery_core::Start;
-use delivery_turns::play_out;
+use delivery_turns::play_out_logged;
 use problem_solved::ProblemSolved;
 use problem_text::ProblemFile;
 use protocol_steps::{Outcome, RunEnd};
@@ -56,8 +56,8 @@ fn run_agents<R: Threads + Sync, G: Gate>(
     Ok(ran.outcome)
 }
 
-/// The same, with the log of the run if it is requested. If one worker runs the agents and no log
-/// is requested, they are played on this thread, without cells and links.
+/// The same, with the log of the run if it is requested. One worker plays the agents on this thread,
+/// without cells and links, and in the same way with a log and without one.
 pub(crate) fn run_logged<R: Threads + Sync, G: Gate>(
     crew: &Crew<R, G>,
     alloc: Global,
@@ -70,13 +70,13 @@ pub(crate) fn run_logged<R: Threads + Sync, G: Gate>(
     requires budget { budget ≤ budget_limit }
     ensures { IfOk result (HaveLogged budget (agents_of problem.now start.now) certified) }
 {
-    if certified || crew.workers > 1 {
+    if crew.workers > 1 {
         return run_cells(crew, alloc, problem, start, budget, certified);
     }
     play_alone(crew.gate, alloc, problem, start, budget, certified)
 }
 
-/// The outcome of agents that one thread plays, without a log.
+/// The outcome of agents that one thread plays, with the log of the run if it is requested.
 fn play_alone<G: Gate>(
     gate: &G,
     alloc: Global,
@@ -87,11 +87,13 @@ fn play_alone<G: Gate>(
 ) -> Result<Logged, NoMemory>
     requires start { IsStartFor problem.now start.now }
     requires budget { budget ≤ budget_limit }
-    requires plain { certified ≡ false }
     ensures { IfOk result (HaveLogged budget (agents_of problem.now start.now) certified) }
 {
-    let outcome = play_out(alloc, gate, problem, start, budget)?;
-    Ok(Logged { outcome, log: None })
+    let played = play_out_logged(alloc, gate, problem, start, budget, certified)?;
+    Ok(Logged {
+        outcome: played.outcome,
+        log: played.log,
+    })
 }
 
 /// The outcome of agents that workers run in cells, with the log of the run if it is requested.

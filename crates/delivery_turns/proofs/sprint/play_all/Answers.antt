@@ -1,24 +1,33 @@
-use Rattle.std.proofs.Common.{◌≡◌, ℕ, ◌==◌, ◌&&◌, length, ap, subst, arith, ◌∙◌}
+use Rattle.std.proofs.Common.{◌≡◌, ◌+◌, ℕ, ◌==◌, ◌&&◌, [], length, ap, subst, arith, ◌∙◌}
 use Rattle.delivery_core.specs.Takes.{TakeNothing}
-use Rattle.delivery_turns.specs.Sprints.{none_of}
+use Rattle.delivery_turns.specs.Sprints.{turn_share, none_of}
 use Rattle.delivery_turns.proofs.PlayLaws.{turned_none}
+use Rattle.delivery_turns.proofs.KeptLaws.{keep_none, keep_same, still_noted}
 use Rattle.delivery_turns.proofs.SprintLaws.{all_next, all_end}
 use Rattle.delivery_turns.proofs.sprint.play_all.Goals as goal
 
 pub loop-me-init : goal.loop-me-init
-loop-me-init g c = (λ p net core. let h = turned_none p net c.args.state.now core in (h.0, ap none_of h.1), omega arith)
+loop-me-init g c = (
+  λ p net core.
+      let h = turned_none p net c.args.state.now core in
+      (h.0, ap none_of h.1, keep_same p net [] h.0.es c.args.notes.now c.args.notes.now h.1 (keep_none p net c.args.notes.now)),
+  omega arith,
+)
 
-pub take_turn-requires-clause-core : goal.take_turn-requires-clause-core
-take_turn-requires-clause-core g c κs within =
+pub take_noted-requires-clause-core : goal.take_noted-requires-clause-core
+take_noted-requires-clause-core g c κs within =
     let n = c.requires.core in
-    let h = (c.loop-me.invariant.0 n.0 n.1 n.2).0 in
-    (n.0, h.mid, h.leads.core)
+    let h = c.loop-me.invariant.0 n.0 n.1 n.4 in
+    let few = h.0.few in
+    let from = c.loop-me.invariant.1 in
+    let seats = c.requires.few in
+    still_noted (turn_share + 1) 1 c.args.state.now c.loop-me.state c.args.notes.now c.loop-me.notes n h.0.es h.0.mid h.0.leads.is h.0.leads.core h.2 (omega (arith, few, from, seats))
 
-pub take_turn-requires-clause-few : goal.take_turn-requires-clause-few
-take_turn-requires-clause-few g c κs within =
+pub take_noted-requires-clause-few : goal.take_noted-requires-clause-few
+take_noted-requires-clause-few g c κs within =
     let n = c.requires.core in
-    let h = (c.loop-me.invariant.0 n.0 n.1 n.2).0 in
-    let old = n.2.shows.size in
+    let h = (c.loop-me.invariant.0 n.0 n.1 n.4).0 in
+    let old = n.4.shows.size in
     let now = h.leads.core.shows.size in
     let few = c.requires.few in
     omega (arith, old, now, few)
@@ -26,8 +35,8 @@ take_turn-requires-clause-few g c κs within =
 pub overflow_add-from : goal.overflow_add-from
 overflow_add-from g c =
     let n = c.requires.core in
-    let h = (c.loop-me.invariant.0 n.0 n.1 n.2).0 in
-    let old = n.2.shows.size in
+    let h = (c.loop-me.invariant.0 n.0 n.1 n.4).0 in
+    let old = n.4.shows.size in
     let now = h.leads.core.shows.size in
     let few = c.requires.few in
     let inside = c.in-Some.ensures.within.1 in
@@ -36,8 +45,8 @@ overflow_add-from g c =
 pub loop-me-smaller : goal.loop-me-smaller
 loop-me-smaller g c =
     let n = c.requires.core in
-    let h = (c.loop-me.invariant.0 n.0 n.1 n.2).0 in
-    let old = n.2.shows.size in
+    let h = (c.loop-me.invariant.0 n.0 n.1 n.4).0 in
+    let old = n.4.shows.size in
     let now = h.leads.core.shows.size in
     let from = c.in-Some.ensures.within.0 in
     let inside = c.in-Some.ensures.within.1 in
@@ -49,13 +58,13 @@ loop-me-preserved g c = (
       let h = c.loop-me.invariant.0 p net core in
       let size = h.0.leads.core.shows.size in
       let inside = c.in-Some.ensures.within.1 in
-      let takes = c.take_turn.new.takes in
+      let takes = c.take_noted.new.takes in
       let none : c.is_empty-still.result ≡ (length takes.items == 0) = c.is_empty-still.ensures ∙ ap (λ n. n == 0) takes.ok.0 in
-      let now = all_next p net c.loop-me.from c.in-Some.me c.loop-me.state c.take_turn.new.state takes.items c.loop-me.still c.in-Some.ensures.within.0 (omega (arith, size, inside)) c.in-Some.ensures.passed h c.in_ok-take_turn.ensures in
-      (now.0, ap (λ b. c.loop-me.still && b) none ∙ now.1),
+      let now = all_next p net c.loop-me.from c.in-Some.me c.loop-me.state c.take_noted.new.state c.args.notes.now c.loop-me.notes c.take_noted.new.notes takes.items c.loop-me.still c.in-Some.ensures.within.0 (omega (arith, size, inside)) c.in-Some.ensures.passed h c.in_ok-take_noted.ensures in
+      (now.0, ap (λ b. c.loop-me.still && b) none ∙ now.1, now.2),
   let n = c.requires.core in
-      let h = (c.loop-me.invariant.0 n.0 n.1 n.2).0 in
-      let old = n.2.shows.size in
+      let h = (c.loop-me.invariant.0 n.0 n.1 n.4).0 in
+      let old = n.4.shows.size in
       let now = h.leads.core.shows.size in
       let inside = c.in-Some.ensures.within.1 in
       omega (arith, old, now, inside),
@@ -67,4 +76,4 @@ returns g c = λ p net core.
     let size = h.0.leads.core.shows.size in
     let old = core.shows.size in
     let from = c.loop-me.invariant.1 in
-    all_end p net c.loop-me.from c.loop-me.state c.loop-me.still (omega (arith, old, from)) (subst (λ (n : ℕ). TakeNothing c.loop-me.state.seats c.loop-me.from n) size c.in_default.ensures.passed) h
+    all_end p net c.loop-me.from c.loop-me.state c.args.notes.now c.loop-me.notes c.loop-me.still (omega (arith, old, from)) (subst (λ (n : ℕ). TakeNothing c.loop-me.state.seats c.loop-me.from n) size c.in_default.ensures.passed) h

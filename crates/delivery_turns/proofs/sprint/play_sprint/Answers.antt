@@ -1,4 +1,6 @@
-use Rattle.std.proofs.Common.{◌≤◌, length, arith}
+use Rattle.std.proofs.Common.{◌+◌, ◌≤◌, length, arith}
+use Rattle.delivery_turns.specs.Sprints.{turn_share, round_room}
+use Rattle.delivery_turns.proofs.KeptLaws.{still_noted, less_noted}
 use Rattle.delivery_turns.proofs.SprintLaws.{sprint_first, sprint_some, sprint_end, sprint_all}
 use Rattle.delivery_turns.proofs.sprint.play_sprint.Goals as goal
 
@@ -7,21 +9,27 @@ loop-init g c = (
   λ p net core.
       let size = core.shows.size in
       let few : length p.sizes ≤ 1000 = let few = c.requires.few in omega (arith, size, few) in
-      sprint_first p net c.args.state.now c.play_all.new.state c.in_ok-still.still few core c.in_ok-still.ensures,
+      sprint_first p net c.args.state.now c.play_all.new.state c.args.notes.now c.play_all.new.notes c.in_ok-still.still few core c.in_ok-still.ensures,
   omega arith,
 )
+
+pub play_all-requires-clause-core : goal.play_all-requires-clause-core
+play_all-requires-clause-core g c κs within = less_noted round_room (turn_share + 1) c.args.state.now c.args.notes.now (omega arith) c.requires.core
 
 pub play_turn-requires-clause-core : goal.play_turn-requires-clause-core
 play_turn-requires-clause-core g c κs within =
     let n = c.requires.core in
-    let h = (c.loop.invariant.0 n.0 n.1 n.2).0 in
-    (n.0, h.mid, h.leads.core)
+    let h = c.loop.invariant.0 n.0 n.1 n.4 in
+    let more = h.0.leads.more in
+    let most = h.0.counted in
+    let lt = c.loop-test.true in
+    still_noted round_room (turn_share + 1) c.args.state.now c.loop.state c.args.notes.now c.loop.notes n h.0.events h.0.mid h.0.leads.is h.0.leads.core h.2 (omega (arith, more, most, lt))
 
 pub play_turn-requires-clause-few : goal.play_turn-requires-clause-few
 play_turn-requires-clause-few g c κs within =
     let n = c.requires.core in
-    let h = (c.loop.invariant.0 n.0 n.1 n.2).0 in
-    let old = n.2.shows.size in
+    let h = (c.loop.invariant.0 n.0 n.1 n.4).0 in
+    let old = n.4.shows.size in
     let now = h.leads.core.shows.size in
     let few = c.requires.few in
     omega (arith, old, now, few)
@@ -29,13 +37,13 @@ play_turn-requires-clause-few g c κs within =
 pub returns-then-branch : goal.returns-then-branch
 returns-then-branch g c = λ p net core.
     let lt = c.loop-test.true in
-    sprint_end p net c.loop.counter c.loop.state c.play_turn.new.state c.loop.still c.in_ok-play_turn.field-0 c.if-branch.true (omega (arith, lt)) (c.loop.invariant.0 p net core) c.in_ok-play_turn.ensures
+    sprint_end p net c.loop.counter c.loop.state c.play_turn.new.state c.args.notes.now c.loop.notes c.play_turn.new.notes c.loop.still c.in_ok-play_turn.field-0 c.if-branch.true (omega (arith, lt)) (c.loop.invariant.0 p net core) c.in_ok-play_turn.ensures
 
 pub loop-preserved : goal.loop-preserved
 loop-preserved g c = (
-  λ p net core. sprint_some p net c.loop.counter c.loop.state c.play_turn.new.state c.loop.still c.in_ok-play_turn.field-0 c.if-branch.false (c.loop.invariant.0 p net core) c.in_ok-play_turn.ensures,
+  λ p net core. sprint_some p net c.loop.counter c.loop.state c.play_turn.new.state c.args.notes.now c.loop.notes c.play_turn.new.notes c.loop.still c.in_ok-play_turn.field-0 c.if-branch.false (c.loop.invariant.0 p net core) c.in_ok-play_turn.ensures,
   let lt = c.loop-test.true in omega (arith, lt),
 )
 
 pub returns : goal.returns
-returns g c = λ p net core. sprint_all p net c.loop.counter c.loop.state c.loop.still c.loop.invariant.1 (c.loop.invariant.0 p net core)
+returns g c = λ p net core. sprint_all p net c.loop.counter c.loop.state c.args.notes.now c.loop.notes c.loop.still c.loop.invariant.1 (c.loop.invariant.0 p net core)
