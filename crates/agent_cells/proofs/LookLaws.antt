@@ -1,6 +1,6 @@
 -- Looking at heads, one by one.
 use Rattle.std.proofs.Common.{◌≡◌, ℕ, zero, suc, ◌+◌, ◌<◌, ◌≤◌, Bool, true, false, ◌==◌, if◌then◌else◌, List, [], ◌∷◌, ◌++◌, length, take, set, get_or, refl, ap, sym, ◌∙◌, subst, arith}
-use Rattle.std.proofs.lemmas.List.{take_more_set, map-append}
+use Rattle.std.proofs.lemmas.List.{take_more_set, map-append, set-get_or}
 use Rattle.std.proofs.lemmas.List.Sums.{sum_by-cons, sum_by-append}
 use Rattle.std.proofs.Math.Seq.{map-set_same, take-length}
 use Rattle.protocol_steps.specs.declared.message.Message.{Message}
@@ -44,6 +44,11 @@ looked_more xs ys k h after l inside peer end taken known = record {
   known = λ j. let a = l.known j in let b = known_set j ys k h after peer known in omega (arith, a, b);
 }
 
+-- a list without elements
+empty_list : {A : Type 0} (xs : List A) → length xs ≡ 0 → xs ≡ []
+empty_list [] none = refl
+empty_list (x ∷ xs) none = absurd (omega (arith, none))
+
 either-none : (b : Bool) (n : ℕ) → n ≡ 0 → (if b then n else 0) ≡ 0
 either-none true n e = e
 either-none false n e = refl
@@ -60,6 +65,15 @@ none_more ys k after none inside empty j =
     let one : (if after.0 == j then length (known_to after.1) else 0) ≡ 0 = either-none (after.0 == j) (length (known_to after.1)) (ap length empty) in
     let before = none j in
     omega (arith, whole, parts, last, one, before)
+
+-- nor do the first k + 1
+pub none_next : (ys : List Head) (k : ℕ) (d : Head) → ((j : ℕ) → known_from j (known_of (take k ys)) ≡ 0) → k < length ys → known_to (get_or ys k d).1 ≡ []
+    → (j : ℕ) → known_from j (known_of (take (k + 1) ys)) ≡ 0
+none_next ys k d none inside empty j = subst (λ (hs : List Head). known_from j (known_of (take (k + 1) hs)) ≡ 0) (set-get_or ys k d) (none_more ys k (get_or ys k d) none inside empty j)
+
+-- a head that knows of no message
+pub empty_at : (ys : List Head) (k : ℕ) (h : Head) → h ≡ get_or ys k h → (count : ℕ) → count ≡ length (known_to h.1) → count ≡ 0 → known_to (get_or ys k h).1 ≡ []
+empty_at ys k h is count counted none = empty_list (known_to (get_or ys k h).1) (ap (λ (y : Head). length (known_to y.1)) (sym is) ∙ sym counted ∙ none)
 
 pub none_all : (ys : List Head) (k : ℕ) → k ≡ length ys → ((j : ℕ) → known_from j (known_of (take k ys)) ≡ 0) → (j : ℕ) → known_from j (known_of ys) ≡ 0
 none_all ys k end none j = sym (ap (λ hs. known_from j (known_of hs)) (ap (λ n. take n ys) end ∙ take-length ys)) ∙ none j

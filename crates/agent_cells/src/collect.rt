@@ -81,6 +81,18 @@ fn take_one(
     taken.add(end.0, count, found)
 }
 
+/// Whether no message is known to wait on any link. It does not look for others.
+pub(crate) fn know_of_none(heads: &[(VarId, LinkHead<Sealed>)]) -> bool
+    ensures { result ≡ true → (j : ℕ) → known_from j (known_of heads.now) ≡ 0 }
+{
+    for end in heads {
+        if end.1.known() > 0 {
+            return false;
+        }
+    }
+    true
+}
+
 /// Takes all that is found on each link. Returns `None` if a look finds nothing on any of them;
 /// this allocates no memory.
 pub(crate) fn collect_waiting(

@@ -214,16 +214,16 @@ module _ {X : Type 0} {F : X → Type 0} (M : DynBox X Global F → View) where
   -- what became of all parts
   pub by_parts : (P : List (Cell X F) → Result ℕ VisitFault → List (Cell X F) → Type 0)
       → ((a c : List (Cell X F)) (r : Result ℕ VisitFault) → EachIs (IsReady M) a → length a ≤ variable_limit → P a r c → PartPlayed a r c)
-      → (count : ℕ) (a c : List (Cell X F)) (r : Result ℕ VisitFault) → EachIs (IsReady M) a → length a ≤ variable_limit → ByParts P count a r c → PartPlayed a r c
-  by_parts P each zero a c r ready few p = each a c r ready few p
-  by_parts P each (suc count) a c r ready few p =
+      → (size count : ℕ) (a c : List (Cell X F)) (r : Result ℕ VisitFault) → EachIs (IsReady M) a → length a ≤ variable_limit → ByParts P size count a r c → PartPlayed a r c
+  by_parts P each size zero a c r ready few p = each a c r ready few p.1
+  by_parts P each size (suc count) a c r ready few p =
       let low : List (Cell X F) = p.0 in
       let high : List (Cell X F) = p.1 in
       let both : EachIs (IsReady M) (low ++ high) = subst (EachIs (IsReady M)) p.6 ready in
       let long = length-append low high in
-      let size = ap length p.6 in
-      let first = each low p.2 p.4 (low_each M (IsReady M) low high both) (omega (arith, long, size, few)) p.9 in
-      let rest = by_parts P each count high p.3 p.5 (high_each M (IsReady M) low high both) (omega (arith, long, size, few)) p.10 in
+      let whole = ap length p.6 in
+      let first = each low p.2 p.4 (low_each M (IsReady M) low high both) (omega (arith, long, whole, few)) p.9 in
+      let rest = by_parts P each size count high p.3 p.5 (high_each M (IsReady M) low high both) (omega (arith, long, whole, few)) p.12 in
       subst (λ (xs : List (Cell X F)). PartPlayed xs r c) (sym p.6)
       (subst (λ (xs : List (Cell X F)). PartPlayed (low ++ high) r xs) (sym p.7)
       (subst (λ (q : Result ℕ VisitFault). PartPlayed (low ++ high) q (p.2 ++ p.3)) (sym p.8) (both_played low high p.2 p.3 p.4 p.5 first rest)))

@@ -1,5 +1,5 @@
 -- Cells that stay the same except for what they know.
-use Rattle.std.proofs.Common.{◌≡◌, ◌≢◌, ℕ, suc, ◌==◌, if◌then◌else◌, Bool, List, [], ◌∷◌, ◌++◌, length, refl, sym, ap, subst, ◌∙◌, inl, inr, arith}
+use Rattle.std.proofs.Common.{◌≡◌, ◌≢◌, ℕ, suc, ◌==◌, if◌then◌else◌, Bool, List, [], ◌∷◌, ◌++◌, length, None, refl, sym, ap, subst, ◌∙◌, inl, inr, arith}
 use Rattle.std.proofs.lemmas.Bool.{cases_Bool, eqb-true}
 use Rattle.std.proofs.lemmas.List.Sums.{sum_by-cons}
 use Rattle.std.specs.declared.dyn_box.DynBox.{DynBox}
@@ -17,7 +17,9 @@ use Rattle.agent_cells.specs.Settled.{StandsAt, SettlesTail, SettlesHead, EndsAr
 use Rattle.agent_cells.specs.State.{state_of, begun_in, fault_in, tails_in, heads_in, IsCell, KeepsLinks}
 use Rattle.agent_cells.proofs.PlainLaws.{settled_plain}
 use Rattle.agent_cells.proofs.SameLaws.{same_tails, same_heads, tails_then, heads_then}
+use Rattle.agent_cells.proofs.CellLaws.{visited_idle}
 use Rattle.agent_workers.specs.Settled.{CanSettle, StaysQuiet, HasSettled}
+use Rattle.agent_workers.specs.Turns.{HasTurned}
 
 pub quiet_none : (s : CellState) → IsQuiet s s
 quiet_none s = record { me = refl; viewed = refl; stamped = refl; noted = refl; sent = refl; taken = refl }
@@ -104,3 +106,7 @@ module _ {X : Type 0} {F : X → Type 0} (M : DynBox X Global F → View) where
             (subst (λ (ns : List ℕ). IsStrictlyIncreasing ns) (sym from_cell.sent) from_cell.ascend) (subst (λ (ns : List ℕ). IsStrictlyIncreasing ns) (sym to_cell.taken) to_cell.ascend)
             (ap (λ ls. has (peers ls) to.me) q.sent ∙ can.alike ∙ sym (ap (λ ls. has (peers ls) from.me) r.taken)) ends;
       }
+
+  -- a cell that has not failed, and knows of nothing that waits, has had a turn that took nothing
+  pub idle_turn : (c : Cell X F) → fault_in c ≡ None → ((j : ℕ) → known_from j (state_of M c).known ≡ 0) → HasTurned M 0 c c
+  idle_turn c fine none = record { rests = λ _. (refl, refl); visit = λ _. (visited_idle (state_of M c) (state_of M c) none refl refl refl refl refl refl, fine) }

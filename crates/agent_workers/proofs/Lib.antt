@@ -9,5 +9,6 @@ mod TurnLaws
 mod PartLaws
 mod BrokenLaws
 mod BreakLaws
+mod SharedLaws
 pub mod RoundLaws
 pub mod RunLaws

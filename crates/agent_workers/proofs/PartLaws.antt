@@ -1,5 +1,5 @@
 -- Parts of a list.
-use Rattle.std.proofs.Common.{◌≡◌, ℕ, suc, ◌+◌, ◌*◌, ◌≤◌, Result, Ok, Err, List, [], ◌++◌, length, refl, sym, ap, subst, ◌∙◌, arith, length-append}
+use Rattle.std.proofs.Common.{◌≡◌, ℕ, suc, ◌+◌, ◌*◌, ◌<◌, ◌≤◌, Result, Ok, Err, List, [], ◌++◌, length, refl, sym, ap, subst, ◌∙◌, arith, length-append}
 use Rattle.std.specs.Prelude.{IfOk}
 use Rattle.std.proofs.lemmas.List.{append-nil, append_assoc}
 use denote.Ref.{MutBor}
@@ -37,11 +37,12 @@ module _ {F T : Type 0} (g : Shared F (MutBor (List T) × Unit {0}) (Result ℕ 
     each = λ before part after p whole is. a.each (low ++ before) part after p (ap (λ xs. low ++ xs) whole ∙ sym (append_assoc low before (part ++ after))) is;
   }
 
-  pub one_part : (before after : List T) (r : Result ℕ VisitFault) → IsCall g f before r after → IsPlayedByParts g f before r after
-  one_part before after r c = record { count = 0; parts = c }
+  pub one_part : (size : ℕ) (before after : List T) (r : Result ℕ VisitFault) → length before ≤ size → IsCall g f before r after → IsPlayedByParts g f size before r after
+  one_part size before after r le c = record { count = 0; parts = (le, c) }
 
-  pub more_parts : (low high low_after high_after : List T) (q r : Result ℕ VisitFault) → IsCall g f low q low_after → IsPlayedByParts g f high r high_after → IsPlayedByParts g f (low ++ high) (both_of q r) (low_after ++ high_after)
-  more_parts low high low_after high_after q r c p = record { count = suc p.count; parts = (low, high, low_after, high_after, q, r, refl, refl, refl, c, p.parts) }
+  pub more_parts : (size : ℕ) (low high low_after high_after : List T) (q r : Result ℕ VisitFault) → length low ≡ size → 0 < length high → IsCall g f low q low_after → IsPlayedByParts g f size high r high_after
+      → IsPlayedByParts g f size (low ++ high) (both_of q r) (low_after ++ high_after)
+  more_parts size low high low_after high_after q r long some c p = record { count = suc p.count; parts = (low, high, low_after, high_after, q, r, refl, refl, refl, c, long, some, p.parts) }
 
   -- a list that was cut in two
   module _ (all low high : List T) (whole : all ≡ low ++ high) where
@@ -61,12 +62,8 @@ module _ {F T : Type 0} (g : Shared F (MutBor (List T) × Unit {0}) (Result ℕ 
     cut_few q r s is p o =
         subst (λ (k : ℕ). IfOk s (λ n. n ≤ k * sprint_limit)) (sym cut_length) (subst (λ (t : Result ℕ VisitFault). IfOk t (λ n. n ≤ (length low + length high) * sprint_limit)) (sym is) (few_together q r (length low) (length high) p o))
 
-    pub cut_parts : (low_after high_after : List T) (q r s : Result ℕ VisitFault) → s ≡ both_of q r → IsCall g f low q low_after → IsPlayedByParts g f high r high_after → IsPlayedByParts g f all s (low_after ++ high_after)
-    cut_parts low_after high_after q r s is c p =
-        subst (λ (xs : List T). IsPlayedByParts g f xs s (low_after ++ high_after)) (sym whole)
-        (subst (λ (t : Result ℕ VisitFault). IsPlayedByParts g f (low ++ high) t (low_after ++ high_after)) (sym is) (more_parts low high low_after high_after q r c p))
-
-  -- what was left, by what it is
-  pub cut_left : (all low high low_after high_after : List T) (s : Result ℕ VisitFault) → low ≡ low_after → high ≡ high_after → IsPlayedByParts g f all s (low_after ++ high_after) → IsPlayedByParts g f all s (low ++ high)
-  cut_left all low high low_after high_after s is was p =
-      subst (λ (xs : List T). IsPlayedByParts g f all s (xs ++ high)) (sym is) (subst (λ (xs : List T). IsPlayedByParts g f all s (low_after ++ xs)) (sym was) p)
+    pub cut_parts : (size : ℕ) (low_after high_after : List T) (q r s : Result ℕ VisitFault) → s ≡ both_of q r → length low ≡ size → 0 < length high → IsCall g f low q low_after → IsPlayedByParts g f size high r high_after
+        → IsPlayedByParts g f size all s (low_after ++ high_after)
+    cut_parts size low_after high_after q r s is long some c p =
+        subst (λ (xs : List T). IsPlayedByParts g f size xs s (low_after ++ high_after)) (sym whole)
+        (subst (λ (t : Result ℕ VisitFault). IsPlayedByParts g f size (low ++ high) t (low_after ++ high_after)) (sym is) (more_parts size low high low_after high_after q r long some c p))

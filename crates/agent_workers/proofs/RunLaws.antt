@@ -32,7 +32,9 @@ use Rattle.agent_workers.proofs.ListLaws.{map_back, each_are, one_at}
 use Rattle.agent_workers.proofs.CellLaws.{keeps_none}
 use Rattle.agent_workers.proofs.JoinLaws.{stood, joined_still}
 use Rattle.agent_workers.proofs.SettleLaws.{settling}
+use Rattle.agent_workers.specs.Shared.{IsSharedRound, ArePlayedShared}
 use Rattle.agent_workers.proofs.PlayLaws.{set_back}
+use Rattle.agent_workers.proofs.SharedLaws.{SharedSoFar, so_far_none, so_far_more}
 
 -- cells that stay quiet have ended exactly if they had
 still_ended : (now last : List CellState) → EachAre IsQuiet now last → all_ended last ≡ all_ended now
@@ -197,13 +199,46 @@ module _ {X : Type 0} {F : X → Type 0} (M : DynBox X Global F → View) where
     such = due_push budget (states_of M started) (states_of M now) (states_of M next) p.rounds p.are p.such awake;
   }
 
-  pub busy_on : (budget n : ℕ) (started now next : List (Cell X F)) → ArePlayedIn budget AreBusy (states_of M started) (states_of M now) → n ≡ total (states_of M now) → n < budget → all_ended (states_of M now) ≡ false
-      → total (states_of M now) < total (states_of M next) → IsPartRound (home 1 (length now)) (states_of M now) (states_of M next) → ArePlayedIn budget AreBusy (states_of M started) (states_of M next)
-  busy_on budget n started now next p is less awake more round = record {
-    rounds = p.rounds ++ states_of M next ∷ [];
-    are = rounds_push budget (states_of M started) (states_of M now) (states_of M next) p.rounds p.are (omega (arith, is, less)) (whole_round now next round);
-    such = busy_push budget (states_of M started) (states_of M now) (states_of M next) p.rounds p.are p.such awake more;
+  -- rounds so far, each of at most `workers` parts
+  pub record PlayedSoFar (workers budget : ℕ) (started now : List (Cell X F)) : Type 0 where
+    pub played : ArePlayedIn budget AreBusy (states_of M started) (states_of M now)
+    pub shared : SharedSoFar M workers played.rounds started now
+
+  pub shared_none : (workers budget : ℕ) (cells : List (Cell X F)) → ArePlayedShared M workers budget cells cells
+  shared_none workers budget cells = record { rounds = []; shared = refl; are = refl; due = tt }
+
+  pub so_far_start : (workers budget : ℕ) (cells : List (Cell X F)) → PlayedSoFar workers budget cells cells
+  so_far_start workers budget cells = record { played = record { rounds = []; are = refl; such = tt }; shared = so_far_none M workers cells }
+
+  pub so_far_on : (workers most budget n : ℕ) (started now next : List (Cell X F)) → most ≤ workers → PlayedSoFar workers budget started now → n ≡ total (states_of M now) → n < budget → all_ended (states_of M now) ≡ false
+      → total (states_of M now) < total (states_of M next) → IsPartRound (home 1 (length now)) (states_of M now) (states_of M next) → IsSharedRound M most (home 1 (length now)) now next → PlayedSoFar workers budget started next
+  so_far_on workers most budget n started now next le s is less awake more round parts = record {
+    played = record {
+      rounds = s.played.rounds ++ states_of M next ∷ [];
+      are = rounds_push budget (states_of M started) (states_of M now) (states_of M next) s.played.rounds s.played.are (omega (arith, is, less)) (whole_round now next round);
+      such = busy_push budget (states_of M started) (states_of M now) (states_of M next) s.played.rounds s.played.are s.played.such awake more;
+    };
+    shared = so_far_more M workers most s.played.rounds started now next le s.shared parts;
   }
+
+  -- the rounds of a run that has ended
+  shared_whole : (workers budget : ℕ) (states : List (List CellState)) (started now : List (Cell X F)) → SharedSoFar M workers states started now → AreCellRounds budget (states_of M started) states (states_of M now) → AreDue (states_of M started) states → ArePlayedShared M workers budget started now
+  shared_whole workers budget states started now s are due = record {
+    rounds = s.rounds;
+    shared = s.shared;
+    are = subst (λ (zs : List (List CellState)). AreCellRounds budget (states_of M started) zs (states_of M now)) (sym s.same) are;
+    due = subst (AreDue (states_of M started)) (sym s.same) due;
+  }
+
+  pub shared_all : (workers budget : ℕ) (started now : List (Cell X F)) → PlayedSoFar workers budget started now → ArePlayedShared M workers budget started now
+  shared_all workers budget started now s = shared_whole workers budget s.played.rounds started now s.shared s.played.are (due_busy (states_of M started) s.played.rounds s.played.such)
+
+  pub shared_on : (workers most budget n : ℕ) (started now next : List (Cell X F)) → most ≤ workers → PlayedSoFar workers budget started now → n ≡ total (states_of M now) → n < budget → all_ended (states_of M now) ≡ false
+      → IsPartRound (home 1 (length now)) (states_of M now) (states_of M next) → IsSharedRound M most (home 1 (length now)) now next → ArePlayedShared M workers budget started next
+  shared_on workers most budget n started now next le s is less awake round parts =
+      shared_whole workers budget (s.played.rounds ++ states_of M next ∷ []) started next (so_far_more M workers most s.played.rounds started now next le s.shared parts)
+      (rounds_push budget (states_of M started) (states_of M now) (states_of M next) s.played.rounds s.played.are (omega (arith, is, less)) (whole_round now next round))
+      (due_push budget (states_of M started) (states_of M now) (states_of M next) s.played.rounds s.played.are s.played.such awake)
 
   pub due_run : (budget : ℕ) (before begun now last : List (Cell X F)) (answer : RunEnd) → IsJoined M 1 before → EachBecomes (HasStarted M) before begun
       → ArePlayedOut budget (states_of M begun) (states_of M now) answer → HaveSettled M (home 1 (length now)) (length now) now last → AreDulyPlayed budget (views_of M before) (states_of M last)

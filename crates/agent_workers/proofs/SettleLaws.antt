@@ -1,5 +1,5 @@
 -- Settling links one by one.
-use Rattle.std.proofs.Common.{◌≡◌, ◌≢◌, ℕ, suc, ◌+◌, ◌*◌, ◌<◌, ◌≤◌, true, false, List, [], length, slice_get, slice_index_or, Some, refl, sym, ap, subst, ◌∙◌, inl, inr, arith}
+use Rattle.std.proofs.Common.{◌≡◌, ◌≢◌, ℕ, zero, suc, ◌+◌, ◌*◌, ◌<◌, ◌≤◌, true, false, List, [], ◌∷◌, length, set, get_or, slice_get, slice_index_or, Some, refl, sym, ap, subst, ◌∙◌, inl, inr, arith}
 use Rattle.std.specs.List.{Contains}
 use Rattle.std.proofs.Math.Nat.{div-eq_of_lt}
 use Rattle.std.proofs.lemmas.Bool.{cases_eq, cases_Bool, true≢false}
@@ -30,6 +30,15 @@ one_home nodes n i j one in_i in_j =
     let first : i * nodes < n = let same : i * nodes ≡ i = ap (λ (k : ℕ). i * k) one ∙ (let whole : i * 1 ≡ i = omega arith in whole) in omega (arith, same, in_i) in
     let second : j * nodes < n = let same : j * nodes ≡ j = ap (λ (k : ℕ). j * k) one ∙ (let whole : j * 1 ≡ j = omega arith in whole) in omega (arith, same, in_j) in
     div-eq_of_lt {n = i * nodes} {m = n} first ∙ sym (div-eq_of_lt {n = j * nodes} {m = n} second)
+
+-- the node of one agent more
+pub homes_more : (node : ℕ → ℕ) (homes : List ℕ) (k y : ℕ) → k < length homes → y ≡ node k → ((j d : ℕ) → j < k → get_or homes j d ≡ node j) → (j d : ℕ) → j < k + 1 → get_or (set homes k y) j d ≡ node j
+homes_more node [] k y lt is h j d below = absurd (omega (arith, lt))
+homes_more node (x ∷ homes) zero y lt is h zero d below = is
+homes_more node (x ∷ homes) zero y lt is h (suc j) d below = absurd (omega (arith, below))
+homes_more node (x ∷ homes) (suc k) y lt is h zero d below = h zero d (omega arith)
+homes_more node (x ∷ homes) (suc k) y lt is h (suc j) d below =
+    homes_more (λ n. node (suc n)) homes k y (omega (arith, lt)) is (λ i e less. h (suc i) e (omega (arith, less))) j d (omega (arith, below))
 
 -- a link that is not there is settled
 settled_apart : (i j : ℕ) (to from : CellState) → has (peers to.taken) j ≡ false → has (peers from.sent) i ≡ false → IsSettled i j to from

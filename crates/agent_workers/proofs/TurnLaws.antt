@@ -127,8 +127,9 @@ module _ {X : Type 0} {F : X → Type 0} (M : DynBox X Global F → View) where
   }
 
   -- a turn after another one
-  pub none_passed : (all : Bool) (words : List ℕ) (earlier before after : List (Cell X F)) → (all ≡ false → MarksWaiting M words (length before) earlier before) → PassesUnmarked M all words (length before) before after → PassesNone M all earlier before after
-  none_passed all words earlier before after w h = record {
+  pub none_passed : (all : Bool) (words : List ℕ) (earlier before after : List (Cell X F)) → length after ≡ length before → (all ≡ false → MarksWaiting M words (length before) earlier before) → PassesUnmarked M all words (length before) before after → PassesNone M all earlier before after
+  none_passed all words earlier before after size w h = record {
+    size = size;
     each = λ i a b e f.
         let inside = slice_get_within before i a e in
         elim (h.each i a b e f inside) [
@@ -150,9 +151,9 @@ module _ {X : Type 0} {F : X → Type 0} (M : DynBox X Global F → View) where
   due_later zero alone e = absurd (cc)
   due_later (suc turns) alone e = omega arith
 
-  pub turns_more : (alone : Bool) (turns : ℕ) (words : List ℕ) (first now next : List (Cell X F)) → PassesUnmarked M (all_due turns alone) words (length now) now next → TurnsSoFar alone turns words first now → AreTurns M alone (turns + 1) first now next
-  turns_more alone turns words first now next passes t =
-      let next_turn : AreTurns M alone (suc turns) first now next = (t.earlier, t.are, none_passed (all_due turns alone) words t.earlier now next (λ later. t.marks (due_later turns alone later)) passes) in
+  pub turns_more : (alone : Bool) (turns : ℕ) (words : List ℕ) (first now next : List (Cell X F)) → length next ≡ length now → PassesUnmarked M (all_due turns alone) words (length now) now next → TurnsSoFar alone turns words first now → AreTurns M alone (turns + 1) first now next
+  turns_more alone turns words first now next size passes t =
+      let next_turn : AreTurns M alone (suc turns) first now next = (t.earlier, t.are, none_passed (all_due turns alone) words t.earlier now next size (λ later. t.marks (due_later turns alone later)) passes) in
       let count : suc turns ≡ turns + 1 = omega arith in
       subst (λ (n : ℕ). AreTurns M alone n first now next) count next_turn
 
@@ -160,19 +161,19 @@ module _ {X : Type 0} {F : X → Type 0} (M : DynBox X Global F → View) where
       → TurnsSoFar alone turns words first now → TurnsSoFar alone (turns + 1) more first next
   one_turn_more all alone turns words more first now next due size passes marks t = record {
     earlier = now;
-    are = turns_more alone turns words first now next (subst (λ (b : Bool). PassesUnmarked M b words (length now) now next) due passes) t;
+    are = turns_more alone turns words first now next size (subst (λ (b : Bool). PassesUnmarked M b words (length now) now next) due passes) t;
     marks = λ some. subst (λ (n : ℕ). MarksWaiting M more n now next) (sym size) marks;
   }
 
   -- a part whose last turn took nothing, and one that had all its turns
-  pub still_part : (all alone : Bool) (turns : ℕ) (words : List ℕ) (first now next : List (Cell X F)) → all ≡ all_due turns alone → PassesUnmarked M all words (length now) now next → turns < 32 → total (states_of M next) ≡ total (states_of M now)
+  pub still_part : (all alone : Bool) (turns : ℕ) (words : List ℕ) (first now next : List (Cell X F)) → all ≡ all_due turns alone → length next ≡ length now → PassesUnmarked M all words (length now) now next → turns < 32 → total (states_of M next) ≡ total (states_of M now)
       → TurnsSoFar alone turns words first now → IsPlayedInTurns M alone first next
-  still_part all alone turns words first now next due passes few none t = record {
+  still_part all alone turns words first now next due size passes few none t = record {
     turns = turns + 1;
     earlier = now;
     some = omega arith;
     most = omega (arith, few);
-    are = turns_more alone turns words first now next (subst (λ (b : Bool). PassesUnmarked M b words (length now) now next) due passes) t;
+    are = turns_more alone turns words first now next size (subst (λ (b : Bool). PassesUnmarked M b words (length now) now next) due passes) t;
     ends = λ less. none;
   }
 
@@ -202,9 +203,8 @@ module _ {X : Type 0} {F : X → Type 0} (M : DynBox X Global F → View) where
   visited_on all words before after (Err f) t = tt
 
   -- a part that a call has played, and a round of it
-  pub turns_call : (alone : Bool) (a x given left : List (Cell X F)) (r : Result ℕ VisitFault) → given ≡ a → left ≡ x → alone ≡ true → OnOk r (IsPlayedInTurns M alone given left) → OnOk r (IsPlayedInTurns M true a x)
-  turns_call alone a x given left r is was all p =
-      subst (λ (b : Bool). OnOk r (IsPlayedInTurns M b a x)) all (subst (λ (ys : List (Cell X F)). OnOk r (IsPlayedInTurns M alone a ys)) was (subst (λ (xs : List (Cell X F)). OnOk r (IsPlayedInTurns M alone xs left)) is p))
+  pub turns_call : (alone : Bool) (a x given left : List (Cell X F)) (r : Result ℕ VisitFault) → given ≡ a → left ≡ x → OnOk r (IsPlayedInTurns M alone given left) → OnOk r (IsPlayedInTurns M alone a x)
+  turns_call alone a x given left r is was p = subst (λ (ys : List (Cell X F)). OnOk r (IsPlayedInTurns M alone a ys)) was (subst (λ (xs : List (Cell X F)). OnOk r (IsPlayedInTurns M alone xs left)) is p)
 
   pub turn_round : (node : ℕ → ℕ) (before mid after : List (Cell X F)) (r : Result ℕ VisitFault) → IsSettling node (states_of M before) (states_of M mid) → OnOk r (IsPlayedInTurns M true mid after) → OnOk r (IsTurnRound M node before after)
   turn_round node before mid after (Ok n) s p = record { middle = mid; settling = s; turns = p }

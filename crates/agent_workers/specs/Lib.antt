@@ -5,3 +5,4 @@ pub mod Watched
 pub mod Parts
 pub mod Broken
 pub mod Run
+pub mod Shared

@@ -1,5 +1,5 @@
 -- Parts of a list, each given to a call of a closure.
-use Rattle.std.specs.Prelude.{◌≡◌, ℕ, zero, suc, ◌+◌, ◌*◌, ◌≤◌, List, ◌++◌, length, Result, Ok, Err, IfOk}
+use Rattle.std.specs.Prelude.{◌≡◌, ℕ, zero, suc, ◌+◌, ◌*◌, ◌<◌, ◌≤◌, List, ◌++◌, length, Result, Ok, Err, IfOk}
 use denote.Ref.{MutBor}
 use denote.Param.Members.{Shared}
 use Rattle.agent_cells.specs.declared.fault.VisitFault.{VisitFault}
@@ -16,13 +16,14 @@ both_of (Err NoMemory) (Err f) = Err NoMemory
 both_of (Err StampEnd) (Err f) = Err f
 
 module _ {T : Type 0} where
-  -- the list is split into parts, one more than `count`; P holds of each part with its result, and
-  -- the joint result is `outcome`
-  abbrev pub ByParts : (List T → Result ℕ VisitFault → List T → Type 0) → ℕ → List T → Result ℕ VisitFault → List T → Type 0
-  ByParts P zero before outcome after = P before outcome after
-  ByParts P (suc count) before outcome after =
+  -- the list is split into parts, one more than `count`; each has `size` elements, but the last may
+  -- have fewer; P holds of each part with its result, and the joint result is `outcome`
+  abbrev pub ByParts : (List T → Result ℕ VisitFault → List T → Type 0) → ℕ → ℕ → List T → Result ℕ VisitFault → List T → Type 0
+  ByParts P size zero before outcome after = (length before ≤ size) × P before outcome after
+  ByParts P size (suc count) before outcome after =
       (part others part_after others_after : List T) × (first : Result ℕ VisitFault) × (rest : Result ℕ VisitFault)
-      × (before ≡ part ++ others) × (after ≡ part_after ++ others_after) × (outcome ≡ both_of first rest) × P part first part_after × ByParts P count others rest others_after
+      × (before ≡ part ++ others) × (after ≡ part_after ++ others_after) × (outcome ≡ both_of first rest) × P part first part_after
+      × (length part ≡ size) × (0 < length others) × ByParts P size count others rest others_after
 
 module _ {F T : Type 0} (g : Shared F (MutBor (List T) × Unit {0}) (Result ℕ VisitFault × (MutBor (List T) × Unit {0}))) (f : F) where
   -- f may be called with a `&mut` to each part of the list
@@ -42,6 +43,6 @@ module _ {F T : Type 0} (g : Shared F (MutBor (List T) × Unit {0}) (Result ℕ 
     pub each : (before : List T) (outcome : Result ℕ VisitFault) (after : List T) → IsCall before outcome after → IfOk outcome (λ n. n ≤ length before * sprint_limit)
 
   -- the joint result of calls of f, one with each part of the list
-  pub record IsPlayedByParts (before : List T) (outcome : Result ℕ VisitFault) (after : List T) : Type 0 where
+  pub record IsPlayedByParts (size : ℕ) (before : List T) (outcome : Result ℕ VisitFault) (after : List T) : Type 0 where
     pub count : ℕ
-    pub parts : ByParts IsCall count before outcome after
+    pub parts : ByParts IsCall size count before outcome after

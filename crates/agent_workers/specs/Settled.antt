@@ -1,15 +1,21 @@
 -- What settling links does to cells.
-use Rattle.std.specs.Prelude.{◌≡◌, ◌≢◌, ℕ, ◌<◌, ◌⊎◌, List, length, Some, slice_get, slice_index_or}
+use Rattle.std.specs.Prelude.{◌≡◌, ◌≢◌, ℕ, ◌<◌, ◌≤◌, ◌⊎◌, List, length, Some, slice_get, slice_index_or}
 use Rattle.std.specs.declared.dyn_box.DynBox.{DynBox}
 use Rattle.std.specs.declared.alloc.Global.{Global}
 use Rattle.protocol_steps.specs.View.{View}
 use Rattle.worker_runs.specs.Cells.{peers, known_from}
 use Rattle.worker_runs.specs.Visits.{IsQuiet}
 use Rattle.worker_runs.specs.CellRounds.{IsSettled}
+use Rattle.worker_runs.specs.NodeRounds.{home}
 use Rattle.agent_cells.specs.declared.cell.Cell.{Cell}
 use Rattle.dcop_base.specs.Table.{has}
 use Rattle.agent_cells.specs.State.{state_of, begun_in, fault_in, IsCell, KeepsLinks}
 use Rattle.agent_workers.specs.Joined.{EachBecomes, AreJoined}
+
+-- the list has the node of each agent at its place, for this many nodes and agents
+pub record AreHomes (nodes agents : ℕ) (homes : List ℕ) : Type 0 where
+  pub size : agents ≤ length homes
+  pub each : (k d : ℕ) → k < agents → slice_index_or homes k d ≡ home nodes agents k
 
 module _ {X : Type 0} {F : X → Type 0} where
   -- the link from one cell to another may be settled

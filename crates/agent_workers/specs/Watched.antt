@@ -1,5 +1,5 @@
 -- Who is visited in the turns of a part: whoever was sent something since the last visit.
-use Rattle.std.specs.Prelude.{◌≡◌, ◌≢◌, ◌⊎◌, ℕ, zero, suc, ◌<◌, ◌≤◌, ◌/◌, ◌%◌, Bool, true, false, not, ◌||◌, ◌==◌, List, ◌++◌, map, take, drop, Some, slice_get, slice_index}
+use Rattle.std.specs.Prelude.{◌≡◌, ◌≢◌, ◌⊎◌, ℕ, zero, suc, ◌<◌, ◌≤◌, ◌/◌, ◌%◌, Bool, true, false, not, ◌||◌, ◌==◌, List, ◌++◌, map, take, drop, length, Some, slice_get, slice_index}
 use Rattle.std.specs.Int.{bit_at}
 use Rattle.std.specs.declared.dyn_box.DynBox.{DynBox}
 use Rattle.std.specs.declared.alloc.Global.{Global}
@@ -55,10 +55,11 @@ module _ {X : Type 0} {F : X → Type 0} where
     pub each : (i : ℕ) (a b : Cell X F) → slice_get before i ≡ Some a → slice_get now i ≡ Some b → i < done
         → ((n : ℕ) × HasTurned meaning n a b) ⊎ ((all ≡ false) × (b ≡ a) × IsUnmarked words i × (sent_to meaning i (found_at i before now) ≡ sent_to meaning i before))
 
-  -- a turn from `before` to `after`, which follows a turn from `earlier` to `before`: each cell was
-  -- visited, unless it had ended; or, if not all cells have to be visited, it was passed over, and
-  -- was sent nothing since the turn before came to its place
+  -- a turn from `before` to `after`, which follows a turn from `earlier` to `before`, with as many
+  -- cells: each cell was visited, unless it had ended; or, if not all cells have to be visited, it
+  -- was passed over, and was sent nothing since the turn before came to its place
   pub record PassesNone (meaning : DynBox X Global F → View) (all : Bool) (earlier before after : List (Cell X F)) : Type 0 where
+    pub size : length after ≡ length before
     pub each : (i : ℕ) (a b : Cell X F) → slice_get before i ≡ Some a → slice_get after i ≡ Some b
         → ((n : ℕ) × HasTurned meaning n a b) ⊎ ((all ≡ false) × (b ≡ a) × (sent_to meaning i (found_at i before after) ≡ sent_to meaning i (found_at i earlier before)))
 

@@ -14,10 +14,12 @@ mod rounds;
 mod runs;
 mod settle;
 mod tail_places;
+mod waiting;
 mod watch;
 
 pub use play::turns_agree;
 pub use protocol_steps::RunEnd;
 pub use rounds::{CellsList, play_round, round};
-pub use runs::{all_ended, begin_all, run, sharing_after};
+pub use runs::{all_ended, begin_all, run, useful_workers};
 pub use settle::settle_all;
+pub use waiting::Waiting;

@@ -23,7 +23,7 @@ pub(crate) fn play_parts<
     requires accepts { AcceptsParts F.Fn play.now all.old }
     requires few { TakesFew F.Fn play.now }
     requires within { length all.old * sprint_limit ≤ count_limit }
-    ensures parts { IsPlayedByParts F.Fn play.now all.old result all.new }
+    ensures parts { IsPlayedByParts F.Fn play.now size all.old result all.new }
     ensures whole { length all.old ≤ size → IsCall F.Fn play.now all.old result all.new }
     ensures few { IfOk result (λ n. n ≤ length all.old * sprint_limit) }
 {
@@ -50,11 +50,12 @@ fn play_beside<R: Threads + Sync, T: Send, F: Fn(&mut [T]) -> Result<u64, VisitF
     others: &mut [T],
 ) -> Result<u64, VisitFault>
     requires size { 0 < size }
-    requires some { 0 < length part.old }
+    requires part { length part.old ≡ size }
+    requires others { 0 < length others.old }
     requires accepts { AcceptsParts F.Fn play.now (part.old ++ others.old) }
     requires few { TakesFew F.Fn play.now }
     requires within { (length part.old + length others.old) * sprint_limit ≤ count_limit }
-    ensures parts { IsPlayedByParts F.Fn play.now (part.old ++ others.old) result (part.new ++ others.new) }
+    ensures parts { IsPlayedByParts F.Fn play.now size (part.old ++ others.old) result (part.new ++ others.new) }
     ensures few { IfOk result (λ n. n ≤ (length part.old + length others.old) * sprint_limit) }
 {
     let mut first = || -> Result<u64, VisitFault>
@@ -63,7 +64,7 @@ fn play_beside<R: Threads + Sync, T: Send, F: Fn(&mut [T]) -> Result<u64, VisitF
     { play_one(play, part) };
     let mut rest = || -> Result<u64, VisitFault>
         requires { IsSync R.row × IsSync F.row × IsSend T.row × (0 < size) × AcceptsParts F.Fn play.now others.now × TakesFew F.Fn play.now × (length others.now * sprint_limit ≤ count_limit) }
-        ensures parts { IsPlayedByParts F.Fn play.entry.now others.entry.now result others.exit.now }
+        ensures parts { IsPlayedByParts F.Fn play.entry.now size others.entry.now result others.exit.now }
         ensures few { IfOk result (λ n. n ≤ length others.entry.now * sprint_limit) }
     { play_parts(rt, play, size, busy, others) };
     let (first, rest) = join_mut(rt, &mut first, &mut rest);

@@ -1,14 +1,16 @@
 //! Playing cells: turns, sprints of turns, and concurrent parts.
 
-ghost use Rattle.std.specs.Prelude.{◌≡◌, ◌≤◌, ◌<◌, length, true, false, IfOk, OnOk, IfErr, None, Some};
+ghost use Rattle.std.specs.Prelude.{◌≡◌, ◌≤◌, ◌<◌, ℕ, length, true, false, IfOk, OnOk, IfErr, None, Some};
 ghost use Rattle.dcop_base.specs.Limits.{variable_limit};
 ghost use Rattle.protocol_steps.specs.Rounds.{most_events};
+ghost use Rattle.worker_runs.specs.Cells.{known_from};
 ghost use Rattle.agent_cells.specs.declared.fault.VisitFault.TheVariants.{StampEnd as stamp_end};
 ghost use Rattle.agent_cells.specs.Failed.{HasReachedEnd};
 ghost use Rattle.agent_cells.specs.State.{state_of, fault_in};
 ghost use Rattle.agent_workers.specs.Joined.{states_of, EachIs, EachBecomes};
 ghost use Rattle.agent_workers.specs.Turns.{visit_limit, sprint_limit, IsReady, StaysReady, HasTurned, SomeFailed, AreTurning, HavePlayed};
 ghost use Rattle.agent_workers.specs.Watched.{MarksReceivers, all_due, MarksWaiting, PassesUnmarked, IsPlayedInTurns};
+ghost use Rattle.agent_workers.specs.Shared.{ArePlayedInParts};
 ghost use Rattle.agent_workers.specs.Broken.{HasGoneOn, AreBrokenOff};
 
 use crate::parts::play_parts;
@@ -40,6 +42,7 @@ pub(crate) fn play_cells<R: Threads + Sync, G: Gate>(
     requires few { length cells.old ≤ variable_limit }
     ensures ready { EachBecomes (λ a b. StaysReady (λ b. meaning (b.vtable, b.value)) a b) cells.old cells.new }
     ensures ok { IfOk result (λ n. HavePlayed (λ b. meaning (b.vtable, b.value)) n cells.old cells.new) }
+    ensures parts { OnOk result (ArePlayedInParts (λ b. meaning (b.vtable, b.value)) size cells.old cells.new) }
     ensures turns { length cells.old ≤ size → OnOk result (IsPlayedInTurns (λ b. meaning (b.vtable, b.value)) true cells.old cells.new) }
     ensures err { IfErr result (λ f. SomeFailed f cells.new) }
     ensures end { IfErr result (λ f. f ≡ stamp_end → EachIs (λ c. fault_in c ≡ None) cells.old
@@ -65,6 +68,8 @@ pub(crate) fn play_cells<R: Threads + Sync, G: Gate>(
 /// So does each later turn, unless the part is `alone`: it has all cells, and during a round
 /// nothing is sent on a link except by visits of these cells. Then a turn passes over a cell only
 /// if nothing was sent to it since the turn before came to its place. Such a cell passes no gate.
+/// In the first turn of such a part a cell that knows of nothing passes none either: its links were
+/// settled just before, so a visit would find nothing.
 ///
 /// The marks of a [`Watch`] decide this. A visit marks each agent to which it sends something, and
 /// only a cell's own turn takes its mark away.
@@ -92,7 +97,7 @@ pub(crate) fn play_part<G: Gate>(
     let mut taken = 0;
     for turn in 0..MOST_TURNS {
         let all = visits_all(turn, alone);
-        let more = take_turn(gate, all, &mut watch, cells)?;
+        let more = take_turn(gate, all, alone, &mut watch, cells)?;
         taken += more;
         if more == 0 {
             return Ok(taken);
@@ -111,10 +116,12 @@ fn visits_all(turn: usize, alone: bool) -> bool
 }
 
 /// Plays a turn: visits each cell that has not ended once, in order. If not `all` are to be
-/// visited, it visits only those that are marked. Returns how many messages were taken.
+/// visited, it visits only those that are marked. If the part is `alone` and all are visited, every
+/// link was settled just before. Returns how many messages were taken.
 fn take_turn<G: Gate>(
     gate: &G,
     all: bool,
+    alone: bool,
     watch: &mut Watch,
     cells: &mut [Cell],
 ) -> Result<u64, VisitFault>
@@ -129,13 +136,20 @@ fn take_turn<G: Gate>(
         → AreBrokenOff (λ b. meaning (b.vtable, b.value)) HasGoneOn visit_limit (states_of (λ b. meaning (b.vtable, b.value)) cells.old) cells.new) }
 {
     if all {
-        return visit_all(gate, watch, cells);
+        return visit_all(gate, alone, watch, cells);
     }
     visit_waiting(gate, watch, cells)
 }
 
-/// Visits each cell that has not ended once, in order. Returns how many messages were taken.
-fn visit_all<G: Gate>(gate: &G, watch: &mut Watch, cells: &mut [Cell]) -> Result<u64, VisitFault>
+/// Visits each cell that has not ended once, in order. If every link was `settled` just before, and
+/// only these visits send, an unmarked cell knows all that waits for it, and is passed over if that
+/// is nothing. Returns how many messages were taken.
+fn visit_all<G: Gate>(
+    gate: &G,
+    settled: bool,
+    watch: &mut Watch,
+    cells: &mut [Cell],
+) -> Result<u64, VisitFault>
     requires ready { EachIs (λ c. IsReady (λ b. meaning (b.vtable, b.value)) c) cells.old }
     requires few { length cells.old ≤ variable_limit }
     ensures ready { EachBecomes (λ a b. StaysReady (λ b. meaning (b.vtable, b.value)) a b) cells.old cells.new }
@@ -147,7 +161,7 @@ fn visit_all<G: Gate>(gate: &G, watch: &mut Watch, cells: &mut [Cell]) -> Result
 {
     let mut taken = 0;
     for (place, cell) in cells.iter_mut().enumerate() {
-        taken += visit_once(gate, place, watch, cell)?;
+        taken += visit_once(gate, settled, place, watch, cell)?;
     }
     Ok(taken)
 }
@@ -172,16 +186,18 @@ fn visit_waiting<G: Gate>(
     let mut taken = 0;
     let mut from = 0;
     while let Some(place) = watch.next(from, cells.len()) {
-        taken += visit_once(gate, place, watch, &mut cells[place])?;
+        taken += visit_once(gate, false, place, watch, &mut cells[place])?;
         from = place + 1;
     }
     Ok(taken)
 }
 
 /// Visits the cell at this place, if it has not ended, takes its mark away, and marks each agent to
-/// which the visit sends something. Returns how many messages were taken.
+/// which the visit sends something. If an unmarked cell knows all that waits for it (`known`), and
+/// that is nothing, there is no visit. Returns how many messages were taken.
 fn visit_once<G: Gate>(
     gate: &G,
+    known: bool,
     place: usize,
     watch: &mut Watch,
     cell: &mut Cell,
@@ -195,7 +211,10 @@ fn visit_once<G: Gate>(
     ensures end { IfErr result (λ f. f ≡ stamp_end → fault_in cell.old ≡ None
         → HasReachedEnd (state_of (λ b. meaning (b.vtable, b.value)) cell.old) (state_of (λ b. meaning (b.vtable, b.value)) cell.new)) }
 {
-    watch.look(place);
+    let marked = watch.look(place);
+    if is_idle(known && !marked, cell) {
+        return Ok(0);
+    }
     if cell.ended() {
         return Ok(0);
     }
@@ -204,4 +223,15 @@ fn visit_once<G: Gate>(
         watch.keep(cell);
     }
     Ok(taken)
+}
+
+/// Whether nothing waits for a cell that knows all that waits for it; false if that is not `known`.
+fn is_idle(known: bool, cell: &Cell) -> bool
+    ensures fine { result ≡ true → fault_in cell.now ≡ None }
+    ensures none { result ≡ true → (j : ℕ) → known_from j (state_of (λ b. meaning (b.vtable, b.value)) cell.now).known ≡ 0 }
+{
+    if !known {
+        return false;
+    }
+    cell.rests()
 }

@@ -9,10 +9,12 @@ ghost use Rattle.agent_cells.specs.State.{fault_in};
 ghost use Rattle.agent_workers.specs.Joined.{states_of, EachIs, EachBecomes, HasBegun, IsSameCell, IsJoined};
 ghost use Rattle.agent_workers.specs.Turns.{sprint_limit, SomeFailed};
 ghost use Rattle.agent_workers.specs.Watched.{IsTurnRound};
+ghost use Rattle.agent_workers.specs.Shared.{IsSharedRound};
 ghost use Rattle.agent_workers.specs.Broken.{AreBrokenOff};
 
 use crate::play::play_cells;
 use crate::settle::settle_all;
+use crate::waiting::Waiting;
 use agent_cells::{Cell, VisitFault};
 use dcop_edge::Gate;
 use std::thread::Threads;
@@ -22,17 +24,19 @@ pub type CellsList = Vec<Cell>;
 
 /// Plays one round of cells in `nodes` nodes. First it settles every link inside a node. Then it
 /// plays the cells concurrently in parts, at most one for each worker; all parts are of equal
-/// length, but the last may be shorter. A part is played in turns. Each turn visits every cell of
-/// the part that has not ended once, in order. If all cells are one part, the turns after the first
-/// pass over cells for which nothing waits, and these pass no gate. A part stops after 32 turns, or
-/// after a turn that took nothing. Parts after the last one for which something may wait are played
-/// one after another, in one thread. Returns how many messages were taken. It allocates memory.
+/// length, but the last may be shorter. If so little work waits that sharing it does not pay, all
+/// cells are one part, unless each worker has one cell at most. A part is played in turns. Each
+/// turn visits every cell of the part that has not ended once, in order. If all cells are one part,
+/// its turns pass over cells for which nothing waits, and these pass no gate. A part stops after 32
+/// turns, or after a turn that took nothing. Parts after the last one for which something may wait
+/// are played one after another, in one thread. Returns how many messages were taken. It allocates
+/// memory.
 ///
-/// With one worker, the clause `turns` says whom a turn visits: a turn after the first passes over
-/// a cell only if nothing was sent to it since the turn before came to its place. With several
-/// workers each part visits all its cells in each turn, which is a clause of the part and not of
-/// the round. What one part sends to another during a turn has no place in the order of the visits,
-/// so no clause speaks of it.
+/// The clause `parts` says in which parts the cells were played, and whom the turns of each part
+/// visit. A part that has not all cells visits each of them in each turn. A single part passes over
+/// a cell in a turn after the first only if nothing was sent to it since the turn before came to
+/// its place. The clause `turns` says this of one worker. What one part sends to another during a
+/// turn has no place in the order of the visits, so no clause speaks of it.
 ///
 /// After a fault the cells are as their visits left them, and a cell has failed with this fault.
 pub fn round<R: Threads + Sync, G: Gate>(
@@ -51,6 +55,7 @@ pub fn round<R: Threads + Sync, G: Gate>(
     ensures round { OnOk result (IsPartRound (home nodes (length cells.old.items))
         (states_of (λ b. meaning (b.vtable, b.value)) cells.old.items) (states_of (λ b. meaning (b.vtable, b.value)) cells.new.items)) }
     ensures turns { workers ≡ 1 → OnOk result (IsTurnRound (λ b. meaning (b.vtable, b.value)) (home nodes (length cells.old.items)) cells.old.items cells.new.items) }
+    ensures parts { OnOk result (IsSharedRound (λ b. meaning (b.vtable, b.value)) workers (home nodes (length cells.old.items)) cells.old.items cells.new.items) }
     ensures counted { IfOk result (λ n. total (states_of (λ b. meaning (b.vtable, b.value)) cells.new.items) ≡ total (states_of (λ b. meaning (b.vtable, b.value)) cells.old.items) + n) }
     ensures most { IfOk result (λ n. n ≤ length cells.old.items * sprint_limit) }
     ensures fine { OnOk result (EachBecomes (λ a b. fault_in a ≡ None → fault_in b ≡ None) cells.old.items cells.new.items) }
@@ -76,6 +81,7 @@ pub fn play_round<R: Threads + Sync, G: Gate>(
     ensures round { OnOk result (IsPartRound (home nodes (length cells.old))
         (states_of (λ b. meaning (b.vtable, b.value)) cells.old) (states_of (λ b. meaning (b.vtable, b.value)) cells.new)) }
     ensures turns { workers ≡ 1 → OnOk result (IsTurnRound (λ b. meaning (b.vtable, b.value)) (home nodes (length cells.old)) cells.old cells.new) }
+    ensures parts { OnOk result (IsSharedRound (λ b. meaning (b.vtable, b.value)) workers (home nodes (length cells.old)) cells.old cells.new) }
     ensures counted { IfOk result (λ n. total (states_of (λ b. meaning (b.vtable, b.value)) cells.new) ≡ total (states_of (λ b. meaning (b.vtable, b.value)) cells.old) + n) }
     ensures most { IfOk result (λ n. n ≤ length cells.old * sprint_limit) }
     ensures fine { OnOk result (EachBecomes (λ a b. fault_in a ≡ None → fault_in b ≡ None) cells.old cells.new) }
@@ -84,6 +90,20 @@ pub fn play_round<R: Threads + Sync, G: Gate>(
         → AreBrokenOff (λ b. meaning (b.vtable, b.value)) IsMoved sprint_limit (states_of (λ b. meaning (b.vtable, b.value)) cells.old) cells.new) }
 {
     let size = cells.len().div_ceil(workers as usize).max(1);
-    let busy = settle_all(cells, nodes, size);
-    play_cells(rt, gate, size, busy, cells)
+    let waiting = settle_all(cells, nodes, size);
+    let size = part_size(size, cells.len(), &waiting);
+    play_cells(rt, gate, size, waiting.until, cells)
+}
+
+/// The size of the parts of a round of `cells` cells: `size` if sharing pays, else one that makes
+/// all cells one part. Parts of one cell are always played concurrently.
+fn part_size(size: usize, cells: usize, waiting: &Waiting) -> usize
+    requires { 0 < size }
+    ensures some { 0 < result }
+    ensures least { size ≤ result }
+{
+    if size == 1 || waiting.pays() {
+        return size;
+    }
+    size.max(cells)
 }

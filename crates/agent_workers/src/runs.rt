@@ -11,6 +11,7 @@ ghost use Rattle.agent_cells.specs.State.{state_of, begun_in, fault_in, IsCell};
 ghost use Rattle.agent_workers.specs.Joined.{states_of, EachIs, EachBecomes, HasBegun, IsSameCell, IsJoined};
 ghost use Rattle.agent_workers.specs.Turns.{SomeFailed};
 ghost use Rattle.agent_workers.specs.Broken.{HaveBrokenOff};
+ghost use Rattle.agent_workers.specs.Shared.{ArePlayedShared, HaveRunShared};
 ghost use Rattle.agent_workers.specs.Run.{views_of, HasStarted, AreDulyPlayed, ArePlayedOut, AtStill, AreIdle, RestsAtStill};
 
 use crate::rounds::{CellsList, play_round};
@@ -19,28 +20,20 @@ use agent_cells::{Cell, VisitFault};
 use dcop_base::NoMemory;
 use dcop_edge::Gate;
 use protocol_steps::RunEnd;
-use std::thread::Threads;
-
-/// How many messages the last round must have taken for each worker to make starting threads
-/// worthwhile.
-const FEW_MESSAGES: u64 = 4;
-
-/// The most messages, on average, that an agent takes in a round if the agents have work of their
-/// own rather than each other to answer.
-const MANY_MESSAGES: u64 = 4;
+use std::thread::{Threads, available_parallelism};
 
 /// Starts the agents of all cells, in order, and plays the cells in rounds in one node until the
-/// run has ended under this budget of deliveries. At most `workers` workers play a round. All of
-/// them share the first round, and each round after one that took neither few nor many messages;
-/// one worker plays the others. It allocates memory; after [`NoMemory`] the cells are as their
-/// visits left them.
+/// run has ended under this budget of deliveries. At most `workers` workers play a round, and no
+/// more than there are processors, but two if two are asked for. They share each round for which
+/// enough work waits, and one worker plays the others. It allocates memory; after [`NoMemory`] the
+/// cells are as their visits left them.
 ///
 /// The budget is compared after the start and after each round, and not within a round. The run
 /// ends, with its number of deliveries, when every agent has ended; or one has not and the
 /// deliveries are at least the budget; or one has not and a round took nothing. So each round
 /// begins with an agent that has not ended, and each but the last takes something. If the answer is
 /// [`RunEnd::Still`], the last round takes nothing. After the last round every link is settled once
-/// more.
+/// more. The clause `parts` says in which parts and turns each round was played.
 pub fn run<R: Threads + Sync, G: Gate>(
     rt: &R,
     cells: &mut CellsList,
@@ -58,6 +51,7 @@ pub fn run<R: Threads + Sync, G: Gate>(
     ensures rounds { OnOk result (AreDulyPlayed budget (views_of (λ b. meaning (b.vtable, b.value)) cells.old.items) (states_of (λ b. meaning (b.vtable, b.value)) cells.new.items)) }
     ensures still { IfOk result (λ end. RestsAtStill budget (views_of (λ b. meaning (b.vtable, b.value)) cells.old.items)
         (states_of (λ b. meaning (b.vtable, b.value)) cells.new.items) end) }
+    ensures parts { OnOk result (HaveRunShared (λ b. meaning (b.vtable, b.value)) workers budget cells.old.items cells.new.items) }
 {
     run_all(rt, cells.as_mut_slice(), workers, budget, gate)
 }
@@ -80,6 +74,7 @@ fn run_all<R: Threads + Sync, G: Gate>(
     ensures rounds { OnOk result (AreDulyPlayed budget (views_of (λ b. meaning (b.vtable, b.value)) cells.old) (states_of (λ b. meaning (b.vtable, b.value)) cells.new)) }
     ensures still { IfOk result (λ end. RestsAtStill budget (views_of (λ b. meaning (b.vtable, b.value)) cells.old)
         (states_of (λ b. meaning (b.vtable, b.value)) cells.new) end) }
+    ensures parts { OnOk result (HaveRunShared (λ b. meaning (b.vtable, b.value)) workers budget cells.old cells.new) }
 {
     begin_all(cells)?;
     match play_out(rt, cells, workers, budget, gate) {
@@ -116,6 +111,7 @@ fn play_out<R: Threads + Sync, G: Gate>(
         (states_of (λ b. meaning (b.vtable, b.value)) cells.new) end) }
     ensures still { IfOk result (λ end. AtStill end (AreIdle budget (states_of (λ b. meaning (b.vtable, b.value)) cells.old)
         (states_of (λ b. meaning (b.vtable, b.value)) cells.new))) }
+    ensures parts { OnOk result (ArePlayedShared (λ b. meaning (b.vtable, b.value)) workers budget cells.old cells.new) }
     ensures err { IfErr result (λ f. SomeFailed f cells.new) }
     ensures end { IfErr result (λ f. f ≡ stamp_end → HaveBrokenOff (λ b. meaning (b.vtable, b.value)) budget (states_of (λ b. meaning (b.vtable, b.value)) cells.old) cells.new) }
 {
@@ -123,10 +119,9 @@ fn play_out<R: Threads + Sync, G: Gate>(
     if all_ended(cells) {
         return Ok(RunEnd::AllEnded { deliveries });
     }
-    let mut sharing = workers;
+    let most = useful_workers(rt, workers);
     for _ in 0..budget {
-        let taken = play_round(rt, cells, 1, sharing, gate)?;
-        sharing = sharing_after(taken, cells.len() as u64, workers);
+        let taken = play_round(rt, cells, 1, most, gate)?;
         deliveries += taken;
         if all_ended(cells) {
             return Ok(RunEnd::AllEnded { deliveries });
@@ -141,22 +136,19 @@ fn play_out<R: Threads + Sync, G: Gate>(
     Ok(RunEnd::Spent { deliveries })
 }
 
-/// How many workers share the round after one in which `agents` agents took `taken` messages: all
-/// of them, or one alone. It is one if the messages were so few that starting threads would cost
-/// more than it saves. It is also one if they were so many that agents mainly answer each other,
-/// and concurrent agents would send more than they save.
-pub fn sharing_after(taken: u64, agents: u64, workers: u32) -> u32
+/// How many workers may share the rounds of a run if `workers` are asked for: no more than there
+/// are processors, but two if two are asked for. If the number of processors is not known, it is
+/// `workers`.
+pub fn useful_workers<R: Threads>(rt: &R, workers: u32) -> u32
     requires { 0 < workers }
     ensures some { 0 < result }
     ensures most { result ≤ workers }
 {
-    let few = u64::from(workers) * FEW_MESSAGES;
-    let many = agents.saturating_mul(MANY_MESSAGES);
-    if few <= taken && taken <= many {
-        workers
-    } else {
-        1
-    }
+    let Ok(processors) = available_parallelism(rt) else {
+        return workers;
+    };
+    let count = u32::try_from(processors.get()).unwrap_or(u32::MAX);
+    workers.min(count.max(2))
 }
 
 /// Whether every agent has ended.

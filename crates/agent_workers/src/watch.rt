@@ -72,13 +72,21 @@ impl Watch {
         None
     }
 
-    /// Takes away the mark of the cell at this place, which is visited.
-    pub(crate) fn look(&mut self, place: usize)
+    /// Takes away the mark of the cell at this place, which is visited. Returns whether there was
+    /// one.
+    pub(crate) fn look(&mut self, place: usize) -> bool
         ensures { (k : ℕ) → k ≢ place → IsUnmarked self.new.waits k → IsUnmarked self.old.waits k }
     {
+        let marked = self.is_marked(place);
         if place < MAX_VARIABLES {
             self.waits[place / BITS] &= !(1 << (place % BITS));
         }
+        marked
+    }
+
+    /// Whether the cell at this place is marked.
+    fn is_marked(&self, place: usize) -> bool {
+        place < MAX_VARIABLES && self.waits[place / BITS] >> (place % BITS) & 1 != 0
     }
 
     /// Marks the neighbours of this cell to which its visit sent something.

@@ -1,5 +1,5 @@
 -- An exchange between nodes: all links drained, passed on and fed.
-use Rattle.std.proofs.Common.{◌≡◌, ◌≢◌, ℕ, suc, ◌*◌, ◌<◌, ◌≤◌, List, [], ◌∷◌, ◌++◌, length, map, take, drop, Some, None, refl, sym, ap, subst, ◌∙◌, inl, inr, arith}
+use Rattle.std.proofs.Common.{◌≡◌, ◌≢◌, ℕ, suc, ◌*◌, ◌<◌, ◌≤◌, Bool, List, [], ◌∷◌, ◌++◌, length, map, take, drop, Some, None, refl, sym, ap, subst, ◌∙◌, inl, inr, arith}
 use Rattle.std.specs.List.{All, Contains, slice_get, flat_map}
 use Rattle.std.proofs.Math.Nat.{mul-lt-mul_of_pos_right, div-lt_iff_lt-mul}
 use Rattle.std.proofs.lemmas.Bool.{cases_Bool}
@@ -9,7 +9,6 @@ use Rattle.std.specs.declared.dyn_box.DynBox.{DynBox}
 use Rattle.std.specs.declared.alloc.Global.{Global}
 use Rattle.dcop_base.specs.Table.{has}
 use Rattle.protocol_steps.specs.declared.message.Message.{Message}
-use Rattle.protocol_steps.specs.declared.event.Entry.{Entry}
 use Rattle.protocol_steps.specs.View.{View}
 use Rattle.protocol_steps.proofs.PrivateLaws.{contains_from_has}
 use Rattle.fifo_links.specs.declared.ends.LinkTail.{LinkTail}
@@ -44,7 +43,7 @@ use Rattle.tcp_links.specs.Drains.{HasDrained}
 use Rattle.tcp_links.specs.Feeds.{AllWaits}
 use Rattle.tcp_links.specs.Kept.{IsKept}
 use Rattle.tcp_links.specs.Faults.{node_fault, IsNoDifference}
-use Rattle.tcp_links.specs.Woven.{IsPassingOf, IsIdle, AreIdle, AreEmptied, IsWoven, AreWoven, CanDrainAll, CanFeed, CanFeedAll, SentIsDrained, FedIsTaken, HaveCaughtUp, HasDrainedLink, HaveDrained, HasFedLink, HaveFed}
+use Rattle.tcp_links.specs.Woven.{IsPassingOf, IsIdle, AreIdle, AreLinksOf, AreEmptied, IsWoven, AreWoven, CanDrainAll, CanFeed, CanFeedAll, AreStill, SentWasDrained, FedWasTaken, SentIsDrained, FedIsTaken, HaveCaughtUp, HasDrainedLink, HaveDrained, HasFedLink, HaveFed}
 use Rattle.tcp_links.specs.Over.{IsDrainedOf, HasExchanged, IsExchangeFault}
 use Rattle.tcp_links.proofs.OrderLaws.{ordered_passed}
 use Rattle.tcp_links.proofs.DrainLaws.{tail_still}
@@ -115,6 +114,9 @@ long_written n xs ys zs len size same = len ∙ ap length (sym same) ∙ sym siz
 -- what is so of links without anything passed is so of the same lists
 pub idle_slices : (node : ℕ → ℕ) (ws ks : List Wire) (ps qs : List Passing) → ks ≡ ws → qs ≡ ps → AreIdle node ws ps → AreIdle node ks qs
 idle_slices node ws ks ps qs k q h = subst (λ (us : List Wire). AreIdle node us qs) (sym k) (subst (λ (us : List Passing). AreIdle node ws us) (sym q) h)
+
+pub links_slices : (ws ks : List Wire) (ps qs : List Passing) → ks ≡ ws → qs ≡ ps → AreLinksOf ws ps → AreLinksOf ks qs
+links_slices ws ks ps qs k q h = subst (λ (us : List Wire). AreLinksOf us qs) (sym k) (subst (λ (us : List Passing). AreLinksOf ws us) (sym q) h)
 
 pub emptied_slices : (ws ks : List Wire) (ps qs rs : List Passing) → ks ≡ ws → qs ≡ ps → AreEmptied (length ks) qs rs → AreEmptied (length ws) ps rs
 emptied_slices ws ks ps qs rs k q h = subst (λ (us : List Wire). AreEmptied (length us) ps rs) k (subst (λ (us : List Passing). AreEmptied (length ks) us rs) q h)
@@ -212,15 +214,28 @@ module _ {X : Type 0} {F : X → Type 0} (M : DynBox X Global F → View) where
         }
 
     -- where the receiver had taken all, it still has
-    pub still_taken : (seen : List ℕ) → FedIsTaken M seen ws es cells → FedIsTaken M seen ws ds mid
-    still_taken seen fed = record {
-      each = λ k w d to e f g noted none.
+    pub still_taken : (still : List Bool) → FedIsTaken M still ws es cells → FedIsTaken M still ws ds mid
+    still_taken still fed = record {
+      each = λ k w d to e f g marked none.
           let on = drained_at k w e in
           let old = stood M (StaysQuiet M) cells mid quiet w.receiver to g in
           let ends : on.new ≡ d = one_at ds k on.new d on.new_is f in
           ap (lane w.sender) old.2.quiet.taken
-          ∙ fed.each k w on.old old.0 e on.old_is old.1 (noted ∙ ap (λ (xs : List Entry). Some (length xs)) old.2.quiet.noted) (sym on.link.waits ∙ ap (λ (x : InnerEnds). x.waits) ends ∙ none)
+          ∙ fed.each k w on.old old.0 e on.old_is old.1 marked (sym on.link.waits ∙ ap (λ (x : InnerEnds). x.waits) ends ∙ none)
           ∙ ap sent_on (sym on.link.feed) ∙ ap (λ (x : InnerEnds). sent_on x.feed) ends;
+    }
+
+    -- each passing leads from its link's sender to its receiver
+    pub links_of : (qs : List Passing) → EachAre SamePassing ps qs → AreLinksOf ws qs
+    links_of qs same = record {
+      each = λ k w q e f.
+          let inside = slice_get_within ws k w e in
+          let counted = drained.counted in
+          let p = there ps k (omega (arith, inside, counted)) in
+          let came = each_on SamePassing ps qs same k p.0 p.1 in
+          let is : came.0 ≡ q = one_at qs k came.0 q came.1 f in
+          let led = (drained.passing k w p.0 e p.1).0 in
+          (ap (λ (x : Passing). x.from) (sym is) ∙ came.2.from ∙ led.from, ap (λ (x : Passing). x.to) (sym is) ∙ came.2.to ∙ led.to);
     }
 
     pub can_feed : EachIs (λ c. IsCell M c) cells → CanFeedAll M ws ds mid
@@ -530,13 +545,24 @@ module _ {X : Type 0} {F : X → Type 0} (M : DynBox X Global F → View) where
   can_drain_slices cells ws ks es fs k f h =
       subst (λ (us : List Wire). CanDrainAll M us fs cells) (sym k) (subst (λ (us : List InnerEnds). CanDrainAll M ws us cells) (sym f) h)
 
-  pub sent_slices : (cells : List (Cell X F)) (seen ss : List ℕ) (ws ks : List Wire) (es fs : List InnerEnds) → ss ≡ seen → ks ≡ ws → fs ≡ es → SentIsDrained M seen ws es cells → SentIsDrained M ss ks fs cells
-  sent_slices cells seen ss ws ks es fs s k f h =
-      subst (λ (ns : List ℕ). SentIsDrained M ns ks fs cells) (sym s) (subst (λ (us : List Wire). SentIsDrained M seen us fs cells) (sym k) (subst (λ (us : List InnerEnds). SentIsDrained M seen ws us cells) (sym f) h))
+  pub sent_slices : (cells : List (Cell X F)) (still : List Bool) (ws ks : List Wire) (es fs : List InnerEnds) → ks ≡ ws → fs ≡ es → SentIsDrained M still ws es cells → SentIsDrained M still ks fs cells
+  sent_slices cells still ws ks es fs k f h =
+      subst (λ (us : List Wire). SentIsDrained M still us fs cells) (sym k) (subst (λ (us : List InnerEnds). SentIsDrained M still ws us cells) (sym f) h)
 
-  pub taken_slices : (cells : List (Cell X F)) (seen ss : List ℕ) (ws ks : List Wire) (es fs : List InnerEnds) → ss ≡ seen → ks ≡ ws → fs ≡ es → FedIsTaken M seen ws es cells → FedIsTaken M ss ks fs cells
-  taken_slices cells seen ss ws ks es fs s k f h =
-      subst (λ (ns : List ℕ). FedIsTaken M ns ks fs cells) (sym s) (subst (λ (us : List Wire). FedIsTaken M seen us fs cells) (sym k) (subst (λ (us : List InnerEnds). FedIsTaken M seen ws us cells) (sym f) h))
+  pub taken_slices : (cells : List (Cell X F)) (still : List Bool) (ws ks : List Wire) (es fs : List InnerEnds) → ks ≡ ws → fs ≡ es → FedIsTaken M still ws es cells → FedIsTaken M still ks fs cells
+  taken_slices cells still ws ks es fs k f h =
+      subst (λ (us : List Wire). FedIsTaken M still us fs cells) (sym k) (subst (λ (us : List InnerEnds). FedIsTaken M still ws us cells) (sym f) h)
+
+  -- what was told of cells by their journals is so of those that are marked as still
+  pub sent_where_still : (cells : List (Cell X F)) (seen ss : List ℕ) (still : List Bool) (ws : List Wire) (es : List InnerEnds) → ss ≡ seen → AreStill M ss still cells → SentWasDrained M seen ws es cells → SentIsDrained M still ws es cells
+  sent_where_still cells seen ss still ws es s marks h = record {
+    each = λ k w e from at_w at_e is marked. h.each k w e from at_w at_e is (ap (λ (ns : List ℕ). slice_get ns w.sender) (sym s) ∙ marks.each w.sender from is marked);
+  }
+
+  pub taken_where_still : (cells : List (Cell X F)) (seen ss : List ℕ) (still : List Bool) (ws : List Wire) (es : List InnerEnds) → ss ≡ seen → AreStill M ss still cells → FedWasTaken M seen ws es cells → FedIsTaken M still ws es cells
+  taken_where_still cells seen ss still ws es s marks h = record {
+    each = λ k w e to at_w at_e is marked none. h.each k w e to at_w at_e is (ap (λ (ns : List ℕ). slice_get ns w.receiver) (sym s) ∙ marks.each w.receiver to is marked) none;
+  }
 
   pub can_feed_slices : (cells : List (Cell X F)) (ws ks : List Wire) (es fs : List InnerEnds) → ks ≡ ws → fs ≡ es → CanFeedAll M ws es cells → CanFeedAll M ks fs cells
   can_feed_slices cells ws ks es fs k f h =

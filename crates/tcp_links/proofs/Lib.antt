@@ -6,4 +6,5 @@ mod KeptLaws
 mod WeaveLaws
 mod ExchangeLaws
 mod OverLaws
+mod SharedLaws
 mod RunLaws

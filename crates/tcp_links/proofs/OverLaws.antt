@@ -45,7 +45,7 @@ use Rattle.tcp_links.specs.declared.fault.NodeFault.TheVariants.{Failed, Differs
 use Rattle.tcp_links.specs.declared.plan.InnerEnds.{InnerEnds}
 use Rattle.tcp_links.specs.declared.plan.NodePlan.{NodePlan}
 use Rattle.tcp_links.specs.Faults.{HasNodeCause}
-use Rattle.tcp_links.specs.Woven.{AreIdle, SentIsDrained, FedIsTaken, HaveCaughtUp, AreWoven}
+use Rattle.tcp_links.specs.Woven.{AreIdle, SentWasDrained, FedWasTaken, HaveCaughtUp, AreWoven}
 use Rattle.tcp_links.specs.Over.{IsDrainedOf, AreReady, IsPlanOver, HasExchanged, HasPassedOther, IsExchangeFault, ArePlayedSo, IsIdleOver, ArePlayedOutOver, HasBrokenOver, HasRoundOver, HasBrokenRound, ArePlayedTo}
 use Rattle.letter_wires.specs.Faults.{IsByteBetween}
 use Rattle.tcp_links.specs.Ends.{AreThere, HasOtherByte, IsFaultOver}
@@ -147,14 +147,14 @@ module _ {X : Type 0} {F : X → Type 0} (M : DynBox X Global F → View) where
         (a.0, a.1, rests.0, rests.1)
 
     -- so what was told behind the exchange is still right
-    sent_on_so : SentIsDrained M seen ws es after
+    sent_on_so : SentWasDrained M seen ws es after
     sent_on_so = record {
       each = λ k w e b at_w at_e at noted.
           let a = noted_rests w.sender b at noted in
           told.sent k w e a.0 at_w at_e a.1 ∙ ap (lane w.receiver) (sym a.2);
     }
 
-    taken_on_so : FedIsTaken M seen ws es after
+    taken_on_so : FedWasTaken M seen ws es after
     taken_on_so = record {
       each = λ k w e b at_w at_e at noted none.
           let a = noted_rests w.receiver b at noted in

@@ -1,5 +1,5 @@
 -- Cells whose links between nodes are drained and fed, link by link.
-use Rattle.std.proofs.Common.{◌≡◌, ◌≢◌, ℕ, zero, suc, ◌+◌, ◌<◌, ◌≤◌, ◌⊎◌, false, List, [], ◌∷◌, ◌++◌, length, set, get_or, min, Result, Ok, Err, Some, refl, sym, ap, ap₂, subst, ◌∙◌, inl, inr, arith, length-set}
+use Rattle.std.proofs.Common.{◌≡◌, ◌≢◌, ℕ, zero, suc, ◌+◌, ◌<◌, ◌≤◌, ◌⊎◌, Bool, true, false, List, [], ◌∷◌, ◌++◌, length, replicate, set, get_or, min, Result, Ok, Err, Some, refl, sym, ap, ap₂, subst, ◌∙◌, inl, inr, arith, length-set}
 use Rattle.std.specs.Prelude.{OnOk}
 use Rattle.std.specs.List.{Contains, slice_get}
 use Rattle.std.proofs.lemmas.Bool.{cases_eq}
@@ -8,7 +8,6 @@ use Rattle.std.proofs.lemmas.List.{append-nil, length-append}
 use Rattle.std.specs.declared.dyn_box.DynBox.{DynBox}
 use Rattle.std.specs.declared.alloc.Global.{Global}
 use Rattle.protocol_steps.specs.declared.message.Message.{Message}
-use Rattle.protocol_steps.specs.declared.event.Entry.{Entry}
 use Rattle.protocol_steps.specs.View.{View}
 use Rattle.protocol_steps.specs.Rounds.{link_share}
 use Rattle.fifo_links.specs.declared.ends.LinkTail.{LinkTail}
@@ -29,7 +28,7 @@ use Rattle.agent_workers.proofs.PlayLaws.{set_back}
 use Rattle.tcp_links.specs.declared.plan.InnerEnds.{InnerEnds}
 use Rattle.tcp_links.specs.Drains.{HasDrained}
 use Rattle.tcp_links.specs.Feeds.{AllWaits}
-use Rattle.tcp_links.specs.Woven.{IsIdle, AreIdle, AreEmptied, CanDrain, CanDrainAll, CanFeed, CanFeedAll, SentIsDrained, FedIsTaken, HasDrainedLink, HaveDrained, HasFedLink, HaveFed, KnowsElse, IsPassingOf}
+use Rattle.tcp_links.specs.Woven.{IsIdle, AreIdle, AreLinksOf, AreEmptied, CanDrain, CanDrainAll, CanFeed, CanFeedAll, AreStill, SentIsDrained, FedIsTaken, HasDrainedLink, HaveDrained, HasFedLink, HaveFed, KnowsElse, IsPassingOf}
 use Rattle.node_letters.specs.Passings.{Passing, holding, emptied}
 use Rattle.tcp_links.proofs.DrainLaws.{tail_still, head_none, drained_none as nothing_drained}
 use Rattle.tcp_links.proofs.FeedLaws.{heads_still, tail_none}
@@ -121,6 +120,12 @@ idle_push node ws ps w p h one = record {
     ]
   ];
 }
+
+-- a list without marks
+pub none_marked : (n k : ℕ) → slice_get (replicate n false) k ≡ Some true → ⊥
+none_marked zero k e = none-some true e
+none_marked (suc n) zero e = let no : false ≡ true = same_Some false true e in absurd (cc)
+none_marked (suc n) (suc k) e = none_marked n k e
 
 module _ {X : Type 0} {F : X → Type 0} (M : DynBox X Global F → View) where
   -- one cell of a list has stayed quiet
@@ -370,13 +375,12 @@ module _ {X : Type 0} {F : X → Type 0} (M : DynBox X Global F → View) where
         let old = stood_ends in
         subst (λ (x : InnerEnds). CanDrain M c w x) (sym old.2) (drain_still from.0 c w old.0 from.2 (can.each k w old.0 from.0 at_w old.1 from.1))
 
-    pub sent_next : (seen : List ℕ) → SentIsDrained M seen ws before was → (c : Cell X F) → slice_get now w.sender ≡ Some c → slice_get seen w.sender ≡ Some (length (state_of M c).journal)
+    pub sent_next : (still : List Bool) → SentIsDrained M still ws before was → (c : Cell X F) → slice_get now w.sender ≡ Some c → slice_get still w.sender ≡ Some true
         → taken_from e.drain ≡ lane w.receiver (state_of M c).sent
-    sent_next seen s c is noted =
+    sent_next still s c is marked =
         let from = stood M (StaysQuiet M) was now quiet w.sender c is in
         let old = stood_ends in
-        ap (λ (x : InnerEnds). taken_from x.drain) old.2 ∙ s.each k w old.0 from.0 at_w old.1 from.1 (noted ∙ ap (λ (es : List Entry). Some (length es)) from.2.quiet.noted)
-        ∙ ap (lane w.receiver) (sym from.2.quiet.sent)
+        ap (λ (x : InnerEnds). taken_from x.drain) old.2 ∙ s.each k w old.0 from.0 at_w old.1 from.1 marked ∙ ap (lane w.receiver) (sym from.2.quiet.sent)
 
   -- what was drained while cells stayed quiet
   drained_still : (was now : List (Cell X F)) (w : Wire) (before after : InnerEnds) (es : List (ℕ × Message)) → EachBecomes (StaysQuiet M) was now → ((c : Cell X F) → slice_get now w.sender ≡ Some c → HasDrainedLink M c w before after es)
@@ -430,18 +434,23 @@ module _ {X : Type 0} {F : X → Type 0} (M : DynBox X Global F → View) where
       feed_still to.0 c w e to.2 (subst (λ (x : InnerEnds). CanFeed M to.0 w x) (sym same) on)
 
   -- the receiver of the next link has taken all, where it did nothing and nothing waited
-  pub taken_next : (k : ℕ) (was now : List (Cell X F)) (ws vs : List Wire) (before ends : List InnerEnds) (ps : List Passing) (w : Wire) (e : InnerEnds) (seen : List ℕ) → FedIsTaken M seen ws before was → EachBecomes (StaysQuiet M) was now → HaveFed M k now ws vs before ends ps
-      → slice_get vs k ≡ Some w → slice_get ends k ≡ Some e → (c : Cell X F) → slice_get now w.receiver ≡ Some c → slice_get seen w.receiver ≡ Some (length (state_of M c).journal) → e.waits ≡ false
+  pub taken_next : (k : ℕ) (was now : List (Cell X F)) (ws vs : List Wire) (before ends : List InnerEnds) (ps : List Passing) (w : Wire) (e : InnerEnds) (still : List Bool) → FedIsTaken M still ws before was → EachBecomes (StaysQuiet M) was now → HaveFed M k now ws vs before ends ps
+      → slice_get vs k ≡ Some w → slice_get ends k ≡ Some e → (c : Cell X F) → slice_get now w.receiver ≡ Some c → slice_get still w.receiver ≡ Some true → e.waits ≡ false
       → lane w.sender (state_of M c).taken ≡ sent_on e.feed
-  taken_next k was now ws vs before ends ps w e seen f quiet h at_w at_e c is noted none =
+  taken_next k was now ws vs before ends ps w e still f quiet h at_w at_e c is marked none =
       let to = stood M (StaysQuiet M) was now quiet w.receiver c is in
       let size = h.size in
       let lt = slice_get_within ends k e at_e in
       let old = there before k (omega (arith, lt, size)) in
       let same : e ≡ old.0 = h.rest k old.0 e (omega arith) old.1 at_e in
       ap (lane w.sender) to.2.quiet.taken
-      ∙ f.each k w old.0 to.0 (wire_left k now ws vs before ends ps w h at_w) old.1 to.1 (noted ∙ ap (λ (es : List Entry). Some (length es)) to.2.quiet.noted) (ap (λ (x : InnerEnds). x.waits) (sym same) ∙ none)
+      ∙ f.each k w old.0 to.0 (wire_left k now ws vs before ends ps w h at_w) old.1 to.1 marked (ap (λ (x : InnerEnds). x.waits) (sym same) ∙ none)
       ∙ ap (λ (x : InnerEnds). sent_on x.feed) (sym same)
+
+  -- its passing leads from its sender to its receiver
+  pub link_next : (k : ℕ) (now : List (Cell X F)) (ws vs : List Wire) (before ends : List InnerEnds) (ps qs : List Passing) (w : Wire) (p : Passing) → AreLinksOf ws ps → HaveFed M k now ws vs before ends ps → AreEmptied k ps qs
+      → slice_get vs k ≡ Some w → slice_get qs k ≡ Some p → (p.from ≡ w.sender) × (p.to ≡ w.receiver)
+  link_next k now ws vs before ends ps qs w p links h left at_w at_p = links.each k w p (wire_left k now ws vs before ends ps w h at_w) (sym (left.rest k (omega arith)) ∙ at_p)
 
   -- it was fed
   pub feed_turn : (k : ℕ) (was now : List (Cell X F)) (ws vs : List Wire) (before ends : List InnerEnds) (ps : List Passing) (w v : Wire) (d e : InnerEnds) (p : Passing)
@@ -452,3 +461,18 @@ module _ {X : Type 0} {F : X → Type 0} (M : DynBox X Global F → View) where
       fed_more k was now ws vs before ends ps w v e d w p h apart quiet known (slice_get_within vs k w at_w) (slice_get_within ends k d at_d)
       (wire_left k was ws vs before ends ps w h at_w) (get_or_from_slice_get vs k w w at_w) at_p
       (λ c is. subst (λ (x : InnerEnds). HasFedLink M c w v x e p) same (own c is))
+
+  -- cells of which none is marked as still, and one mark more
+  pub still_none : (seen : List ℕ) (still : List Bool) (cells : List (Cell X F)) → ((k : ℕ) → slice_get still k ≡ Some true → ⊥) → AreStill M seen still cells
+  still_none seen still cells none = record { each = λ k c at marked. absurd (none k marked) }
+
+  pub still_more : (seen : List ℕ) (still : List Bool) (k : ℕ) (b : Bool) (cells : List (Cell X F)) (c : Cell X F) → k < length still → slice_get cells k ≡ Some c → (b ≡ true → slice_get seen k ≡ Some (length (state_of M c).journal)) → AreStill M seen still cells
+      → AreStill M seen (set still k b) cells
+  still_more seen still k b cells c lt is noted h = record {
+    each = λ j x at marked. elim (set_back still k b j true lt marked) [
+      | inl here ↦
+          let same : c ≡ x = one_at cells k c x is (ap (slice_get cells) (sym here.0) ∙ at) in
+          ap (slice_get seen) here.0 ∙ noted (sym here.1) ∙ ap (λ (y : Cell X F). Some (length (state_of M y).journal)) same
+      | inr out ↦ h.each j x at out.1
+    ];
+  }

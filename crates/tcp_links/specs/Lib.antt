@@ -7,3 +7,4 @@ pub mod Woven
 pub mod Linked
 pub mod Over
 pub mod Ends
+pub mod Shared

@@ -28,7 +28,7 @@ use Rattle.tcp_links.specs.declared.fault.Difference.{Difference}
 use Rattle.tcp_links.specs.declared.fault.NodeFault.{NodeFault}
 use Rattle.tcp_links.specs.declared.fault.NodeFault.TheVariants.{Failed, Differs, NoMemory}
 use Rattle.tcp_links.specs.Plans.{IsPlan}
-use Rattle.tcp_links.specs.Woven.{AreWoven, IsPassingOf, AreIdle, SentIsDrained, FedIsTaken, HaveCaughtUp}
+use Rattle.tcp_links.specs.Woven.{AreWoven, IsPassingOf, AreIdle, SentWasDrained, FedWasTaken, HaveCaughtUp}
 use Rattle.node_letters.specs.Passings.{Passing}
 use Rattle.tcp_links.specs.Faults.{IsByteFault}
 
@@ -43,8 +43,8 @@ module _ {X : Type 0} {F : X → Type 0} {W : Type 0} where
   -- was drained, and if nothing waited for it, it has taken all that was fed
   pub record AreReady (meaning : DynBox X Global F → View) (node : ℕ → ℕ) (p : NodePlan W) (cells : List (Cell X F)) : Type 0 where
     pub idle : AreIdle node p.kept.items p.passings.items
-    pub sent : SentIsDrained meaning p.seen.items p.kept.items p.ends.items cells
-    pub fed : FedIsTaken meaning p.seen.items p.kept.items p.ends.items cells
+    pub sent : SentWasDrained meaning p.seen.items p.kept.items p.ends.items cells
+    pub fed : FedWasTaken meaning p.seen.items p.kept.items p.ends.items cells
 
   -- a plan with as many nodes and agents as another, whose links are woven with the cells, ready
   -- for an exchange

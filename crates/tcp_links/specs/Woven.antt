@@ -1,5 +1,5 @@
 -- Cells whose links between nodes are those of a plan, during a run.
-use Rattle.std.specs.Prelude.{◌≡◌, ◌≢◌, ℕ, ◌<◌, ◌≤◌, false, List, [], ◌++◌, map, length, Some, slice_get}
+use Rattle.std.specs.Prelude.{◌≡◌, ◌≢◌, ℕ, ◌<◌, ◌≤◌, Bool, true, false, List, [], ◌++◌, map, length, Some, slice_get}
 use Rattle.std.specs.List.{All, Contains}
 use Rattle.std.specs.declared.dyn_box.DynBox.{DynBox}
 use Rattle.std.specs.declared.alloc.Global.{Global}
@@ -37,6 +37,10 @@ pub record IsIdle (node : ℕ → ℕ) (w : Wire) (p : Passing) : Type 0 where
 pub record AreIdle (node : ℕ → ℕ) (ws : List Wire) (ps : List Passing) : Type 0 where
   pub size : length ps ≡ length ws
   pub each : (k : ℕ) (w : Wire) (p : Passing) → slice_get ws k ≡ Some w → slice_get ps k ≡ Some p → IsIdle node w p
+
+-- each passing leads from its link's sender to its receiver
+pub record AreLinksOf (ws : List Wire) (ps : List Passing) : Type 0 where
+  pub each : (k : ℕ) (w : Wire) (p : Passing) → slice_get ws k ≡ Some w → slice_get ps k ≡ Some p → (p.from ≡ w.sender) × (p.to ≡ w.receiver)
 
 -- the first `count` passings are empty, and the others are as before
 pub record AreEmptied (count : ℕ) (before after : List Passing) : Type 0 where
@@ -89,16 +93,30 @@ module _ {X : Type 0} {F : X → Type 0} where
     pub inside : (k : ℕ) (w : Wire) → slice_get ws k ≡ Some w → w.receiver < length cells
     pub each : (k : ℕ) (w : Wire) (e : InnerEnds) (to : Cell X F) → slice_get ws k ≡ Some w → slice_get es k ≡ Some e → slice_get cells w.receiver ≡ Some to → CanFeed meaning to w e
 
+  -- the journal of each cell that is marked as still is as long as was noted
+  pub record AreStill (meaning : DynBox X Global F → View) (seen : List ℕ) (still : List Bool) (cells : List (Cell X F)) : Type 0 where
+    pub each : (k : ℕ) (c : Cell X F) → slice_get cells k ≡ Some c → slice_get still k ≡ Some true → slice_get seen k ≡ Some (length (state_of meaning c).journal)
+
   -- if the sender's journal is as long as was noted, all that it has sent on a link was drained
-  pub record SentIsDrained (meaning : DynBox X Global F → View) (seen : List ℕ) (ws : List Wire) (es : List InnerEnds) (cells : List (Cell X F)) : Type 0 where
+  pub record SentWasDrained (meaning : DynBox X Global F → View) (seen : List ℕ) (ws : List Wire) (es : List InnerEnds) (cells : List (Cell X F)) : Type 0 where
     pub each : (k : ℕ) (w : Wire) (e : InnerEnds) (from : Cell X F) → slice_get ws k ≡ Some w → slice_get es k ≡ Some e → slice_get cells w.sender ≡ Some from
         → slice_get seen w.sender ≡ Some (length (state_of meaning from).journal) → taken_from e.drain ≡ lane w.receiver (state_of meaning from).sent
 
   -- if the receiver's journal is as long as was noted, and nothing waited, the receiver has taken
   -- all that was fed to it
-  pub record FedIsTaken (meaning : DynBox X Global F → View) (seen : List ℕ) (ws : List Wire) (es : List InnerEnds) (cells : List (Cell X F)) : Type 0 where
+  pub record FedWasTaken (meaning : DynBox X Global F → View) (seen : List ℕ) (ws : List Wire) (es : List InnerEnds) (cells : List (Cell X F)) : Type 0 where
     pub each : (k : ℕ) (w : Wire) (e : InnerEnds) (to : Cell X F) → slice_get ws k ≡ Some w → slice_get es k ≡ Some e → slice_get cells w.receiver ≡ Some to
         → slice_get seen w.receiver ≡ Some (length (state_of meaning to).journal) → e.waits ≡ false → lane w.sender (state_of meaning to).taken ≡ sent_on e.feed
+
+  -- if the sender is marked as still, all that it has sent on a link was drained
+  pub record SentIsDrained (meaning : DynBox X Global F → View) (still : List Bool) (ws : List Wire) (es : List InnerEnds) (cells : List (Cell X F)) : Type 0 where
+    pub each : (k : ℕ) (w : Wire) (e : InnerEnds) (from : Cell X F) → slice_get ws k ≡ Some w → slice_get es k ≡ Some e → slice_get cells w.sender ≡ Some from
+        → slice_get still w.sender ≡ Some true → taken_from e.drain ≡ lane w.receiver (state_of meaning from).sent
+
+  -- if the receiver is marked as still, and nothing waited, it has taken all that was fed to it
+  pub record FedIsTaken (meaning : DynBox X Global F → View) (still : List Bool) (ws : List Wire) (es : List InnerEnds) (cells : List (Cell X F)) : Type 0 where
+    pub each : (k : ℕ) (w : Wire) (e : InnerEnds) (to : Cell X F) → slice_get ws k ≡ Some w → slice_get es k ≡ Some e → slice_get cells w.receiver ≡ Some to
+        → slice_get still w.receiver ≡ Some true → e.waits ≡ false → lane w.sender (state_of meaning to).taken ≡ sent_on e.feed
 
   -- the journals were noted after an exchange that drained all that was sent; if nothing waited,
   -- the receiver had taken all that was fed to it

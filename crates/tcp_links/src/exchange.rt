@@ -13,7 +13,7 @@ ghost use Rattle.tcp_links.specs.Over.{AreReady, HasExchanged, IsExchangeFault};
 
 use crate::fault::{NodeFault, node_fault};
 use crate::plan::NodePlan;
-use crate::seen::note_all;
+use crate::seen::{note_all, still_cells};
 use crate::weave::{drain_all, feed_all};
 use agent_cells::Cell;
 use letter_wires::pass_all;
@@ -54,10 +54,11 @@ where
         → OnOk result (IsHonest D.W.told D.W.is_joined plan.new × (HaveHeld plan.old.kept.items → HaveHeld plan.new.kept.items)) × IfErr result IsNoDifference }
 {
     let nodes = plan.nodes;
+    let still = still_cells(cells, plan.seen.as_slice());
     drain_all(
         alloc,
         cells,
-        plan.seen.as_slice(),
+        &still,
         plan.kept.as_slice(),
         plan.ends.as_mut_slice(),
         plan.passings.as_mut_slice(),
@@ -75,7 +76,7 @@ where
     feed_all(
         alloc,
         cells,
-        plan.seen.as_slice(),
+        &still,
         plan.kept.as_mut_slice(),
         plan.ends.as_mut_slice(),
         plan.passings.as_mut_slice(),

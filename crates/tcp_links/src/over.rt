@@ -1,6 +1,6 @@
 //! Playing cells over a plan of nodes.
 
-ghost use Rattle.std.specs.Prelude.{◌≡◌, ◌<◌, ◌≤◌, length, IfOk, OnOk, IfErr, Some as some, None as none};
+ghost use Rattle.std.specs.Prelude.{◌≡◌, ◌<◌, ◌≤◌, length, IfOk, OnOk, IfErr, IfSome, Some as some, None as none};
 ghost use Rattle.dcop_base.specs.Limits.{budget_limit};
 ghost use Rattle.worker_runs.specs.CellRounds.{total};
 ghost use Rattle.worker_runs.specs.NodeRounds.{home};
@@ -11,12 +11,13 @@ ghost use Rattle.tcp_links.specs.Plans.{IsHonest};
 ghost use Rattle.tcp_links.specs.Faults.{HasNodeCause, IsNoDifference};
 ghost use Rattle.tcp_links.specs.Over.{IsPlanOver, IsRoundOver, IsExchangeFault, ArePlayedTo};
 ghost use Rattle.tcp_links.specs.Ends.{IsFaultOver};
+ghost use Rattle.tcp_links.specs.Shared.{IfEnded, IsSharedOver, ArePlayedShared};
 
 use crate::exchange::exchange;
 use crate::fault::NodeFault;
 use crate::plan::NodePlan;
 use agent_cells::{Cell, VisitFault};
-use agent_workers::{all_ended, play_round, sharing_after};
+use agent_workers::{all_ended, play_round, useful_workers};
 use dcop_edge::Gate;
 use protocol_steps::RunEnd;
 use std::alloc::{AllocGlobal, Global};
@@ -64,6 +65,7 @@ where
     ensures over { OnOk result (IsPlanOver (λ b. meaning (b.vtable, b.value)) plan.old plan.new cells.new) }
     ensures played { IfOk result (λ play. ArePlayedTo (λ b. meaning (b.vtable, b.value)) (home plan.old.nodes plan.old.agents) budget plan.old.kept.items
         (states_of (λ b. meaning (b.vtable, b.value)) cells.old) plan.new.kept.items cells.new play.rounds play.end) }
+    ensures parts { IfOk result (λ play. IfEnded play.end (ArePlayedShared (λ b. meaning (b.vtable, b.value)) workers plan.old.nodes cells.old cells.new)) }
     ensures cause { HasNodeCause (D.faults dialer.old) (D.faults dialer.new) result }
     ensures dialer { D.is_honest dialer.old → D.is_honest dialer.new }
     ensures differs { IfErr result (IsFaultOver plan.old.nodes (home plan.old.nodes plan.old.agents) budget plan.old.kept.items (states_of (λ b. meaning (b.vtable, b.value)) cells.old)) }
@@ -74,12 +76,11 @@ where
     if all_ended(cells) {
         return Ok(ended(0, RunEnd::AllEnded { deliveries }));
     }
-    let mut sharing = workers;
+    let most = useful_workers(rt, workers);
     for round in 0..budget {
-        let Some(taken) = round_over(rt, alloc, cells, plan, dialer, sharing, round, gate)? else {
+        let Some(taken) = round_over(rt, alloc, cells, plan, dialer, most, round, gate)? else {
             return Ok(broken(round + 1));
         };
-        sharing = sharing_after(taken, cells.len() as u64, workers);
         deliveries += taken;
         if all_ended(cells) {
             return Ok(ended(round + 1, RunEnd::AllEnded { deliveries }));
@@ -102,7 +103,7 @@ fn round_over<R, D, G>(
     cells: &mut [Cell],
     plan: &mut NodePlan<D::W>,
     dialer: &mut D,
-    sharing: u32,
+    workers: u32,
     round: u64,
     gate: &G,
 ) -> Result<Option<u64>, NodeFault>
@@ -110,7 +111,7 @@ where
     R: Threads + Wait + Clock + RandomSource + Net + AllocGlobal + Sync,
     D: Dialer,
     G: Gate,
-    requires sharing { 0 < sharing }
+    requires workers { 0 < workers }
     requires over { IsPlanOver (λ b. meaning (b.vtable, b.value)) plan.old plan.old cells.old }
     requires joined { IsJoined (λ b. meaning (b.vtable, b.value)) plan.old.nodes cells.old }
     requires begun { EachIs (λ c. HasBegun (λ b. meaning (b.vtable, b.value)) c) cells.old }
@@ -120,6 +121,7 @@ where
     ensures begun { EachIs (λ c. HasBegun (λ b. meaning (b.vtable, b.value)) c) cells.new }
     ensures over { OnOk result (IsPlanOver (λ b. meaning (b.vtable, b.value)) plan.old plan.new cells.new) }
     ensures round { IfOk result (IsRoundOver (λ b. meaning (b.vtable, b.value)) plan.old cells.old plan.new cells.new) }
+    ensures parts { IfOk result (λ o. IfSome o (λ taken. IsSharedOver (λ b. meaning (b.vtable, b.value)) workers plan.old.nodes cells.old cells.new)) }
     ensures cause { HasNodeCause (D.faults dialer.old) (D.faults dialer.new) result }
     ensures dialer { D.is_honest dialer.old → D.is_honest dialer.new }
     ensures differs { IfErr result (IsExchangeFault (λ b. meaning (b.vtable, b.value)) round plan.old cells.old) }
@@ -127,7 +129,7 @@ where
         → OnOk result (IsHonest D.W.told D.W.is_joined plan.new × (HaveHeld plan.old.kept.items → HaveHeld plan.new.kept.items)) × IfErr result IsNoDifference }
 {
     exchange(rt, alloc, dialer, cells, plan, round)?;
-    match play_round(rt, cells, plan.nodes, sharing, gate) {
+    match play_round(rt, cells, plan.nodes, workers, gate) {
         Ok(taken) => Ok(Some(taken)),
         Err(VisitFault::StampEnd) => {
             plan.seen.clear();

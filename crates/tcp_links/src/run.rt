@@ -12,6 +12,7 @@ ghost use Rattle.worker_runs.specs.NodeRounds.{home};
 ghost use Rattle.tcp_links.specs.Woven.{AreIdle};
 ghost use Rattle.tcp_links.specs.Linked.{AreLinkedOver};
 ghost use Rattle.tcp_links.specs.Ends.{HasHeldOver, DiffersOver};
+ghost use Rattle.tcp_links.specs.Shared.{HaveRunShared};
 ghost use Rattle.tcp_links.specs.Faults.{HasNodeCause, IsNoDifference, IsKeptDifference};
 
 use crate::exchange::exchange;
@@ -33,12 +34,14 @@ use std::thread::Threads;
 use std::time::Clock;
 use wire_edge::{Dialer, Wire};
 
-/// Starts the agents of all cells in order, and plays the cells in rounds with this many workers.
+/// Starts the agents of all cells in order, and plays the cells in rounds with at most this many
+/// workers.
 /// An exchange between the nodes follows the start and each round. What an exchange drained of a
 /// link and what arrived is compared as it passes, and each link keeps its first difference. The
 /// run ends as one of `agent_workers` does, under this budget of deliveries. At the end every link
-/// is settled once more, and the first difference is looked for. It takes memory, but not for the
-/// comparison, and may wait.
+/// is settled once more, and the first difference is looked for. The clause `parts` says in which
+/// parts and turns each round was played. It takes memory, but not for the comparison, and may
+/// wait.
 ///
 /// # Errors
 ///
@@ -75,6 +78,7 @@ where
     ensures rounds { OnOk result (AreDulyPlayed budget (views_of (λ b. meaning (b.vtable, b.value)) cells.old.items) (states_of (λ b. meaning (b.vtable, b.value)) cells.new.items)) }
     ensures still { IfOk result (λ end. RestsAtStill budget (views_of (λ b. meaning (b.vtable, b.value)) cells.old.items)
         (states_of (λ b. meaning (b.vtable, b.value)) cells.new.items) end) }
+    ensures parts { OnOk result (HaveRunShared (λ b. meaning (b.vtable, b.value)) workers plan.old.nodes cells.old.items cells.new.items) }
     ensures held { OnOk result (HasHeldOver budget (views_of (λ b. meaning (b.vtable, b.value)) cells.old.items) plan.old (states_of (λ b. meaning (b.vtable, b.value)) cells.new.items)) }
     ensures differs { IfErr result (DiffersOver budget (views_of (λ b. meaning (b.vtable, b.value)) cells.old.items) plan.old (states_of (λ b. meaning (b.vtable, b.value)) cells.new.items)) }
     ensures cause { HasNodeCause (D.faults dialer.old) (D.faults dialer.new) result }
@@ -138,6 +142,7 @@ where
     ensures rounds { OnOk result (AreDulyPlayed budget (views_of (λ b. meaning (b.vtable, b.value)) cells.old) (states_of (λ b. meaning (b.vtable, b.value)) cells.new)) }
     ensures still { IfOk result (λ end. RestsAtStill budget (views_of (λ b. meaning (b.vtable, b.value)) cells.old)
         (states_of (λ b. meaning (b.vtable, b.value)) cells.new) end) }
+    ensures parts { OnOk result (HaveRunShared (λ b. meaning (b.vtable, b.value)) workers plan.old.nodes cells.old cells.new) }
     ensures held { OnOk result (HasHeldOver budget (views_of (λ b. meaning (b.vtable, b.value)) cells.old) plan.old (states_of (λ b. meaning (b.vtable, b.value)) cells.new)) }
     ensures differs { IfErr result (DiffersOver budget (views_of (λ b. meaning (b.vtable, b.value)) cells.old) plan.old (states_of (λ b. meaning (b.vtable, b.value)) cells.new)) }
     ensures cause { HasNodeCause (D.faults dialer.old) (D.faults dialer.new) result }

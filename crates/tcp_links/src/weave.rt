@@ -7,14 +7,14 @@ ghost use Rattle.agent_cells.specs.State.{state_of};
 ghost use Rattle.agent_workers.specs.Joined.{EachBecomes};
 ghost use Rattle.agent_workers.specs.Settled.{StaysQuiet};
 ghost use Rattle.node_letters.specs.Passings.{holding, emptied};
-ghost use Rattle.tcp_links.specs.Woven.{AreIdle, CanDrain, CanDrainAll, CanFeed, CanFeedAll, HasDrainedLink, HaveDrained, HasFedLink, HaveFed, AreEmptied, KnowsElse, SentIsDrained, FedIsTaken};
+ghost use Rattle.tcp_links.specs.Woven.{AreIdle, AreLinksOf, CanDrain, CanDrainAll, CanFeed, CanFeedAll, HasDrainedLink, HaveDrained, HasFedLink, HaveFed, AreEmptied, KnowsElse, SentIsDrained, FedIsTaken};
 
 use crate::drain::drain_link;
 use crate::feed::feed_link;
 use crate::plan::InnerEnds;
-use crate::seen::{has_moved, slot};
+use crate::seen::{is_still, slot};
 use agent_cells::Cell;
-use dcop_base::NoMemory;
+use dcop_base::{NoMemory, VarId};
 use kept_wires::KeptLink;
 use node_letters::LinkPassing;
 use std::alloc::Global;
@@ -24,14 +24,14 @@ use std::alloc::Global;
 pub(crate) fn drain_all(
     alloc: Global,
     cells: &mut [Cell],
-    seen: &[usize],
+    still: &[bool],
     kept: &[KeptLink],
     ends: &mut [InnerEnds],
     passings: &mut [LinkPassing],
 ) -> Result<(), NoMemory>
     requires sizes { length ends.old ≡ length kept.now }
     requires can { CanDrainAll (λ b. meaning (b.vtable, b.value)) kept.now ends.old cells.old }
-    requires still { SentIsDrained (λ b. meaning (b.vtable, b.value)) seen.now kept.now ends.old cells.old }
+    requires drained { SentIsDrained (λ b. meaning (b.vtable, b.value)) still.now kept.now ends.old cells.old }
     requires idle { (node : ℕ → ℕ) × AreIdle node kept.now passings.old }
     ensures quiet { EachBecomes (λ a b. StaysQuiet (λ b. meaning (b.vtable, b.value)) a b) cells.old cells.new }
     ensures drained { OnOk result ((node : ℕ → ℕ) → AreIdle node kept.now passings.old
@@ -41,7 +41,7 @@ pub(crate) fn drain_all(
         drain_at(
             alloc,
             cells,
-            seen,
+            still,
             link,
             &mut ends[place],
             &mut passings[place],
@@ -55,14 +55,15 @@ pub(crate) fn drain_all(
 fn drain_at(
     alloc: Global,
     cells: &mut [Cell],
-    seen: &[usize],
+    still: &[bool],
     link: &KeptLink,
     ends: &mut InnerEnds,
     passing: &mut LinkPassing,
 ) -> Result<(), NoMemory>
     requires inside { link.now.sender < length cells.old }
     requires can { (c : _) → slice_get cells.old link.now.sender ≡ Some c → CanDrain (λ b. meaning (b.vtable, b.value)) c link.now ends.old }
-    requires still { (c : _) → slice_get cells.old link.now.sender ≡ Some c → slice_get seen.now link.now.sender ≡ Some (length (state_of (λ b. meaning (b.vtable, b.value)) c).journal)
+    requires link { (passing.old.from ≡ link.now.sender) × (passing.old.to ≡ link.now.receiver) }
+    requires sent { (c : _) → slice_get cells.old link.now.sender ≡ Some c → slice_get still.now link.now.sender ≡ Some true
         → taken_from ends.old.drain ≡ lane link.now.receiver (state_of (λ b. meaning (b.vtable, b.value)) c).sent }
     requires idle { passing.old.drained ≡ [] }
     ensures quiet { EachBecomes (λ a b. StaysQuiet (λ b. meaning (b.vtable, b.value)) a b) cells.old cells.new }
@@ -70,8 +71,8 @@ fn drain_at(
         → HasDrainedLink (λ b. meaning (b.vtable, b.value)) c link.now ends.old ends.new passing.new.drained) }
     ensures passing { passing.new ≡ holding passing.old passing.new.drained }
 {
-    let (from, to) = (link.from(), link.to());
-    if !has_moved(cells, seen, from) {
+    let (from, to) = (passing.from(), passing.to());
+    if is_still(still, from) {
         return Ok(());
     }
     let mut drained = Vec::new(alloc);
@@ -87,14 +88,15 @@ fn drain_at(
 pub(crate) fn feed_all(
     alloc: Global,
     cells: &mut [Cell],
-    seen: &[usize],
+    still: &[bool],
     kept: &mut [KeptLink],
     ends: &mut [InnerEnds],
     passings: &mut [LinkPassing],
 ) -> Result<(), NoMemory>
     requires sizes { (length ends.old ≡ length kept.old) × (length passings.old ≡ length kept.old) }
     requires can { CanFeedAll (λ b. meaning (b.vtable, b.value)) kept.old ends.old cells.old }
-    requires still { FedIsTaken (λ b. meaning (b.vtable, b.value)) seen.now kept.old ends.old cells.old }
+    requires links { AreLinksOf kept.old passings.old }
+    requires taken { FedIsTaken (λ b. meaning (b.vtable, b.value)) still.now kept.old ends.old cells.old }
     ensures quiet { EachBecomes (λ a b. StaysQuiet (λ b. meaning (b.vtable, b.value)) a b) cells.old cells.new }
     ensures sizes { (length kept.new ≡ length kept.old) × (length ends.new ≡ length ends.old) × (length passings.new ≡ length passings.old) }
     ensures fed { OnOk result (HaveFed (λ b. meaning (b.vtable, b.value)) (length kept.old) cells.new kept.old kept.new ends.old ends.new passings.old) }
@@ -104,7 +106,7 @@ pub(crate) fn feed_all(
         feed_at(
             alloc,
             cells,
-            seen,
+            still,
             &mut kept[place],
             &mut ends[place],
             &mut passings[place],
@@ -118,14 +120,15 @@ pub(crate) fn feed_all(
 fn feed_at(
     alloc: Global,
     cells: &mut [Cell],
-    seen: &[usize],
+    still: &[bool],
     link: &mut KeptLink,
     ends: &mut InnerEnds,
     passing: &mut LinkPassing,
 ) -> Result<(), NoMemory>
     requires inside { link.old.receiver < length cells.old }
     requires can { (c : _) → slice_get cells.old link.old.receiver ≡ Some c → CanFeed (λ b. meaning (b.vtable, b.value)) c link.old ends.old }
-    requires still { (c : _) → slice_get cells.old link.old.receiver ≡ Some c → slice_get seen.now link.old.receiver ≡ Some (length (state_of (λ b. meaning (b.vtable, b.value)) c).journal)
+    requires link { (passing.old.from ≡ link.old.sender) × (passing.old.to ≡ link.old.receiver) }
+    requires taken { (c : _) → slice_get cells.old link.old.receiver ≡ Some c → slice_get still.now link.old.receiver ≡ Some true
         → ends.old.waits ≡ false → lane link.old.sender (state_of (λ b. meaning (b.vtable, b.value)) c).taken ≡ sent_on ends.old.feed }
     ensures quiet { EachBecomes (λ a b. StaysQuiet (λ b. meaning (b.vtable, b.value)) a b) cells.old cells.new }
     ensures known { KnowsElse (λ b. meaning (b.vtable, b.value)) link.old.receiver link.old.sender cells.old cells.new }
@@ -133,11 +136,11 @@ fn feed_at(
         → HasFedLink (λ b. meaning (b.vtable, b.value)) c link.old link.new ends.old ends.new passing.old) }
     ensures left { OnOk result (passing.new ≡ emptied passing.old) }
 {
-    if rests(cells, seen, link, ends, passing) {
+    let (from, to) = (passing.from(), passing.to());
+    if rests(still, to, ends, passing) {
         return Ok(());
     }
     let (drained, arrived) = passing.take_lists(alloc);
-    let (from, to) = (link.from(), link.to());
     let at = slot(to);
     ends.waits = feed_link(
         alloc,
@@ -150,20 +153,12 @@ fn feed_at(
     Ok(())
 }
 
-/// Whether nothing passed on a link in this exchange, nothing waits on it, and its receiver has
-/// done nothing since the last exchange.
-fn rests(
-    cells: &[Cell],
-    seen: &[usize],
-    link: &KeptLink,
-    ends: &InnerEnds,
-    passing: &LinkPassing,
-) -> bool
-    requires inside { link.now.receiver < length cells.now }
+/// Whether nothing passed on a link to this agent in this exchange, nothing waits on it, and its
+/// receiver has done nothing since the last exchange.
+fn rests(still: &[bool], to: VarId, ends: &InnerEnds, passing: &LinkPassing) -> bool
     ensures idle { result ≡ true → (passing.now.drained ≡ []) × (passing.now.arrived ≡ []) }
     ensures waits { result ≡ true → ends.now.waits ≡ false }
-    ensures seen { result ≡ true → (c : _) → slice_get cells.now link.now.receiver ≡ Some c
-        → slice_get seen.now link.now.receiver ≡ Some (length (state_of (λ b. meaning (b.vtable, b.value)) c).journal) }
+    ensures still { result ≡ true → slice_get still.now to ≡ Some true }
 {
     if ends.waits {
         return false;
@@ -171,5 +166,5 @@ fn rests(
     if !passing.is_idle() {
         return false;
     }
-    !has_moved(cells, seen, link.to())
+    is_still(still, to)
 }

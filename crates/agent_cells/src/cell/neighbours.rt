@@ -1,10 +1,11 @@
-//! The neighbours of a cell.
+//! The neighbours of a cell, and what it knows of the links from them.
 
-ghost use Rattle.std.specs.Prelude.{◌≡◌, ◌<◌, length, slice_index_or};
-ghost use Rattle.worker_runs.specs.Cells.{peers};
-ghost use Rattle.agent_cells.specs.State.{state_of};
+ghost use Rattle.std.specs.Prelude.{◌≡◌, ◌<◌, ℕ, true, length, slice_index_or, None};
+ghost use Rattle.worker_runs.specs.Cells.{peers, known_from};
+ghost use Rattle.agent_cells.specs.State.{state_of, fault_in};
 
 use super::Cell;
+use crate::collect::know_of_none;
 use dcop_base::VarId;
 
 impl Cell {
@@ -21,5 +22,17 @@ impl Cell {
         ensures { (d : _) → result ≡ slice_index_or (peers (state_of (λ b. meaning b) self.now).taken) place d }
     {
         self.heads[place].0
+    }
+
+    /// Whether the cell has not failed and knows of no message that waits. It does not look for
+    /// messages.
+    pub fn rests(&self) -> bool
+        ensures fine { result ≡ true → fault_in self.now ≡ None }
+        ensures none { result ≡ true → (j : ℕ) → known_from j (state_of (λ b. meaning b) self.now).known ≡ 0 }
+    {
+        if self.fault.is_some() {
+            return false;
+        }
+        know_of_none(self.heads.as_slice())
     }
 }

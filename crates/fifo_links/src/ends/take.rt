@@ -20,6 +20,13 @@ impl<T: Send + Drop> LinkHead<T> {
         self.ring.slots() == 0
     }
 
+    /// How many items the head knows to be in the ring. It does not look for others.
+    pub fn known(&self) -> usize
+        ensures { result ≡ length (known_to self.now) }
+    {
+        self.ring.cached_slots()
+    }
+
     /// Takes what it finds in the ring, oldest first, at most 64 items, and appends it to `into`,
     /// which must have room for 64 more. Returns how many items it took. It takes at least the
     /// items that it knew of, so it returns 0 only if it knew of none. It allocates no memory.

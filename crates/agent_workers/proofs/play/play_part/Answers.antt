@@ -35,7 +35,7 @@ loop-turn-preserved g c = (
 
 pub returns-then-more-eq0-clause-turns : goal.returns-then-more-eq0-clause-turns
 returns-then-more-eq0-clause-turns g c =
-    still_part (λ b. (goal.Machine-dyn g (b.vtable, b.value)).meaning b.value) c.visits_all-all.result c.args.alone c.loop-turn.turn c.loop-turn.watch.waits c.args.cells.now c.loop-turn.cells c.take_turn.new.cells c.visits_all-all.ensures.due c.in_ok-more.ensures.turn c.loop-turn-test.true
+    still_part (λ b. (goal.Machine-dyn g (b.vtable, b.value)).meaning b.value) c.visits_all-all.result c.args.alone c.loop-turn.turn c.loop-turn.watch.waits c.args.cells.now c.loop-turn.cells c.take_turn.new.cells c.visits_all-all.ensures.due c.in_ok-more.ensures.ok.ready.size c.in_ok-more.ensures.turn c.loop-turn-test.true
     (let none = c.if-more-eq0.true in let counted = c.in_ok-more.ensures.ok.counted in omega (arith, none, counted)) c.loop-turn.invariant.1
 
 pub returns-clause-turns : goal.returns-clause-turns

@@ -1,6 +1,7 @@
 use Rattle.std.proofs.Common.{None, length, sym, subst, ◌≡◌}
 use Rattle.worker_runs.specs.NodeRounds.{home}
 use Rattle.agent_workers.specs.Watched.{IsTurnRound}
+use Rattle.agent_workers.specs.Shared.{IsSharedRound}
 use Rattle.std.specs.Prelude.{OnOk, IfErr}
 use Rattle.agent_cells.specs.State.{fault_in}
 use Rattle.agent_cells.proofs.CellLaws.{written}
@@ -32,3 +33,6 @@ returns-clause-err g c = subst (λ cells. IfErr c.play_round.result (λ f. SomeF
 
 pub returns-clause-turns : goal.returns-clause-turns
 returns-clause-turns g c = carry (λ old new. c.args.workers ≡ 1 → OnOk c.play_round.result (IsTurnRound (λ b. (goal.Machine-dyn g (b.vtable, b.value)).meaning b.value) (home c.args.nodes (length old)) old new)) _ _ _ _ c.as_mut_slice.ensures.value (written _ c.args.cells.now.items c.play_round.new.cells c.as_mut_slice.result.now c.args.cells.now.ok.0 c.play_round.ensures.same.size c.as_mut_slice.ensures.value) c.play_round.ensures.turns
+
+pub returns-clause-parts : goal.returns-clause-parts
+returns-clause-parts g c = carry (λ old new. OnOk c.play_round.result (IsSharedRound (λ b. (goal.Machine-dyn g (b.vtable, b.value)).meaning b.value) c.args.workers (home c.args.nodes (length old)) old new)) _ _ _ _ c.as_mut_slice.ensures.value (written _ c.args.cells.now.items c.play_round.new.cells c.as_mut_slice.result.now c.args.cells.now.ok.0 c.play_round.ensures.same.size c.as_mut_slice.ensures.value) c.play_round.ensures.parts

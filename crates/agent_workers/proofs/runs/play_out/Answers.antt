@@ -4,16 +4,15 @@ use Rattle.agent_cells.specs.declared.fault.VisitFault.TheVariants.{StampEnd}
 use Rattle.agent_workers.specs.Turns.{SomeFailed}
 use Rattle.agent_workers.specs.Broken.{HaveBrokenOff}
 use Rattle.agent_workers.proofs.BreakLaws.{err_on}
-use Rattle.agent_workers.proofs.RunLaws.{none_played, all_played, busy_played, ended_states, whole_round, played_on, busy_on, idle_on, fine_still}
+use Rattle.agent_workers.proofs.RunLaws.{none_played, all_played, busy_played, ended_states, whole_round, played_on, idle_on, fine_still, so_far_start, so_far_on, shared_none, shared_on, shared_all}
 use Rattle.agent_workers.proofs.runs.play_out.Goals as goal
 
 pub loop-init : goal.loop-init
 loop-init g c = let none = c.requires.none in record {
-  shared = c.requires.workers;
   joined = c.requires.joined;
   begun = c.requires.begun;
   fine = c.requires.fine;
-  played = none_played c.args.budget (states_of (λ b. (goal.Machine-dyn g (b.vtable, b.value)).meaning b.value) c.args.cells.now);
+  so_far = so_far_start (λ b. (goal.Machine-dyn g (b.vtable, b.value)).meaning b.value) c.args.workers c.args.budget c.args.cells.now;
   deliveries = sym none;
   progress = omega arith;
   within = λ lt. lt;
@@ -28,25 +27,25 @@ returns-then-all_ended-clause-played g c = record {
 
 pub returns-then-all_ended-2-clause-played : goal.returns-then-all_ended-2-clause-played
 returns-then-all_ended-2-clause-played g c = let i = c.loop.invariant in let was = i.deliveries in let more = c.in_ok-taken.ensures.counted in record {
-  played = played_on (λ b. (goal.Machine-dyn g (b.vtable, b.value)).meaning b.value) c.args.budget c.loop.deliveries c.args.cells.now c.loop.cells c.play_round.new.cells i.played was (i.within c.loop-test.true) i.awake c.in_ok-taken.ensures.round;
+  played = played_on (λ b. (goal.Machine-dyn g (b.vtable, b.value)).meaning b.value) c.args.budget c.loop.deliveries c.args.cells.now c.loop.cells c.play_round.new.cells i.so_far.played was (i.within c.loop-test.true) i.awake c.in_ok-taken.ensures.round;
   stopped = (omega (arith, was, more), ended_states (λ b. (goal.Machine-dyn g (b.vtable, b.value)).meaning b.value) c.play_round.new.cells ∙ sym c.if-all_ended-2.ensures);
 }
 
 pub returns-then-deliveries-budget-clause-played : goal.returns-then-deliveries-budget-clause-played
 returns-then-deliveries-budget-clause-played g c = let i = c.loop.invariant in let was = i.deliveries in let more = c.in_ok-taken.ensures.counted in let spent = c.if-deliveries-budget.true in record {
-  played = played_on (λ b. (goal.Machine-dyn g (b.vtable, b.value)).meaning b.value) c.args.budget c.loop.deliveries c.args.cells.now c.loop.cells c.play_round.new.cells i.played was (i.within c.loop-test.true) i.awake c.in_ok-taken.ensures.round;
+  played = played_on (λ b. (goal.Machine-dyn g (b.vtable, b.value)).meaning b.value) c.args.budget c.loop.deliveries c.args.cells.now c.loop.cells c.play_round.new.cells i.so_far.played was (i.within c.loop-test.true) i.awake c.in_ok-taken.ensures.round;
   stopped = (omega (arith, was, more), ended_states (λ b. (goal.Machine-dyn g (b.vtable, b.value)).meaning b.value) c.play_round.new.cells ∙ sym c.if-all_ended-2.ensures, omega (arith, was, more, spent));
 }
 
 pub returns-then-taken-eq0-clause-played : goal.returns-then-taken-eq0-clause-played
 returns-then-taken-eq0-clause-played g c = let i = c.loop.invariant in let was = i.deliveries in let more = c.in_ok-taken.ensures.counted in let none = c.if-taken-eq0.true in let less = i.within c.loop-test.true in record {
-  played = played_on (λ b. (goal.Machine-dyn g (b.vtable, b.value)).meaning b.value) c.args.budget c.loop.deliveries c.args.cells.now c.loop.cells c.play_round.new.cells i.played was less i.awake c.in_ok-taken.ensures.round;
+  played = played_on (λ b. (goal.Machine-dyn g (b.vtable, b.value)).meaning b.value) c.args.budget c.loop.deliveries c.args.cells.now c.loop.cells c.play_round.new.cells i.so_far.played was less i.awake c.in_ok-taken.ensures.round;
   stopped = (
     omega (arith, was, more),
     ended_states (λ b. (goal.Machine-dyn g (b.vtable, b.value)).meaning b.value) c.play_round.new.cells ∙ sym c.if-all_ended-2.ensures,
     record {
       before = states_of (λ b. (goal.Machine-dyn g (b.vtable, b.value)).meaning b.value) c.loop.cells;
-      played = busy_played c.args.budget (states_of (λ b. (goal.Machine-dyn g (b.vtable, b.value)).meaning b.value) c.args.cells.now) (states_of (λ b. (goal.Machine-dyn g (b.vtable, b.value)).meaning b.value) c.loop.cells) i.played;
+      played = busy_played c.args.budget (states_of (λ b. (goal.Machine-dyn g (b.vtable, b.value)).meaning b.value) c.args.cells.now) (states_of (λ b. (goal.Machine-dyn g (b.vtable, b.value)).meaning b.value) c.loop.cells) i.so_far.played;
       less = omega (arith, was, less);
       round = whole_round (λ b. (goal.Machine-dyn g (b.vtable, b.value)).meaning b.value) c.loop.cells c.play_round.new.cells c.in_ok-taken.ensures.round;
       none = omega (arith, more, none);
@@ -56,15 +55,14 @@ returns-then-taken-eq0-clause-played g c = let i = c.loop.invariant in let was =
 
 pub returns-then-taken-eq0-clause-still : goal.returns-then-taken-eq0-clause-still
 returns-then-taken-eq0-clause-still g c = let i = c.loop.invariant in let was = i.deliveries in let more = c.in_ok-taken.ensures.counted in let none = c.if-taken-eq0.true in
-    idle_on (λ b. (goal.Machine-dyn g (b.vtable, b.value)).meaning b.value) c.args.budget c.loop.deliveries c.args.cells.now c.loop.cells c.play_round.new.cells i.played was (i.within c.loop-test.true) i.awake c.in_ok-taken.ensures.round (omega (arith, more, none))
+    idle_on (λ b. (goal.Machine-dyn g (b.vtable, b.value)).meaning b.value) c.args.budget c.loop.deliveries c.args.cells.now c.loop.cells c.play_round.new.cells i.so_far.played was (i.within c.loop-test.true) i.awake c.in_ok-taken.ensures.round (omega (arith, more, none))
 
 pub loop-preserved : goal.loop-preserved
 loop-preserved g c = let i = c.loop.invariant in let was = i.deliveries in let more = c.in_ok-taken.ensures.counted in let some = c.if-taken-eq0.false in let less = c.if-deliveries-budget.false in let grown = i.progress in record {
-  shared = c.sharing_after-sharing.ensures.some;
   joined = c.play_round.ensures.joined;
   begun = c.play_round.ensures.begun;
   fine = fine_still (λ b. (goal.Machine-dyn g (b.vtable, b.value)).meaning b.value) c.loop.cells c.play_round.new.cells c.in_ok-taken.ensures.fine i.fine;
-  played = busy_on (λ b. (goal.Machine-dyn g (b.vtable, b.value)).meaning b.value) c.args.budget c.loop.deliveries c.args.cells.now c.loop.cells c.play_round.new.cells i.played was (i.within c.loop-test.true) i.awake (omega (arith, more, some)) c.in_ok-taken.ensures.round;
+  so_far = so_far_on (λ b. (goal.Machine-dyn g (b.vtable, b.value)).meaning b.value) c.args.workers c.useful_workers-most.result c.args.budget c.loop.deliveries c.args.cells.now c.loop.cells c.play_round.new.cells c.useful_workers-most.ensures.most i.so_far was (i.within c.loop-test.true) i.awake (omega (arith, more, some)) c.in_ok-taken.ensures.round c.in_ok-taken.ensures.parts;
   deliveries = omega (arith, was, more);
   progress = omega (arith, grown, some);
   within = λ _. omega (arith, less);
@@ -73,7 +71,7 @@ loop-preserved g c = let i = c.loop.invariant in let was = i.deliveries in let m
 
 pub returns-clause-played : goal.returns-clause-played
 returns-clause-played g c = let i = c.loop.invariant in let was = i.deliveries in let grown = i.progress in let test = c.loop-test.false in record {
-  played = all_played c.args.budget (states_of (λ b. (goal.Machine-dyn g (b.vtable, b.value)).meaning b.value) c.args.cells.now) (states_of (λ b. (goal.Machine-dyn g (b.vtable, b.value)).meaning b.value) c.loop.cells) i.played;
+  played = all_played c.args.budget (states_of (λ b. (goal.Machine-dyn g (b.vtable, b.value)).meaning b.value) c.args.cells.now) (states_of (λ b. (goal.Machine-dyn g (b.vtable, b.value)).meaning b.value) c.loop.cells) i.so_far.played;
   stopped = (was, i.awake, omega (arith, was, grown, test));
 }
 
@@ -83,4 +81,22 @@ returns-in_err-taken-clause-err g c = err_on c.from_residual.result _ (λ f. Som
 pub returns-in_err-taken-clause-end : goal.returns-in_err-taken-clause-end
 returns-in_err-taken-clause-end g c = let i = c.loop.invariant in let was = i.deliveries in let less = i.within c.loop-test.true in
     err_on c.from_residual.result _ (λ f. f ≡ StampEnd → HaveBrokenOff (λ b. (goal.Machine-dyn g (b.vtable, b.value)).meaning b.value) c.args.budget (states_of (λ b. (goal.Machine-dyn g (b.vtable, b.value)).meaning b.value) c.args.cells.now) c.play_round.new.cells) c.from_residual.ensures.1
-    (λ is. record { before = states_of (λ b. (goal.Machine-dyn g (b.vtable, b.value)).meaning b.value) c.loop.cells; played = busy_played c.args.budget (states_of (λ b. (goal.Machine-dyn g (b.vtable, b.value)).meaning b.value) c.args.cells.now) (states_of (λ b. (goal.Machine-dyn g (b.vtable, b.value)).meaning b.value) c.loop.cells) i.played; less = omega (arith, was, less); broken = c.in_err-taken.ensures.end is i.fine })
+    (λ is. record { before = states_of (λ b. (goal.Machine-dyn g (b.vtable, b.value)).meaning b.value) c.loop.cells; played = busy_played c.args.budget (states_of (λ b. (goal.Machine-dyn g (b.vtable, b.value)).meaning b.value) c.args.cells.now) (states_of (λ b. (goal.Machine-dyn g (b.vtable, b.value)).meaning b.value) c.loop.cells) i.so_far.played; less = omega (arith, was, less); broken = c.in_err-taken.ensures.end is i.fine })
+
+pub returns-then-all_ended-clause-parts : goal.returns-then-all_ended-clause-parts
+returns-then-all_ended-clause-parts g c = shared_none (λ b. (goal.Machine-dyn g (b.vtable, b.value)).meaning b.value) c.args.workers c.args.budget c.args.cells.now
+
+pub returns-then-all_ended-2-clause-parts : goal.returns-then-all_ended-2-clause-parts
+returns-then-all_ended-2-clause-parts g c = let i = c.loop.invariant in
+    shared_on (λ b. (goal.Machine-dyn g (b.vtable, b.value)).meaning b.value) c.args.workers c.useful_workers-most.result c.args.budget c.loop.deliveries c.args.cells.now c.loop.cells c.play_round.new.cells c.useful_workers-most.ensures.most i.so_far i.deliveries (i.within c.loop-test.true) i.awake c.in_ok-taken.ensures.round c.in_ok-taken.ensures.parts
+
+pub returns-then-deliveries-budget-clause-parts : goal.returns-then-deliveries-budget-clause-parts
+returns-then-deliveries-budget-clause-parts g c = let i = c.loop.invariant in
+    shared_on (λ b. (goal.Machine-dyn g (b.vtable, b.value)).meaning b.value) c.args.workers c.useful_workers-most.result c.args.budget c.loop.deliveries c.args.cells.now c.loop.cells c.play_round.new.cells c.useful_workers-most.ensures.most i.so_far i.deliveries (i.within c.loop-test.true) i.awake c.in_ok-taken.ensures.round c.in_ok-taken.ensures.parts
+
+pub returns-then-taken-eq0-clause-parts : goal.returns-then-taken-eq0-clause-parts
+returns-then-taken-eq0-clause-parts g c = let i = c.loop.invariant in
+    shared_on (λ b. (goal.Machine-dyn g (b.vtable, b.value)).meaning b.value) c.args.workers c.useful_workers-most.result c.args.budget c.loop.deliveries c.args.cells.now c.loop.cells c.play_round.new.cells c.useful_workers-most.ensures.most i.so_far i.deliveries (i.within c.loop-test.true) i.awake c.in_ok-taken.ensures.round c.in_ok-taken.ensures.parts
+
+pub returns-clause-parts : goal.returns-clause-parts
+returns-clause-parts g c = shared_all (λ b. (goal.Machine-dyn g (b.vtable, b.value)).meaning b.value) c.args.workers c.args.budget c.args.cells.now c.loop.cells c.loop.invariant.so_far

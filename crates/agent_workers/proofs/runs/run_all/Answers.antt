@@ -32,4 +32,5 @@ returns-in-Ok g c = record {
   run = whole_run (λ b. (goal.Machine-dyn g (b.vtable, b.value)).meaning b.value) c.args.budget c.args.cells.now c.begin_all.new.cells c.play_out.new.cells c.settle_all.new.cells c.in-Ok.end c.requires.joined c.in_ok-begin_all.ensures.started c.in-Ok.ensures.played c.settle_all.ensures.settled;
   rounds = due_run (λ b. (goal.Machine-dyn g (b.vtable, b.value)).meaning b.value) c.args.budget c.args.cells.now c.begin_all.new.cells c.play_out.new.cells c.settle_all.new.cells c.in-Ok.end c.requires.joined c.in_ok-begin_all.ensures.started c.in-Ok.ensures.played c.settle_all.ensures.settled;
   still = still_run (λ b. (goal.Machine-dyn g (b.vtable, b.value)).meaning b.value) c.args.budget c.args.cells.now c.begin_all.new.cells c.play_out.new.cells c.settle_all.new.cells c.in-Ok.end c.requires.joined c.in_ok-begin_all.ensures.started c.in-Ok.ensures.played c.in-Ok.ensures.still c.settle_all.ensures.settled;
+  parts = record { started = c.begin_all.new.cells; played = c.play_out.new.cells; starts = c.in_ok-begin_all.ensures.started; rounds = c.in-Ok.ensures.parts; quiet = c.settle_all.ensures.settled.quiet };
 }

@@ -9,16 +9,17 @@ use Rattle.node_letters.specs.Passings.{SamePassing, AreAcross, NothingCame}
 use Rattle.letter_wires.specs.Faults.{IsByteFault}
 use Rattle.tcp_links.specs.Faults.{IsNoDifference}
 use Rattle.tcp_links.specs.Over.{IsExchangeFault}
-use Rattle.tcp_links.proofs.ExchangeLaws.{twice_written, long_written, no_difference, nothing_came, are_across, can_drain, can_feed, still_taken, fault_on, woven_on, idle_on, caught_up, exchange_on, held_on, has_exchanged, idle_slices, emptied_slices, can_drain_slices, sent_slices, taken_slices, drained_slices, can_feed_slices, fed_slices}
+use Rattle.tcp_links.proofs.ExchangeLaws.{twice_written, long_written, no_difference, nothing_came, are_across, can_drain, can_feed, still_taken, fault_on, woven_on, idle_on, caught_up, exchange_on, held_on, has_exchanged, idle_slices, emptied_slices, can_drain_slices, sent_slices, taken_slices, links_slices, links_of, sent_where_still, taken_where_still, drained_slices, can_feed_slices, fed_slices}
 use Rattle.tcp_links.proofs.exchange.exchange.Goals as goal
 
 pub drain_all-requires-clause-can : goal.drain_all-requires-clause-can
 drain_all-requires-clause-can g c =
     can_drain_slices (λ b. (goal.Machine-dyn g (b.vtable, b.value)).meaning b.value) c.args.cells.now c.args.plan.now.kept.items c.as_slice-2.result.now c.args.plan.now.ends.items c.as_mut_slice.result.now c.as_slice-2.ensures.value c.as_mut_slice.ensures.value (can_drain (λ b. (goal.Machine-dyn g (b.vtable, b.value)).meaning b.value) c.args.plan.now.nodes c.args.plan.now.agents c.args.plan.now.kept.items c.args.plan.now.ends.items c.args.cells.now c.requires.woven c.requires.sound)
 
-pub drain_all-requires-clause-still : goal.drain_all-requires-clause-still
-drain_all-requires-clause-still g c =
-    sent_slices (λ b. (goal.Machine-dyn g (b.vtable, b.value)).meaning b.value) c.args.cells.now c.args.plan.now.seen.items c.as_slice.result.now c.args.plan.now.kept.items c.as_slice-2.result.now c.args.plan.now.ends.items c.as_mut_slice.result.now c.as_slice.ensures.value c.as_slice-2.ensures.value c.as_mut_slice.ensures.value c.requires.ready.sent
+pub drain_all-requires-clause-drained : goal.drain_all-requires-clause-drained
+drain_all-requires-clause-drained g c =
+    sent_slices (λ b. (goal.Machine-dyn g (b.vtable, b.value)).meaning b.value) c.args.cells.now c.still_cells-still.result c.args.plan.now.kept.items c.as_slice-2.result.now c.args.plan.now.ends.items c.as_mut_slice.result.now c.as_slice-2.ensures.value c.as_mut_slice.ensures.value
+    (sent_where_still (λ b. (goal.Machine-dyn g (b.vtable, b.value)).meaning b.value) c.args.cells.now c.args.plan.now.seen.items c.as_slice.result.now c.still_cells-still.result c.args.plan.now.kept.items c.args.plan.now.ends.items c.as_slice.ensures.value c.still_cells-still.ensures c.requires.ready.sent)
 
 pub drain_all-requires-clause-idle : goal.drain_all-requires-clause-idle
 drain_all-requires-clause-idle g c =
@@ -72,13 +73,27 @@ feed_all-requires-clause-can g c =
     let ends = written _ c.args.plan.now.ends.items c.drain_all.new.ends c.as_mut_slice.result.now c.args.plan.now.ends.ok.0 (drained.size ∙ ap length (sym c.as_mut_slice.ensures.value)) c.as_mut_slice.ensures.value in
     can_feed_slices (λ b. (goal.Machine-dyn g (b.vtable, b.value)).meaning b.value) c.drain_all.new.cells c.args.plan.now.kept.items c.as_mut_slice-4.result.now c.drain_all.new.ends c.as_mut_slice-5.result.now c.as_mut_slice-4.ensures.value (c.as_mut_slice-5.ensures.value ∙ ends) (can_feed (λ b. (goal.Machine-dyn g (b.vtable, b.value)).meaning b.value) c.args.plan.now.nodes c.args.plan.now.agents c.args.plan.now.kept.items c.args.plan.now.ends.items c.drain_all.new.ends c.args.cells.now c.drain_all.new.cells c.drain_all.new.passings c.requires.woven c.drain_all.ensures.quiet drained c.requires.sound)
 
-pub feed_all-requires-clause-still : goal.feed_all-requires-clause-still
-feed_all-requires-clause-still g c =
+pub feed_all-requires-clause-taken : goal.feed_all-requires-clause-taken
+feed_all-requires-clause-taken g c =
     let idle = idle_slices (home c.args.plan.now.nodes c.args.plan.now.agents) c.args.plan.now.kept.items c.as_slice-2.result.now c.args.plan.now.passings.items c.as_mut_slice-2.result.now c.as_slice-2.ensures.value c.as_mut_slice-2.ensures.value c.requires.ready.idle in
     let drained = drained_slices (λ b. (goal.Machine-dyn g (b.vtable, b.value)).meaning b.value) (home c.args.plan.now.nodes c.args.plan.now.agents) c.args.cells.now c.args.plan.now.kept.items c.as_slice-2.result.now c.args.plan.now.ends.items c.as_mut_slice.result.now c.drain_all.new.ends c.drain_all.new.passings c.as_slice-2.ensures.value c.as_mut_slice.ensures.value (c.in_ok-drain_all.ensures.drained (home c.args.plan.now.nodes c.args.plan.now.agents) idle) in
     let ends = written _ c.args.plan.now.ends.items c.drain_all.new.ends c.as_mut_slice.result.now c.args.plan.now.ends.ok.0 (drained.size ∙ ap length (sym c.as_mut_slice.ensures.value)) c.as_mut_slice.ensures.value in
-    taken_slices (λ b. (goal.Machine-dyn g (b.vtable, b.value)).meaning b.value) c.drain_all.new.cells c.args.plan.now.seen.items c.as_slice-3.result.now c.args.plan.now.kept.items c.as_mut_slice-4.result.now c.drain_all.new.ends c.as_mut_slice-5.result.now c.as_slice-3.ensures.value c.as_mut_slice-4.ensures.value (c.as_mut_slice-5.ensures.value ∙ ends)
-    (still_taken (λ b. (goal.Machine-dyn g (b.vtable, b.value)).meaning b.value) c.args.plan.now.nodes c.args.plan.now.agents c.args.plan.now.kept.items c.args.plan.now.ends.items c.drain_all.new.ends c.args.cells.now c.drain_all.new.cells c.drain_all.new.passings c.requires.woven c.drain_all.ensures.quiet drained c.args.plan.now.seen.items c.requires.ready.fed)
+    taken_slices (λ b. (goal.Machine-dyn g (b.vtable, b.value)).meaning b.value) c.drain_all.new.cells c.still_cells-still.result c.args.plan.now.kept.items c.as_mut_slice-4.result.now c.drain_all.new.ends c.as_mut_slice-5.result.now c.as_mut_slice-4.ensures.value (c.as_mut_slice-5.ensures.value ∙ ends)
+    (still_taken (λ b. (goal.Machine-dyn g (b.vtable, b.value)).meaning b.value) c.args.plan.now.nodes c.args.plan.now.agents c.args.plan.now.kept.items c.args.plan.now.ends.items c.drain_all.new.ends c.args.cells.now c.drain_all.new.cells c.drain_all.new.passings c.requires.woven c.drain_all.ensures.quiet drained c.still_cells-still.result
+    (taken_where_still (λ b. (goal.Machine-dyn g (b.vtable, b.value)).meaning b.value) c.args.cells.now c.args.plan.now.seen.items c.as_slice.result.now c.still_cells-still.result c.args.plan.now.kept.items c.args.plan.now.ends.items c.as_slice.ensures.value c.still_cells-still.ensures c.requires.ready.fed))
+
+pub feed_all-requires-clause-links : goal.feed_all-requires-clause-links
+feed_all-requires-clause-links g c =
+    let idle = idle_slices (home c.args.plan.now.nodes c.args.plan.now.agents) c.args.plan.now.kept.items c.as_slice-2.result.now c.args.plan.now.passings.items c.as_mut_slice-2.result.now c.as_slice-2.ensures.value c.as_mut_slice-2.ensures.value c.requires.ready.idle in
+    let drained = drained_slices (λ b. (goal.Machine-dyn g (b.vtable, b.value)).meaning b.value) (home c.args.plan.now.nodes c.args.plan.now.agents) c.args.cells.now c.args.plan.now.kept.items c.as_slice-2.result.now c.args.plan.now.ends.items c.as_mut_slice.result.now c.drain_all.new.ends c.drain_all.new.passings c.as_slice-2.ensures.value c.as_mut_slice.ensures.value (c.in_ok-drain_all.ensures.drained (home c.args.plan.now.nodes c.args.plan.now.agents) idle) in
+    let long = drained.counted ∙ sym c.requires.ready.idle.size ∙ ap length (sym c.as_mut_slice-2.ensures.value) in
+    let here = c.as_mut_slice-3.ensures.value ∙ written _ c.args.plan.now.passings.items c.drain_all.new.passings c.as_mut_slice-2.result.now c.args.plan.now.passings.ok.0 long c.as_mut_slice-2.ensures.value in
+    let one = long_written _ c.args.plan.now.passings.items c.drain_all.new.passings c.as_mut_slice-2.result.now c.args.plan.now.passings.ok.0 long c.as_mut_slice-2.ensures.value in
+    let longer = sym (each_long SamePassing c.as_mut_slice-3.result.now c.pass_all.new.passings c.pass_all.ensures.same) in
+    let passed = c.as_mut_slice-6.ensures.value ∙ written _ _ c.pass_all.new.passings c.as_mut_slice-3.result.now one longer c.as_mut_slice-3.ensures.value in
+    let same : EachAre SamePassing c.drain_all.new.passings c.pass_all.new.passings = subst (λ ps. EachAre SamePassing ps c.pass_all.new.passings) here c.pass_all.ensures.same in
+    links_slices c.args.plan.now.kept.items c.as_mut_slice-4.result.now c.pass_all.new.passings c.as_mut_slice-6.result.now c.as_mut_slice-4.ensures.value passed
+    (links_of (λ b. (goal.Machine-dyn g (b.vtable, b.value)).meaning b.value) c.args.plan.now.nodes c.args.plan.now.agents c.args.plan.now.kept.items c.args.plan.now.ends.items c.drain_all.new.ends c.args.cells.now c.drain_all.new.cells c.drain_all.new.passings c.requires.woven c.drain_all.ensures.quiet drained c.pass_all.new.passings same)
 
 pub returns-in_err-feed_all-clause-quiet : goal.returns-in_err-feed_all-clause-quiet
 returns-in_err-feed_all-clause-quiet g c =

@@ -6,11 +6,13 @@ use Rattle.tcp_links.specs.Faults.{IsNoDifference}
 use Rattle.tcp_links.specs.Over.{IsRoundOver}
 use Rattle.tcp_links.specs.Ends.{IsFaultOver}
 use Rattle.tcp_links.proofs.OverLaws.{err_on, nothing_on, cause_on, joined_over, joined_back, over_self, over_then, none_over, all_over, ended_to, broken_to, fault_over, due_on, busy_on, rest_on, idle_on, broken_on}
+use Rattle.tcp_links.specs.Shared.{ArePlayedShared}
+use Rattle.tcp_links.proofs.SharedLaws.{if_ended, if_broken, shared_at, shared_start, shared_all, shared_more, shared_last}
 use Rattle.tcp_links.proofs.over.play_over.Goals as goal
 
 pub loop-round-init : goal.loop-round-init
 loop-round-init g c = record {
-  shared = c.requires.workers;
+  shared = shared_start (λ b. (goal.Machine-dyn g (b.vtable, b.value)).meaning b.value) c.args.workers c.args.plan.now.nodes c.args.cells.now;
   size = refl;
   joined = c.requires.joined;
   begun = c.requires.begun;
@@ -154,7 +156,7 @@ returns-then-taken-eq0-clause-played g c = let was = c.loop-round.invariant.deli
 
 pub loop-round-preserved : goal.loop-round-preserved
 loop-round-preserved g c = let i = c.loop-round.invariant in let was = i.deliveries in let made = (subst (λ o. IsRoundOver (λ b. (goal.Machine-dyn g (b.vtable, b.value)).meaning b.value) c.loop-round.plan c.loop-round.cells c.round_over.new.plan c.round_over.new.cells o) c.in-Some.is c.in_ok-taken.ensures.round) in let more = made.counted in let some = c.if-taken-eq0.false in let less = c.if-deliveries-budget.false in let grown = i.progress in let test = c.loop-round-test.true in record {
-  shared = c.sharing_after-sharing.ensures.some;
+  shared = shared_more (λ b. (goal.Machine-dyn g (b.vtable, b.value)).meaning b.value) c.args.workers c.args.plan.now.nodes c.args.cells.now c.loop-round.cells c.round_over.new.cells i.shared i.awake (shared_at (λ b. (goal.Machine-dyn g (b.vtable, b.value)).meaning b.value) c.args.workers c.useful_workers-most.result c.args.plan.now.nodes c.loop-round.plan.nodes c.loop-round.cells c.round_over.new.cells _ c.in-Some.taken c.useful_workers-most.ensures.most c.loop-round.invariant.over.nodes c.in-Some.is c.in_ok-taken.ensures.parts) (omega (arith, more, some));
   size = c.round_over.ensures.size ∙ c.loop-round.invariant.size;
   joined = joined_back (λ b. (goal.Machine-dyn g (b.vtable, b.value)).meaning b.value) c.args.plan.now c.loop-round.plan c.round_over.new.cells c.loop-round.invariant.over.nodes c.round_over.ensures.joined;
   begun = c.round_over.ensures.begun;
@@ -197,3 +199,24 @@ returns-clause-played g c = let i = c.loop-round.invariant in let was = i.delive
       stopped = (was, i.awake, omega (arith, was, grown, test));
       idle = tt;
     })
+
+pub returns-then-all_ended-clause-parts : goal.returns-then-all_ended-clause-parts
+returns-then-all_ended-clause-parts g c = if_ended (ArePlayedShared (λ b. (goal.Machine-dyn g (b.vtable, b.value)).meaning b.value) c.args.workers c.args.plan.now.nodes c.args.cells.now c.args.cells.now) _ _ c.ended.ensures.1 (shared_all (λ b. (goal.Machine-dyn g (b.vtable, b.value)).meaning b.value) c.args.workers c.args.plan.now.nodes c.args.cells.now c.args.cells.now (shared_start (λ b. (goal.Machine-dyn g (b.vtable, b.value)).meaning b.value) c.args.workers c.args.plan.now.nodes c.args.cells.now))
+
+pub returns-in_default-clause-parts : goal.returns-in_default-clause-parts
+returns-in_default-clause-parts g c = if_broken (ArePlayedShared (λ b. (goal.Machine-dyn g (b.vtable, b.value)).meaning b.value) c.args.workers c.args.plan.now.nodes c.args.cells.now c.round_over.new.cells) _ c.broken.ensures.1
+
+pub returns-then-all_ended-2-clause-parts : goal.returns-then-all_ended-2-clause-parts
+returns-then-all_ended-2-clause-parts g c = let i = c.loop-round.invariant in
+    if_ended (ArePlayedShared (λ b. (goal.Machine-dyn g (b.vtable, b.value)).meaning b.value) c.args.workers c.args.plan.now.nodes c.args.cells.now c.round_over.new.cells) _ _ c.ended-then-all_ended-2.ensures.1 (shared_last (λ b. (goal.Machine-dyn g (b.vtable, b.value)).meaning b.value) c.args.workers c.args.plan.now.nodes c.args.cells.now c.loop-round.cells c.round_over.new.cells i.shared i.awake (shared_at (λ b. (goal.Machine-dyn g (b.vtable, b.value)).meaning b.value) c.args.workers c.useful_workers-most.result c.args.plan.now.nodes c.loop-round.plan.nodes c.loop-round.cells c.round_over.new.cells _ c.in-Some.taken c.useful_workers-most.ensures.most c.loop-round.invariant.over.nodes c.in-Some.is c.in_ok-taken.ensures.parts))
+
+pub returns-then-deliveries-budget-clause-parts : goal.returns-then-deliveries-budget-clause-parts
+returns-then-deliveries-budget-clause-parts g c = let i = c.loop-round.invariant in
+    if_ended (ArePlayedShared (λ b. (goal.Machine-dyn g (b.vtable, b.value)).meaning b.value) c.args.workers c.args.plan.now.nodes c.args.cells.now c.round_over.new.cells) _ _ c.ended-then-deliveries-budget.ensures.1 (shared_last (λ b. (goal.Machine-dyn g (b.vtable, b.value)).meaning b.value) c.args.workers c.args.plan.now.nodes c.args.cells.now c.loop-round.cells c.round_over.new.cells i.shared i.awake (shared_at (λ b. (goal.Machine-dyn g (b.vtable, b.value)).meaning b.value) c.args.workers c.useful_workers-most.result c.args.plan.now.nodes c.loop-round.plan.nodes c.loop-round.cells c.round_over.new.cells _ c.in-Some.taken c.useful_workers-most.ensures.most c.loop-round.invariant.over.nodes c.in-Some.is c.in_ok-taken.ensures.parts))
+
+pub returns-then-taken-eq0-clause-parts : goal.returns-then-taken-eq0-clause-parts
+returns-then-taken-eq0-clause-parts g c = let i = c.loop-round.invariant in
+    if_ended (ArePlayedShared (λ b. (goal.Machine-dyn g (b.vtable, b.value)).meaning b.value) c.args.workers c.args.plan.now.nodes c.args.cells.now c.round_over.new.cells) _ _ c.ended-then-taken-eq0.ensures.1 (shared_last (λ b. (goal.Machine-dyn g (b.vtable, b.value)).meaning b.value) c.args.workers c.args.plan.now.nodes c.args.cells.now c.loop-round.cells c.round_over.new.cells i.shared i.awake (shared_at (λ b. (goal.Machine-dyn g (b.vtable, b.value)).meaning b.value) c.args.workers c.useful_workers-most.result c.args.plan.now.nodes c.loop-round.plan.nodes c.loop-round.cells c.round_over.new.cells _ c.in-Some.taken c.useful_workers-most.ensures.most c.loop-round.invariant.over.nodes c.in-Some.is c.in_ok-taken.ensures.parts))
+
+pub returns-clause-parts : goal.returns-clause-parts
+returns-clause-parts g c = if_ended (ArePlayedShared (λ b. (goal.Machine-dyn g (b.vtable, b.value)).meaning b.value) c.args.workers c.args.plan.now.nodes c.args.cells.now c.loop-round.cells) _ _ c.ended-2.ensures.1 (shared_all (λ b. (goal.Machine-dyn g (b.vtable, b.value)).meaning b.value) c.args.workers c.args.plan.now.nodes c.args.cells.now c.loop-round.cells c.loop-round.invariant.shared)

@@ -8,11 +8,12 @@ use Rattle.agent_workers.specs.Joined.{states_of, EachIs, HasBegun, IsJoined}
 use Rattle.agent_workers.specs.Run.{AreBusy}
 use Rattle.tcp_links.specs.Plans.{IsHonest}
 use Rattle.tcp_links.specs.Over.{IsPlanOver, ArePlayedSo}
+use Rattle.tcp_links.proofs.SharedLaws.{SharedSoFar}
 use Rattle.tcp_links.proofs.over.play_over.Given as goal
 
 abbrev pub invariant-loop-round : goal.invariant-loop-round
 invariant-loop-round g l = record {
-  shared : 0 < l.sharing;
+  shared : SharedSoFar (λ b. (goal.Machine-dyn g (b.vtable, b.value)).meaning b.value) l.workers l.initial.plan.nodes l.initial.cells l.cells;
   size : length l.cells ≡ length l.initial.cells;
   joined : IsJoined (λ b. (goal.Machine-dyn g (b.vtable, b.value)).meaning b.value) l.initial.plan.nodes l.cells;
   begun : EachIs (λ c. HasBegun (λ b. (goal.Machine-dyn g (b.vtable, b.value)).meaning b.value) c) l.cells;

@@ -1,10 +1,11 @@
-use Rattle.std.proofs.Common.{◌∙◌, refl, subst}
+use Rattle.std.proofs.Common.{◌∙◌, refl, subst, arith}
 use Rattle.agent_workers.specs.Turns.{SomeFailed}
 use Rattle.agent_workers.proofs.RoundLaws.{sound_from, begun_still}
 use Rattle.agent_workers.proofs.RunLaws.{fine_still}
 use Rattle.tcp_links.specs.Faults.{IsNoDifference}
 use Rattle.tcp_links.specs.Over.{IsExchangeFault}
 use Rattle.tcp_links.proofs.OverLaws.{err_on, nothing_on, cause_on, joined_quiet, joined_over, joined_back, fine_quiet, over_played, over_forgot, round_made, broken_made}
+use Rattle.tcp_links.proofs.SharedLaws.{shared_over}
 use Rattle.tcp_links.proofs.over.round_over.Goals as goal
 
 pub exchange-requires-clause-plan : goal.exchange-requires-clause-plan
@@ -81,3 +82,6 @@ returns-in-Err-StampEnd-clause-size g c = c.play_round.ensures.same.size ∙ c.e
 
 pub returns-in-Err-NoMemory-clause-size : goal.returns-in-Err-NoMemory-clause-size
 returns-in-Err-NoMemory-clause-size g c = c.play_round.ensures.same.size ∙ c.exchange.ensures.quiet.size
+
+pub returns-in-Ok-clause-parts : goal.returns-in-Ok-clause-parts
+returns-in-Ok-clause-parts g c = shared_over (λ b. (goal.Machine-dyn g (b.vtable, b.value)).meaning b.value) c.args.workers c.args.workers c.args.plan.now.nodes c.exchange.new.plan.nodes c.args.cells.now c.exchange.new.cells c.play_round.new.cells (omega arith) c.in_ok-exchange.ensures.exchanged.over.nodes c.exchange.ensures.quiet c.in-Ok.ensures.parts

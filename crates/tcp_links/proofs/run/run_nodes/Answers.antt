@@ -8,6 +8,7 @@ use Rattle.agent_workers.specs.Run.{views_of, AreDulyPlayed, RestsAtStill}
 use Rattle.agent_workers.proofs.ListLaws.{carry}
 use Rattle.tcp_links.specs.Linked.{AreLinkedOver}
 use Rattle.tcp_links.specs.Ends.{HasHeldOver, DiffersOver}
+use Rattle.tcp_links.specs.Shared.{HaveRunShared}
 use Rattle.tcp_links.proofs.PlanLaws.{same_plan}
 use Rattle.tcp_links.proofs.WeaveLaws.{on_ok}
 use Rattle.tcp_links.proofs.RunLaws.{on_err, new_as, linked_as, held_as, differs_as}
@@ -49,3 +50,6 @@ returns-clause-plan g c = on_ok c.run_over.result c.run_over.ensures.plan (new_a
 
 pub returns-clause-honest : goal.returns-clause-honest
 returns-clause-honest g c = λ h. c.run_over.ensures.honest (subst (λ ws. AreHonest g.D.W.Wire.told g.D.W.Wire.is_joined ws) (sym c.prepare.ensures.same.wires) h)
+
+pub returns-clause-parts : goal.returns-clause-parts
+returns-clause-parts g c = carry (λ old new. OnOk c.run_over.result (HaveRunShared (λ b. (goal.Machine-dyn g (b.vtable, b.value)).meaning b.value) c.args.workers c.args.plan.now.nodes old new)) _ _ _ _ c.as_mut_slice.ensures.value (written _ c.args.cells.now.items c.run_over.new.cells c.as_mut_slice.result.now c.args.cells.now.ok.0 c.run_over.ensures.size c.as_mut_slice.ensures.value) (subst (λ n. OnOk c.run_over.result (HaveRunShared (λ b. (goal.Machine-dyn g (b.vtable, b.value)).meaning b.value) c.args.workers n c.as_mut_slice.result.now c.run_over.new.cells)) c.prepare.ensures.same.nodes c.run_over.ensures.parts)

@@ -10,6 +10,7 @@ use Rattle.tcp_links.specs.Ends.{DiffersOver}
 use Rattle.tcp_links.specs.Faults.{IsNoDifference}
 use Rattle.tcp_links.proofs.OverLaws.{err_on, nothing_on, cause_on, joined_over, joined_quiet}
 use Rattle.tcp_links.proofs.RunLaws.{held_in, differs_in, never_differ, starts_over, joined_start, none_start, over_start, held_start, new_over, differs_played, differs_last, differs_kept, no_break, last_run, last_duly, last_still, last_held}
+use Rattle.tcp_links.proofs.SharedLaws.{run_shared}
 use Rattle.tcp_links.proofs.run.run_over.Goals as goal
 
 pub play_over-requires-clause-over : goal.play_over-requires-clause-over
@@ -131,3 +132,6 @@ returns-clause-plan g c = new_over (λ b. (goal.Machine-dyn g (b.vtable, b.value
 
 pub returns-clause-honest : goal.returns-clause-honest
 returns-clause-honest g c = λ h. (subst (λ ws. AreHonest g.D.W.Wire.told g.D.W.Wire.is_joined ws) (sym c.clear_links.ensures.wires) (c.in_ok-exchange.ensures.honest (c.in_ok-play.ensures.honest h (held_start (λ b. (goal.Machine-dyn g (b.vtable, b.value)).meaning b.value) c.args.plan.now c.args.cells.now c.requires.plan c.requires.linked)).0.0).0.0, tt)
+
+pub returns-clause-parts : goal.returns-clause-parts
+returns-clause-parts g c = run_shared (λ b. (goal.Machine-dyn g (b.vtable, b.value)).meaning b.value) c.args.workers c.args.plan.now.nodes c.args.cells.now c.begin_all.new.cells c.play_over.new.cells c.exchange.new.cells c.settle_all.new.cells c.in_ok-play.play.end c.in-Some-end.end c.in-Some-end.is c.in_ok-begin_all.ensures.started c.in_ok-play.ensures.parts c.exchange.ensures.quiet c.settle_all.ensures.settled.quiet

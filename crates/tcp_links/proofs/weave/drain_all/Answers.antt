@@ -29,15 +29,25 @@ drain_at-requires-clause-can g c =
     drain_next (λ b. (goal.Machine-dyn g (b.vtable, b.value)).meaning b.value) c.requires.idle.0 c.loop-place.place c.args.cells.now c.loop-place.cells c.args.kept.now c.args.ends.now c.loop-place.ends c.loop-place.passings
     c.index-kept-place.result (get_or c.loop-place.ends c.loop-place.place c.index-ends-place.result) i.quiet (i.drained c.requires.idle.0 c.requires.idle.1) at_w at_d c.requires.can
 
-pub drain_at-requires-clause-still : goal.drain_at-requires-clause-still
-drain_at-requires-clause-still g c =
+pub drain_at-requires-clause-sent : goal.drain_at-requires-clause-sent
+drain_at-requires-clause-sent g c =
     let test = c.loop-place-test.true in
     let i = c.loop-place.invariant in
     let long = i.ends in
     let at_w = element_at c.args.kept.now c.loop-place.place c.index-kept-place.result test c.index-kept-place.is in
     let at_d = slice_get-get_or c.loop-place.ends c.loop-place.place c.index-ends-place.result (omega (arith, test, long)) in
     sent_next (λ b. (goal.Machine-dyn g (b.vtable, b.value)).meaning b.value) c.requires.idle.0 c.loop-place.place c.args.cells.now c.loop-place.cells c.args.kept.now c.args.ends.now c.loop-place.ends c.loop-place.passings
-    c.index-kept-place.result (get_or c.loop-place.ends c.loop-place.place c.index-ends-place.result) i.quiet (i.drained c.requires.idle.0 c.requires.idle.1) at_w at_d c.args.seen.now c.requires.still
+    c.index-kept-place.result (get_or c.loop-place.ends c.loop-place.place c.index-ends-place.result) i.quiet (i.drained c.requires.idle.0 c.requires.idle.1) at_w at_d c.args.still.now c.requires.drained
+
+pub drain_at-requires-clause-link : goal.drain_at-requires-clause-link
+drain_at-requires-clause-link g c =
+    let test = c.loop-place-test.true in
+    let i = c.loop-place.invariant in
+    let many = i.passings in
+    let at_w = element_at c.args.kept.now c.loop-place.place c.index-kept-place.result test c.index-kept-place.is in
+    let at_p = slice_get-get_or c.loop-place.passings c.loop-place.place c.index-passings-place.result (omega (arith, test, many)) in
+    let led = ((i.drained c.requires.idle.0 c.requires.idle.1).passing c.loop-place.place c.index-kept-place.result (get_or c.loop-place.passings c.loop-place.place c.index-passings-place.result) at_w at_p).0 in
+    (led.from, led.to)
 
 pub drain_at-requires-clause-idle : goal.drain_at-requires-clause-idle
 drain_at-requires-clause-idle g c =

@@ -2,7 +2,7 @@ use Rattle.std.proofs.Common.{◌≡◌, ℕ, ◌∙◌, get_or, length, sym, su
 use Rattle.std.proofs.lemmas.Option.{slice_get-get_or}
 use Rattle.agent_workers.proofs.JoinLaws.{each_stays_then}
 use Rattle.tcp_links.specs.Woven.{HaveFed, AreEmptied}
-use Rattle.tcp_links.proofs.WeaveLaws.{feed_inside, feed_next, feed_turn, taken_next, emptied_turn}
+use Rattle.tcp_links.proofs.WeaveLaws.{feed_inside, feed_next, feed_turn, taken_next, link_next, emptied_turn}
 use Rattle.tcp_links.proofs.weave.feed_all.Goals as goal
 
 pub feed_at-requires-clause-inside : goal.feed_at-requires-clause-inside
@@ -25,8 +25,8 @@ feed_at-requires-clause-can g c =
     feed_next (λ b. (goal.Machine-dyn g (b.vtable, b.value)).meaning b.value) c.loop-place.place c.args.cells.now c.loop-place.cells c.args.kept.now c.loop-place.kept c.args.ends.now c.loop-place.ends c.args.passings.now (get_or c.loop-place.kept c.loop-place.place c.index-kept-place.result) (get_or c.loop-place.ends c.loop-place.place c.index-ends-place.result)
     c.requires.can i.quiet i.fed at_w at_d
 
-pub feed_at-requires-clause-still : goal.feed_at-requires-clause-still
-feed_at-requires-clause-still g c =
+pub feed_at-requires-clause-taken : goal.feed_at-requires-clause-taken
+feed_at-requires-clause-taken g c =
     let test = c.loop-place-test.true in
     let i = c.loop-place.invariant in
     let wires = i.fed.wires in
@@ -35,7 +35,19 @@ feed_at-requires-clause-still g c =
     let long = c.requires.sizes.0 in
     let at_d = slice_get-get_or c.loop-place.ends c.loop-place.place c.index-ends-place.result (omega (arith, test, size, long)) in
     taken_next (λ b. (goal.Machine-dyn g (b.vtable, b.value)).meaning b.value) c.loop-place.place c.args.cells.now c.loop-place.cells c.args.kept.now c.loop-place.kept c.args.ends.now c.loop-place.ends c.args.passings.now (get_or c.loop-place.kept c.loop-place.place c.index-kept-place.result) (get_or c.loop-place.ends c.loop-place.place c.index-ends-place.result)
-    c.args.seen.now c.requires.still i.quiet i.fed at_w at_d
+    c.args.still.now c.requires.taken i.quiet i.fed at_w at_d
+
+pub feed_at-requires-clause-link : goal.feed_at-requires-clause-link
+feed_at-requires-clause-link g c =
+    let test = c.loop-place-test.true in
+    let i = c.loop-place.invariant in
+    let wires = i.fed.wires in
+    let more = i.left.size in
+    let many = c.requires.sizes.1 in
+    let at_w = slice_get-get_or c.loop-place.kept c.loop-place.place c.index-kept-place.result (omega (arith, test, wires)) in
+    let at_q = slice_get-get_or c.loop-place.passings c.loop-place.place c.index-passings-place.result (omega (arith, test, more, many)) in
+    link_next (λ b. (goal.Machine-dyn g (b.vtable, b.value)).meaning b.value) c.loop-place.place c.loop-place.cells c.args.kept.now c.loop-place.kept c.args.ends.now c.loop-place.ends c.args.passings.now c.loop-place.passings
+    (get_or c.loop-place.kept c.loop-place.place c.index-kept-place.result) (get_or c.loop-place.passings c.loop-place.place c.index-passings-place.result) c.requires.links i.fed i.left at_w at_q
 
 pub returns-in_err-feed_at-clause-quiet : goal.returns-in_err-feed_at-clause-quiet
 returns-in_err-feed_at-clause-quiet g c =

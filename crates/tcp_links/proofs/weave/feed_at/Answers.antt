@@ -5,33 +5,33 @@ use Rattle.tcp_links.proofs.weave.feed_at.Goals as goal
 
 pub feed_link-requires-clause-cell : goal.feed_link-requires-clause-cell
 feed_link-requires-clause-cell g c =
-    (feed_can (λ b. (goal.Machine-dyn g (b.vtable, b.value)).meaning b.value) c.args.cells.now c.slot-at.result c.from-from.result c.index-cells-at.result c.args.link.now c.args.ends.now (c.slot-at.ensures ∙ c.to-to.ensures) c.from-from.ensures c.requires.inside c.index-cells-at.is c.requires.can).0
+    (feed_can (λ b. (goal.Machine-dyn g (b.vtable, b.value)).meaning b.value) c.args.cells.now c.slot-at.result c.from-from.result c.index-cells-at.result c.args.link.now c.args.ends.now (c.slot-at.ensures ∙ c.to-to.ensures ∙ c.requires.link.1) (c.from-from.ensures ∙ c.requires.link.0) c.requires.inside c.index-cells-at.is c.requires.can).0
 
 pub feed_link-requires-clause-joined : goal.feed_link-requires-clause-joined
 feed_link-requires-clause-joined g c =
-    (feed_can (λ b. (goal.Machine-dyn g (b.vtable, b.value)).meaning b.value) c.args.cells.now c.slot-at.result c.from-from.result c.index-cells-at.result c.args.link.now c.args.ends.now (c.slot-at.ensures ∙ c.to-to.ensures) c.from-from.ensures c.requires.inside c.index-cells-at.is c.requires.can).1
+    (feed_can (λ b. (goal.Machine-dyn g (b.vtable, b.value)).meaning b.value) c.args.cells.now c.slot-at.result c.from-from.result c.index-cells-at.result c.args.link.now c.args.ends.now (c.slot-at.ensures ∙ c.to-to.ensures ∙ c.requires.link.1) (c.from-from.ensures ∙ c.requires.link.0) c.requires.inside c.index-cells-at.is c.requires.can).1
 
 pub feed_link-requires-clause-peer : goal.feed_link-requires-clause-peer
 feed_link-requires-clause-peer g c =
-    (feed_can (λ b. (goal.Machine-dyn g (b.vtable, b.value)).meaning b.value) c.args.cells.now c.slot-at.result c.from-from.result c.index-cells-at.result c.args.link.now c.args.ends.now (c.slot-at.ensures ∙ c.to-to.ensures) c.from-from.ensures c.requires.inside c.index-cells-at.is c.requires.can).2
+    (feed_can (λ b. (goal.Machine-dyn g (b.vtable, b.value)).meaning b.value) c.args.cells.now c.slot-at.result c.from-from.result c.index-cells-at.result c.args.link.now c.args.ends.now (c.slot-at.ensures ∙ c.to-to.ensures ∙ c.requires.link.1) (c.from-from.ensures ∙ c.requires.link.0) c.requires.inside c.index-cells-at.is c.requires.can).2
 
 pub returns-in_err-ends-clause-quiet : goal.returns-in_err-ends-clause-quiet
 returns-in_err-ends-clause-quiet g c =
-    one_quiet (λ b. (goal.Machine-dyn g (b.vtable, b.value)).meaning b.value) c.args.cells.now c.slot-at.result c.feed_link.new.cell c.index-cells-at.result (inside_list c.args.cells.now c.slot-at.result c.args.link.now.receiver (c.slot-at.ensures ∙ c.to-to.ensures) c.requires.inside) c.feed_link.ensures.quiet
+    one_quiet (λ b. (goal.Machine-dyn g (b.vtable, b.value)).meaning b.value) c.args.cells.now c.slot-at.result c.feed_link.new.cell c.index-cells-at.result (inside_list c.args.cells.now c.slot-at.result c.args.link.now.receiver (c.slot-at.ensures ∙ c.to-to.ensures ∙ c.requires.link.1) c.requires.inside) c.feed_link.ensures.quiet
 
 pub returns-in_err-ends-clause-known : goal.returns-in_err-ends-clause-known
 returns-in_err-ends-clause-known g c =
-    one_knows_so (λ b. (goal.Machine-dyn g (b.vtable, b.value)).meaning b.value) c.args.cells.now c.slot-at.result c.from-from.result c.args.link.now.receiver c.args.link.now.sender c.feed_link.new.cell c.index-cells-at.result (c.slot-at.ensures ∙ c.to-to.ensures) c.from-from.ensures c.requires.inside c.feed_link.ensures.others
+    one_knows_so (λ b. (goal.Machine-dyn g (b.vtable, b.value)).meaning b.value) c.args.cells.now c.slot-at.result c.from-from.result c.args.link.now.receiver c.args.link.now.sender c.feed_link.new.cell c.index-cells-at.result (c.slot-at.ensures ∙ c.to-to.ensures ∙ c.requires.link.1) (c.from-from.ensures ∙ c.requires.link.0) c.requires.inside c.feed_link.ensures.others
 
 pub returns-clause-quiet : goal.returns-clause-quiet
 returns-clause-quiet g c =
-    one_quiet (λ b. (goal.Machine-dyn g (b.vtable, b.value)).meaning b.value) c.args.cells.now c.slot-at.result c.feed_link.new.cell c.index-cells-at.result (inside_list c.args.cells.now c.slot-at.result c.args.link.now.receiver (c.slot-at.ensures ∙ c.to-to.ensures) c.requires.inside) c.feed_link.ensures.quiet
+    one_quiet (λ b. (goal.Machine-dyn g (b.vtable, b.value)).meaning b.value) c.args.cells.now c.slot-at.result c.feed_link.new.cell c.index-cells-at.result (inside_list c.args.cells.now c.slot-at.result c.args.link.now.receiver (c.slot-at.ensures ∙ c.to-to.ensures ∙ c.requires.link.1) c.requires.inside) c.feed_link.ensures.quiet
 
 pub returns-clause-known : goal.returns-clause-known
 returns-clause-known g c =
-    one_knows_so (λ b. (goal.Machine-dyn g (b.vtable, b.value)).meaning b.value) c.args.cells.now c.slot-at.result c.from-from.result c.args.link.now.receiver c.args.link.now.sender c.feed_link.new.cell c.index-cells-at.result (c.slot-at.ensures ∙ c.to-to.ensures) c.from-from.ensures c.requires.inside c.feed_link.ensures.others
+    one_knows_so (λ b. (goal.Machine-dyn g (b.vtable, b.value)).meaning b.value) c.args.cells.now c.slot-at.result c.from-from.result c.args.link.now.receiver c.args.link.now.sender c.feed_link.new.cell c.index-cells-at.result (c.slot-at.ensures ∙ c.to-to.ensures ∙ c.requires.link.1) (c.from-from.ensures ∙ c.requires.link.0) c.requires.inside c.feed_link.ensures.others
 
 pub returns-clause-fed : goal.returns-clause-fed
 returns-clause-fed g c =
-    λ x at. fed_link (λ b. (goal.Machine-dyn g (b.vtable, b.value)).meaning b.value) c.args.cells.now c.slot-at.result c.from-from.result x c.feed_link.new.cell c.args.link.now c.keep.new.self c.args.ends.now _ c.args.passing.now c.as_slice.result.now (c.slot-at.ensures ∙ c.to-to.ensures) c.from-from.ensures c.requires.inside at
+    λ x at. fed_link (λ b. (goal.Machine-dyn g (b.vtable, b.value)).meaning b.value) c.args.cells.now c.slot-at.result c.from-from.result x c.feed_link.new.cell c.args.link.now c.keep.new.self c.args.ends.now _ c.args.passing.now c.as_slice.result.now (c.slot-at.ensures ∙ c.to-to.ensures ∙ c.requires.link.1) (c.from-from.ensures ∙ c.requires.link.0) c.requires.inside at
     c.feed_link.ensures.end (c.as_slice.ensures.value ∙ c.take_lists-drained.ensures.lists.1) c.in_ok-ends.ensures.fed c.in_ok-ends.ensures.waits c.in_ok-ends.ensures.none refl (c.keep.ensures.kept ∙ ap₂ (keeps c.args.link.now) c.take_lists-drained.ensures.lists.0 c.take_lists-drained.ensures.lists.1)
